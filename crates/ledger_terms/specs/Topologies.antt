@@ -1,0 +1,27 @@
+-- When a topology is one that a synchroniser can be made for.
+use Rattle.std.specs.Prelude.{◌≡◌, ◌≢◌, ℕ, ◌≤◌, ◌^◌, false, length, sum_by}
+use Rattle.std.specs.List.{AllPairs}
+use Rattle.ledger_terms.specs.Parties.{meets_set}
+use Rattle.ledger_terms.specs.declared.host.Host.{Host}
+use Rattle.ledger_terms.specs.declared.params.Params.{Params}
+use Rattle.ledger_terms.specs.declared.topology.Topology.{Topology}
+
+-- two participants have names of their own and share no party
+pub record AreApart (a b : Host) : Type 0 where
+  pub names : a.name ≢ b.name
+  pub parties : meets_set a.parties b.parties ≡ false
+
+-- a time in microseconds from a tenth of a second to some eleven days
+pub record IsWait (time : ℕ) : Type 0 where
+  pub least : 10 ^ 5 ≤ time
+  pub most : time ≤ 10 ^ 12
+
+-- 1 to 8 participants with names of their own, which host at most 128 parties, each party once; and the times in their ranges
+pub record IsValid (topology : Topology) : Type 0 where
+  pub some_host : 1 ≤ length topology.hosts
+  pub few_hosts : length topology.hosts ≤ 8
+  pub few_parties : sum_by (λ (host : Host). length host.parties) topology.hosts ≤ 128
+  pub apart : AllPairs AreApart topology.hosts
+  pub response_timeout : IsWait (topology.params).response_timeout
+  pub reaction_timeout : IsWait (topology.params).reaction_timeout
+  pub skew : IsWait (topology.params).skew

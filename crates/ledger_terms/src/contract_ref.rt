@@ -1,0 +1,10 @@
+//! How a client names a contract.
+use crate::hash::Hash;
+use crate::label::Label;
+
+/// A contract by its id or by its label.
+#[derive(Drop, Clone, PartialEq)]
+pub enum ContractRef {
+    Id(Hash),
+    Label(Label),
+}

@@ -1,0 +1,9 @@
+//! How a template is named.
+use crate::name::Name;
+
+/// A template's name, which is written `Package.Template`.
+#[derive(Clone, Copy, PartialEq)]
+pub struct TemplateName {
+    pub package: Name,
+    pub name: Name,
+}

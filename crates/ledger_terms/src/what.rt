@@ -1,0 +1,14 @@
+//! What a submission is of.
+use crate::command::CommandList;
+use crate::draft::DraftList;
+use crate::seed_of::SeedOf;
+
+/// Commands, or a prepared tree.
+#[derive(Drop)]
+pub enum What {
+    Commands(CommandList),
+    Prepared {
+        seed_of: Option<SeedOf>,
+        roots: DraftList,
+    },
+}
