@@ -10,7 +10,7 @@ use std::alloc::AllocError;
 
 /// One action of a transaction (Ledger Model: actions). `id` names the contract. An Exercise and a Fetch carry
 /// the salt and the instance of the contract that they use, so that whoever sees them can try the id.
-#[derive(Drop, Clone, PartialEq)]
+#[derive(Clone, Debug, Drop, PartialEq)]
 pub enum Action {
     Create {
         id: Hash,

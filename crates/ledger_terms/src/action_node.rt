@@ -10,7 +10,7 @@ use std::marker::Model;
 
 /// An action with its seed and its consequences.
 #[cycle(tree)]
-#[derive(Drop)]
+#[derive(Debug, Drop)]
 pub struct ActionNode {
     pub seed: Hash,
     pub action: Action,
@@ -19,7 +19,7 @@ pub struct ActionNode {
 
 /// Trees of actions, which contracts see as a forest.
 #[cycle(tree)]
-#[derive(Drop)]
+#[derive(Debug, Drop)]
 pub struct ActionNodeList {
     nodes: Vec<ActionNode>,
 }

@@ -4,7 +4,7 @@ use crate::list::ListOf;
 use crate::value::Value;
 
 /// A field or an argument as it is handed in: a value, or a contract by its reference.
-#[derive(Drop, Clone, PartialEq)]
+#[derive(Clone, Debug, Drop, PartialEq)]
 pub enum Arg {
     Plain(Value),
     Contract(ContractRef),

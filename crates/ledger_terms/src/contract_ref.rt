@@ -3,7 +3,7 @@ use crate::hash::Hash;
 use crate::label::Label;
 
 /// A contract by its id or by its label.
-#[derive(Drop, Clone, PartialEq)]
+#[derive(Clone, Debug, Drop, PartialEq)]
 pub enum ContractRef {
     Id(Hash),
     Label(Label),

@@ -6,7 +6,7 @@ use crate::template_name::TemplateName;
 
 /// The input of a prepared Exercise or Fetch: a known contract, or one whose parts are handed in as they are. A forged
 /// input without an id has the id of its salt and instance.
-#[derive(Drop, Clone, PartialEq)]
+#[derive(Clone, Debug, Drop, PartialEq)]
 pub enum Input {
     Known(ContractRef),
     Forged {

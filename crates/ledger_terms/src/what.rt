@@ -4,7 +4,7 @@ use crate::draft::DraftList;
 use crate::seed_of::SeedOf;
 
 /// Commands, or a prepared tree.
-#[derive(Drop)]
+#[derive(Debug, Drop)]
 pub enum What {
     Commands(CommandList),
     Prepared {
