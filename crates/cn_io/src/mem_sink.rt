@@ -1,0 +1,90 @@
+//! A sink in memory that fails where it is told to.
+ghost use Rattle.std.specs.Prelude.{◌≡◌, ◌<◌, ◌≤◌, [], IsTrue, IsErr, IfOk, Some, min, length};
+ghost use Rattle.cn_io.specs.Faults.{counted};
+ghost use Rattle.cn_io.specs.Sink.{Puts, TakesAll};
+ghost use Rattle.cn_io.specs.Memory.{is_listed};
+
+use crate::failed::Failed;
+use crate::sink::Sink;
+use ledger_terms::{Bytes, U64List};
+use std::alloc::Global;
+use std::marker::Model;
+
+/// A sink that takes at most so many bytes a call and fails at the calls listed, and where it finds no memory.
+#[derive(Drop)]
+pub struct MemSink {
+    bytes: Bytes,
+    piece: usize,
+    fails: U64List,
+    calls: u64,
+    faults: u64,
+}
+
+impl Model for MemSink {
+    ghost use Rattle.std.specs.Prelude.{◌<◌};
+    ghost use Rattle.cn_io.specs.Memory.{Store};
+
+    ghost Value = { Store };
+
+    ghost view = { λ s. record {
+      held = s.bytes;
+      piece = s.piece;
+      fails = s.fails;
+      calls = s.calls;
+      faults = s.faults;
+    } };
+
+    ghost invariant = { λ s. 0 < s.piece };
+}
+
+impl MemSink {
+    /// An empty sink that was not called yet. `fails` lists calls by their number, from 1.
+    pub fn new(alloc: Global, piece: usize, fails: U64List) -> MemSink
+        requires { 0 < piece }
+        ensures { result ≡ record { held = []; piece = piece; fails = fails; calls = 0; faults = 0 } }
+    {
+        MemSink {
+            bytes: Bytes::new(alloc),
+            piece,
+            fails,
+            calls: 0,
+            faults: 0,
+        }
+    }
+
+    /// What was taken.
+    pub fn written(&self) -> &[u8]
+        ensures { result.now ≡ self.now.held }
+    {
+        self.bytes.as_slice()
+    }
+}
+
+impl Sink for MemSink {
+    ghost held = { λ s. Some s.held };
+
+    ghost faults = { λ s. s.faults };
+
+    ghost room = { λ s. 0 };
+
+    fn put(&mut self, from: &[u8]) -> Result<usize, Failed>
+        requires { 0 < length from.now }
+        ensures moved { Puts (Some self.old.held) (Some self.new.held) self.old.faults self.new.faults result from.now }
+        ensures count { self.old.faults ≤ self.new.faults }
+        ensures sure { length from.now ≤ 0 → TakesAll self.old.faults self.new.faults 0 0 result from.now }
+        ensures call { self.new.calls ≡ counted self.old.calls }
+        ensures fails { IsTrue (is_listed self.new.calls self.old.fails) → IsErr result }
+        ensures piece { IfOk result (λ n. n ≡ min (length from.now) self.old.piece) }
+        ensures same { (self.new.piece ≡ self.old.piece) × (self.new.fails ≡ self.old.fails) }
+    {
+        self.calls = self.calls.saturating_add(1);
+        let count = from.len().min(self.piece);
+        if !self.fails.as_slice().contains(&self.calls)
+            && self.bytes.extend(&from[..count]).is_ok()
+        {
+            return Ok(count);
+        }
+        self.faults = self.faults.saturating_add(1);
+        Err(Failed)
+    }
+}

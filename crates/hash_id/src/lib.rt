@@ -1,0 +1,13 @@
+//! Tagged hashes: ids of contracts, seeds of actions, salts and hashes of leaves, and hashes of trees. Each is SHA-256
+//! (FIPS 180-4) of a string that begins with the byte of its tag, so no two kinds share a string.
+#![tactic(auto)]
+
+pub mod identity;
+pub mod merkle;
+pub mod tag;
+#[cfg(test)]
+mod tests;
+
+pub use identity::{child_seed, contract_id, root_seed};
+pub use merkle::{leaf_hash, leaf_salt, tree_hash, view_hash};
+pub use tag::Tag;

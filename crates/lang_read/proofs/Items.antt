@@ -1,0 +1,30 @@
+-- The items of an array, one after another.
+use Rattle.std.proofs.Common.{◌≡◌, ℕ, ◌+◌, ◌<◌, ◌≤◌, List, [], ◌∷◌, length, get_or, drop, Result, Ok, Err, refl, ap, ◌∙◌, sym, add-one, arith}
+use Rattle.std.proofs.lemmas.List.{at_drop_more, at_drop_all}
+use Rattle.serde_json.specs.Data.{Data, item, no_items}
+use Rattle.serde_json.specs.View.{view, items_view}
+use Rattle.serde_json.specs.declared.value.Value.{Value}
+use Rattle.lang_read.specs.Walk.{ ◌>>=◌, walk_items, item_count}
+use Rattle.lang_read.specs.declared.script_fault.ScriptFault.{ScriptFault}
+
+pub item_count_view : (vs : List Value) → item_count (items_view vs) ≡ length vs
+item_count_view [] = refl
+item_count_view (v ∷ vs) = ap (λ n. n + 1) (item_count_view vs) ∙ add-one (length vs)
+
+module _ {A : Type 0} (step : ℕ → A → Data → Result A ScriptFault) (i : ℕ) (a : A) (vs : List Value) where
+  -- the walk at an item
+  pub walk_items-at : (v : Value) → i < length vs → v ≡ get_or vs i v
+      → walk_items step i a (items_view (drop i vs)) ≡ (step i a (view v) >>= (λ b. walk_items step (i + 1) b (items_view (drop (i + 1) vs))))
+  walk_items-at v h e =
+      at_drop_more (λ rest. walk_items step i a (items_view rest)) vs i v h
+      ∙ ap (λ w. step i a (view w) >>= (λ b. walk_items step (i + 1) b (items_view (drop (i + 1) vs)))) (sym e)
+
+  -- the walk past the last item
+  pub walk_items-end : length vs ≤ i → walk_items step i a (items_view (drop i vs)) ≡ Ok a
+  walk_items-end h = at_drop_all (λ rest. walk_items step i a (items_view rest)) vs i h
+
+  -- the walk at an item that is refused
+  pub walk_items-fails : (v : Value) (e : ScriptFault) → i < length vs → v ≡ get_or vs i v → step i a (view v) ≡ Err e
+      → walk_items step i a (items_view (drop i vs)) ≡ Err e
+  walk_items-fails v e h at fails = rw fails at (walk_items-at v h at)
+

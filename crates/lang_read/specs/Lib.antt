@@ -1,0 +1,3 @@
+pub mod Listed
+pub mod Walk
+pub mod Faults

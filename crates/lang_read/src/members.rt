@@ -1,0 +1,73 @@
+//! The members of an object and the items of a list.
+ghost use Rattle.std.specs.Prelude.{◌≡◌, ◌≢◌, MatchResult, map, is_some, Ok, Err};
+ghost use Rattle.std.specs.List.{list_all};
+ghost use Rattle.serde_json.specs.Find.{get};
+ghost use Rattle.serde_json.specs.View.{view, members_view, items_view};
+ghost use Rattle.lang_read.specs.Listed.{is_among};
+ghost use Rattle.lang_read.specs.Walk.{has_members, has_each, members_among, member_of, items_of};
+
+use crate::scalar::shape;
+use crate::script_fault::ScriptFault;
+use ledger_terms::Pointer;
+use serde_json::{Map, Value};
+
+/// Whether the value is an object that has the required members, and no others than these and the optional ones.
+#[tactic(auto, unfolding(crate::specs::Walk::has_members))]
+pub fn fits(value: &Value, required: &[&str], optional: &[&str]) -> bool
+    ensures { result
+        ≡ has_members (map (λ k. k.now) required.now) (map (λ k. k.now) optional.now) (view value.now) }
+{
+    match value.as_object() {
+        Some(members) => has_all(value, required) && has_no_others(members, required, optional),
+        None => false,
+    }
+}
+
+fn has_all(value: &Value, required: &[&str]) -> bool
+    ensures { result ≡ has_each (map (λ k. k.now) required.now) (view value.now) }
+{
+    required.iter().all(|name| has(value, *name))
+}
+
+fn has(value: &Value, name: &str) -> bool
+    ensures { result ≡ is_some (get name.now (view value.now)) }
+{
+    value.get(name).is_some()
+}
+
+fn has_no_others(members: &Map<String, Value>, required: &[&str], optional: &[&str]) -> bool
+    ensures { result
+        ≡ members_among (map (λ k. k.now) required.now) (map (λ k. k.now) optional.now) (members_view members.now.entries) }
+{
+    members.keys().all(|key| is_listed(key.as_str(), required) || is_listed(key.as_str(), optional))
+}
+
+fn is_listed(key: &str, names: &[&str]) -> bool
+    ensures { result ≡ is_among key.now (map (λ k. k.now) names.now) }
+{
+    names.iter().any(|name| *name == key)
+}
+
+/// A member that the object must have.
+#[tactic(auto, unfolding(crate::specs::Walk::member_of))]
+pub fn member<'v>(value: &'v Value, at: &Pointer, name: &str) -> Result<&'v Value, ScriptFault>
+    ensures { MatchResult result (λ v. member_of at.now name.now (view value.now) ≡ Ok (view v.now))
+        (λ e. e ≢ ScriptFault.Memory → member_of at.now name.now (view value.now) ≡ Err e) }
+{
+    match value.get(name) {
+        Some(found) => Ok(found),
+        None => shape(at),
+    }
+}
+
+/// The items of a list.
+#[tactic(auto, unfolding(crate::specs::Walk::items_of))]
+pub fn read_items<'v>(value: &'v Value, at: &Pointer) -> Result<&'v [Value], ScriptFault>
+    ensures { MatchResult result (λ v. items_of at.now (view value.now) ≡ Ok (items_view v.now))
+        (λ e. e ≢ ScriptFault.Memory → items_of at.now (view value.now) ≡ Err e) }
+{
+    match value.as_array() {
+        Some(items) => Ok(items.as_slice()),
+        None => shape(at),
+    }
+}
