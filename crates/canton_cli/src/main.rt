@@ -1,0 +1,9 @@
+//! A Canton synchroniser with its participants in one process: reads a script and writes the report of its run.
+#![tactic(auto)]
+
+mod first_form;
+mod round;
+mod script;
+
+fn main(rt: HostRuntime) {
+}

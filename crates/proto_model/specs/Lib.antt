@@ -1,0 +1,4 @@
+pub mod Note
+pub mod NoteLanguage
+pub mod Plain
+pub mod PlainReading

@@ -1,0 +1,80 @@
+-- How the definitions of the ledger model read requests whose envelopes have the plain form.
+use Rattle.std.specs.Prelude.{ℕ, Bool, true, false, List, [], ◌∷◌, ◌++◌, Option, Some, None, option_map, option_and_then, nat_eq, slice_get, if◌then◌else◌}
+use Rattle.std.specs.Str.{bytes_eq}
+use Rattle.sha2.specs.Sha256.{sha256}
+use Rattle.hash_id.specs.Strings.{contract_id_string}
+use Rattle.ledger_terms.specs.Hosting.{hosts_at}
+use Rattle.ledger_terms.specs.Parties.{has_party, set_of}
+use Rattle.ledger_terms.specs.declared.host.Host.{Host}
+use Rattle.ledger_terms.specs.declared.topology.Topology.{Topology}
+use Rattle.ledger_terms.specs.declared.action.Action.TheVariants.{Create, Exercise, Fetch}
+use Rattle.ledger_model.specs.Terms.{Act, Action, Instance, id_of, instance_of}
+use Rattle.ledger_model.specs.Forest.{Forest, NoRoots, Root}
+use Rattle.ledger_model.specs.declared.message.Envelope.{Envelope}
+use Rattle.ledger_model.specs.declared.message.Request.{Request}
+use Rattle.ledger_model.specs.Reading.{Reading, Transaction, OpenedView, Shown}
+use Rattle.wire_form.specs.Spelling.{spell_instance}
+use Rattle.proto_model.specs.NoteLanguage.{note_language, note_conforms, owner_of}
+use Rattle.proto_model.specs.Plain.{plain_of}
+use Rattle.proto_model.specs.declared.plain_form.PlainForm.{PlainForm}
+
+-- the id that a salt and an instance give
+unfoldable pub contract_id_of : List ℕ → Instance → List ℕ
+contract_id_of salt instance = sha256 (contract_id_string salt (spell_instance instance))
+
+-- a Create's salt is its seed
+abbrev pub salt_of : Act → List ℕ
+salt_of act = salt_in act.action
+  where
+    salt_in : Action → List ℕ
+    salt_in (Create id instance) = act.seed
+    salt_in (Exercise id salt instance choice args actors consuming result) = salt
+    salt_in (Fetch id salt instance actors) = salt
+
+-- the id is that of salt and instance
+abbrev pub is_authentic : Act → Bool
+is_authentic act = bytes_eq (id_of act.action) (contract_id_of (salt_of act) (instance_of act.action))
+
+-- the one root
+abbrev pub root_of : PlainForm → Act
+root_of form = record { seed = form.root_seed; action = Create form.id form.instance }
+
+abbrev pub roots_of_form : PlainForm → Forest Act
+roots_of_form form = Root (root_of form) NoRoots NoRoots
+
+-- the one view, which the signatories confirm
+abbrev pub view_of_form : PlainForm → OpenedView
+view_of_form form = record { path = 0 ∷ []; confirmers = set_of (owner_of form.instance ++ []); core = (0, root_of form) ∷ [] }
+
+abbrev pub shown_of_form : PlainForm → Shown
+shown_of_form form =
+    record { ledger_time = form.ledger_time; requesters = Some form.requesters; roots = roots_of_form form; views = view_of_form form ∷ [] }
+
+abbrev pub whole_of_form : PlainForm → Transaction
+whole_of_form form = record { requesters = form.requesters; ledger_time = form.ledger_time; roots = roots_of_form form }
+
+-- the bytes of the first envelope to a participant
+abbrev pub envelope_to : ℕ → List Envelope → Option (List ℕ)
+envelope_to p [] = None
+envelope_to p (envelope ∷ rest) = if nat_eq envelope.to p then Some envelope.bytes else envelope_to p rest
+
+abbrev pub plain_to : ℕ → Request → Option PlainForm
+plain_to p request = option_and_then plain_of (envelope_to p request.envelopes)
+
+abbrev pub vets : Option Host → List ℕ → Bool
+vets None name = false
+vets (Some host) name = has_party host.vetted name
+
+-- the reading of a synchroniser with these participants
+abbrev pub plain_reading : List Host → Reading
+plain_reading hosts =
+    record {
+      whole = λ request. option_map whole_of_form (plain_to request.sender request);
+      shown = λ p request. option_map shown_of_form (plain_to p request);
+      is_authentic = is_authentic;
+      language = note_language;
+      conforms = note_conforms;
+      hosts = hosts_at hosts;
+      confirms = hosts_at hosts;
+      has_vetted = λ p name. vets (slice_get hosts p) name;
+    }

@@ -1,0 +1,14 @@
+//! The protocol over the messages of the log: what envelopes say, and how the definitions of the ledger model read them.
+#![tactic(auto)]
+
+pub mod note;
+pub mod plain_form;
+pub mod setup;
+
+pub use ledger_model::{
+    Decision, Entry, EntryList, Envelope, EnvelopeList, LocalVerdict, Message, Outcome, Reason,
+    Request, Response, Status, Verdict, ViewVerdict, ViewVerdictList,
+};
+pub use note::{note_name, note_template};
+pub use plain_form::{PlainForm, encode_plain};
+pub use setup::Setup;

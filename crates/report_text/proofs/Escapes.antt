@@ -1,0 +1,29 @@
+-- A text is printed in runs: what stands before an escaped byte, and that byte's digits.
+use Rattle.std.proofs.Common.{◌≡◌, ℕ, ◌+◌, ◌-◌, ◌<◌, ◌≤◌, true, false, List, ◌++◌, length, get_or, take, drop, codes, length-drop, get_or-drop, append_assoc, arith}
+use Rattle.std.proofs.lemmas.Bool.Decides.{nat_tests}
+use Rattle.std.proofs.lemmas.List.{drop_more, take_more, at_drop_more}
+use Rattle.std.specs.List.{flat_map}
+use Rattle.report_text.specs.Values.{is_escaped, byte_text, hex_pair}
+
+pub escaped_is_ascii : (b : ℕ) → is_escaped b ≡ true → b < 128
+escaped_is_ascii b h = grind (arith, nat_tests)
+
+-- a byte that is printed as it is joins the run before it
+pub run_grows : (s before whole : List ℕ) (start i : ℕ) → start ≤ i → i < length s → is_escaped (get_or s i 0) ≡ false
+    → before ++ (take (i - start) (drop start s) ++ flat_map byte_text (drop i s)) ≡ whole
+    → before ++ (take (i + 1 - start) (drop start s) ++ flat_map byte_text (drop (i + 1) s)) ≡ whole
+run_grows s before whole start i low within plain sofar =
+    let back : start + (i - start) ≡ i = omega arith in
+    let here : get_or (drop start s) (i - start) 0 ≡ get_or s i 0 = rw (get_or-drop start s (i - start) 0, back) in
+    let more = take_more (drop start s) (i - start) 0 (omega (arith, length-drop start s)) in
+    let next : i + 1 - start ≡ i - start + 1 = omega arith in
+    rw (next, more, here) (simp append_assoc (rw (at_drop_more (flat_map byte_text) s i 0 within, plain) at sofar))
+
+-- a byte that is escaped ends it
+pub run_ends : (s before whole : List ℕ) (start i : ℕ) → i < length s → is_escaped (get_or s i 0) ≡ true
+    → before ++ (take (i - start) (drop start s) ++ flat_map byte_text (drop i s)) ≡ whole
+    → (((before ++ take (i - start) (drop start s)) ++ codes "\\x") ++ hex_pair (get_or s i 0)) ++ (take (i + 1 - (i + 1)) (drop (i + 1) s) ++ flat_map byte_text (drop (i + 1) s)) ≡ whole
+run_ends s before whole start i within needed sofar =
+    let zero : i + 1 - (i + 1) ≡ 0 = omega arith in
+    let read = rw (at_drop_more (flat_map byte_text) s i 0 within, needed) at sofar in
+    rw zero (simp append_assoc read)

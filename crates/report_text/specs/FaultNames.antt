@@ -1,0 +1,32 @@
+-- The words of the faults. Want of memory has none, since no result of a run holds it.
+use Rattle.std.specs.Prelude.{ℕ, List, [], codes}
+use Rattle.report_text.specs.declared.eval_fault.EvalFault.{EvalFault}
+use Rattle.report_text.specs.declared.eval_fault.EvalFault.TheVariants.{Overflow, Assert, Ensure, NoSignatory, TooLarge, Memory as EvalMemory}
+use Rattle.report_text.specs.declared.command_fault.CommandFault.{CommandFault}
+use Rattle.report_text.specs.declared.command_fault.CommandFault.TheVariants.{UnknownTemplate, UnknownChoice, BadArgs, ContractUnknown, Eval, TooDeep, TooMany, Unauthorised, TooBig, Memory as CommandMemory}
+use Rattle.report_text.specs.declared.split_fault.SplitFault.{SplitFault}
+use Rattle.report_text.specs.declared.split_fault.SplitFault.TheVariants.{NoRoles, Memory as SplitMemory}
+
+abbrev pub eval_fault_name : EvalFault → List ℕ
+eval_fault_name Overflow = codes "Overflow"
+eval_fault_name Assert = codes "Assert"
+eval_fault_name Ensure = codes "Ensure"
+eval_fault_name NoSignatory = codes "NoSignatory"
+eval_fault_name TooLarge = codes "TooLarge"
+eval_fault_name EvalMemory = []
+
+abbrev pub command_fault_name : CommandFault → List ℕ
+command_fault_name (UnknownTemplate root) = codes "UnknownTemplate"
+command_fault_name (UnknownChoice root) = codes "UnknownChoice"
+command_fault_name (BadArgs root) = codes "BadArgs"
+command_fault_name (ContractUnknown path) = codes "ContractUnknown"
+command_fault_name (Eval path fault) = eval_fault_name fault
+command_fault_name (TooDeep path) = codes "TooDeep"
+command_fault_name (TooMany path) = codes "TooMany"
+command_fault_name (Unauthorised path) = codes "Unauthorised"
+command_fault_name (TooBig bytes) = codes "TooBig"
+command_fault_name CommandMemory = []
+
+abbrev pub split_fault_name : SplitFault → List ℕ
+split_fault_name (NoRoles path) = codes "NoRoles"
+split_fault_name SplitMemory = []

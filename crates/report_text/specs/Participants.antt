@@ -1,0 +1,23 @@
+-- The lines of the participants.
+use Rattle.std.specs.Prelude.{ℕ, List, ◌++◌, codes, decimal}
+use Rattle.std.specs.List.{flat_map}
+use Rattle.ledger_terms.specs.declared.host.Host.{Host}
+use Rattle.ledger_terms.specs.declared.active_row.ActiveRow.{ActiveRow}
+use Rattle.ledger_model.specs.declared.commit.Commit.{Commit}
+use Rattle.report_text.specs.declared.node_view.NodeView.{NodeView}
+use Rattle.report_text.specs.Values.{instance_text}
+use Rattle.report_text.specs.Actions.{tree_lines}
+
+abbrev pub commit_lines : Commit → List ℕ
+commit_lines commit = codes "commit " ++ decimal commit.place ++ codes "\n" ++ tree_lines 1 commit.roots
+
+abbrev pub active_line : ActiveRow → List ℕ
+active_line row = codes "active " ++ decimal row.created_at ++ codes " " ++ instance_text row.known.instance ++ codes "\n"
+
+abbrev pub participant_line : Host → NodeView → List ℕ
+participant_line host view =
+    codes "participant " ++ host.name ++ codes " clean " ++ decimal view.clean ++ codes " time " ++ decimal view.clean_time ++ codes "\n"
+
+-- a participant with what it knows at its clean place
+abbrev pub participant_lines : Host × NodeView → List ℕ
+participant_lines (host, view) = participant_line host view ++ flat_map commit_lines view.commits ++ flat_map active_line view.active

@@ -1,0 +1,21 @@
+-- The text of a run.
+use Rattle.std.specs.Prelude.{ℕ, List, ◌++◌, codes, decimal, length}
+use Rattle.std.specs.List.{flat_map, zip}
+use Rattle.ledger_terms.specs.declared.submission.Submission.{Submission}
+use Rattle.ledger_terms.specs.declared.topology.Topology.{Topology}
+use Rattle.ledger_model.specs.declared.message.Entry.{Entry}
+use Rattle.report_text.specs.declared.node_view.NodeView.{NodeView}
+use Rattle.report_text.specs.declared.submit_result.SubmitResult.{SubmitResult}
+use Rattle.report_text.specs.Entries.{entry_lines}
+use Rattle.report_text.specs.Results.{result_lines}
+use Rattle.report_text.specs.Outcomes.{outcome_lines}
+use Rattle.report_text.specs.Participants.{participant_lines}
+
+abbrev pub report_of : Topology → List (List Submission) → List Entry → List SubmitResult → List NodeView → List ℕ
+report_of topology rounds log results views =
+    codes "entries " ++ decimal (length log) ++ codes "\n"
+    ++ entry_lines topology.hosts 0 log
+    ++ result_lines topology.hosts rounds results
+    ++ outcome_lines topology log 0 log
+    ++ flat_map participant_lines (zip topology.hosts views)
+    ++ codes "end\n"

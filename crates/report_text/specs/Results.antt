@@ -1,0 +1,46 @@
+-- The lines of the submissions' results.
+use Rattle.std.specs.Prelude.{ℕ, ◌+◌, List, [], ◌∷◌, ◌++◌, codes, decimal, map}
+use Rattle.std.specs.List.{flat_map, zip}
+use Rattle.ledger_terms.specs.declared.host.Host.{Host}
+use Rattle.ledger_terms.specs.declared.submission.Submission.{Submission}
+use Rattle.report_text.specs.declared.submit_fault.SubmitFault.{SubmitFault}
+use Rattle.report_text.specs.declared.submit_fault.SubmitFault.TheVariants.{Paused, NotHosted, Command, Split, Duplicate, LogFull, Memory}
+use Rattle.report_text.specs.declared.submit_result.SubmitResult.{SubmitResult}
+use Rattle.report_text.specs.declared.submit_result.SubmitResult.TheVariants.{Sent, Refused}
+use Rattle.report_text.specs.FaultNames.{command_fault_name, split_fault_name}
+use Rattle.report_text.specs.Entries.{host_text}
+
+abbrev pub fault_text : SubmitFault → List ℕ
+fault_text Paused = codes "Paused"
+fault_text (NotHosted party) = codes "NotHosted " ++ party
+fault_text (Command fault) = command_fault_name fault
+fault_text (Split fault) = split_fault_name fault
+fault_text (Duplicate place) = codes "Duplicate " ++ decimal place
+fault_text (LogFull spent need) = codes "LogFull " ++ decimal spent ++ codes " " ++ decimal need
+fault_text Memory = []
+
+abbrev pub answer_text : SubmitResult → List ℕ
+answer_text (Sent place read_to) = codes "sent " ++ decimal place
+answer_text (Refused fault read_to) = codes "refused " ++ fault_text fault
+
+-- a submission with the number of its round
+pub record Submitted : Type 0 where
+  pub round : ℕ
+  pub submission : Submission
+
+abbrev pub submitted_in : ℕ → List Submission → List Submitted
+submitted_in round submissions = map (λ submission. record { round = round; submission = submission }) submissions
+
+-- the submissions of the rounds in order, the first of them with this number
+abbrev pub submitted_from : ℕ → List (List Submission) → List Submitted
+submitted_from round [] = []
+submitted_from round (submissions ∷ rounds) = submitted_in round submissions ++ submitted_from (round + 1) rounds
+
+abbrev pub result_line : List Host → Submitted × SubmitResult → List ℕ
+result_line hosts (submitted, answer) =
+    codes "result " ++ decimal submitted.round ++ codes " " ++ host_text hosts submitted.submission.participant ++ codes " "
+    ++ submitted.submission.command ++ codes " " ++ answer_text answer ++ codes "\n"
+
+-- The results are those of the submissions in script order. Where they are fewer, the last submissions have no line.
+abbrev pub result_lines : List Host → List (List Submission) → List SubmitResult → List ℕ
+result_lines hosts rounds results = flat_map (result_line hosts) (zip (submitted_from 0 rounds) results)

@@ -1,0 +1,124 @@
+//! The lines of the submissions' results.
+ghost use Rattle.std.specs.Prelude.{◌≡◌, ◌++◌, OnOk, string_bytes, option_copied, slice_get, drop};
+ghost use Rattle.std.specs.List.{flat_map, zip};
+ghost use Rattle.report_text.specs.Results.{fault_text, answer_text, result_line, result_lines, submitted_in};
+
+use crate::entries::put_host;
+use crate::round_submissions::RoundSubmissionList;
+use crate::submit_fault::SubmitFault;
+use crate::submit_result::{SubmitResult, SubmitResultList};
+use crate::values::put_number;
+use ledger_terms::{HostList, Submission, SubmissionList};
+use std::alloc::AllocError;
+
+fn put_fault(out: &mut String, fault: &SubmitFault) -> Result<(), AllocError>
+    ensures { OnOk result (string_bytes out.new ≡ string_bytes out.old ++ fault_text fault.now) }
+{
+    match fault {
+        SubmitFault::Paused => out.push_str("Paused"),
+        SubmitFault::NotHosted { party } => {
+            out.push_str("NotHosted ")?;
+            out.push_str(party.as_str())
+        }
+        SubmitFault::Command { fault } => out.push_str(fault.name()),
+        SubmitFault::Split { fault } => out.push_str(fault.name()),
+        SubmitFault::Duplicate { place } => {
+            out.push_str("Duplicate ")?;
+            put_number(out, *place)
+        }
+        SubmitFault::LogFull { spent, need } => {
+            out.push_str("LogFull ")?;
+            put_number(out, *spent)?;
+            out.push_str(" ")?;
+            put_number(out, *need)
+        }
+        SubmitFault::Memory => Ok(()),
+    }
+}
+
+fn put_answer(out: &mut String, answer: &SubmitResult) -> Result<(), AllocError>
+    ensures { OnOk result (string_bytes out.new ≡ string_bytes out.old ++ answer_text answer.now) }
+{
+    match answer {
+        SubmitResult::Sent { place, .. } => {
+            out.push_str("sent ")?;
+            put_number(out, *place)
+        }
+        SubmitResult::Refused { fault, .. } => {
+            out.push_str("refused ")?;
+            put_fault(out, fault)
+        }
+    }
+}
+
+fn put_result(
+    out: &mut String,
+    hosts: &HostList,
+    round: u64,
+    submission: &Submission,
+    answer: &SubmitResult,
+) -> Result<(), AllocError>
+    ensures { OnOk result (string_bytes out.new ≡ string_bytes out.old ++ result_line hosts.now (record { round = round; submission = submission.now }, answer.now)) }
+{
+    out.push_str("result ")?;
+    put_number(out, round)?;
+    out.push_str(" ")?;
+    put_host(out, hosts, submission.participant)?;
+    out.push_str(" ")?;
+    out.push_str(submission.command.as_str())?;
+    out.push_str(" ")?;
+    put_answer(out, answer)?;
+    out.push_str("\n")
+}
+
+fn answer_at(answers: &[SubmitResult], at: usize) -> Option<&SubmitResult>
+    ensures { option_copied result ≡ slice_get answers.now at }
+{
+    answers.get(at)
+}
+
+/// Puts a line for each submission of a round at the end that has an answer; they are answered in order.
+fn put_round(
+    out: &mut String,
+    hosts: &HostList,
+    round: u64,
+    submissions: &SubmissionList,
+    answers: &[SubmitResult],
+) -> Result<(), AllocError>
+    ensures { OnOk result (string_bytes out.new ≡ string_bytes out.old
+        ++ flat_map (result_line hosts.now) (zip (submitted_in round submissions.now) answers.now)) }
+{
+    'submissions: for (at, submission) in submissions.as_slice().iter().enumerate() {
+        if let Some(answer) = answer_at(answers, at) {
+            put_result(out, hosts, round, submission, answer)?;
+        }
+    }
+    Ok(())
+}
+
+fn answers_after(answers: &[SubmitResult], count: usize) -> &[SubmitResult]
+    ensures { result.now ≡ drop count answers.now }
+{
+    if count < answers.len() {
+        &answers[count..]
+    } else {
+        &[]
+    }
+}
+
+/// Puts a line for each result at the end.
+pub fn put_results(
+    out: &mut String,
+    hosts: &HostList,
+    rounds: &RoundSubmissionList,
+    results: &SubmitResultList,
+) -> Result<(), AllocError>
+    ensures { OnOk result (string_bytes out.new ≡ string_bytes out.old ++ result_lines hosts.now rounds.now results.now) }
+{
+    let mut rest = results.as_slice();
+    'rounds: for (round, submissions) in rounds.as_slice().iter().enumerate() {
+        put_round(out, hosts, round as u64, submissions, rest)?;
+        rest = answers_after(rest, submissions.len());
+    }
+    Ok(())
+}

@@ -1,0 +1,23 @@
+//! Why a submission isn't sent.
+use crate::command_fault::CommandFault;
+use crate::split_fault::SplitFault;
+use ledger_terms::Name;
+
+/// Why a submission isn't sent.
+#[derive(Drop)]
+pub enum SubmitFault {
+    /// The participant is paused.
+    Paused,
+    /// The participant doesn't host a party that would act.
+    NotHosted { party: Name },
+    /// The commands give no transaction.
+    Command { fault: CommandFault },
+    /// The transaction has no views.
+    Split { fault: SplitFault },
+    /// The participant's command id stands in the log already, at `place`.
+    Duplicate { place: u64 },
+    /// The log has `spent` of its places reserved, and the request needs `need` more.
+    LogFull { spent: u64, need: u64 },
+    /// No memory was found.
+    Memory,
+}

@@ -1,0 +1,39 @@
+//! The whole report.
+ghost use Rattle.std.specs.Prelude.{◌≡◌, IfOk};
+ghost use Rattle.report_text.specs.Report.{report_of};
+
+use crate::entries::put_entries;
+use crate::node_view::NodeViewList;
+use crate::outcomes::put_outcomes;
+use crate::participants::put_participants;
+use crate::results::put_results;
+use crate::round_submissions::RoundSubmissionList;
+use crate::submit_result::SubmitResultList;
+use crate::values::put_number;
+use ledger_model::EntryList;
+use ledger_terms::{Text, Topology};
+use std::alloc::{AllocError, Global};
+
+/// The text of a run: its log, then the results of the submissions, which stand in script order, the outcomes of the
+/// requests, and what each participant knows at its clean place. Each line ends with one line feed.
+pub fn report(
+    alloc: Global,
+    topology: &Topology,
+    rounds: &RoundSubmissionList,
+    log: &EntryList,
+    results: &SubmitResultList,
+    views: &NodeViewList,
+) -> Result<Text, AllocError>
+    ensures { IfOk result (λ text. text ≡ report_of topology.now rounds.now log.now results.now views.now) }
+{
+    let mut out = String::new(alloc);
+    out.push_str("entries ")?;
+    put_number(&mut out, log.len() as u64)?;
+    out.push_str("\n")?;
+    put_entries(&mut out, &topology.hosts, log)?;
+    put_results(&mut out, &topology.hosts, rounds, results)?;
+    put_outcomes(&mut out, topology, log)?;
+    put_participants(&mut out, &topology.hosts, views)?;
+    out.push_str("end\n")?;
+    Ok(Text::of_string(out))
+}

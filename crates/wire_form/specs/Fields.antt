@@ -1,0 +1,62 @@
+-- The readings of single fields.
+use Rattle.std.specs.Prelude.{ℕ, zero, suc, ◌+◌, Bool, true, false, List, [], ◌∷◌, length, take, drop, Result, Ok, Err, nat_lt, nat_le, if◌then◌else◌, ℤ}
+use Rattle.std.specs.Int.{Width, w16, w64, byte_len, from_be_bytes, cast_signed}
+use Rattle.std.specs.Str.{is_utf8}
+use Rattle.ledger_terms.specs.Names.{is_name}
+use Rattle.wire_form.specs.Formats.{◌>>=◌, Reading}
+
+abbrev pub byte_at : Reading ℕ
+byte_at [] = Err 0
+byte_at (b ∷ rest) = Ok (b, rest)
+
+-- so many bytes, as one field
+abbrev pub bytes_at : ℕ → Reading (List ℕ)
+bytes_at n bytes = if nat_lt (length bytes) n then Err (length bytes) else Ok (take n bytes, drop n bytes)
+
+-- a number of a width, high byte first
+unfoldable pub number_at : Width → Reading ℕ
+number_at w bytes = do
+  n ← bytes_at (byte_len w) bytes
+  Ok (from_be_bytes w n.0, n.1)
+
+-- a whole number of eight bytes in two's complement
+unfoldable pub int_at : Reading ℤ
+int_at bytes = do
+  n ← bytes_at 8 bytes
+  Ok (cast_signed w64 (from_be_bytes w64 n.0), n.1)
+
+-- a count of two bytes, not above a limit
+unfoldable pub count_at : ℕ → Reading ℕ
+count_at limit bytes = do
+  n ← bytes_at 2 bytes
+  if nat_le (from_be_bytes w16 n.0) limit then Ok (from_be_bytes w16 n.0, n.1) else Err (length bytes)
+
+-- a count of one byte, not above a limit
+unfoldable pub small_count_at : ℕ → Reading ℕ
+small_count_at limit bytes = do
+  n ← byte_at bytes
+  if nat_le n.0 limit then Ok n else Err (length bytes)
+
+-- the 32 bytes of a hash
+unfoldable pub hash_at : Reading (List ℕ)
+hash_at bytes = bytes_at 32 bytes
+
+-- a name with its byte of length, as one field
+unfoldable pub name_at : Reading (List ℕ)
+name_at [] = Err 0
+name_at (len ∷ rest) =
+    if nat_lt (length rest) len then Err (length (len ∷ rest))
+    else if is_name (take len rest) then Ok (take len rest, drop len rest) else Err (length (len ∷ rest))
+
+unfoldable pub truth_at : Reading Bool
+truth_at [] = Err 0
+truth_at (zero ∷ rest) = Ok (false, rest)
+truth_at (suc zero ∷ rest) = Ok (true, rest)
+truth_at (suc (suc b) ∷ rest) = Err (length rest + 1)
+
+-- two bytes of length, at most 256, and a text of that length
+unfoldable pub text_at : Reading (List ℕ)
+text_at bytes = do
+  len ← count_at 256 bytes
+  text ← bytes_at len.0 len.1
+  if is_utf8 text.0 then Ok text else Err (length len.1)

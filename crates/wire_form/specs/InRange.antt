@@ -1,0 +1,60 @@
+-- What is in range: the counts and lengths of the formats, and what each type of the program keeps.
+use Rattle.std.specs.Prelude.{◌≡◌, ℕ, ◌≤◌, true, FitsSigned, List, length, All}
+use Rattle.std.specs.Int.{w64}
+use Rattle.std.specs.Str.{is_utf8}
+use Rattle.ledger_terms.specs.Names.{is_name}
+use Rattle.ledger_terms.specs.Parties.{IsRising}
+use Rattle.ledger_terms.specs.declared.value.Value.{Value}
+use Rattle.ledger_terms.specs.declared.value.Value.TheVariants.{Unit as UnitValue, Int, Bool as BoolValue, Text, Party, Contract, Parties}
+use Rattle.ledger_terms.specs.declared.instance.Instance.{Instance}
+use Rattle.ledger_terms.specs.declared.action.Action.{Action}
+use Rattle.ledger_terms.specs.declared.action.Action.TheVariants.{Create, Exercise, Fetch}
+
+abbrev pub IsName : List ℕ → Type 0
+IsName name = is_name name ≡ true
+
+-- 32 bytes
+abbrev pub IsHash : List ℕ → Type 0
+IsHash hash = length hash ≡ 32
+
+-- UTF-8 of at most 256 bytes
+pub record IsShortText (text : List ℕ) : Type 0 where
+  pub few : length text ≤ 256
+  pub utf8 : is_utf8 text ≡ true
+
+-- at most 128 names that ascend
+pub record IsPartySet (parties : List (List ℕ)) : Type 0 where
+  pub few : length parties ≤ 128
+  pub names : All IsName parties
+  pub ascend : IsRising parties
+
+abbrev pub IsInRange : Value → Type 0
+IsInRange UnitValue = Unit {0}
+IsInRange (Int n) = FitsSigned w64 n
+IsInRange (BoolValue b) = Unit {0}
+IsInRange (Text t) = IsShortText t
+IsInRange (Party p) = IsName p
+IsInRange (Contract h) = IsHash h
+IsInRange (Parties s) = IsPartySet s
+
+-- at most 12 values
+pub record AreInRange (values : List Value) : Type 0 where
+  pub few : length values ≤ 12
+  pub each : All IsInRange values
+
+pub record IsInstance (instance : Instance) : Type 0 where
+  pub «package» : IsName instance.template.package
+  pub template : IsName instance.template.name
+  pub fields : AreInRange instance.fields
+
+-- the contract that an action uses
+pub record IsInput (id salt : List ℕ) (instance : Instance) : Type 0 where
+  pub id_is : IsHash id
+  pub salt_is : IsHash salt
+  pub instance_is : IsInstance instance
+
+abbrev pub IsAction : Action → Type 0
+IsAction (Create id instance) = IsHash id × IsInstance instance
+IsAction (Exercise id salt instance choice args actors consuming result) =
+    IsInput id salt instance × IsName choice × AreInRange args × IsPartySet actors × IsInRange result
+IsAction (Fetch id salt instance actors) = IsInput id salt instance × IsPartySet actors

@@ -1,0 +1,13 @@
+-- What holds of each format: no spelling begins another, and what is read was spelled so.
+use Rattle.std.specs.Prelude.{◌≡◌, ℕ, ◌<◌, List, ◌++◌, Ok, All}
+use Rattle.wire_form.specs.Formats.{Reading}
+
+-- No spelling of a value in range begins that of another.
+abbrev pub NoneBeginsAnother : {A : Type 0} → (A → List ℕ) → (A → Type 0) → Type 0
+NoneBeginsAnother {A} spell InRange =
+    (x y : A) (after_x after_y : List ℕ) → InRange x → InRange y → spell x ++ after_x ≡ spell y ++ after_y → (x ≡ y) × (after_x ≡ after_y)
+
+-- Each value in range has one spelling: bytes that are read as it are those, and they are read as it.
+pub record HasOneSpelling {A : Type 0} (spell : A → List ℕ) (InRange : A → Type 0) (read : Reading A) : Type 0 where
+  pub read_is_spelled : (bytes : List ℕ) (x : A) (rest : List ℕ) → All (λ b. b < 256) bytes → read bytes ≡ Ok (x, rest) → InRange x × (bytes ≡ spell x ++ rest)
+  pub spelled_is_read : (x : A) (rest : List ℕ) → InRange x → read (spell x ++ rest) ≡ Ok (x, rest)

@@ -1,0 +1,9 @@
+pub mod Formats
+pub mod Fields
+pub mod Reading
+pub mod Spelling
+pub mod Spellable
+pub mod InRange
+pub mod Placed
+pub mod Lengths
+pub mod Laws

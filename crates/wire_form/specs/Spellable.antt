@@ -1,0 +1,35 @@
+-- The counts and lengths that have room in a spelling.
+use Rattle.std.specs.Prelude.{ℕ, ◌≤◌, List, length, All}
+use Rattle.ledger_terms.specs.declared.value.Value.{Value}
+use Rattle.ledger_terms.specs.declared.value.Value.TheVariants.{Unit as UnitValue, Int, Bool as BoolValue, Text, Party, Contract, Parties}
+use Rattle.ledger_terms.specs.declared.instance.Instance.{Instance}
+use Rattle.ledger_terms.specs.declared.action.Action.{Action}
+use Rattle.ledger_terms.specs.declared.action.Action.TheVariants.{Create, Exercise, Fetch}
+
+-- a set of at most 128 names
+abbrev pub IsSpellableSet : List (List ℕ) → Type 0
+IsSpellableSet names = length names ≤ 128
+
+-- a text of at most 256 bytes
+abbrev pub IsSpellable : Value → Type 0
+IsSpellable UnitValue = Unit {0}
+IsSpellable (Int n) = Unit {0}
+IsSpellable (BoolValue b) = Unit {0}
+IsSpellable (Text t) = length t ≤ 256
+IsSpellable (Party p) = Unit {0}
+IsSpellable (Contract h) = Unit {0}
+IsSpellable (Parties s) = IsSpellableSet s
+
+-- at most 12 values
+pub record AreSpellable (values : List Value) : Type 0 where
+  pub count : length values ≤ 12
+  pub each : All IsSpellable values
+
+abbrev pub IsSpellableInstance : Instance → Type 0
+IsSpellableInstance i = AreSpellable i.fields
+
+abbrev pub IsSpellableAction : Action → Type 0
+IsSpellableAction (Create id instance) = IsSpellableInstance instance
+IsSpellableAction (Exercise id salt instance choice args actors consuming result) =
+    IsSpellableInstance instance × AreSpellable args × IsSpellableSet actors × IsSpellable result
+IsSpellableAction (Fetch id salt instance actors) = IsSpellableInstance instance × IsSpellableSet actors
