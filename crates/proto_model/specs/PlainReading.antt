@@ -23,13 +23,13 @@ unfoldable pub contract_id_of : List ℕ → Instance → List ℕ
 contract_id_of salt instance = sha256 (contract_id_string salt (spell_instance instance))
 
 -- a Create's salt is its seed
+abbrev pub salt_in : (seed : List ℕ) → Action → List ℕ
+salt_in seed (Create id instance) = seed
+salt_in seed (Exercise id salt instance choice args actors consuming result) = salt
+salt_in seed (Fetch id salt instance actors) = salt
+
 abbrev pub salt_of : Act → List ℕ
-salt_of act = salt_in act.action
-  where
-    salt_in : Action → List ℕ
-    salt_in (Create id instance) = act.seed
-    salt_in (Exercise id salt instance choice args actors consuming result) = salt
-    salt_in (Fetch id salt instance actors) = salt
+salt_of act = salt_in act.seed act.action
 
 -- the id is that of salt and instance
 abbrev pub is_authentic : Act → Bool

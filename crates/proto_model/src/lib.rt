@@ -2,6 +2,7 @@
 #![tactic(auto)]
 
 pub mod note;
+pub mod opened_form;
 pub mod plain_form;
 pub mod setup;
 
@@ -10,5 +11,6 @@ pub use ledger_model::{
     Request, Response, Status, Verdict, ViewVerdict, ViewVerdictList,
 };
 pub use note::{note_name, note_template};
-pub use plain_form::{PlainForm, encode_plain};
+pub use opened_form::{OpenedForm, id_of_contract, open_envelope};
+pub use plain_form::{PlainForm, decode_plain, encode_plain};
 pub use setup::Setup;
