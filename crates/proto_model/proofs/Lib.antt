@@ -1,1 +1,3 @@
 pub mod PlainLaws
+pub mod NoteConforms
+pub mod Sealed

@@ -2,3 +2,4 @@ pub mod Note
 pub mod NoteLanguage
 pub mod Plain
 pub mod PlainReading
+pub mod NoteRequest

@@ -1,6 +1,7 @@
 //! The protocol over the messages of the log: what envelopes say, and how the definitions of the ledger model read them.
 #![tactic(auto)]
 
+pub mod laws;
 pub mod note;
 pub mod opened_form;
 pub mod plain_form;

@@ -1,0 +1,18 @@
+-- A request of one note in the plain form.
+use Rattle.std.specs.Prelude.{◌≡◌, ℕ, Bool, true, List, [], ◌∷◌, Option, Some, None, Contains, nat_eq, if◌then◌else◌}
+use Rattle.ledger_terms.specs.Hosting.{hosts_at}
+use Rattle.ledger_terms.specs.declared.host.Host.{Host}
+use Rattle.ledger_model.specs.declared.message.Request.{Request}
+use Rattle.proto_model.specs.NoteLanguage.{is_note, owner_of, reader_of}
+use Rattle.proto_model.specs.PlainReading.{plain_to}
+use Rattle.proto_model.specs.declared.plain_form.PlainForm.{PlainForm}
+
+-- The request is of a note that its sender's party makes to itself, the sender alone hosts the party, and the plain form is
+-- sent to the sender alone, who is asked to confirm it.
+pub record IsNoteRequest (hosts : List Host) (request : Request) (form : PlainForm) (party : List ℕ) : Type 0 where
+  pub opened : (p : ℕ) → plain_to p request ≡ (if nat_eq p request.sender then Some form else None)
+  pub hosted : (p : ℕ) → hosts_at hosts p party ≡ nat_eq p request.sender
+  pub confirming : Contains request.confirming request.sender
+  pub note : is_note form.instance ≡ true
+  pub owner : owner_of form.instance ≡ party ∷ []
+  pub reader : reader_of form.instance ≡ party ∷ []
