@@ -1,3 +1,4 @@
 pub mod PlainLaws
 pub mod NoteConforms
 pub mod Sealed
+pub mod NoteForms

@@ -3,3 +3,4 @@ pub mod NoteLanguage
 pub mod Plain
 pub mod PlainReading
 pub mod NoteRequest
+pub mod NoteForm

@@ -3,6 +3,7 @@
 
 pub mod laws;
 pub mod note;
+pub mod note_request;
 pub mod opened_form;
 pub mod plain_form;
 pub mod setup;
