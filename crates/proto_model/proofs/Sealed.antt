@@ -26,7 +26,7 @@ use Rattle.proto_model.specs.PlainReading.{plain_to, plain_reading, root_of, roo
 use Rattle.proto_model.specs.declared.plain_form.PlainForm.{PlainForm}
 
 -- a party and itself are one
-same_self : (a : List ℕ) → same_name a a ≡ true
+pub same_self : (a : List ℕ) → same_name a a ≡ true
 same_self a = IsEquivalence.refl nat_list_eq_equiv a
 
 not_less : (o : Ordering) → is_eq o ≡ true → is_lt o ≡ false
@@ -40,11 +40,11 @@ below_self a = not_less (slice_cmp nat_cmp a a) (sym (texts_ties a a) ∙ same_s
 twice : (a : List ℕ) → set_of (a ∷ a ∷ []) ≡ a ∷ []
 twice a = rw (below_self a, same_self a) refl
 
-or_false : (b : Bool) → (b || false) ≡ b
+pub or_false : (b : Bool) → (b || false) ≡ b
 or_false true = refl
 or_false false = refl
 
-nat_eq_self : (n : ℕ) → nat_eq n n ≡ true
+pub nat_eq_self : (n : ℕ) → nat_eq n n ≡ true
 nat_eq_self n = eq-eqb n n refl
 
 module _ (hosts : List Host) (request : Request) (form : PlainForm) (party : List ℕ) (r : IsNoteRequest hosts request form party) where

@@ -4,3 +4,4 @@ pub mod Plain
 pub mod PlainReading
 pub mod NoteRequest
 pub mod NoteForm
+pub mod NoteLog
