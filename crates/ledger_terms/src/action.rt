@@ -1,5 +1,6 @@
 //! What a transaction does to contracts.
 ghost use Rattle.std.specs.Prelude.{◌≡◌, IfOk};
+ghost use Rattle.std.specs.Bool.{Decides};
 
 use crate::hash::Hash;
 use crate::instance::Instance;
@@ -40,4 +41,11 @@ pub fn copy_action(action: &Action) -> Result<Action, AllocError>
     ensures { IfOk result (λ a. a ≡ action.now) }
 {
     action.clone()
+}
+
+/// Whether two actions are equal.
+pub fn same_action(a: &Action, b: &Action) -> bool
+    ensures { Decides result (a.now ≡ b.now) }
+{
+    *a == *b
 }

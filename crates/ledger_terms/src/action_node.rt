@@ -1,7 +1,10 @@
 //! Trees of actions.
-ghost use Rattle.std.specs.Prelude.{◌≡◌, ◌∷◌, [], IfOk, OnOk, OnErr, length};
+ghost use Rattle.std.specs.Prelude.{◌≡◌, ◌∷◌, [], IfOk, OnOk, OnErr, option_map, option_copied, slice_get};
+ghost use Rattle.std.specs.Bool.{Decides};
 ghost use Rattle.ledger_terms.specs.Forest.{NoRoots, Root, join};
 ghost use Rattle.ledger_terms.specs.Grown.{forest_of, tree_of};
+ghost use Rattle.ledger_terms.specs.Roots.{tree_at, trees_count};
+ghost use Rattle.ledger_terms.specs.SameTrees.{same_actions};
 
 use crate::action::{Action, copy_action};
 use crate::hash::Hash;
@@ -44,6 +47,12 @@ impl Model for ActionNodeList {
     ghost size_decreases = { λ l h. falls l };
 }
 
+fn node_at(nodes: &[ActionNode], at: usize) -> Option<&ActionNode>
+    ensures { option_copied result ≡ slice_get nodes.now at }
+{
+    nodes.get(at)
+}
+
 impl ActionNodeList {
     /// No trees.
     pub fn new(alloc: Global) -> ActionNodeList
@@ -52,6 +61,41 @@ impl ActionNodeList {
         ActionNodeList {
             nodes: Vec::new(alloc),
         }
+    }
+
+    /// The list of a vector's trees, without memory.
+    pub fn of(nodes: Vec<ActionNode>) -> ActionNodeList
+        ensures { result ≡ forest_of nodes.items }
+    {
+        ActionNodeList { nodes }
+    }
+
+    /// The vector of the trees, without memory.
+    pub fn into_vec(self) -> Vec<ActionNode>
+        ensures { forest_of result.items ≡ self }
+    {
+        let ActionNodeList { nodes } = self;
+        nodes
+    }
+
+    /// The allocator of the list, for what is made beside it.
+    pub fn allocator(&self) -> &Global {
+        self.nodes.allocator()
+    }
+
+    /// How many trees there are.
+    #[tactic(auto, using(crate::proofs::RootLists::root_lists))]
+    pub fn len(&self) -> usize
+        ensures { result ≡ trees_count self.now }
+    {
+        self.nodes.len()
+    }
+
+    /// The tree at `at`, where there is one.
+    pub fn get(&self, at: usize) -> Option<&ActionNode>
+        ensures { option_map tree_of (option_copied result) ≡ tree_at self.now at }
+    {
+        node_at(self.nodes.as_slice(), at)
     }
 
     /// The trees as a slice.
@@ -90,4 +134,73 @@ impl Clone for ActionNodeList {
         }
         Ok(copy)
     }
+}
+
+#[cycle(same)]
+fn same_node(a: &ActionNode, b: &ActionNode) -> bool
+    ensures { result ≡ same_actions (tree_of a.now) (tree_of b.now) }
+{
+    a.seed == b.seed && a.action == b.action && same_list(&a.children, &b.children)
+}
+
+#[cycle(same)]
+fn same_list(a: &ActionNodeList, b: &ActionNodeList) -> bool
+    ensures { result ≡ same_actions a.now b.now }
+{
+    let (a, b) = (a.as_slice(), b.as_slice());
+    if a.len() != b.len() {
+        return false;
+    }
+    for at in 0..a.len() {
+        if !same_node(&a[at], &b[at]) {
+            return false;
+        }
+    }
+    true
+}
+
+impl Clone for ActionNode {
+    ghost is_clone = { λ a b. b ≡ a };
+
+    fn clone(&self) -> Result<ActionNode, AllocError> {
+        Ok(ActionNode {
+            seed: self.seed,
+            action: copy_action(&self.action)?,
+            children: self.children.clone()?,
+        })
+    }
+}
+
+impl PartialEq for ActionNode {
+    ghost use Rattle.ledger_terms.specs.Grown.{tree_of};
+    ghost use Rattle.ledger_terms.specs.SameTrees.{same_actions, actions_decide};
+    ghost use Rattle.ledger_terms.specs.Deciding.{per_on};
+
+    ghost eq = { λ a b. same_actions (tree_of a) (tree_of b) };
+
+    ghost laws = { per_on tree_of actions_decide };
+
+    fn eq(&self, other: &ActionNode) -> bool {
+        same_node(self, other)
+    }
+}
+
+impl PartialEq for ActionNodeList {
+    ghost use Rattle.ledger_terms.specs.SameTrees.{same_actions, actions_decide};
+    ghost use Rattle.ledger_terms.specs.Deciding.{per};
+
+    ghost eq = { same_actions };
+
+    ghost laws = { per actions_decide };
+
+    fn eq(&self, other: &ActionNodeList) -> bool {
+        same_list(self, other)
+    }
+}
+
+/// Whether two lists of trees are equal.
+pub fn same_trees(a: &ActionNodeList, b: &ActionNodeList) -> bool
+    ensures { Decides result (a.now ≡ b.now) }
+{
+    *a == *b
 }

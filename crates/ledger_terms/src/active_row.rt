@@ -3,7 +3,7 @@ use crate::known::Known;
 use crate::list::ListOf;
 
 /// An active contract with the place of the request that created it.
-#[derive(Debug, Drop)]
+#[derive(Clone, Debug, Drop, PartialEq)]
 pub struct ActiveRow {
     pub created_at: u64,
     pub known: Known,

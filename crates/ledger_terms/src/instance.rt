@@ -1,10 +1,31 @@
 //! What a contract says.
+ghost use Rattle.std.specs.Prelude.{◌≡◌, IfOk};
+ghost use Rattle.std.specs.Bool.{Decides};
+
 use crate::template_name::TemplateName;
-use crate::value::ValueList;
+use crate::value::{ValueList, copy_values};
+use std::alloc::AllocError;
 
 /// A contract's template and the values of its fields, in the order in which the template declares them.
 #[derive(Clone, Debug, Drop, PartialEq)]
 pub struct Instance {
     pub template: TemplateName,
     pub fields: ValueList,
+}
+
+/// Another instance that is equal.
+pub fn copy_instance(instance: &Instance) -> Result<Instance, AllocError>
+    ensures { IfOk result (λ i. i ≡ instance.now) }
+{
+    Ok(Instance {
+        template: instance.template,
+        fields: copy_values(&instance.fields)?,
+    })
+}
+
+/// Whether two instances are equal.
+pub fn same_instance(a: &Instance, b: &Instance) -> bool
+    ensures { Decides result (a.now ≡ b.now) }
+{
+    *a == *b
 }

@@ -6,7 +6,7 @@ use crate::party_set::PartySet;
 use crate::what::What;
 
 /// What a client hands to its participant. `ledger_time` is in microseconds; without one it is the time of the round.
-#[derive(Debug, Drop)]
+#[derive(Clone, Debug, Drop, PartialEq)]
 pub struct Submission {
     pub participant: ParticipantId,
     pub command: Name,

@@ -5,7 +5,7 @@ use crate::party_set::PartySet;
 
 /// A transaction with the parties that request it. `ledger_time` is in microseconds. Root action `i` has the `i`-th child
 /// seed of `seed`.
-#[derive(Debug, Drop)]
+#[derive(Clone, Debug, Drop, PartialEq)]
 pub struct Tx {
     pub act_as: PartySet,
     pub ledger_time: u64,

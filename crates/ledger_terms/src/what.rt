@@ -4,7 +4,7 @@ use crate::draft::DraftList;
 use crate::seed_of::SeedOf;
 
 /// Commands, or a prepared tree.
-#[derive(Debug, Drop)]
+#[derive(Clone, Debug, Drop, PartialEq)]
 pub enum What {
     Commands(CommandList),
     Prepared {

@@ -10,19 +10,22 @@ use Rattle.ledger_terms.specs.declared.host.Host.{Host}
 use Rattle.ledger_terms.specs.declared.params.Params.{Params}
 use Rattle.ledger_model.specs.declared.message.Request.{Request}
 use Rattle.ledger_model.specs.declared.message.Entry.{Entry}
+use Rattle.ledger_model.specs.declared.check.LocalVerdict.TheVariants.{Approve}
 use Rattle.ledger_model.specs.Terms.{Act}
-use Rattle.ledger_model.specs.Reading.{Reading}
+use Rattle.ledger_model.specs.Reading.{Reading, Shown}
+use Rattle.ledger_model.specs.Language.{roles_of}
 use Rattle.ledger_model.specs.Genuine.{IsSealed}
-use Rattle.ledger_model.specs.Checks.{verdicts_owed}
-use Rattle.ledger_model.specs.Inbox.{inbox}
+use Rattle.ledger_model.specs.Checks.{verdicts_owed, verdict_on_view, authorises_children, is_requested, is_within}
+use Rattle.ledger_model.specs.Inbox.{Item, Received, inbox}
 use Rattle.proto_model.specs.Note.{note_name}
 use Rattle.proto_model.specs.NoteForm.{note_of, note_form, note_request, request_to_self}
-use Rattle.proto_model.specs.NoteLanguage.{is_note, owner_of, reader_of, is_short}
+use Rattle.proto_model.specs.NoteLanguage.{is_note, owner_of, reader_of, is_short, note_language}
 use Rattle.proto_model.specs.NoteLog.{approval, request_entry, response_entry, verdict_entry, note_log, sole_host, LeavesTime}
 use Rattle.proto_model.specs.NoteRequest.{IsNoteRequest}
 use Rattle.proto_model.specs.Plain.{IsPlain, spell_plain, plain_of}
-use Rattle.proto_model.specs.PlainReading.{plain_to, plain_reading}
+use Rattle.proto_model.specs.PlainReading.{plain_to, plain_reading, root_of, shown_of_form, view_of_form}
 use Rattle.proto_model.specs.declared.plain_form.PlainForm.{PlainForm}
+use Rattle.proto_model.proofs.OneCreate.{approves}
 use Rattle.proto_model.proofs.PlainLaws.{plain_again}
 use Rattle.proto_model.proofs.Sealed.{same_self, or_false, nat_eq_self, sealed}
 
@@ -55,3 +58,30 @@ module _ (name command party text : List ℕ) (params : Params) (plain : IsPlain
         owner = refl;
         reader = refl;
       }
+
+  abbrev the_reading : Reading
+  the_reading = plain_reading (sole_host name party)
+
+  abbrev shown : Shown
+  shown = shown_of_form (note_form name command party text 0)
+
+  -- the sender is shown the note
+  shown_to_sender : (the_reading).shown 0 (note_request 0 name command party text 0) ≡ Some shown
+  shown_to_sender = ap (option_map shown_of_form) (opened 0)
+
+  hosts_party : hosts_at (sole_host name party) 0 party ≡ true
+  hosts_party = hosted 0
+
+  short : is_short (note_of party text) ≡ true
+  short = ?
+
+  authorised : (authorises_children (roles_of note_language) shown (0, root_of (note_form name command party text 0)) && is_requested (roles_of note_language) shown (view_of_form (note_form name command party text 0)) (0, root_of (note_form name command party text 0))) ≡ true
+  authorised = rw (same_self party) refl
+
+  within : is_within params.skew 0 1 ≡ true
+  within = ?
+
+  approved : verdict_on_view the_reading params 0 (record { time = 1; content = Received shown } ∷ []) 0 shown (view_of_form (note_form name command party text 0)) ≡ Approve
+  approved =
+      approves the_reading params 1 shown (view_of_form (note_form name command party text 0)) (root_of (note_form name command party text 0))
+      (same_self _) refl within refl (rw short refl) authorised

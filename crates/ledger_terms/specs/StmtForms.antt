@@ -1,0 +1,32 @@
+-- The plain data of a statement.
+use Rattle.std.specs.Prelude.{List, [], ◌∷◌}
+use Rattle.ledger_terms.specs.Syntax.{StmtForm, StmtForms, Bind, Assert, Create, Exercise, Fetch, When, NoStmts, MoreStmts}
+use Rattle.ledger_terms.specs.ExprForms.{expr_form, list_form}
+use Rattle.ledger_terms.specs.declared.stmt.Stmt.{Stmt, Row_of-Stmt, end_of-Stmt, more_of-Stmt}
+use Rattle.ledger_terms.specs.declared.stmt.Stmt.TheVariants.{Bind as BindStmt, Assert as AssertStmt, Create as CreateStmt, Exercise as ExerciseStmt, Fetch as FetchStmt, When'}
+use Rattle.ledger_terms.specs.declared.stmt.StmtList.{StmtList}
+
+abbrev mutual
+  pub stmt_form : Stmt → StmtForm
+  stmt_form (BindStmt x e) = Bind x (expr_form e)
+  stmt_form (AssertStmt e) = Assert (expr_form e)
+  stmt_form (CreateStmt x t fields) = Create x t (list_form fields)
+  stmt_form (ExerciseStmt x t e choice args) = Exercise x t (expr_form e) choice (list_form args)
+  stmt_form (FetchStmt x t e) = Fetch x t (expr_form e)
+  stmt_form (When' e shape first shape' second) = When (expr_form e) (stmt_row_form first) (stmt_row_form second)
+
+  pub stmt_row_form : {n : _} → Row_of-Stmt n → StmtForms
+  stmt_row_form end_of-Stmt = NoStmts
+  stmt_row_form (more_of-Stmt s rest) = MoreStmts (stmt_form s) (stmt_row_form rest)
+
+-- the same of a slice
+abbrev pub stmts_of : List Stmt → StmtForms
+stmts_of [] = NoStmts
+stmts_of (s ∷ ss) = MoreStmts (stmt_form s) (stmts_of ss)
+
+-- the statements of a list, and their forms
+abbrev pub stmts_in : StmtList → List Stmt
+stmts_in l = l.items.items
+
+abbrev pub stmt_list_form : StmtList → StmtForms
+stmt_list_form l = stmts_of (stmts_in l)
