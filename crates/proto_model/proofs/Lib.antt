@@ -2,5 +2,5 @@ pub mod PlainLaws
 pub mod NoteConforms
 pub mod Sealed
 pub mod NoteForms
-pub mod NoteRun
 pub mod OneCreate
+pub mod OneRequest

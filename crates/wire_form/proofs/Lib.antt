@@ -6,3 +6,4 @@ pub mod FieldLaws
 pub mod PartyLaws
 pub mod ValueLaws
 pub mod PlacedLaws
+pub mod RangeLaws

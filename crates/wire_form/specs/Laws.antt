@@ -11,3 +11,7 @@ NoneBeginsAnother {A} spell InRange =
 pub record HasOneSpelling {A : Type 0} (spell : A → List ℕ) (InRange : A → Type 0) (read : Reading A) : Type 0 where
   pub read_is_spelled : (bytes : List ℕ) (x : A) (rest : List ℕ) → All (λ b. b < 256) bytes → read bytes ≡ Ok (x, rest) → InRange x × (bytes ≡ spell x ++ rest)
   pub spelled_is_read : (x : A) (rest : List ℕ) → InRange x → read (spell x ++ rest) ≡ Ok (x, rest)
+
+-- What the first says of a value, the second follows from.
+abbrev pub IsEnoughFor : {A : Type 0} → (A → Type 0) → (A → Type 0) → Type 0
+IsEnoughFor {A} First Second = (x : A) → First x → Second x

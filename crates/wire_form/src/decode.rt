@@ -28,7 +28,11 @@ pub fn decode_value(alloc: Global, bytes: &[u8], at: usize) -> Result<Decoded<Va
 }
 
 /// A list of at most 12 values that stands at a place in the bytes.
-pub fn decode_values(alloc: Global, bytes: &[u8], at: usize) -> Result<Decoded<ValueList>, WireFault>
+pub fn decode_values(
+    alloc: Global,
+    bytes: &[u8],
+    at: usize,
+) -> Result<Decoded<ValueList>, WireFault>
     requires { at ≤ length bytes.now }
     ensures exact { IsRead values_at bytes.now at result }
     ensures found { IsFound spell_values AreInRange bytes.now at result }
@@ -40,7 +44,11 @@ pub fn decode_values(alloc: Global, bytes: &[u8], at: usize) -> Result<Decoded<V
 }
 
 /// A set of at most 128 parties that stands at a place in the bytes.
-pub fn decode_parties(alloc: Global, bytes: &[u8], at: usize) -> Result<Decoded<PartySet>, WireFault>
+pub fn decode_parties(
+    alloc: Global,
+    bytes: &[u8],
+    at: usize,
+) -> Result<Decoded<PartySet>, WireFault>
     requires { at ≤ length bytes.now }
     ensures exact { IsRead set_at bytes.now at result }
     ensures found { IsFound spell_parties IsPartySet bytes.now at result }
@@ -52,7 +60,11 @@ pub fn decode_parties(alloc: Global, bytes: &[u8], at: usize) -> Result<Decoded<
 }
 
 /// An instance that stands at a place in the bytes.
-pub fn decode_instance(alloc: Global, bytes: &[u8], at: usize) -> Result<Decoded<Instance>, WireFault>
+pub fn decode_instance(
+    alloc: Global,
+    bytes: &[u8],
+    at: usize,
+) -> Result<Decoded<Instance>, WireFault>
     requires { at ≤ length bytes.now }
     ensures exact { IsRead instance_at bytes.now at result }
     ensures found { IsFound spell_instance IsInstance bytes.now at result }

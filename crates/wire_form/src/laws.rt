@@ -1,7 +1,8 @@
 //! Laws of the formats, each the contract of a function with nothing to do.
-ghost use Rattle.wire_form.specs.Laws.{HasOneSpelling, NoneBeginsAnother};
+ghost use Rattle.wire_form.specs.Laws.{HasOneSpelling, IsEnoughFor, NoneBeginsAnother};
 ghost use Rattle.wire_form.specs.Reading.{action_at, instance_at, set_at, value_at, values_at};
 ghost use Rattle.wire_form.specs.Spelling.{spell_action, spell_instance, spell_parties, spell_value, spell_values};
+ghost use Rattle.wire_form.specs.Spellable.{AreSpellable, IsSpellable, IsSpellableAction, IsSpellableInstance, IsSpellableSet};
 ghost use Rattle.wire_form.specs.InRange.{AreInRange, IsAction, IsInRange, IsInstance, IsPartySet};
 
 /// No spelling begins another, so bytes that begin with a spelling begin with only one.
@@ -11,8 +12,7 @@ pub fn none_begins_another()
     ensures sets { NoneBeginsAnother spell_parties IsPartySet }
     ensures instances { NoneBeginsAnother spell_instance IsInstance }
     ensures actions { NoneBeginsAnother spell_action IsAction }
-{
-}
+{}
 
 /// Each value has one spelling: the bytes that are read as it are its spelling, which is read as it.
 pub fn one_spelling()
@@ -21,5 +21,13 @@ pub fn one_spelling()
     ensures sets { HasOneSpelling spell_parties IsPartySet set_at }
     ensures instances { HasOneSpelling spell_instance IsInstance instance_at }
     ensures actions { HasOneSpelling spell_action IsAction action_at }
-{
-}
+{}
+
+/// What a decoder gives can be encoded.
+pub fn in_range_is_spellable()
+    ensures values { IsEnoughFor IsInRange IsSpellable }
+    ensures lists { IsEnoughFor AreInRange AreSpellable }
+    ensures sets { IsEnoughFor IsPartySet IsSpellableSet }
+    ensures instances { IsEnoughFor IsInstance IsSpellableInstance }
+    ensures actions { IsEnoughFor IsAction IsSpellableAction }
+{}

@@ -8,7 +8,10 @@ pub mod encode;
 pub mod laws;
 pub mod length;
 pub mod reader;
+pub mod spellable;
 pub mod stop;
+#[cfg(test)]
+mod tests;
 pub mod wire_fault;
 
 pub use decode::{
@@ -22,5 +25,8 @@ pub use encode::{
 };
 pub use length::{action_len, instance_len, parties_len, value_len, values_len};
 pub use reader::Reader;
+pub use spellable::{
+    are_spellable, is_spellable, is_spellable_action, is_spellable_instance, is_spellable_set,
+};
 pub use stop::Stop;
 pub use wire_fault::WireFault;

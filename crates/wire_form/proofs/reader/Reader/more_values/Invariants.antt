@@ -1,5 +1,4 @@
 use Rattle.std.proofs.Common.{◌≡◌, ◌-◌, []}
-
 use Rattle.wire_form.specs.Formats.{items_at, any_item}
 use Rattle.wire_form.specs.Reading.{value_at}
 use Rattle.wire_form.proofs.reader.Reader.more_values.Given as goal

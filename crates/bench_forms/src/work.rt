@@ -1,0 +1,19 @@
+//! What there is to do.
+
+/// What there is to do.
+#[derive(Clone, Copy, Debug, PartialEq, Eq)]
+pub(crate) enum Work {
+    Hash,
+    Wire,
+}
+
+impl Work {
+    /// The work of that name.
+    pub(crate) fn named(name: &str) -> Option<Work> {
+        match name {
+            "hash" => Some(Work::Hash),
+            "wire" => Some(Work::Wire),
+            _ => None,
+        }
+    }
+}

@@ -1,0 +1,7 @@
+pub mod Seen
+pub mod NodeState
+pub mod Entries
+pub mod Places
+pub mod Jobs
+pub mod Findings
+pub mod Scans

@@ -1,0 +1,236 @@
+//! The local check of a request whose envelope has the plain form.
+ghost use Rattle.std.specs.Prelude.{◌≡◌, ◌&&◌, not, ◌∷◌, [], option_copied, ◌++◌, suc, take, IfOk, nat_le, length, slice_get};
+ghost use Rattle.std.specs.List.{list_any};
+ghost use Rattle.ledger_terms.specs.Hosting.{hosts_at};
+ghost use Rattle.ledger_terms.specs.Parties.{has_party, set_of, is_subset};
+ghost use Rattle.wire_form.specs.Spelling.{spell_instance};
+ghost use Rattle.ledger_model.specs.Inbox.{has_hosted_stakeholder, shown_at, is_locked_in_inbox, status_in_inbox};
+ghost use Rattle.ledger_model.specs.Status.{is_unknown};
+ghost use Rattle.ledger_model.specs.Checks.{is_within, verdict_on_view, verdicts_owed};
+ghost use Rattle.proto_model.specs.NoteLanguage.{is_note, are_note_fields, is_short, party_in, owner_of};
+ghost use Rattle.proto_model.specs.PlainReading.{plain_reading, vets, root_of, shown_of_form, view_of_form};
+ghost use Rattle.node_core.specs.Seen.{seen, parties_of};
+ghost use Rattle.node_core.specs.Jobs.{confirms_some_view};
+
+use crate::findings::{Findings, first_reason};
+use crate::inbox::{is_locked, items_through, opened_at, status, time_at};
+use crate::item::Item;
+use ledger_terms::{Instance, Name, ParticipantId, PartySet, Path, Value};
+use proto_model::{
+    LocalVerdict, OpenedForm, Setup, Status, ViewVerdict, ViewVerdictList, note_template,
+};
+use std::alloc::{AllocError, Global};
+use wire_form::instance_len;
+
+/// How many bytes an instance may be spelled with.
+const MOST_BYTES: usize = 1024;
+
+// The party that a field holds, where it holds one.
+fn party_in(field: Option<&Value>) -> Option<Name>
+    ensures { parties_of result ≡ party_in (option_copied field.entry) }
+{
+    match field {
+        Some(Value::Party(party)) => Some(*party),
+        _ => None,
+    }
+}
+
+// Whether a participant hosts the party that a field of the instance holds.
+fn hosts_field(setup: &Setup, me: ParticipantId, instance: &Instance, at: usize) -> bool
+    ensures { result ≡ list_any (hosts_at setup.now.topology.hosts me) (party_in (slice_get instance.now.fields at)) }
+{
+    match party_in(instance.fields.get(at)) {
+        Some(party) => setup.topology.hosts(me, party),
+        None => false,
+    }
+}
+
+/// Whether a participant hosts a stakeholder of the contract that the form creates.
+#[tactic(auto, using(crate::proofs::CheckFacts::any_append))]
+pub fn hosts_stakeholder(setup: &Setup, me: ParticipantId, opened: &OpenedForm) -> bool
+    ensures { result ≡ has_hosted_stakeholder (plain_reading setup.now.topology.hosts) me (root_of opened.now.form) }
+{
+    hosts_field(setup, me, &opened.form.instance, 0)
+        || hosts_field(setup, me, &opened.form.instance, 1)
+}
+
+/// Whether a participant confirms the one view of the form.
+#[tactic(auto, using(crate::proofs::CheckFacts::owner_set))]
+fn confirms(setup: &Setup, me: ParticipantId, opened: &OpenedForm) -> bool
+    ensures { result ≡ list_any (hosts_at setup.now.topology.hosts me) (set_of (owner_of opened.now.form.instance ++ [])) }
+{
+    hosts_field(setup, me, &opened.form.instance, 0)
+}
+
+/// Whether a participant confirms a view of the request at a place.
+pub fn confirms_at(setup: &Setup, me: ParticipantId, items: &[Item], place: u64) -> bool
+    ensures { result ≡ confirms_some_view (plain_reading setup.now.topology.hosts) me (shown_at (seen items.now) place) }
+{
+    match opened_at(items, place) {
+        Some(opened) => confirms(setup, me, opened),
+        None => false,
+    }
+}
+
+fn lists_name(names: &[Name], name: Name) -> bool
+    ensures { result ≡ has_party names.now name }
+{
+    names.iter().any(|other| *other == name)
+}
+
+fn has_vetted(setup: &Setup, me: ParticipantId, required: Name) -> bool
+    ensures { result ≡ vets (slice_get setup.now.topology.hosts me) required }
+{
+    match setup.topology.hosts.get(me.0 as usize) {
+        Some(host) => lists_name(host.vetted.as_slice(), required),
+        None => false,
+    }
+}
+
+fn is_near(skew: u64, ledger_time: u64, time: u64) -> bool
+    ensures { result ≡ is_within skew ledger_time time }
+{
+    ledger_time.saturating_sub(time) <= skew && time.saturating_sub(ledger_time) <= skew
+}
+
+fn has_note_fields(fields: &[Value]) -> bool
+    ensures { result ≡ are_note_fields fields.now }
+{
+    match fields {
+        [Value::Party(_), Value::Party(_), Value::Text(_)] => true,
+        _ => false,
+    }
+}
+
+fn is_note(instance: &Instance) -> bool
+    ensures { result ≡ is_note instance.now }
+{
+    let note = note_template();
+    instance.template.package == note.package
+        && instance.template.name == note.name
+        && has_note_fields(instance.fields.as_slice())
+}
+
+fn is_short(instance: &Instance) -> bool
+    ensures { result ≡ is_short instance.now }
+{
+    instance_len(instance) <= MOST_BYTES
+}
+
+fn is_requested(requesters: &PartySet, instance: &Instance) -> bool
+    ensures { result ≡ is_subset (owner_of instance.now) requesters.now }
+{
+    match party_in(instance.fields.get(0)) {
+        Some(owner) => requesters.contains(owner),
+        None => true,
+    }
+}
+
+// Whether the form creates a note that may be spelled.
+fn is_conformant(instance: &Instance) -> bool
+    ensures { result ≡ (is_note instance.now && is_short instance.now) }
+{
+    is_note(instance) && is_short(instance)
+}
+
+// Whether the contract is locked, where a stakeholder is hosted.
+fn finds_locked(
+    setup: &Setup,
+    me: ParticipantId,
+    items: &[Item],
+    place: u64,
+    opened: &OpenedForm,
+) -> bool
+    ensures { result ≡ (has_hosted_stakeholder (plain_reading setup.now.topology.hosts) me (root_of opened.now.form) && is_locked_in_inbox (plain_reading []) setup.now.topology.params (seen items.now) place opened.now.form.id) }
+{
+    hosts_stakeholder(setup, me, opened)
+        && is_locked(&setup.topology.params, items, place, &opened.form.id)
+}
+
+// Whether the contract was created before, where a stakeholder is hosted.
+fn finds_used(
+    setup: &Setup,
+    me: ParticipantId,
+    items: &[Item],
+    place: u64,
+    opened: &OpenedForm,
+) -> bool
+    ensures { result ≡ (has_hosted_stakeholder (plain_reading setup.now.topology.hosts) me (root_of opened.now.form) && not (is_unknown (status_in_inbox (plain_reading []) (seen items.now) place opened.now.form.id))) }
+{
+    hosts_stakeholder(setup, me, opened) && is_known(status(items, place, &opened.form.id))
+}
+
+fn is_known(status: Status) -> bool
+    ensures { result ≡ not (is_unknown status) }
+{
+    match status {
+        Status::Unknown => false,
+        Status::Active => true,
+        Status::Consumed => true,
+    }
+}
+
+/// A participant's verdict on the one view of the request at a place, from its items up to that place.
+#[tactic(auto, using(crate::proofs::CheckFacts::verdict_is))]
+pub fn verdict_on(
+    setup: &Setup,
+    me: ParticipantId,
+    items: &[Item],
+    place: u64,
+    opened: &OpenedForm,
+) -> LocalVerdict
+    ensures { result ≡ verdict_on_view (plain_reading setup.now.topology.hosts) setup.now.topology.params me (seen items.now) place (shown_of_form opened.now.form) (view_of_form opened.now.form) }
+{
+    let form = &opened.form;
+    let vetted = has_vetted(setup, me, form.instance.template.package);
+    let near = is_near(
+        setup.topology.params.skew,
+        form.ledger_time,
+        time_at(items, place),
+    );
+    let locked = finds_locked(setup, me, items, place, opened);
+    let used = finds_used(setup, me, items, place, opened);
+    let conformant = is_conformant(&form.instance);
+    let authorised = is_requested(&form.requesters, &form.instance);
+    first_reason(&Findings {
+        authentic: opened.authentic,
+        vetted,
+        near,
+        locked,
+        used,
+        conformant,
+        authorised,
+    })
+}
+
+fn verdicts_of(alloc: Global, verdict: LocalVerdict) -> Result<ViewVerdictList, AllocError>
+    ensures { IfOk result (λ verdicts. verdicts ≡ record { view = 0 ∷ []; verdict = verdict } ∷ []) }
+{
+    let mut view = Path::new(alloc);
+    view.push(0)?;
+    let mut verdicts = ViewVerdictList::new(alloc);
+    verdicts.push(ViewVerdict { view, verdict })?;
+    Ok(verdicts)
+}
+
+/// The verdicts that a participant owes to the request at a place, from its items up to that place.
+pub fn verdicts_at(
+    alloc: Global,
+    setup: &Setup,
+    me: ParticipantId,
+    items: &[Item],
+    place: u64,
+) -> Result<ViewVerdictList, AllocError>
+    ensures { IfOk result (λ verdicts. verdicts ≡ verdicts_owed (plain_reading setup.now.topology.hosts) setup.now.topology.params me (seen items.now) place) }
+{
+    match opened_at(items, place) {
+        Some(opened) => {
+            if confirms(setup, me, opened) {
+                verdicts_of(alloc, verdict_on(setup, me, items, place, opened))
+            } else {
+                Ok(ViewVerdictList::new(alloc))
+            }
+        }
+        None => Ok(ViewVerdictList::new(alloc)),
+    }
+}

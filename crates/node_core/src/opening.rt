@@ -1,0 +1,79 @@
+//! What an entry is to a participant.
+ghost use Rattle.std.specs.Prelude.{◌≡◌, IfOk, option_map, option_copied, is_some};
+ghost use Rattle.ledger_model.specs.Inbox.{received, shown_at};
+ghost use Rattle.proto_model.specs.PlainReading.{plain_to, shown_of_form, envelope_to};
+ghost use Rattle.node_core.specs.Seen.{seen, seen_content, seen_item};
+ghost use Rattle.node_core.specs.Entries.{content_from, told_if_received};
+
+use crate::content::Content;
+use crate::copies::copy_verdict;
+use crate::inbox::opened_at;
+use crate::item::Item;
+use ledger_terms::ParticipantId;
+use proto_model::{Entry, Envelope, Message, Request, Verdict, open_envelope};
+use std::alloc::{AllocError, Global};
+
+// The bytes of the first envelope to a participant.
+fn envelope_to(me: ParticipantId, envelopes: &[Envelope]) -> Option<&[u8]>
+    ensures { option_copied result ≡ envelope_to me envelopes.now }
+{
+    for envelope in envelopes {
+        if envelope.to == me {
+            return Some(envelope.bytes.as_slice());
+        }
+    }
+    None
+}
+
+fn received(alloc: Global, me: ParticipantId, request: &Request) -> Result<Content, AllocError>
+    ensures { IfOk result (λ content. seen_content content ≡ received (option_map shown_of_form (plain_to me request.now))) }
+{
+    let Some(bytes) = envelope_to(me, request.envelopes.as_slice()) else {
+        return Ok(Content::Nothing);
+    };
+    match open_envelope(alloc, bytes)? {
+        Some(opened) => Ok(Content::Received(opened)),
+        None => Ok(Content::Nothing),
+    }
+}
+
+fn told(items: &[Item], verdict: &Verdict) -> Result<Content, AllocError>
+    ensures { IfOk result (λ content. seen_content content ≡ told_if_received (seen items.now) verdict.now) }
+{
+    match opened_at(items, verdict.request) {
+        Some(_) => Ok(Content::Told(copy_verdict(verdict)?)),
+        None => Ok(Content::Nothing),
+    }
+}
+
+fn content_of(
+    alloc: Global,
+    me: ParticipantId,
+    items: &[Item],
+    message: &Message,
+) -> Result<Content, AllocError>
+    ensures { IfOk result (λ content. seen_content content ≡ content_from (λ request. option_map shown_of_form (plain_to me request)) (seen items.now) message.now) }
+{
+    match message {
+        Message::Request(request) => received(alloc, me, request),
+        Message::Verdict(verdict) => told(items, verdict),
+        Message::Response(_) => Ok(Content::Nothing),
+        Message::Tick => Ok(Content::Nothing),
+    }
+}
+
+/// What an entry is to the participant that has these items.
+pub fn item_of(
+    alloc: Global,
+    me: ParticipantId,
+    items: &[Item],
+    entry: &Entry,
+) -> Result<Item, AllocError>
+    ensures { IfOk result (λ item. seen_item item ≡ record { time = entry.now.time; content = content_from (λ request. option_map shown_of_form (plain_to me request)) (seen items.now) entry.now.message }) }
+{
+    let content = content_of(alloc, me, items, &entry.message)?;
+    Ok(Item {
+        time: entry.time,
+        content,
+    })
+}

@@ -1,0 +1,124 @@
+//! What a participant's approved requests made.
+ghost use Rattle.std.specs.Prelude.{◌≡◌, ◌++◌, [], IfOk, OnOk, if◌then◌else◌};
+ghost use Rattle.ledger_model.specs.Timeline.{is_approved_in};
+ghost use Rattle.ledger_model.specs.Inbox.{moments, opened_at, part_if, parts_below, created_at_place, active_row, node_active};
+ghost use Rattle.proto_model.specs.PlainReading.{plain_reading, root_of, roots_of_form};
+ghost use Rattle.node_core.specs.Seen.{seen};
+ghost use Rattle.node_core.specs.Scans.{authentic_at};
+
+use crate::check::hosts_stakeholder;
+use crate::copies::copy_instance;
+use crate::inbox::{is_approved, opened_at};
+use crate::item::Item;
+use ledger_model::{Commit, CommitList};
+use ledger_terms::{
+    Action, ActionNode, ActionNodeList, ActiveRow, ActiveRowList, Known, ParticipantId,
+};
+use proto_model::{OpenedForm, Setup};
+use std::alloc::{AllocError, Global};
+
+fn commit_of(alloc: Global, place: u64, opened: &OpenedForm) -> Result<Commit, AllocError>
+    ensures { IfOk result (λ commit. commit ≡ record { place = place; roots = roots_of_form opened.now.form }) }
+{
+    let form = &opened.form;
+    let instance = copy_instance(&form.instance)?;
+    let mut roots = ActionNodeList::new(alloc);
+    roots.push(ActionNode {
+        seed: form.root_seed,
+        action: Action::Create {
+            id: form.id,
+            instance,
+        },
+        children: ActionNodeList::new(alloc),
+    })?;
+    Ok(Commit { place, roots })
+}
+
+fn push_commit(
+    alloc: Global,
+    items: &[Item],
+    place: u64,
+    commits: &mut CommitList,
+) -> Result<(), AllocError>
+    ensures { OnOk result (commits.new ≡ commits.old ++ part_if (is_approved_in place (moments (seen items.now))) place (opened_at (seen items.now) place)) }
+{
+    match opened_at(items, place) {
+        Some(opened) => {
+            if is_approved(items, place) {
+                let commit = commit_of(alloc, place, opened)?;
+                commits.push(commit)?;
+            }
+            Ok(())
+        }
+        None => Ok(()),
+    }
+}
+
+/// The commits of the approved requests below a place, by the verdicts among the items.
+pub fn commits_below(alloc: Global, items: &[Item], end: u64) -> Result<CommitList, AllocError>
+    ensures { IfOk result (λ commits. commits ≡ parts_below (seen items.now) end) }
+{
+    let mut commits = CommitList::new(alloc);
+    'places: for place in 0..end {
+        push_commit(alloc, items, place, &mut commits)?;
+    }
+    Ok(commits)
+}
+
+fn row_of(place: u64, opened: &OpenedForm) -> Result<ActiveRow, AllocError>
+    ensures { IfOk result (λ row. row ≡ active_row place (root_of opened.now.form)) }
+{
+    let form = &opened.form;
+    let instance = copy_instance(&form.instance)?;
+    Ok(ActiveRow {
+        created_at: place,
+        known: Known {
+            id: form.id,
+            salt: form.root_seed,
+            instance,
+        },
+    })
+}
+
+fn push_row(
+    setup: &Setup,
+    me: ParticipantId,
+    items: &[Item],
+    place: u64,
+    rows: &mut ActiveRowList,
+) -> Result<(), AllocError>
+    ensures { OnOk result (rows.new ≡ rows.old ++ created_at_place (plain_reading setup.now.topology.hosts) me [] place (if is_approved_in place (moments (seen items.now)) then authentic_at (seen items.now) place else [])) }
+{
+    match opened_at(items, place) {
+        Some(opened) => {
+            if opened.authentic
+                && hosts_stakeholder(setup, me, opened)
+                && is_approved(items, place)
+            {
+                let row = row_of(place, opened)?;
+                rows.push(row)?;
+            }
+            Ok(())
+        }
+        None => Ok(()),
+    }
+}
+
+/// The contracts with a hosted stakeholder that the approved requests below a place created, by the verdicts among the
+/// items. Creates alone are opened, so none is consumed.
+#[tactic(auto, using(crate::proofs::ActiveFacts::none_consumed))]
+pub fn rows_below(
+    alloc: Global,
+    setup: &Setup,
+    me: ParticipantId,
+    items: &[Item],
+    end: u64,
+) -> Result<ActiveRowList, AllocError>
+    ensures { IfOk result (λ rows. rows ≡ node_active (plain_reading setup.now.topology.hosts) me (seen items.now) end) }
+{
+    let mut rows = ActiveRowList::new(alloc);
+    'places: for place in 0..end {
+        push_row(setup, me, items, place, &mut rows)?;
+    }
+    Ok(rows)
+}
