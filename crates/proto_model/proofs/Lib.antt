@@ -4,3 +4,4 @@ pub mod Sealed
 pub mod NoteForms
 pub mod OneCreate
 pub mod OneRequest
+pub mod NoteRun

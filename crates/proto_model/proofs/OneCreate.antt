@@ -36,10 +36,25 @@ module _ (reading : Reading) (params : Params) (time : ℕ) (shown : Shown) (vie
       → (authorises_children (roles_of reading.language) shown (0, a) && is_requested (roles_of reading.language) shown view (0, a)) ≡ true
       → first_shown (checks reading params 0 time shown view [] []) ((0, a) ∷ []) ≡ Approve
   approves authentic vetted within create conforms authorised =
-      none_is_approval (checks reading params 0 time shown view [] []) ((0, a) ∷ [])
-      (none_shown _ authentic, (none_shown _ vetted, (none_shown _ within,
-        (neither (has_hosted_stakeholder reading 0 a) (shows_locked [] a) refl,
-          (neither (has_hosted_stakeholder reading 0 a) (shows_inactive [] [] a) (rw create refl),
-            (neither (has_hosted_stakeholder reading 0 a) (shows_not_fresh [] a) (rw create refl),
-              (neither (has_hosted_stakeholder reading 0 a) (shows_unordered [] a) (rw create refl),
-                (none_shown _ conforms, (none_shown _ authorised, tt)))))))))
+      none_is_approval (checks reading params 0 time shown view [] []) ((0, a) ∷ []) (
+        none_shown _ authentic,
+        (
+          none_shown _ vetted,
+          (
+            none_shown _ within,
+            (
+              neither (has_hosted_stakeholder reading 0 a) (shows_locked [] a) refl,
+              (
+                neither (has_hosted_stakeholder reading 0 a) (shows_inactive [] [] a) (rw create refl),
+                (
+                  neither (has_hosted_stakeholder reading 0 a) (shows_not_fresh [] a) (rw create refl),
+                  (
+                    neither (has_hosted_stakeholder reading 0 a) (shows_unordered [] a) (rw create refl),
+                    (none_shown _ conforms, (none_shown _ authorised, tt)),
+                  ),
+                ),
+              ),
+            ),
+          ),
+        ),
+      )

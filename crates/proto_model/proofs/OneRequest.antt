@@ -33,8 +33,8 @@ not_past : (a b : ℕ) → b ≤ a → nat_lt a b ≡ false
 not_past a b h = grind (arith, nat_tests)
 
 module _ (reading : Reading) (params : Params) (command bytes : List ℕ) (leaves : LeavesTime params)
-  (sealed : IsSealed reading (request_to_self 0 command bytes))
-  (owed : verdicts_owed reading params 0 (inbox reading 0 (request_entry (request_to_self 0 command bytes) ∷ [])) 0 ≡ approval) where
+    (sealed : IsSealed reading (request_to_self 0 command bytes))
+    (owed : verdicts_owed reading params 0 (inbox reading 0 (request_entry (request_to_self 0 command bytes) ∷ [])) 0 ≡ approval) where
   abbrev log : List Entry
   log = note_log (request_to_self 0 command bytes)
 
@@ -69,11 +69,11 @@ module _ (reading : Reading) (params : Params) (command bytes : List ℕ) (leave
 
 -- The one request has one action, so no two collide.
 module _ (reading : Reading) (command bytes : List ℕ) (transaction : Transaction) (a : Act)
-  (is_whole : reading.whole (request_to_self 0 command bytes) ≡ Some transaction) (one : acts transaction.roots ≡ a ∷ []) where
+    (is_whole : reading.whole (request_to_self 0 command bytes) ≡ Some transaction) (one : acts transaction.roots ≡ a ∷ []) where
   its_act : (k : ℕ) (x : Act) → Contains (acts_of (whole_at reading (note_log (request_to_self 0 command bytes)) k)) x → a ≡ x
   its_act zero x h =
       here (in_from_Contains (a ∷ []) x (subst (λ (xs : List Act). Contains xs x) one
-        (subst (λ (o : Option Transaction). Contains (acts_of (commit_of 0 o)) x) is_whole h)))
+      (subst (λ (o : Option Transaction). Contains (acts_of (commit_of 0 o)) x) is_whole h)))
     where
       here : In x (a ∷ []) → a ≡ x
       here (inl same) = same
