@@ -17,7 +17,6 @@ use Rattle.lang_read.specs.declared.script_fault.ScriptFault.{ScriptFault}
 use Rattle.lang_read.specs.declared.script_fault.ScriptFault.TheVariants.{NotBuilt}
 use Rattle.lang_read.specs.Walk.{◌>>=◌, check, has_members}
 use Rattle.proto_model.specs.Note.{note_name, note_template}
-use Rattle.canton_cli.specs.declared.round.Round.{Round}
 use Rattle.canton_cli.specs.declared.script.Script.{Script}
 
 abbrev pub Read : Type 0 → Type 0
@@ -165,13 +164,12 @@ abbrev pub submits_if : Host → Option Data → Read (List Submission)
 submits_if host None = Ok []
 submits_if host (Some d) = ok_or (as_array d) NotBuilt >>= submits_in host
 
-unfoldable pub round_in : Host → Data → Read Round
+unfoldable pub round_in : Host → Data → Read (List Submission)
 round_in host d = do
   _ ← check (has_members [] (codes "submits" ∷ []) d) NotBuilt
-  submits ← submits_if host (get (codes "submits") d)
-  Ok (record { submits = submits })
+  submits_if host (get (codes "submits") d)
 
-unfoldable pub rounds_in : Host → Items → Read (List Round)
+unfoldable pub rounds_in : Host → Items → Read (List (List Submission))
 rounds_in host no_items = Ok []
 rounds_in host (item only no_items) = do
   round ← round_in host only
@@ -189,7 +187,7 @@ sole_host_in d = do
 unfoldable pub is_script : Data → Bool
 is_script d = has_members (codes "participants" ∷ codes "rounds" ∷ []) [] d
 
-unfoldable pub played_in : Host → Data → Read (List Round)
+unfoldable pub played_in : Host → Data → Read (List (List Submission))
 played_in host d = list_in (codes "rounds") d >>= rounds_in host
 
 -- the script of that form
@@ -198,4 +196,4 @@ first_form d = do
   _ ← check (is_script d) NotBuilt
   host ← sole_host_in d
   rounds ← played_in host d
-  Ok (record { topology = record { hosts = host ∷ []; params = default_params }; rounds = rounds })
+  Ok (record { setup = record { topology = record { hosts = host ∷ []; params = default_params } }; rounds = rounds })

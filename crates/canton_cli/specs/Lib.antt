@@ -1,2 +1,3 @@
 pub mod FirstForm
 pub mod Script
+pub mod Play

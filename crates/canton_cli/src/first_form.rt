@@ -6,14 +6,14 @@ ghost use Rattle.serde_json.specs.View.{view, items_view};
 ghost use Rattle.serde_json.specs.Find.{get};
 ghost use Rattle.canton_cli.specs.FirstForm.{default_params, name_in, sole_of, list_in, text_in, is_text, is_text_if, is_party, parties_in, host_in, words_in, note_args, fields_in, create_in, command_in, party_of, actor_in, wanted_in, is_submission, command_id_in, submission_in, submits_in, submits_if, round_in, rounds_in, sole_host_in, is_script, played_in, first_form};
 
-use crate::round::{Round, RoundList};
 use crate::script::Script;
 use lang_read::{ScriptFault, fits};
 use ledger_terms::{
     Arg, ArgList, Command, CommandList, Host, HostList, Name, NameList, Params, ParticipantId,
     PartySet, Submission, SubmissionList, Text, Topology, Value as Term, What,
 };
-use proto_model::{note_name, note_template};
+use proto_model::{Setup, note_name, note_template};
+use report_text::RoundSubmissionList;
 use serde_json::Value;
 use std::alloc::{AllocError, Global};
 
@@ -304,21 +304,20 @@ fn submits_member(alloc: Global, value: &Value, host: &Host) -> Result<Submissio
 }
 
 #[tactic(auto, unfolding(crate::specs::FirstForm::round_in))]
-fn read_round(alloc: Global, value: &Value, host: &Host) -> Result<Round, ScriptFault>
+fn read_round(alloc: Global, value: &Value, host: &Host) -> Result<SubmissionList, ScriptFault>
     ensures { Follows ScriptFault.Memory result (round_in host.now (view value.now)) }
 {
     if !fits(value, &[], &["submits"]) {
         return Err(ScriptFault::NotBuilt);
     }
-    let submits = submits_member(alloc, value, host)?;
-    Ok(Round { submits })
+    submits_member(alloc, value, host)
 }
 
 #[tactic(auto, unfolding(crate::specs::FirstForm::rounds_in))]
-fn read_rounds(alloc: Global, items: &[Value], host: &Host) -> Result<RoundList, ScriptFault>
+fn read_rounds(alloc: Global, items: &[Value], host: &Host) -> Result<RoundSubmissionList, ScriptFault>
     ensures { Follows ScriptFault.Memory result (rounds_in host.now (items_view items.now)) }
 {
-    let mut rounds = RoundList::new(alloc);
+    let mut rounds = RoundSubmissionList::new(alloc);
     match items {
         [] => Ok(rounds),
         [only] => {
@@ -345,7 +344,7 @@ fn is_script(value: &Value) -> bool
 }
 
 #[tactic(auto, unfolding(crate::specs::FirstForm::played_in))]
-fn read_played(alloc: Global, value: &Value, host: &Host) -> Result<RoundList, ScriptFault>
+fn read_played(alloc: Global, value: &Value, host: &Host) -> Result<RoundSubmissionList, ScriptFault>
     ensures { Follows ScriptFault.Memory result (played_in host.now (view value.now)) }
 {
     let items = read_list(value, "rounds")?;
@@ -364,11 +363,12 @@ pub fn read_first_form(alloc: Global, value: &Value) -> Result<Script, ScriptFau
     let rounds = read_played(alloc, value, &host)?;
     let mut hosts = HostList::new(alloc);
     hosts.push(host)?;
+    let topology = Topology {
+        hosts,
+        params: default_params(),
+    };
     Ok(Script {
-        topology: Topology {
-            hosts,
-            params: default_params(),
-        },
+        setup: Setup { topology },
         rounds,
     })
 }

@@ -2,8 +2,10 @@
 #![tactic(auto)]
 
 mod first_form;
-mod round;
+mod mediation;
+mod play;
+mod played;
+mod prepare;
 mod script;
 
-fn main(rt: HostRuntime) {
-}
+fn main(rt: HostRuntime) {}

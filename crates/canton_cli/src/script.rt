@@ -4,16 +4,17 @@ ghost use Rattle.ledger_terms.specs.Answers.{Follows};
 ghost use Rattle.canton_cli.specs.Script.{script_of};
 
 use crate::first_form::read_first_form;
-use crate::round::RoundList;
 use lang_read::{ScriptFault, read_json};
-use ledger_terms::Topology;
+use proto_model::Setup;
+use report_text::RoundSubmissionList;
 use std::alloc::Global;
 
 /// What a synchroniser is made for, and what is submitted to it.
-#[derive(Debug, Drop)]
+#[derive(Drop)]
 pub struct Script {
-    pub topology: Topology,
-    pub rounds: RoundList,
+    pub setup: Setup,
+    /// What is submitted in each round, before the synchroniser settles.
+    pub rounds: RoundSubmissionList,
 }
 
 /// The script that the bytes are JSON of. NotJson comes exactly where they are JSON of nothing, and NotBuilt exactly where

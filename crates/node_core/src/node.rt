@@ -218,12 +218,15 @@ impl<'s> Node<'s> {
         self.outbox.get(0)
     }
 
-    /// Takes the first response off the outbox.
-    pub fn sent(&mut self)
-        requires { 0 < length self.old.outbox }
-        ensures { self.new ≡ with_outbox self.old (drop 1 self.old.outbox) }
+    /// Takes the first response off the outbox, to be sent.
+    pub fn take_response(&mut self) -> Option<Response>
+        ensures response { result ≡ slice_get self.old.outbox 0 }
+        ensures rest { self.new ≡ with_outbox self.old (drop 1 self.old.outbox) }
     {
-        let _ = self.outbox.remove(0);
+        if self.outbox.is_empty() {
+            return None;
+        }
+        Some(self.outbox.remove(0))
     }
 
     /// The clean place: how many entries stand before the first request received that isn't decided yet.

@@ -1,6 +1,6 @@
 -- The formats of single fields.
-use Rattle.std.proofs.Common.{◌≡◌, ℕ, zero, suc, ◌+◌, ◌^◌, ◌<◌, ◌≤◌, Bool, true, false, cond, ltb, List, [], ◌∷◌, ◌++◌, length, take, drop, Result, Ok, Err, refl, sym, ap, lit<, Fits, rules, subst, ◌∙◌, append_assoc, arith, ℤ}
-use Rattle.std.specs.Int.{w16, w32, w64, byte_len, from_be_bytes, to_be_bytes, cast_signed, cast_unsigned}
+use Rattle.std.proofs.Common.{◌≡◌, ℕ, zero, suc, ◌^◌, ◌<◌, ◌≤◌, Bool, true, false, cond, ltb, List, [], ◌∷◌, ◌++◌, length, take, drop, Result, Ok, Err, refl, sym, ap, lit<, Fits, rules, subst, ◌∙◌, append_assoc, arith, ℤ}
+use Rattle.std.specs.Int.{w16, w32, w64, from_be_bytes, to_be_bytes, cast_signed, cast_unsigned}
 use Rattle.std.specs.Prelude.{nat_le, FitsSigned}
 use Rattle.std.specs.Str.{is_utf8}
 use Rattle.std.proofs.lemmas.Int.{of_z-to_z, to_z-of_z, ints}
@@ -10,7 +10,7 @@ use Rattle.std.proofs.lemmas.List.{take_at, drop_at, take-append-drop, length-ap
 use Rattle.std.proofs.lemmas.Nat.{be_bytes_2, be_bytes_4, be_bytes_8, from_be_bytes-to_be_bytes_2, from_be_bytes-to_be_bytes_4, from_be_bytes-to_be_bytes_8}
 use Rattle.ledger_terms.specs.Names.{is_name}
 use Rattle.wire_form.specs.Formats.{◌>>=◌}
-use Rattle.wire_form.specs.Fields.{bytes_at, byte_at, number_at, count_at, small_count_at, hash_at, name_at, text_at, int_at, truth_at}
+use Rattle.wire_form.specs.Fields.{bytes_at, number_at, count_at, small_count_at, hash_at, name_at, text_at, int_at, truth_at}
 use Rattle.wire_form.specs.Spelling.{spell_name, spell_text, spell_truth}
 use Rattle.wire_form.specs.InRange.{IsName, IsHash, IsShortText}
 use Rattle.wire_form.proofs.FormatLaws.{IsBytes, IsBytes-drop, IsBytes-take, IsBytes-rest, Takes, Takes-then, Reads, bind_ok, ok_is, guard_ok, test_ok}

@@ -2,7 +2,7 @@
 -- spelling, what is in range, and one `Reads` of the three: by `both_reads`, `seen_reads`, `counted_reads` (Compose) over
 -- the `.._reads` of single fields (FieldLaws) and of values and actions (ValueLaws). From it the answers of its decoder
 -- follow by `is_found` and `is_read` (PlacedLaws), and its laws by `none_begins_another` and `has_one_spelling`.
-use Rattle.std.proofs.Common.{◌≡◌, ℕ, suc, ◌+◌, ◌<◌, ◌≤◌, Bool, true, false, cond, List, [], ◌∷◌, ◌++◌, length, get_or, take, drop, Result, Ok, Err, refl, sym, ap, ◌∙◌, append_assoc, append-nil, arith, inl, inr}
+use Rattle.std.proofs.Common.{◌≡◌, ℕ, suc, ◌+◌, ◌<◌, Bool, true, false, cond, List, ◌∷◌, ◌++◌, get_or, take, drop, Result, Ok, Err, refl, sym, ap, ◌∙◌, append_assoc, arith, inl, inr}
 use Rattle.std.proofs.lemmas.Bool.{cases_lt}
 use Rattle.std.proofs.lemmas.List.{length-take, get_or-drop, get_or-take, get_or_past}
 use Rattle.wire_form.specs.Formats.{◌>>=◌, Reading}

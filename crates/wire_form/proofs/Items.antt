@@ -3,7 +3,7 @@
 use Rattle.std.proofs.Common.{◌≡◌, ℕ, suc, ◌-◌, ◌+◌, ◌≤◌, ◌<◌, Bool, List, Result, Ok, Err, refl, sym, ◌∙◌, arith}
 use Rattle.wire_form.specs.declared.stop.Stop.{Stop}
 use Rattle.wire_form.specs.declared.stop.Stop.TheVariants as stops
-use Rattle.wire_form.specs.Formats.{◌>>=◌, Fails, Reading, one_more, items_at}
+use Rattle.wire_form.specs.Formats.{Fails, Reading, one_more, items_at}
 
 module _ {A : Type 0} (admits : List A → A → Bool) (item : Reading A) where
   -- one item was read

@@ -1,5 +1,5 @@
 -- Lengths of spellings as numbers of the machine.
-use Rattle.std.specs.Prelude.{ℕ, ◌-◌, ◌^◌, min, List, length}
+use Rattle.std.specs.Prelude.{ℕ, ◌-◌, ◌^◌, min}
 
 -- the number, or the greatest usize where it is more
 abbrev pub capped : ℕ → ℕ

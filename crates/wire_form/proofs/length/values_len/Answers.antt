@@ -1,4 +1,4 @@
-use Rattle.std.proofs.Common.{◌≡◌, ℕ, length, get_or, arith, ap, ◌∙◌}
+use Rattle.std.proofs.Common.{◌≡◌, length, arith, ap, ◌∙◌}
 use Rattle.wire_form.specs.Lengths.{capped}
 use Rattle.wire_form.specs.Spelling.{spell_value}
 use Rattle.wire_form.proofs.Lens.{capped-one_more}
