@@ -22,7 +22,7 @@ use Rattle.ledger_model.specs.Mediation.{first_rejection}
 use Rattle.ledger_model.specs.Inbox.{inbox, clean, clean_time, node_log, node_active}
 use Rattle.ledger_model.specs.Reading.{Reading}
 use Rattle.report_text.specs.declared.node_view.NodeView.{NodeView}
-use Rattle.node_core.specs.NodeState.{NodeState, begun, with_item}
+use Rattle.node_core.specs.NodeState.{NodeState, begun, reading_of, with_item}
 use Rattle.node_core.specs.Entries.{item_from}
 use Rattle.node_core.specs.Jobs.{due_job, owed_at, is_decided_now}
 use Rattle.proto_model.specs.NoteForm.{note_request}
@@ -110,3 +110,13 @@ views_from reading params log p (host ∷ hosts) = view_at reading params log p 
 -- what each participant knows, in order of the topology
 abbrev pub views_of : List Host → Params → List Entry → List NodeView
 views_of hosts params log = views_from (plain_reading hosts) params log 0 hosts
+
+-- the same by what a participant has read
+abbrev pub view_in : NodeState → NodeView
+view_in state =
+    record {
+      clean = clean state.params state.items;
+      clean_time = clean_time state.params state.items;
+      commits = node_log state.params state.items;
+      active = node_active (reading_of state) state.me state.items (clean state.params state.items);
+    }

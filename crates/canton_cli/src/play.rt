@@ -1,18 +1,13 @@
 //! Playing a script of the form that is run today.
 ghost use Rattle.std.specs.Prelude.{◌≡◌, ◌≤◌, [], ◌∷◌, IfOk, OnOk, Some, length, take, option_copied};
 ghost use Rattle.ledger_model.specs.Inbox.{inbox};
-ghost use Rattle.proto_model.specs.PlainReading.{plain_reading};
-ghost use Rattle.node_core.specs.NodeState.{NodeState, reading_of};
-ghost use Rattle.canton_cli.specs.Play.{answer_of, with_message, with_answer, view_at, log_of_request};
-ghost use Rattle.ledger_model.specs.declared.message.Message.TheVariants.{Request as RequestMessage};
-ghost use Rattle.report_text.specs.declared.submit_result.SubmitResult.TheVariants.{Sent};
+ghost use Rattle.node_core.specs.NodeState.{begun, reading_of};
+ghost use Rattle.canton_cli.specs.Play.{answer_of, with_message, with_answer, view_in, log_of_request};
 
 use crate::mediation::decision_by;
-use crate::played::Played;
-use ledger_terms::ParticipantId;
 use node_core::{FinishFault, Node};
-use proto_model::{Entry, EntryList, Message, Request, Response, Setup, Verdict};
-use report_text::{NodeView, NodeViewList, SubmitResult, SubmitResultList};
+use proto_model::{Entry, EntryList, Message, Request, Response, Verdict};
+use report_text::NodeView;
 use std::alloc::{AllocError, Global};
 
 /// Puts a message at the end of the log. Without Ticks an entry's time is its place and one.
@@ -53,4 +48,59 @@ fn respond(alloc: Global, node: &mut Node<'_>) -> Result<Option<Response>, Alloc
         Err(FinishFault::Cancelled { .. }) => Ok(None),
         Err(FinishFault::Memory) => Err(AllocError),
     }
+}
+
+/// The request is sequenced, the participant responds to it, and the mediator decides. The node reads all.
+fn settle(
+    alloc: Global,
+    node: &mut Node<'_>,
+    log: &mut EntryList,
+    request: Request,
+) -> Result<(), AllocError>
+    requires begun { node.old ≡ begun node.old.hosts node.old.params 0 }
+    requires empty { log.old ≡ [] }
+    ensures log { OnOk result (log.new ≡ log_of_request node.old.hosts node.old.params request) }
+    ensures read { OnOk result (node.new.items ≡ inbox (reading_of node.old) 0 log.new) }
+    ensures same { OnOk result ((node.new.hosts ≡ node.old.hosts) × (node.new.params ≡ node.old.params) × (node.new.me ≡ 0)) }
+{
+    append(log, Message::Request(request))?;
+    read_to_end(alloc, node, log)?;
+    answer(alloc, node, log)?;
+    read_to_end(alloc, node, log)
+}
+
+/// Puts the participant's response at the end of the log, and the mediator's verdict after it.
+fn answer(alloc: Global, node: &mut Node<'_>, log: &mut EntryList) -> Result<(), AllocError>
+    requires { node.old.outbox ≡ [] }
+    ensures log { OnOk result (log.new ≡ with_answer log.old (answer_of node.old)) }
+    ensures same { OnOk result ((node.new.hosts ≡ node.old.hosts) × (node.new.params ≡ node.old.params)
+        × (node.new.me ≡ node.old.me) × (node.new.items ≡ node.old.items)) }
+{
+    if let Some(response) = respond(alloc, node)? {
+        append_decided(log, response)?;
+    }
+    Ok(())
+}
+
+fn append_decided(log: &mut EntryList, response: Response) -> Result<(), AllocError>
+    ensures { OnOk result (log.new ≡ with_answer log.old (Some response)) }
+{
+    let verdict = Verdict {
+        request: response.request,
+        decision: decision_by(&response)?,
+    };
+    append(log, Message::Response(response))?;
+    append(log, Message::Verdict(verdict))
+}
+
+/// What a participant knows at its clean place.
+fn view_of(alloc: Global, node: &Node<'_>) -> Result<NodeView, AllocError>
+    ensures { IfOk result (λ view. view ≡ view_in node.now) }
+{
+    Ok(NodeView {
+        clean: node.clean(),
+        clean_time: node.clean_time(),
+        commits: node.applied(alloc)?,
+        active: node.active(alloc)?,
+    })
 }

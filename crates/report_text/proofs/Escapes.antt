@@ -1,7 +1,7 @@
 -- A text is printed in runs: what stands before an escaped byte, and that byte's digits.
 use Rattle.std.proofs.Common.{◌≡◌, ℕ, ◌+◌, ◌-◌, ◌<◌, ◌≤◌, true, false, List, ◌++◌, length, get_or, take, drop, codes, length-drop, get_or-drop, append_assoc, arith}
 use Rattle.std.proofs.lemmas.Bool.Decides.{nat_tests}
-use Rattle.std.proofs.lemmas.List.{drop_more, take_more, at_drop_more}
+use Rattle.std.proofs.lemmas.List.{take_more, at_drop_more}
 use Rattle.std.specs.List.{flat_map}
 use Rattle.report_text.specs.Values.{is_escaped, byte_text, hex_pair}
 

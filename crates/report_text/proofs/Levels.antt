@@ -1,5 +1,5 @@
 -- Two spaces for one level, and the rest.
-use Rattle.std.proofs.Common.{◌≡◌, ℕ, zero, suc, ◌+◌, ◌-◌, ◌<◌, ◌∷◌, refl, ap, ◌∙◌, arith}
+use Rattle.std.proofs.Common.{◌≡◌, ℕ, suc, ◌+◌, ◌-◌, ◌<◌, ◌∷◌, ap, arith}
 use Rattle.report_text.specs.Actions.{indent}
 
 pub indent_step : (a b : ℕ) → b < a → indent (a - b) ≡ 32 ∷ 32 ∷ indent (a - (b + 1))

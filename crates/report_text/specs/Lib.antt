@@ -6,3 +6,4 @@ pub mod Results
 pub mod Outcomes
 pub mod Participants
 pub mod Report
+pub mod Totals

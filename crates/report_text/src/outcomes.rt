@@ -20,7 +20,7 @@ fn decision_in(message: &Message, request: u64) -> Option<&Decision>
 }
 
 /// The decision of the first verdict on the request.
-fn verdict_in(log: &EntryList, request: u64) -> Option<&Decision>
+pub fn verdict_in(log: &EntryList, request: u64) -> Option<&Decision>
     ensures { option_copied result ≡ verdict_on request (timeline_of log.now) }
 {
     'entries: for entry in log.as_slice() {
@@ -53,7 +53,7 @@ fn is_later(entry: &Entry, time: u64, params: &Params) -> bool
 }
 
 /// Whether some entry is later than the decision time of the request at the place.
-fn has_passed(log: &EntryList, place: usize, params: &Params) -> bool
+pub fn has_passed(log: &EntryList, place: usize, params: &Params) -> bool
     ensures { result ≡ is_past (decision_time_of params.now log.now place) (timeline_of log.now) }
 {
     let time = time_at(log, place);
@@ -65,7 +65,7 @@ fn has_passed(log: &EntryList, place: usize, params: &Params) -> bool
     false
 }
 
-fn is_request(message: &Message) -> bool
+pub fn is_request(message: &Message) -> bool
     ensures { result ≡ is_some (request_of message.now) }
 {
     match message {

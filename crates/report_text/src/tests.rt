@@ -1,235 +1,16 @@
+mod parts;
+
 use crate::*;
-use ledger_model::{
-    Commit, CommitList, Decision, Entry, EntryList, Envelope, EnvelopeList, LocalVerdict, Message,
-    Reason, Request, Response, Verdict, ViewVerdict, ViewVerdictList,
-};
+use ledger_model::{CommitList, Decision, EntryList, LocalVerdict, Message, Reason, Response};
 use ledger_terms::{
-    Action, ActionNode, ActionNodeList, ActiveRow, ActiveRowList, Bytes, CommandList, Hash, Host,
-    HostList, Instance, Known, Name, NameList, Params, ParticipantId, ParticipantIdList, PartySet,
-    Path, Submission, SubmissionList, TemplateName, Text, Topology, Value, ValueList, What,
+    ActiveRowList, Hash, ParticipantId, ParticipantIdList, Path, Text, Value, ValueList,
+};
+use parts::{
+    approval, create, decided, exercise, fetch, hold, instance_of, iou, name_of, note, parties_of,
+    party, path_of, put, refuse, request, see, send, submit, topology_of, verdicts_on,
 };
 use std::alloc::{AllocError, Global};
 use std::test::Fail;
-
-fn name_of(text: &str) -> Result<Name, AllocError> {
-    Name::read(text).ok_or(AllocError)
-}
-
-fn party(text: &str) -> Result<Value, AllocError> {
-    Ok(Value::Party(name_of(text)?))
-}
-
-fn topology_of(alloc: Global, names: &[&str]) -> Result<Topology, AllocError> {
-    let mut hosts = HostList::new(alloc);
-    for name in names {
-        hosts.push(Host {
-            name: name_of(name)?,
-            parties: PartySet::new(alloc),
-            vetted: NameList::new(alloc),
-        })?;
-    }
-    Ok(Topology {
-        hosts,
-        params: Params {
-            response_timeout: 30_000_000,
-            reaction_timeout: 30_000_000,
-            skew: 60_000_000,
-        },
-    })
-}
-
-fn instance_of(
-    alloc: Global,
-    template: &str,
-    first: &str,
-    second: &str,
-    third: Value,
-) -> Result<Instance, AllocError> {
-    let name = name_of(template)?;
-    let mut fields = ValueList::new(alloc);
-    fields.push(party(first)?)?;
-    fields.push(party(second)?)?;
-    fields.push(third)?;
-    Ok(Instance {
-        template: TemplateName {
-            package: name,
-            name,
-        },
-        fields,
-    })
-}
-
-fn iou(alloc: Global, owner: &str) -> Result<Instance, AllocError> {
-    instance_of(alloc, "Iou", "Bank", owner, Value::Int(10))
-}
-
-fn note(alloc: Global) -> Result<Instance, AllocError> {
-    let text = Value::Text(Text::of(alloc, "hi")?);
-    instance_of(alloc, "Note", "Alice", "Alice", text)
-}
-
-fn parties_of(alloc: Global, names: &[&str]) -> Result<PartySet, AllocError> {
-    let mut parties = PartySet::new(alloc);
-    for name in names {
-        parties.insert(name_of(name)?)?;
-    }
-    Ok(parties)
-}
-
-fn create(alloc: Global, instance: Instance) -> Result<ActionNodeList, AllocError> {
-    let mut nodes = ActionNodeList::new(alloc);
-    nodes.push(ActionNode {
-        seed: Hash([1; 32]),
-        action: Action::Create {
-            id: Hash([2; 32]),
-            instance,
-        },
-        children: ActionNodeList::new(alloc),
-    })?;
-    Ok(nodes)
-}
-
-fn exercise(
-    alloc: Global,
-    consuming: bool,
-    children: ActionNodeList,
-) -> Result<ActionNodeList, AllocError> {
-    let mut args = ValueList::new(alloc);
-    args.push(party("Carol")?)?;
-    let mut nodes = ActionNodeList::new(alloc);
-    nodes.push(ActionNode {
-        seed: Hash([1; 32]),
-        action: Action::Exercise {
-            id: Hash([2; 32]),
-            salt: Hash([3; 32]),
-            instance: iou(alloc, "Alice")?,
-            choice: name_of("Transfer")?,
-            args,
-            actors: parties_of(alloc, &["Alice"])?,
-            consuming,
-            result: Value::Unit,
-        },
-        children,
-    })?;
-    Ok(nodes)
-}
-
-fn fetch(alloc: Global) -> Result<ActionNodeList, AllocError> {
-    let mut nodes = ActionNodeList::new(alloc);
-    nodes.push(ActionNode {
-        seed: Hash([1; 32]),
-        action: Action::Fetch {
-            id: Hash([2; 32]),
-            salt: Hash([3; 32]),
-            instance: iou(alloc, "Alice")?,
-            actors: parties_of(alloc, &["Bank", "Alice"])?,
-        },
-        children: ActionNodeList::new(alloc),
-    })?;
-    Ok(nodes)
-}
-
-fn request(alloc: Global, sender: u8, command: &str, to: &[u8]) -> Result<Message, AllocError> {
-    let mut envelopes = EnvelopeList::new(alloc);
-    for p in to {
-        envelopes.push(Envelope {
-            to: ParticipantId(*p),
-            bytes: Bytes::new(alloc),
-        })?;
-    }
-    Ok(Message::Request(Request {
-        sender: ParticipantId(sender),
-        command: name_of(command)?,
-        confirming: ParticipantIdList::new(alloc),
-        mediator: Bytes::new(alloc),
-        envelopes,
-    }))
-}
-
-fn path_of(alloc: Global, steps: &[u16]) -> Result<Path, AllocError> {
-    let mut path = Path::new(alloc);
-    for step in steps {
-        path.push(*step)?;
-    }
-    Ok(path)
-}
-
-fn verdicts_on(
-    alloc: Global,
-    first: LocalVerdict,
-    inner: bool,
-) -> Result<ViewVerdictList, AllocError> {
-    let mut verdicts = ViewVerdictList::new(alloc);
-    verdicts.push(ViewVerdict {
-        view: path_of(alloc, &[0])?,
-        verdict: first,
-    })?;
-    if inner {
-        verdicts.push(ViewVerdict {
-            view: path_of(alloc, &[0, 0])?,
-            verdict: LocalVerdict::Approve,
-        })?;
-    }
-    Ok(verdicts)
-}
-
-fn approval(alloc: Global, from: u8, request: u64, inner: bool) -> Result<Message, AllocError> {
-    Ok(Message::Response(Response {
-        from: ParticipantId(from),
-        request,
-        verdicts: verdicts_on(alloc, LocalVerdict::Approve, inner)?,
-    }))
-}
-
-fn decided(request: u64, decision: Decision) -> Message {
-    Message::Verdict(Verdict { request, decision })
-}
-
-fn put(log: &mut EntryList, time: u64, message: Message) -> Result<(), AllocError> {
-    log.push(Entry { time, message })
-}
-
-fn submit(
-    alloc: Global,
-    rounds: &mut RoundSubmissionList,
-    participant: u8,
-    commands: &[&str],
-) -> Result<(), AllocError> {
-    let mut submissions = SubmissionList::new(alloc);
-    for command in commands {
-        submissions.push(Submission {
-            participant: ParticipantId(participant),
-            command: name_of(command)?,
-            act_as: PartySet::new(alloc),
-            ledger_time: None,
-            what: What::Commands(CommandList::new(alloc)),
-        })?;
-    }
-    rounds.push(submissions)
-}
-
-fn send(results: &mut SubmitResultList, place: u64) -> Result<(), AllocError> {
-    results.push(SubmitResult::Sent { place, read_to: 0 })
-}
-
-fn refuse(results: &mut SubmitResultList, fault: SubmitFault) -> Result<(), AllocError> {
-    results.push(SubmitResult::Refused { fault, read_to: 0 })
-}
-
-fn see(commits: &mut CommitList, place: u64, roots: ActionNodeList) -> Result<(), AllocError> {
-    commits.push(Commit { place, roots })
-}
-
-fn hold(rows: &mut ActiveRowList, created_at: u64, instance: Instance) -> Result<(), AllocError> {
-    rows.push(ActiveRow {
-        created_at,
-        known: Known {
-            id: Hash([2; 32]),
-            salt: Hash([1; 32]),
-            instance,
-        },
-    })
-}
 
 #[test]
 fn prints_each_kind_of_value(rt: HostRuntime) -> Result<(), Fail> {
@@ -561,6 +342,50 @@ result 2 P1 o refused TooLarge
 result 2 P1 p refused NoRoles
 result 2 P1 q refused Duplicate 3
 result 2 P1 r refused LogFull 4 3
+end
+";
+    assert_eq!(rt; text.as_str(), want);
+    Ok(())
+}
+
+fn odd_summary(alloc: Global) -> Result<Text, AllocError> {
+    let topology = topology_of(alloc, &["P1", "P2"])?;
+    let log = odd_log(alloc)?;
+    let mut results = SubmitResultList::new(alloc);
+    send(&mut results, 0)?;
+    refuse(&mut results, SubmitFault::Paused)?;
+    send(&mut results, 3)?;
+    let mut active = ActiveRowList::new(alloc);
+    hold(&mut active, 0, iou(alloc, "Alice")?)?;
+    let other = instance_of(alloc, "Note", "Alice", "Alice", Value::Int(7))?;
+    hold(&mut active, 0, other)?;
+    let unit = instance_of(alloc, "Iou", "Bank", "Alice", Value::Unit)?;
+    hold(&mut active, 0, unit)?;
+    let debt = instance_of(alloc, "Iou", "Bank", "Alice", Value::Int(-13))?;
+    hold(&mut active, 0, debt)?;
+    let mut views = NodeViewList::new(alloc);
+    views.push(NodeView {
+        clean: 9,
+        clean_time: 90_000_008,
+        commits: CommitList::new(alloc),
+        active,
+    })?;
+    views.push(transfer_view(alloc, true, false)?)?;
+    summary(alloc, &topology, &log, &results, &views)
+}
+
+#[test]
+fn sums_up(rt: HostRuntime) -> Result<(), Fail> {
+    let text = odd_summary(rt.alloc())?;
+    let want = "requests 4
+approved 0
+rejected 1
+timeout 1
+expired 1
+undecided 1
+refused 1
+active P1 4 amount -3
+active P2 0 amount 0
 end
 ";
     assert_eq!(rt; text.as_str(), want);

@@ -1,0 +1,85 @@
+-- The summary of a run: how many requests ended how, how many submissions were refused, and what is active.
+use Rattle.std.specs.Prelude.{ℕ, ◌+◌, ℤ, pos, ◌+ℤ◌, Bool, true, false, ◌&&◌, if◌then◌else◌, is_some, List, [], ◌∷◌, ◌++◌, codes, decimal, length, count_by}
+use Rattle.std.specs.Fmt.{signed_decimal}
+use Rattle.std.specs.List.{flat_map, zip}
+use Rattle.std.specs.Str.{bytes_eq}
+use Rattle.ledger_terms.specs.declared.active_row.ActiveRow.{ActiveRow}
+use Rattle.ledger_terms.specs.declared.host.Host.{Host}
+use Rattle.ledger_terms.specs.declared.instance.Instance.{Instance}
+use Rattle.ledger_terms.specs.declared.template_name.TemplateName.{TemplateName}
+use Rattle.ledger_terms.specs.declared.topology.Topology.{Topology}
+use Rattle.ledger_terms.specs.declared.value.Value.{Value}
+use Rattle.ledger_terms.specs.declared.value.Value.TheVariants.{Int}
+use Rattle.ledger_model.specs.declared.message.Entry.{Entry}
+use Rattle.ledger_model.specs.declared.message.Outcome.{Outcome}
+use Rattle.ledger_model.specs.declared.message.Outcome.TheVariants.{Approved, Rejected, TimedOut, Expired, Undecided}
+use Rattle.ledger_model.specs.Log.{request_of, decision_time_of}
+use Rattle.ledger_model.specs.Timeline.{kind_of, outcome_of, timeline_of}
+use Rattle.report_text.specs.declared.node_view.NodeView.{NodeView}
+use Rattle.report_text.specs.declared.submit_result.SubmitResult.{SubmitResult}
+use Rattle.report_text.specs.declared.submit_result.SubmitResult.TheVariants.{Sent, Refused}
+
+-- how the request at a place ended
+abbrev pub kind_at : Topology → List Entry → ℕ → Outcome
+kind_at topology log place = kind_of (outcome_of (timeline_of log) place (decision_time_of topology.params log place))
+
+-- how the requests among entries of a log ended, in order, the first entry at this place
+abbrev pub kinds_from : Topology → List Entry → ℕ → List Entry → List Outcome
+kinds_from topology log place [] = []
+kinds_from topology log place (entry ∷ entries) =
+    (if is_some (request_of entry.message) then kind_at topology log place ∷ [] else []) ++ kinds_from topology log (place + 1) entries
+
+abbrev pub is_same : Outcome → Outcome → Bool
+is_same Approved Approved = true
+is_same Rejected Rejected = true
+is_same TimedOut TimedOut = true
+is_same Expired Expired = true
+is_same Undecided Undecided = true
+is_same kind other = false
+
+-- a word and how many requests ended so
+abbrev pub count_line : List ℕ → Outcome → List Outcome → List ℕ
+count_line word kind kinds = word ++ codes " " ++ decimal (count_by (λ other. is_same other kind) kinds) ++ codes "\n"
+
+abbrev pub is_refused : SubmitResult → Bool
+is_refused (Sent place read_to) = false
+is_refused (Refused fault read_to) = true
+
+abbrev pub is_iou : TemplateName → Bool
+is_iou template = bytes_eq template.package (codes "Iou") && bytes_eq template.name (codes "Iou")
+
+-- the third of the values, where it is an Int
+abbrev pub third_number : List Value → ℤ
+third_number (first ∷ second ∷ Int number ∷ more) = number
+third_number values = pos 0
+
+-- what a contract counts for: an Iou has its amount as its third field
+abbrev pub amount_of : Instance → ℤ
+amount_of contract = if is_iou contract.template then third_number contract.fields else pos 0
+
+-- a number with the amounts of contracts added
+abbrev pub amounts_onto : ℤ → List ActiveRow → ℤ
+amounts_onto total [] = total
+amounts_onto total (row ∷ rows) = amounts_onto (total +ℤ amount_of row.known.instance) rows
+
+-- a participant's active contracts, their number and the sum of their amounts
+abbrev pub active_total_line : Host × NodeView → List ℕ
+active_total_line (host, view) =
+    codes "active " ++ host.name ++ codes " " ++ decimal (length view.active) ++ codes " amount " ++ signed_decimal (amounts_onto (pos 0) view.active) ++ codes "\n"
+
+-- the lines that count requests by how they ended
+abbrev pub count_lines : List Outcome → List ℕ
+count_lines kinds =
+    codes "requests " ++ decimal (length kinds) ++ codes "\n"
+    ++ count_line (codes "approved") Approved kinds
+    ++ count_line (codes "rejected") Rejected kinds
+    ++ count_line (codes "timeout") TimedOut kinds
+    ++ count_line (codes "expired") Expired kinds
+    ++ count_line (codes "undecided") Undecided kinds
+
+abbrev pub summary_of : Topology → List Entry → List SubmitResult → List NodeView → List ℕ
+summary_of topology log results views =
+    count_lines (kinds_from topology log 0 log)
+    ++ codes "refused " ++ decimal (count_by is_refused results) ++ codes "\n"
+    ++ flat_map active_total_line (zip topology.hosts views)
+    ++ codes "end\n"
