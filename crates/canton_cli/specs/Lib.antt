@@ -1,3 +1,4 @@
 pub mod FirstForm
 pub mod Script
 pub mod Play
+pub mod Run

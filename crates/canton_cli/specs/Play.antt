@@ -1,6 +1,6 @@
 -- How a script of the form that is run today is played: its one request is sequenced, its participant responds, and the
 -- mediator decides.
-use Rattle.std.specs.Prelude.{ℕ, suc, ◌+◌, Bool, List, [], ◌∷◌, ◌++◌, length, Option, Some, None, nat_le, slice_get, unwrap_or, option_and_then, if◌then◌else◌}
+use Rattle.std.specs.Prelude.{◌≡◌, ℕ, suc, ◌+◌, Bool, List, [], ◌∷◌, ◌++◌, length, Option, Some, None, nat_le, slice_get, unwrap_or, option_and_then, if◌then◌else◌}
 use Rattle.ledger_terms.specs.declared.host.Host.{Host}
 use Rattle.ledger_terms.specs.declared.params.Params.{Params}
 use Rattle.ledger_terms.specs.declared.value.Value.TheVariants.{Text}
@@ -22,10 +22,14 @@ use Rattle.ledger_model.specs.Mediation.{first_rejection}
 use Rattle.ledger_model.specs.Inbox.{inbox, clean, clean_time, node_log, node_active}
 use Rattle.ledger_model.specs.Reading.{Reading}
 use Rattle.report_text.specs.declared.node_view.NodeView.{NodeView}
+use Rattle.report_text.specs.declared.submit_result.SubmitResult.TheVariants.{Sent}
+use Rattle.canton_cli.specs.declared.played.Played.{Played}
+use Rattle.canton_cli.specs.declared.script.Script.{Script}
 use Rattle.node_core.specs.NodeState.{NodeState, begun, reading_of, with_item}
 use Rattle.node_core.specs.Entries.{item_from}
 use Rattle.node_core.specs.Jobs.{due_job, owed_at, is_decided_now}
-use Rattle.proto_model.specs.NoteForm.{note_request}
+use Rattle.proto_model.specs.NoteForm.{note_form, note_request}
+use Rattle.proto_model.specs.Plain.{IsPlain}
 use Rattle.proto_model.specs.PlainReading.{plain_reading}
 
 -- ---- the request
@@ -46,6 +50,16 @@ text_in_what what = None
 abbrev pub sole_party : List (List ℕ) → Option (List ℕ)
 sole_party (party ∷ []) = Some party
 sole_party parties = None
+
+-- the request of a note by who hosts its one party, at ledger time 0
+abbrev pub request_by : Option Host → (participant : ℕ) (command : List ℕ) → Option (List ℕ) → Option (List ℕ) → Option Request
+request_by (Some host) participant command (Some party) (Some text) =
+    if nat_le (length text) 256 then Some (note_request participant host.name command party text 0) else None
+request_by host participant command party text = None
+
+unfoldable pub prepared : List Host → Submission → Option Request
+prepared hosts submission =
+    request_by (slice_get hosts submission.participant) submission.participant submission.command (sole_party submission.act_as) (text_in_what submission.what)
 
 -- the one submission of a script
 abbrev pub sole_submission : List (List Submission) → Option Submission
@@ -120,3 +134,31 @@ view_in state =
       commits = node_log state.params state.items;
       active = node_active (reading_of state) state.me state.items (clean state.params state.items);
     }
+
+-- what is written of a request is in range
+abbrev pub IsPlainRequest : Option Host → (command : List ℕ) → Option (List ℕ) → Option (List ℕ) → Option Request → Type 0
+IsPlainRequest (Some host) command (Some party) (Some text) (Some request) = IsPlain (note_form host.name command party text 0)
+IsPlainRequest host command party text request = Unit {0}
+
+abbrev pub IsPlainIfPrepared : List Host → Submission → Option Request → Type 0
+IsPlainIfPrepared hosts submission request =
+    IsPlainRequest (slice_get hosts submission.participant) submission.command (sole_party submission.act_as) (text_in_what submission.what) request
+
+-- what was played of a script: the log and the views of its one request, or none
+abbrev pub PlayedAs : List Host → Params → Played → Option Request → Type 0
+PlayedAs hosts params played None =
+    (played.log ≡ []) × (played.results ≡ []) × (played.views ≡ view_in (begun hosts params 0) ∷ [])
+PlayedAs hosts params played (Some request) =
+    (played.log ≡ log_of_request hosts params request) × (played.results ≡ Sent 0 0 ∷ []) × (played.views ≡ view_at (plain_reading hosts) params played.log 0 ∷ [])
+
+-- what is written of the request of a script is in range
+abbrev pub IsPlainOf : List Host → Option Submission → Type 0
+IsPlainOf hosts None = Unit {0}
+IsPlainOf hosts (Some submission) = IsPlainIfPrepared hosts submission (prepared hosts submission)
+
+abbrev pub IsPlainScript : Script → Type 0
+IsPlainScript script = IsPlainOf script.setup.topology.hosts (sole_submission script.rounds)
+
+-- the request of a script's one submission
+abbrev pub request_of_script : Script → Option Request
+request_of_script script = option_and_then (prepared script.setup.topology.hosts) (sole_submission script.rounds)

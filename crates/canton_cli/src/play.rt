@@ -1,13 +1,19 @@
 //! Playing a script of the form that is run today.
 ghost use Rattle.std.specs.Prelude.{◌≡◌, ◌≤◌, [], ◌∷◌, IfOk, OnOk, Some, length, take, option_copied};
 ghost use Rattle.ledger_model.specs.Inbox.{inbox};
+ghost use Rattle.proto_model.specs.PlainReading.{plain_reading};
+ghost use Rattle.report_text.specs.declared.submit_result.SubmitResult.TheVariants.{Sent};
 ghost use Rattle.node_core.specs.NodeState.{begun, reading_of};
-ghost use Rattle.canton_cli.specs.Play.{answer_of, with_message, with_answer, view_in, log_of_request};
+ghost use Rattle.canton_cli.specs.Play.{answer_of, with_message, with_answer, view_in, view_at, log_of_request, sole_submission, request_of_script, PlayedAs, IsPlainScript};
 
 use crate::mediation::decision_by;
+use crate::played::Played;
+use crate::prepare::prepare;
+use crate::script::Script;
+use ledger_terms::{ParticipantId, Submission};
 use node_core::{FinishFault, Node};
-use proto_model::{Entry, EntryList, Message, Request, Response, Verdict};
-use report_text::NodeView;
+use proto_model::{Entry, EntryList, Message, Request, Response, Setup, Verdict};
+use report_text::{NodeView, NodeViewList, RoundSubmissionList, SubmitResult, SubmitResultList};
 use std::alloc::{AllocError, Global};
 
 /// Puts a message at the end of the log. Without Ticks an entry's time is its place and one.
@@ -66,7 +72,8 @@ fn settle(
     append(log, Message::Request(request))?;
     read_to_end(alloc, node, log)?;
     answer(alloc, node, log)?;
-    read_to_end(alloc, node, log)
+    read_to_end(alloc, node, log)?;
+    Ok(())
 }
 
 /// Puts the participant's response at the end of the log, and the mediator's verdict after it.
@@ -103,4 +110,67 @@ fn view_of(alloc: Global, node: &Node<'_>) -> Result<NodeView, AllocError>
         commits: node.applied(alloc)?,
         active: node.active(alloc)?,
     })
+}
+
+/// The log, the answers and what the participant knows where there is no request.
+fn nothing(alloc: Global, setup: &Setup) -> Result<Played, AllocError>
+    ensures { IfOk result (λ played. (played.log ≡ []) × (played.results ≡ []) × (played.views ≡ view_in (begun setup.now.topology.hosts setup.now.topology.params 0) ∷ [])) }
+{
+    let node = Node::new(alloc, setup, ParticipantId(0));
+    let mut views = NodeViewList::new(alloc);
+    views.push(view_of(alloc, &node)?)?;
+    Ok(Played {
+        log: EntryList::new(alloc),
+        results: SubmitResultList::new(alloc),
+        views,
+    })
+}
+
+/// The same where there is one: it stands at place 0, and the participant had read nothing before.
+fn one_request(alloc: Global, setup: &Setup, request: Request) -> Result<Played, AllocError>
+    ensures log { IfOk result (λ played. played.log ≡ log_of_request setup.now.topology.hosts setup.now.topology.params request) }
+    ensures results { IfOk result (λ played. played.results ≡ Sent 0 0 ∷ []) }
+    ensures views { IfOk result (λ played. played.views ≡ view_at (plain_reading setup.now.topology.hosts) setup.now.topology.params played.log 0 ∷ []) }
+{
+    let mut node = Node::new(alloc, setup, ParticipantId(0));
+    let mut log = EntryList::new(alloc);
+    settle(alloc, &mut node, &mut log, request)?;
+    let mut results = SubmitResultList::new(alloc);
+    results.push(SubmitResult::Sent {
+        place: 0,
+        read_to: 0,
+    })?;
+    let mut views = NodeViewList::new(alloc);
+    views.push(view_of(alloc, &node)?)?;
+    Ok(Played {
+        log,
+        results,
+        views,
+    })
+}
+
+fn sole_submission(rounds: &RoundSubmissionList) -> Option<&Submission>
+    ensures { option_copied result ≡ sole_submission rounds.now }
+{
+    match rounds.as_slice() {
+        [submits] => match submits.as_slice() {
+            [submission] => Some(submission),
+            _ => None,
+        },
+        _ => None,
+    }
+}
+
+/// Plays a script of the form that is run today.
+pub fn play(alloc: Global, script: &Script) -> Result<Played, AllocError>
+    ensures played { IfOk result (λ played. PlayedAs script.now.setup.topology.hosts script.now.setup.topology.params played (request_of_script script.now)) }
+    ensures plain { IfOk result (λ _. IsPlainScript script.now) }
+{
+    let Some(submission) = sole_submission(&script.rounds) else {
+        return nothing(alloc, &script.setup);
+    };
+    match prepare(alloc, &script.setup, submission)? {
+        Some(request) => one_request(alloc, &script.setup, request),
+        None => nothing(alloc, &script.setup),
+    }
 }
