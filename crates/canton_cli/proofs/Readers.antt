@@ -17,8 +17,8 @@ pub record IsReader (start s : NodeState) (log : List Entry) : Type 0 where
   pub same : s ≡ record start { items = s.items }
 
 module _ (start s s' : NodeState) (log : List Entry) (entry : Entry) (item : Item) (r : IsReader start s log)
-  (there : slice_get log (length s.items) ≡ Some entry) (grown : s' ≡ with_item s item)
-  (inboxed : (before : List Entry) → s.items ≡ inbox (reading_of s) s.me before → s'.items ≡ inbox (reading_of s) s.me (before ++ entry ∷ [])) where
+    (there : slice_get log (length s.items) ≡ Some entry) (grown : s' ≡ with_item s item)
+    (inboxed : (before : List Entry) → s.items ≡ inbox (reading_of s) s.me before → s'.items ≡ inbox (reading_of s) s.me (before ++ entry ∷ [])) where
   one_longer : length (s.items ++ item ∷ []) ≡ length s.items + 1
   one_longer = length-append s.items (item ∷ [])
 

@@ -4,6 +4,7 @@ ghost use Rattle.std.specs.Prelude.{◌≡◌, MatchResult, IfOk, Ok, Err, codes
 ghost use Rattle.ledger_terms.specs.Answers.{Follows};
 ghost use Rattle.serde_json.specs.View.{view, items_view};
 ghost use Rattle.serde_json.specs.Find.{get};
+ghost use Rattle.canton_cli.specs.FirstScript.{IsFirst};
 ghost use Rattle.canton_cli.specs.FirstForm.{default_params, name_in, sole_of, list_in, text_in, is_text, is_text_if, is_party, parties_in, host_in, words_in, note_args, fields_in, create_in, command_in, party_of, actor_in, wanted_in, is_submission, command_id_in, submission_in, submits_in, submits_if, round_in, rounds_in, sole_host_in, is_script, played_in, first_form};
 
 use crate::script::Script;
@@ -314,7 +315,11 @@ fn read_round(alloc: Global, value: &Value, host: &Host) -> Result<SubmissionLis
 }
 
 #[tactic(auto, unfolding(crate::specs::FirstForm::rounds_in))]
-fn read_rounds(alloc: Global, items: &[Value], host: &Host) -> Result<RoundSubmissionList, ScriptFault>
+fn read_rounds(
+    alloc: Global,
+    items: &[Value],
+    host: &Host,
+) -> Result<RoundSubmissionList, ScriptFault>
     ensures { Follows ScriptFault.Memory result (rounds_in host.now (items_view items.now)) }
 {
     let mut rounds = RoundSubmissionList::new(alloc);
@@ -344,17 +349,20 @@ fn is_script(value: &Value) -> bool
 }
 
 #[tactic(auto, unfolding(crate::specs::FirstForm::played_in))]
-fn read_played(alloc: Global, value: &Value, host: &Host) -> Result<RoundSubmissionList, ScriptFault>
+fn read_played(
+    alloc: Global,
+    value: &Value,
+    host: &Host,
+) -> Result<RoundSubmissionList, ScriptFault>
     ensures { Follows ScriptFault.Memory result (played_in host.now (view value.now)) }
 {
     let items = read_list(value, "rounds")?;
     read_rounds(alloc, items, host)
 }
 
-/// The script of a JSON value of that form; NotBuilt comes exactly where the value isn't of it.
 #[tactic(auto, unfolding(crate::specs::FirstForm::first_form))]
-pub fn read_first_form(alloc: Global, value: &Value) -> Result<Script, ScriptFault>
-    ensures { Follows ScriptFault.Memory result (first_form (view value.now)) }
+fn read_form(alloc: Global, value: &Value) -> Result<Script, ScriptFault>
+    ensures exact { Follows ScriptFault.Memory result (first_form (view value.now)) }
 {
     if !is_script(value) {
         return Err(ScriptFault::NotBuilt);
@@ -371,4 +379,13 @@ pub fn read_first_form(alloc: Global, value: &Value) -> Result<Script, ScriptFau
         setup: Setup { topology },
         rounds,
     })
+}
+
+/// The script of a JSON value of that form; NotBuilt comes exactly where the value isn't of it.
+pub fn read_first_form(alloc: Global, value: &Value) -> Result<Script, ScriptFault>
+    ensures exact { Follows ScriptFault.Memory result (first_form (view value.now)) }
+    ensures first { IfOk result IsFirst }
+{
+    let script = read_form(alloc, value)?;
+    Ok(script)
 }

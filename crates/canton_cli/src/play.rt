@@ -4,7 +4,9 @@ ghost use Rattle.ledger_model.specs.Inbox.{inbox};
 ghost use Rattle.proto_model.specs.PlainReading.{plain_reading};
 ghost use Rattle.report_text.specs.declared.submit_result.SubmitResult.TheVariants.{Sent};
 ghost use Rattle.node_core.specs.NodeState.{begun, reading_of};
-ghost use Rattle.canton_cli.specs.Play.{answer_of, with_message, with_answer, view_in, view_at, log_of_request, sole_submission, request_of_script, PlayedAs, IsPlainScript};
+ghost use Rattle.canton_cli.specs.Play.{answer_of, with_message, with_answer, view_in, view_at, log_of_request, sole_submission, request_of_script, views_of, PlayedAs, IsPlainScript};
+ghost use Rattle.canton_cli.specs.FirstScript.{IsFirst};
+ghost use Rattle.canton_cli.specs.Run.{IsRun, hosts_of, params_of};
 
 use crate::mediation::decision_by;
 use crate::played::Played;
@@ -163,6 +165,15 @@ fn sole_submission(rounds: &RoundSubmissionList) -> Option<&Submission>
 
 /// Plays a script of the form that is run today.
 pub fn play(alloc: Global, script: &Script) -> Result<Played, AllocError>
+    requires { IsFirst script.now }
+    ensures run { IfOk result (λ played. IsRun script.now played.log played.results) }
+    ensures views { IfOk result (λ played. played.views ≡ views_of (hosts_of script.now) (params_of script.now) played.log) }
+{
+    let played = play_submission(alloc, script)?;
+    Ok(played)
+}
+
+fn play_submission(alloc: Global, script: &Script) -> Result<Played, AllocError>
     ensures played { IfOk result (λ played. PlayedAs script.now.setup.topology.hosts script.now.setup.topology.params played (request_of_script script.now)) }
     ensures plain { IfOk result (λ _. IsPlainScript script.now) }
 {

@@ -2,7 +2,9 @@
 ghost use Rattle.std.specs.Prelude.{◌≡◌, IfOk, option_map, option_copied, slice_get};
 ghost use Rattle.canton_cli.specs.Play.{text_in_what, sole_party, prepared, IsPlainIfPrepared};
 
-use ledger_terms::{Arg, Command, Host, HostList, Name, ParticipantId, PartySet, Submission, Value, What};
+use ledger_terms::{
+    Arg, Command, Host, HostList, Name, ParticipantId, PartySet, Submission, Value, What,
+};
 use proto_model::note_request::note_request;
 use proto_model::{Request, Setup};
 use std::alloc::{AllocError, Global};
@@ -40,7 +42,11 @@ fn sole_party(parties: &PartySet) -> Option<Name>
 
 /// The request of a submission that creates a note of the submitting party to itself; none of any other submission.
 #[tactic(auto, unfolding(crate::specs::Play::prepared))]
-pub fn prepare(alloc: Global, setup: &Setup, submission: &Submission) -> Result<Option<Request>, AllocError>
+pub fn prepare(
+    alloc: Global,
+    setup: &Setup,
+    submission: &Submission,
+) -> Result<Option<Request>, AllocError>
     ensures request { IfOk result (λ request. request ≡ prepared setup.now.topology.hosts submission.now) }
     ensures plain { IfOk result (λ request. IsPlainIfPrepared setup.now.topology.hosts submission.now request) }
 {

@@ -1,5 +1,6 @@
 //! Scripts.
-ghost use Rattle.std.specs.Prelude.{◌≡◌};
+ghost use Rattle.std.specs.Prelude.{IfOk};
+ghost use Rattle.canton_cli.specs.FirstScript.{IsFirst};
 ghost use Rattle.ledger_terms.specs.Answers.{Follows};
 ghost use Rattle.canton_cli.specs.Script.{script_of};
 
@@ -22,7 +23,8 @@ pub struct Script {
 /// create of the built-in Note.
 #[tactic(auto, unfolding(crate::specs::Script::script_of))]
 pub fn read_script(alloc: Global, bytes: &[u8]) -> Result<Script, ScriptFault>
-    ensures { Follows ScriptFault.Memory result (script_of bytes.now) }
+    ensures exact { Follows ScriptFault.Memory result (script_of bytes.now) }
+    ensures first { IfOk result IsFirst }
 {
     let value = read_json(alloc, bytes)?;
     read_first_form(alloc, &value)

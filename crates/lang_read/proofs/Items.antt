@@ -4,7 +4,7 @@ use Rattle.std.proofs.lemmas.List.{at_drop_more, at_drop_all}
 use Rattle.serde_json.specs.Data.{Data, item, no_items}
 use Rattle.serde_json.specs.View.{view, items_view}
 use Rattle.serde_json.specs.declared.value.Value.{Value}
-use Rattle.lang_read.specs.Walk.{ ◌>>=◌, walk_items, item_count}
+use Rattle.lang_read.specs.Walk.{◌>>=◌, walk_items, item_count}
 use Rattle.lang_read.specs.declared.script_fault.ScriptFault.{ScriptFault}
 
 pub item_count_view : (vs : List Value) → item_count (items_view vs) ≡ length vs
@@ -27,4 +27,3 @@ module _ {A : Type 0} (step : ℕ → A → Data → Result A ScriptFault) (i : 
   pub walk_items-fails : (v : Value) (e : ScriptFault) → i < length vs → v ≡ get_or vs i v → step i a (view v) ≡ Err e
       → walk_items step i a (items_view (drop i vs)) ≡ Err e
   walk_items-fails v e h at fails = rw fails at (walk_items-at v h at)
-
