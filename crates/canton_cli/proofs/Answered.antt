@@ -1,20 +1,16 @@
 -- A participant that is shown one view that it confirms responds to it at once.
-use Rattle.std.proofs.Common.{◌≡◌, ℕ, ◌+◌, ◌≤◌, Bool, true, false, List, [], ◌∷◌, ◌++◌, Option, Some, None, nat_lt, refl, sym, ap, ◌∙◌, subst, arith}
-use Rattle.std.specs.Prelude.{option_map, ◌||◌, ◌&&◌, not}
+use Rattle.std.proofs.Common.{◌≡◌, ℕ, ◌+◌, ◌≤◌, true, false, List, [], ◌∷◌, Option, Some, nat_lt, refl, ap, ◌∙◌, arith}
 use Rattle.std.proofs.lemmas.Bool.Decides.{nat_tests}
 use Rattle.ledger_terms.specs.declared.host.Host.{Host}
 use Rattle.ledger_terms.specs.declared.params.Params.{Params}
-use Rattle.ledger_model.specs.declared.message.Message.TheVariants.{Request as RequestMessage}
-use Rattle.ledger_model.specs.declared.message.Request.{Request}
-use Rattle.ledger_model.specs.declared.message.Response.{Response}
 use Rattle.ledger_model.specs.declared.check.ViewVerdict.{ViewVerdict}
-use Rattle.ledger_model.specs.Reading.{Reading, Shown, OpenedView}
-use Rattle.ledger_model.specs.Inbox.{Item, Received, inbox, received}
+use Rattle.ledger_model.specs.Reading.{Shown, OpenedView}
+use Rattle.ledger_model.specs.Inbox.{Received, received}
 use Rattle.ledger_model.specs.Checks.{is_confirmed_by, verdicts_owed}
 use Rattle.node_core.specs.NodeState.{NodeState}
 use Rattle.node_core.specs.Jobs.{is_due, is_decided_now, due_job}
 use Rattle.proto_model.specs.PlainReading.{plain_reading}
-use Rattle.canton_cli.specs.Play.{answer_at, answer_of, reader_of, next_entry}
+use Rattle.canton_cli.specs.Play.{answer_at, answer_of}
 
 not_past : (rt xt : ℕ) → nat_lt (1 + rt + xt) 1 ≡ false
 not_past rt xt = let late : 1 ≤ 1 + rt + xt = omega arith in grind (arith, nat_tests)

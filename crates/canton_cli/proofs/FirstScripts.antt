@@ -1,10 +1,9 @@
 -- What the first form tells of a script.
-use Rattle.std.proofs.Common.{◌≡◌, ◌⊎◌, ℕ, ◌≤◌, Bool, true, false, cond, List, [], ◌∷◌, length, Option, Some, None, Result, Ok, Err, nat_le, ok_or, refl, sym, ap, ◌∙◌, subst, inl, inr, arith}
-use Rattle.std.specs.Prelude.{⊤, ◌&&◌, codes}
+use Rattle.std.proofs.Common.{◌≡◌, ◌⊎◌, ℕ, ◌≤◌, Bool, true, false, cond, List, [], ◌∷◌, length, Option, Some, None, Ok, Err, nat_le, ok_or, refl, sym, ap, ◌∙◌, subst, inl, inr, arith}
+use Rattle.std.specs.Prelude.{◌&&◌, codes}
 use Rattle.std.proofs.lemmas.Bool.Decides.{nat_tests}
 use Rattle.serde_json.specs.Data.{Data, Items, no_items, item}
 use Rattle.serde_json.specs.Find.{as_array, as_str, get}
-use Rattle.ledger_terms.specs.Names.{is_name}
 use Rattle.ledger_terms.specs.declared.host.Host.{Host}
 use Rattle.ledger_terms.specs.declared.arg.Arg.{Arg}
 use Rattle.ledger_terms.specs.declared.command.Command.{Command}
@@ -12,11 +11,10 @@ use Rattle.ledger_terms.specs.declared.command.Command.TheVariants.{Create}
 use Rattle.ledger_terms.specs.declared.what.What.TheVariants.{Commands}
 use Rattle.ledger_terms.specs.declared.submission.Submission.{Submission}
 use Rattle.lang_read.specs.Walk.{◌>>=◌, check, has_members}
-use Rattle.lang_read.specs.declared.script_fault.ScriptFault.{ScriptFault}
 use Rattle.lang_read.specs.declared.script_fault.ScriptFault.TheVariants.{NotBuilt}
 use Rattle.proto_model.specs.Note.{note_name, note_template}
 use Rattle.canton_cli.specs.declared.script.Script.{Script}
-use Rattle.canton_cli.specs.FirstForm.{Read, default_params, text_in, list_in, sole_of, is_text, is_text_if, is_party, is_submission, command_id_in, is_script, words_in, note_args, name_in, parties_in, host_in, fields_in, create_in, command_in, party_of, actor_in, wanted_in, submission_in, submits_in, submits_if, round_in, rounds_in, sole_host_in, played_in, first_form}
+use Rattle.canton_cli.specs.FirstForm.{Read, text_in, list_in, sole_of, is_text, is_text_if, is_party, is_submission, command_id_in, is_script, words_in, note_args, name_in, parties_in, host_in, fields_in, create_in, command_in, party_of, actor_in, wanted_in, submission_in, submits_in, submits_if, round_in, rounds_in, sole_host_in, played_in, first_form}
 use Rattle.canton_cli.specs.FirstScript.{note_submission, IsFirst}
 use Rattle.canton_cli.specs.Play.{sole_submission}
 

@@ -1,6 +1,6 @@
 -- What is played of a script is a run of it.
-use Rattle.std.proofs.Common.{◌≡◌, ◌⊎◌, ℕ, ◌≤◌, true, List, [], ◌∷◌, ◌++◌, length, Option, Some, None, nat_le, refl, sym, ap, ◌∙◌, subst, inl, inr, arith}
-use Rattle.std.specs.Prelude.{option_map, option_and_then, if◌then◌else◌}
+use Rattle.std.proofs.Common.{◌≡◌, ◌⊎◌, ℕ, ◌≤◌, true, List, [], ◌∷◌, length, Option, Some, None, nat_le, refl, sym, ap, ◌∙◌, subst, inl, inr, arith}
+use Rattle.std.specs.Prelude.{option_map, option_and_then}
 use Rattle.std.proofs.lemmas.Bool.Decides.{nat_tests}
 use Rattle.ledger_terms.specs.declared.host.Host.{Host}
 use Rattle.ledger_terms.specs.declared.params.Params.{Params}
@@ -10,14 +10,14 @@ use Rattle.ledger_model.specs.declared.message.Request.{Request}
 use Rattle.ledger_model.specs.declared.message.Response.{Response}
 use Rattle.ledger_model.specs.declared.message.Message.TheVariants.{Request as RequestMessage}
 use Rattle.ledger_model.specs.Genuine.{Genuine, NoCollision}
-use Rattle.ledger_model.specs.Reading.{Reading, Shown}
+use Rattle.ledger_model.specs.Reading.{Shown}
 use Rattle.ledger_model.specs.Checks.{verdicts_owed}
-use Rattle.ledger_model.specs.Inbox.{inbox, received}
+use Rattle.ledger_model.specs.Inbox.{received}
 use Rattle.proto_model.specs.Note.{note_name}
 use Rattle.proto_model.specs.NoteForm.{note_form, note_request}
-use Rattle.proto_model.specs.NoteLog.{approval, request_entry, note_log, sole_host, LeavesTime}
-use Rattle.proto_model.specs.Plain.{IsPlain, spell_plain, plain_of}
-use Rattle.proto_model.specs.PlainReading.{plain_reading, plain_to, shown_of_form, view_of_form}
+use Rattle.proto_model.specs.NoteLog.{approval, note_log, sole_host, LeavesTime}
+use Rattle.proto_model.specs.Plain.{IsPlain, spell_plain}
+use Rattle.proto_model.specs.PlainReading.{plain_reading, shown_of_form, view_of_form}
 use Rattle.proto_model.proofs.PlainLaws.{plain_again}
 use Rattle.proto_model.proofs.NoteRun.{request_owed, request_genuine, request_collides_not}
 use Rattle.proto_model.proofs.Sealed.{same_self, or_false}
@@ -26,7 +26,7 @@ use Rattle.canton_cli.specs.declared.played.Played.{Played}
 use Rattle.canton_cli.specs.declared.script.Script.{Script}
 use Rattle.canton_cli.specs.FirstForm.{default_params}
 use Rattle.canton_cli.specs.FirstScript.{note_submission, IsFirst}
-use Rattle.canton_cli.specs.Play.{prepared, sole_submission, with_message, with_answer, answer_of, reader_of, next_entry, log_of_request, view_at, view_in, views_from, views_of, IsPlainIfPrepared, IsPlainOf, IsPlainScript, PlayedAs, request_of_script}
+use Rattle.canton_cli.specs.Play.{prepared, sole_submission, with_message, with_answer, answer_of, reader_of, next_entry, log_of_request, views_from, views_of, IsPlainIfPrepared, IsPlainOf, IsPlainScript, PlayedAs, request_of_script}
 use Rattle.canton_cli.specs.Run.{IsRun, hosts_of, params_of, if_request, results_of}
 use Rattle.canton_cli.proofs.Answered.{responds}
 use Rattle.canton_cli.proofs.Runs.{is_run, empty_run, note_settled}

@@ -1,5 +1,5 @@
 -- How a run may end.
-use Rattle.std.specs.Prelude.{◌≡◌, ◌≢◌, ◌↔◌, ℕ, ◌+◌, ◌≤◌, ◌<◌, true, List, [], length, Option, Some, Result, Ok, Err}
+use Rattle.std.specs.Prelude.{◌≡◌, ◌≢◌, ◌↔◌, ℕ, ◌+◌, ◌≤◌, ◌<◌, true, List, [], length, Option, Some, Ok, Err}
 use Rattle.std.proofs.Common.{◌⊎◌}
 use Rattle.std.specs.Io.KnownBytes.{Consumes, Keeps, IsAtEnd}
 use Rattle.lang_read.specs.declared.script_fault.ScriptFault.{ScriptFault}

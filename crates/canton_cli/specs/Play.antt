@@ -1,6 +1,6 @@
 -- How a script of the form that is run today is played: its one request is sequenced, its participant responds, and the
 -- mediator decides.
-use Rattle.std.specs.Prelude.{◌≡◌, ℕ, suc, ◌+◌, Bool, List, [], ◌∷◌, ◌++◌, length, Option, Some, None, nat_le, slice_get, unwrap_or, option_and_then, if◌then◌else◌}
+use Rattle.std.specs.Prelude.{◌≡◌, ℕ, suc, ◌+◌, List, [], ◌∷◌, ◌++◌, length, Option, Some, None, nat_le, slice_get, unwrap_or, option_and_then, if◌then◌else◌}
 use Rattle.ledger_terms.specs.declared.host.Host.{Host}
 use Rattle.ledger_terms.specs.declared.params.Params.{Params}
 use Rattle.ledger_terms.specs.declared.value.Value.TheVariants.{Text}

@@ -8,11 +8,10 @@ mod play;
 mod played;
 mod prepare;
 mod script;
-mod top_call;
-mod words;
-
 #[cfg(test)]
 mod tests;
+mod top_call;
+mod words;
 
 use cn_io::{ReadSource, WriteSink};
 use finish::Finish;

@@ -7,21 +7,13 @@ use std::alloc::{AllocError, Global};
 use std::test::Fail;
 
 const EMPTY: &str = "{\"participants\":[{\"name\":\"P1\",\"parties\":[\"Alice\"]}],\"rounds\":[]}";
-const NOTE: &str = "{\"participants\":[{\"name\":\"P1\",\"parties\":[\"Alice\"]}],\"rounds\":[{\"submits\":[{\"participant\":\"P1\",\"command\":\"c1\",\"act_as\":[\"Alice\"],\"commands\":[{\"create\":{\"template\":\"Note.Note\",\"fields\":[{\"party\":\"Alice\"},{\"party\":\"Alice\"},\"hi\"]}}]}]}]}";
 
-/// One run: its words, its script, and the calls of its source and its sink that fail, 0 for none.
-struct Trial<'t> {
-    words: &'t [&'t str],
-    script: &'t str,
-    take_fails: u64,
-    put_fails: u64,
-}
+const NOTE: &str =
+    "{\"participants\":[{\"name\":\"P1\",\"parties\":[\"Alice\"]}],\"rounds\":[{\"submits\":[{\"participant\":\"P1\",\"command\":\"c1\",\"act_as\":[\"Alice\"],\"commands\":[{\"create\":{\"template\":\"Note.Note\",\"fields\":[{\"party\":\"Alice\"},{\"party\":\"Alice\"},\"hi\"]}}]}]}]}";
 
-fn words_of(alloc: Global, all: &[&str]) -> Result<WordList, AllocError> {
+fn words_of(alloc: Global, word: &str) -> Result<WordList, AllocError> {
     let mut words = WordList::new(alloc);
-    for word in all {
-        words.push(Text::of(alloc, word)?)?;
-    }
+    words.push(Text::of(alloc, word)?)?;
     Ok(words)
 }
 
@@ -31,30 +23,32 @@ fn calls(alloc: Global, call: u64) -> Result<U64List, AllocError> {
     Ok(fails)
 }
 
-/// Runs it, with pieces of 16 bytes.
-fn try_run(alloc: Global, trial: &Trial) -> Result<(Finish, MemSink), AllocError> {
+/// Runs one word, in pieces of 16 bytes, with a source and a sink that fail at these calls, 0 for none.
+fn try_run(
+    alloc: Global,
+    word: &str,
+    script: &str,
+    take_fails: u64,
+    put_fails: u64,
+) -> Result<(Finish, MemSink), AllocError> {
     let mut bytes = Bytes::new(alloc);
-    bytes.extend(trial.script.as_bytes())?;
-    let mut source = MemSource::new(bytes, 16, calls(alloc, trial.take_fails)?);
-    let mut sink = MemSink::new(alloc, 16, calls(alloc, trial.put_fails)?);
-    let words = words_of(alloc, trial.words)?;
+    bytes.extend(script.as_bytes())?;
+    let mut source = MemSource::new(bytes, 16, calls(alloc, take_fails)?);
+    let mut sink = MemSink::new(alloc, 16, calls(alloc, put_fails)?);
+    let words = words_of(alloc, word)?;
     let finish = run(alloc, &words, &mut source, &mut sink);
     Ok((finish, sink))
 }
 
 #[test]
 fn plays_scripts(rt: HostRuntime) -> Result<(), Fail> {
-    let mut trial = Trial {
-        words: &["run"],
-        script: EMPTY,
-        take_fails: 0,
-        put_fails: 0,
-    };
-    let (finish, sink) = try_run(rt.alloc(), &trial)?;
+    let (finish, sink) = try_run(rt.alloc(), "run", EMPTY, 0, 0)?;
     assert_eq!(rt; finish.status, 0);
-    assert_eq!(rt; sink.written(), b"entries 0\nparticipant P1 clean 0 time 0\nend\n".as_slice());
-    trial.script = NOTE;
-    let (finish, _) = try_run(rt.alloc(), &trial)?;
+    assert_eq!(rt;
+        sink.written(),
+        b"entries 0\nparticipant P1 clean 0 time 0\nend\n".as_slice()
+    );
+    let (finish, _) = try_run(rt.alloc(), "run", NOTE, 0, 0)?;
     assert_eq!(rt; finish.status, 0);
     assert_eq!(rt; finish.log.len(), 3);
     assert_eq!(rt; finish.results.len(), 1);
@@ -62,33 +56,31 @@ fn plays_scripts(rt: HostRuntime) -> Result<(), Fail> {
 }
 
 #[test]
-fn ends_with_faults(rt: HostRuntime) -> Result<(), Fail> {
-    let mut trial = Trial {
-        words: &["run"],
-        script: NOTE,
-        take_fails: 0,
-        put_fails: 2,
-    };
-    let (finish, sink) = try_run(rt.alloc(), &trial)?;
+fn writes_what_comes_before_a_fault(rt: HostRuntime) -> Result<(), Fail> {
+    let (finish, sink) = try_run(rt.alloc(), "run", NOTE, 0, 2)?;
     assert_eq!(rt; finish.status, 5);
     assert_eq!(rt; sink.written(), b"entries 3\n0 1 re".as_slice());
-    trial.take_fails = 1;
-    assert_eq!(rt; try_run(rt.alloc(), &trial)?.0.status, 4);
-    trial.words = &["help"];
-    assert_eq!(rt; try_run(rt.alloc(), &trial)?.0.status, 2);
-    trial.words = &[];
-    assert_eq!(rt; try_run(rt.alloc(), &trial)?.0.status, 2);
+    Ok(())
+}
+
+fn status_of(alloc: Global, word: &str, script: &str, take_fails: u64) -> Result<u8, AllocError> {
+    let (finish, _) = try_run(alloc, word, script, take_fails, 0)?;
+    Ok(finish.status)
+}
+
+#[test]
+fn ends_with_the_status_of_the_fault(rt: HostRuntime) -> Result<(), Fail> {
+    assert_eq!(rt; status_of(rt.alloc(), "run", NOTE, 1)?, 4);
+    assert_eq!(rt; status_of(rt.alloc(), "help", NOTE, 0)?, 2);
+    assert_eq!(rt;
+        status_of(rt.alloc(), "run", "{\"participants\":[{\"name\":\"P", 0)?,
+        3
+    );
     Ok(())
 }
 
 fn fault_name(alloc: Global, script: &str) -> Result<&'static str, AllocError> {
-    let trial = Trial {
-        words: &["run"],
-        script,
-        take_fails: 0,
-        put_fails: 0,
-    };
-    let (finish, _) = try_run(alloc, &trial)?;
+    let (finish, _) = try_run(alloc, "run", script, 0, 0)?;
     match &finish.fault {
         Some(fault) => Ok(fault.name()),
         None => Ok("none"),
@@ -97,7 +89,13 @@ fn fault_name(alloc: Global, script: &str) -> Result<&'static str, AllocError> {
 
 #[test]
 fn names_faults_of_scripts(rt: HostRuntime) -> Result<(), Fail> {
-    assert_eq!(rt; fault_name(rt.alloc(), "{\"participants\":[{\"name\":\"P")?, "NotJson");
-    assert_eq!(rt; fault_name(rt.alloc(), "{\"participants\":[]}")?, "NotBuilt");
+    assert_eq!(rt;
+        fault_name(rt.alloc(), "{\"participants\":[{\"name\":\"P")?,
+        "NotJson"
+    );
+    assert_eq!(rt;
+        fault_name(rt.alloc(), "{\"participants\":[]}")?,
+        "NotBuilt"
+    );
     Ok(())
 }

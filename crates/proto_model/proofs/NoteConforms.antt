@@ -1,5 +1,5 @@
 -- The test of conformance decides it, for creates and fetches of notes.
-use Rattle.std.proofs.Common.{◌≡◌, Bool, true, false, List, [], ◌∷◌, refl}
+use Rattle.std.proofs.Common.{◌≡◌, true, [], refl}
 use Rattle.std.proofs.lemmas.Bool.{and_parts, and_from}
 use Rattle.ledger_terms.specs.declared.action.Action.{Action}
 use Rattle.ledger_terms.specs.declared.action.Action.TheVariants.{Create, Exercise, Fetch}

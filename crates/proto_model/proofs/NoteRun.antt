@@ -1,7 +1,6 @@
 -- A note of a party to itself is approved by its one participant, and its log is genuine.
-use Rattle.std.proofs.Common.{◌≡◌, ℕ, zero, suc, ◌+◌, ◌<◌, ◌≤◌, Bool, true, false, List, [], ◌∷◌, ◌++◌, length, Option, Some, None, nat_eq, nat_le, ne_eqb, get_or, refl, sym, ap, ◌∙◌, subst, arith, length-append}
-use Rattle.std.specs.Prelude.{option_map, if◌then◌else◌, ◌||◌, ◌&&◌}
-use Rattle.std.specs.List.{list_any}
+use Rattle.std.proofs.Common.{◌≡◌, ℕ, zero, suc, ◌+◌, ◌≤◌, true, false, List, [], ◌∷◌, length, Option, Some, None, nat_eq, nat_le, ne_eqb, refl, sym, ap, ◌∙◌, arith, length-append}
+use Rattle.std.specs.Prelude.{option_map, if◌then◌else◌, ◌&&◌}
 use Rattle.std.proofs.lemmas.Bool.{and_parts, and_from}
 use Rattle.std.proofs.lemmas.Bool.Decides.{nat_tests}
 use Rattle.ledger_terms.specs.Hosting.{hosts_at}
@@ -13,8 +12,7 @@ use Rattle.ledger_model.specs.Language.{roles_of}
 use Rattle.ledger_model.specs.Reading.{Reading, Shown}
 use Rattle.ledger_model.specs.Genuine.{IsSealed, Genuine, NoCollision}
 use Rattle.ledger_model.specs.Checks.{verdicts_owed, verdicts_on, verdict_on_view, is_confirmed_by, authorises_children, is_requested, is_within}
-use Rattle.ledger_model.specs.Inbox.{Item, Received, inbox, received, shown_in}
-use Rattle.wire_form.specs.Spelling.{spell_instance}
+use Rattle.ledger_model.specs.Inbox.{Received, inbox, received, shown_in}
 use Rattle.proto_model.specs.NoteForm.{root_seed_of, note_of, note_form, note_request, request_to_self}
 use Rattle.proto_model.specs.NoteLanguage.{is_short, note_conforms, note_language}
 use Rattle.proto_model.specs.NoteLog.{approval, request_entry, note_log, sole_host, LeavesTime}

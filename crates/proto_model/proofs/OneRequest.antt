@@ -1,25 +1,24 @@
 -- The log of one request of a participant to itself that approves it, over any reading.
-use Rattle.std.proofs.Common.{◌≡◌, ℕ, zero, suc, ◌+◌, ◌<◌, ◌≤◌, Bool, true, false, List, [], ◌∷◌, ◌++◌, Option, Some, None, nat_lt, take, Contains, refl, sym, ap, ◌∙◌, subst, inl, inr, arith}
+use Rattle.std.proofs.Common.{◌≡◌, ℕ, zero, suc, ◌+◌, ◌≤◌, true, false, List, [], ◌∷◌, Option, Some, nat_lt, Contains, refl, sym, ap, ◌∙◌, subst, inl, inr, arith}
 use Rattle.std.specs.Prelude.{slice_get}
 use Rattle.std.proofs.lemmas.Bool.Decides.{nat_tests}
 use Rattle.std.proofs.lemmas.Option.{same_Some, none-some}
 use Rattle.ledger_terms.specs.declared.params.Params.{Params}
-use Rattle.ledger_model.specs.declared.message.Request.{Request}
 use Rattle.ledger_model.specs.declared.message.Entry.{Entry}
 use Rattle.ledger_model.specs.declared.message.Decision.TheVariants.{Approved}
 use Rattle.ledger_model.specs.declared.check.LocalVerdict.TheVariants.{Approve}
-use Rattle.ledger_model.specs.Terms.{Act, id_of, instance_of}
+use Rattle.ledger_model.specs.Terms.{Act, instance_of}
 use Rattle.ledger_model.specs.Forest.{acts}
 use Rattle.ledger_model.specs.Mediation.{scan}
-use Rattle.ledger_model.specs.Reading.{Reading, Transaction, Shown, OpenedView}
-use Rattle.ledger_model.specs.Inbox.{Item, Received, inbox, received}
+use Rattle.ledger_model.specs.Reading.{Reading, Transaction, OpenedView}
+use Rattle.ledger_model.specs.Inbox.{Item, inbox}
 use Rattle.ledger_model.specs.Checks.{verdicts_owed, verdicts_on, verdict_on_view, is_confirmed_by}
 use Rattle.ledger_model.specs.Ledger.{FitsIfVerdict, whole_at, commit_of}
 use Rattle.ledger_model.specs.Evidence.{acts_of}
 use Rattle.ledger_model.specs.Genuine.{IsSealed, FitsIfRequest, FitsIfResponse, Genuine, NoCollision}
 use Rattle.ledger_model.proofs.Lists.{In, in_from_Contains}
 use Rattle.proto_model.specs.NoteForm.{request_to_self}
-use Rattle.proto_model.specs.NoteLog.{approval, request_entry, response_entry, verdict_entry, note_log, LeavesTime}
+use Rattle.proto_model.specs.NoteLog.{approval, request_entry, response_entry, note_log, LeavesTime}
 
 -- one view that is confirmed here and approved
 pub one_view : (reading : Reading) (params : Params) (items : List Item) (time : ℕ) (requesters : _) (roots : _) (view : OpenedView)

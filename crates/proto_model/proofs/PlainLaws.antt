@@ -1,20 +1,15 @@
 -- The plain form has one spelling.
-use Rattle.std.proofs.Common.{◌≡◌, ℕ, ◌<◌, ◌^◌, List, [], ◌∷◌, ◌++◌, Result, Ok, Err, Option, Some, None, refl, sym, ap, ◌∙◌, subst, append-nil}
+use Rattle.std.proofs.Common.{◌≡◌, ℕ, ◌<◌, ◌^◌, List, [], ◌∷◌, Result, Ok, Err, Option, Some, None, refl, sym, ap, ◌∙◌, subst, append-nil}
 use Rattle.std.specs.Prelude.{IfSome}
-use Rattle.std.specs.Int.{w64, to_be_bytes}
 use Rattle.ledger_terms.specs.declared.action.Action.{Action}
 use Rattle.ledger_terms.specs.declared.action.Action.TheVariants.{Create, Exercise, Fetch}
-use Rattle.wire_form.specs.Formats.{Reading, both_at}
-use Rattle.wire_form.specs.Fields.{number_at, hash_at}
-use Rattle.wire_form.specs.Reading.{set_at, action_at}
-use Rattle.wire_form.specs.Spelling.{spell_parties, spell_action}
-use Rattle.wire_form.specs.InRange.{IsHash, IsPartySet, IsInstance, IsAction}
-use Rattle.wire_form.proofs.FormatLaws.{IsBytes, Takes, Reads}
+use Rattle.wire_form.specs.InRange.{IsHash, IsPartySet, IsAction}
+use Rattle.wire_form.proofs.FormatLaws.{IsBytes, Reads}
 use Rattle.wire_form.proofs.Compose.{both_reads}
 use Rattle.wire_form.proofs.FieldLaws.{u64_reads, hash_reads}
 use Rattle.wire_form.proofs.ValueLaws.{set_reads, action_reads}
 use Rattle.proto_model.specs.declared.plain_form.PlainForm.{PlainForm}
-use Rattle.proto_model.specs.Plain.{PlainParts, spell_parts, parts_at, parts_of, spell_plain, form_of, if_last, plain_if, plain_of, IsPlain}
+use Rattle.proto_model.specs.Plain.{PlainParts, spell_parts, parts_at, parts_of, spell_plain, form_of, plain_if, plain_of, IsPlain}
 
 abbrev Fits : PlainParts → Type 0
 Fits p = (((IsPartySet p.0.0.0.0 × (p.0.0.0.1 < 2 ^ 64)) × IsHash p.0.0.1) × IsHash p.0.1) × IsAction p.1

@@ -1,5 +1,5 @@
 -- A request of one note of a party to itself is sealed.
-use Rattle.std.proofs.Common.{◌≡◌, ℕ, Bool, true, false, List, [], ◌∷◌, ◌++◌, Option, Some, None, nat_eq, eq-eqb, zero, suc, Contains, refl, sym, ap, ◌∙◌, subst, inl, inr, arith}
+use Rattle.std.proofs.Common.{◌≡◌, ℕ, Bool, true, false, List, [], ◌∷◌, Option, Some, None, nat_eq, eq-eqb, zero, suc, Contains, refl, sym, ap, ◌∙◌, subst, inl, inr, arith}
 use Rattle.std.specs.Prelude.{slice_get, option_map, if◌then◌else◌, ◌||◌}
 use Rattle.std.specs.List.{list_any}
 use Rattle.std.specs.Cmp.{IsEquivalence}
@@ -14,13 +14,13 @@ use Rattle.ledger_terms.specs.Parties.{name_below, same_name, set_of}
 use Rattle.ledger_terms.specs.declared.host.Host.{Host}
 use Rattle.ledger_model.specs.declared.message.Request.{Request}
 use Rattle.ledger_model.specs.Terms.{Act, instance_of}
-use Rattle.ledger_model.specs.Forest.{Forest, NoRoots, Root, acts, project, trees_of, root_trees}
-use Rattle.ledger_model.specs.Reading.{Reading, OpenedView, Shown, roots_in}
+use Rattle.ledger_model.specs.Forest.{Forest, NoRoots, acts, project, trees_of, root_trees}
+use Rattle.ledger_model.specs.Reading.{OpenedView, Shown, roots_in}
 use Rattle.ledger_model.specs.Inbox.{is_informed}
 use Rattle.ledger_model.specs.Checks.{is_confirmed_by}
 use Rattle.ledger_model.specs.Genuine.{IsCovered, IsRootCovered, IsSealed}
 use Rattle.ledger_model.proofs.Lists.{In, in_from_Contains}
-use Rattle.proto_model.specs.NoteLanguage.{note_language, has_note_roles, is_note, owner_of, reader_of}
+use Rattle.proto_model.specs.NoteLanguage.{has_note_roles, owner_of}
 use Rattle.proto_model.specs.NoteRequest.{IsNoteRequest}
 use Rattle.proto_model.specs.PlainReading.{plain_to, plain_reading, root_of, roots_of_form, view_of_form, shown_of_form, whole_of_form}
 use Rattle.proto_model.specs.declared.plain_form.PlainForm.{PlainForm}

@@ -1,6 +1,5 @@
 -- The log of one note: its request, the response of its one participant, and the verdict.
-use Rattle.std.specs.Prelude.{◌≡◌, ℕ, ◌+◌, ◌≤◌, true, List, [], ◌∷◌}
-use Rattle.ledger_terms.specs.Parties.{has_party}
+use Rattle.std.specs.Prelude.{ℕ, ◌≤◌, List, [], ◌∷◌}
 use Rattle.ledger_terms.specs.declared.host.Host.{Host}
 use Rattle.ledger_terms.specs.declared.params.Params.{Params}
 use Rattle.ledger_model.specs.declared.message.Request.{Request}
@@ -10,8 +9,6 @@ use Rattle.ledger_model.specs.declared.message.Decision.TheVariants.{Approved}
 use Rattle.ledger_model.specs.declared.check.LocalVerdict.TheVariants.{Approve}
 use Rattle.ledger_model.specs.declared.check.ViewVerdict.{ViewVerdict}
 use Rattle.proto_model.specs.Note.{note_name}
-use Rattle.proto_model.specs.NoteForm.{note_form, note_request}
-use Rattle.proto_model.specs.Plain.{IsPlain}
 
 -- the one view is approved
 abbrev pub approval : List ViewVerdict

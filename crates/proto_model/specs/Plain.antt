@@ -1,8 +1,7 @@
 -- The plain form of an envelope: who requests, the ledger time, the seeds of the transaction and of its root, and the root, a
 -- Create.
-use Rattle.std.specs.Prelude.{◌≡◌, ℕ, ◌<◌, ◌^◌, List, [], ◌∷◌, ◌++◌, Option, Some, None, Result, Ok, Err, option_map, option_and_then}
+use Rattle.std.specs.Prelude.{ℕ, ◌<◌, ◌^◌, List, [], ◌∷◌, ◌++◌, Option, Some, None, Result, Ok, Err}
 use Rattle.std.specs.Int.{w64, to_be_bytes}
-use Rattle.ledger_terms.specs.declared.instance.Instance.{Instance}
 use Rattle.ledger_terms.specs.declared.action.Action.{Action}
 use Rattle.ledger_terms.specs.declared.action.Action.TheVariants.{Create, Exercise, Fetch}
 use Rattle.wire_form.specs.Formats.{Reading, both_at}

@@ -1,12 +1,11 @@
 -- How the definitions of the ledger model read requests whose envelopes have the plain form.
-use Rattle.std.specs.Prelude.{ℕ, Bool, true, false, List, [], ◌∷◌, ◌++◌, Option, Some, None, option_map, option_and_then, nat_eq, slice_get, if◌then◌else◌}
+use Rattle.std.specs.Prelude.{ℕ, Bool, false, List, [], ◌∷◌, ◌++◌, Option, Some, None, option_map, option_and_then, nat_eq, slice_get, if◌then◌else◌}
 use Rattle.std.specs.Str.{bytes_eq}
 use Rattle.sha2.specs.Sha256.{sha256}
 use Rattle.hash_id.specs.Strings.{contract_id_string}
 use Rattle.ledger_terms.specs.Hosting.{hosts_at}
 use Rattle.ledger_terms.specs.Parties.{has_party, set_of}
 use Rattle.ledger_terms.specs.declared.host.Host.{Host}
-use Rattle.ledger_terms.specs.declared.topology.Topology.{Topology}
 use Rattle.ledger_terms.specs.declared.action.Action.TheVariants.{Create, Exercise, Fetch}
 use Rattle.ledger_model.specs.Terms.{Act, Action, Instance, id_of, instance_of}
 use Rattle.ledger_model.specs.Forest.{Forest, NoRoots, Root}

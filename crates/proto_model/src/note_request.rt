@@ -67,6 +67,7 @@ pub fn note_form(
     let instance = note_of(alloc, party, text)?;
     let id = id_of_contract(alloc, &own_seed, &instance)?;
     let requesters = set_of_one(alloc, party)?;
+    // these state that names and hashes have their lengths
     let _name = party.as_bytes();
     let _seed_bytes = seed.as_bytes();
     let _own_seed_bytes = own_seed.as_bytes();
