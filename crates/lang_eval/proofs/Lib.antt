@@ -1,0 +1,7 @@
+pub mod Values
+pub mod KindLists
+pub mod Runs
+pub mod RoleLaws
+pub mod IouTyped
+pub mod NamesEnd
+pub mod Informed

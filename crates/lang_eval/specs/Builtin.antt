@@ -1,0 +1,90 @@
+-- What is there without being written: the package Note, and the choice Archive of each template.
+use Rattle.std.specs.Prelude.{◌≡◌, ℕ, Bool, true, false, List, [], ◌∷◌, ◌++◌, map, codes}
+use Rattle.ledger_terms.specs.declared.kind.Kind.{Kind}
+use Rattle.ledger_terms.specs.declared.kind.Kind.TheVariants.{Party as PartyKind, Text as TextKind, Unit as UnitKind}
+use Rattle.ledger_terms.specs.declared.value.Value.TheVariants.{Bool as BoolValue, Text as TextValue, Unit as UnitValue}
+use Rattle.ledger_terms.specs.declared.field_decl.FieldDecl.{FieldDecl}
+use Rattle.ledger_terms.specs.declared.template_name.TemplateName.{TemplateName}
+use Rattle.ledger_terms.specs.Syntax.{ExprForm, ExprForms, Literal, Var, SetOf, NoExprs, MoreExprs, StmtForms, Create, Exercise, NoStmts, MoreStmts}
+use Rattle.ledger_terms.specs.Packages.{PackageForm, TemplateForm, ChoiceForm}
+
+abbrev pub archive_name : List ℕ
+archive_name = codes "Archive"
+
+-- consuming, without parameters or consequences, controlled by the signatories
+abbrev pub archive_of : ExprForm → ChoiceForm
+archive_of signatories =
+    record {
+      name = archive_name;
+      consuming = true;
+      params = [];
+      controllers = signatories;
+      observers = SetOf NoExprs;
+      returns = UnitKind;
+      body = NoStmts;
+      result = Literal UnitValue;
+    }
+
+abbrev pub with_archive : TemplateForm → TemplateForm
+with_archive t =
+    record {
+      name = t.name;
+      fields = t.fields;
+      ensure = t.ensure;
+      signatories = t.signatories;
+      observers = t.observers;
+      choices = t.choices ++ archive_of t.signatories ∷ [];
+    }
+
+abbrev pub with_archives : PackageForm → PackageForm
+with_archives p = record { name = p.name; templates = map with_archive p.templates }
+
+abbrev pub one_party : List ℕ → ExprForm
+one_party name = SetOf (MoreExprs (Var name) NoExprs)
+
+abbrev pub declared : List ℕ → Kind → FieldDecl
+declared name kind = record { name = name; kind = kind }
+
+abbrev pub note_template : TemplateName
+note_template = record { «package» = codes "Note"; name = codes "Note" }
+
+-- creates a note of the same owner and reader, and archives it
+abbrev pub flash_body : StmtForms
+flash_body =
+    MoreStmts (Create (codes "x") note_template (MoreExprs (Var (codes "this.owner")) (MoreExprs (Var (codes "this.reader")) (MoreExprs (Literal (TextValue (codes "flash"))) NoExprs))))
+    (MoreStmts (Exercise (codes "y") note_template (Var (codes "x")) archive_name NoExprs) NoStmts)
+
+abbrev pub flash_form : ChoiceForm
+flash_form =
+    record {
+      name = codes "Flash";
+      consuming = false;
+      params = [];
+      controllers = one_party (codes "this.owner");
+      observers = SetOf NoExprs;
+      returns = UnitKind;
+      body = flash_body;
+      result = Literal UnitValue;
+    }
+
+abbrev pub note_fields : List FieldDecl
+note_fields = declared (codes "owner") PartyKind ∷ declared (codes "reader") PartyKind ∷ declared (codes "text") TextKind ∷ []
+
+abbrev pub note_template_form : TemplateForm
+note_template_form =
+    record {
+      name = codes "Note";
+      fields = note_fields;
+      ensure = Literal (BoolValue true);
+      signatories = one_party (codes "this.owner");
+      observers = one_party (codes "this.reader");
+      choices = flash_form ∷ [];
+    }
+
+-- a note of an owner, who signs, to a reader, who observes
+abbrev pub note_form : PackageForm
+note_form = record { name = codes "Note"; templates = note_template_form ∷ [] }
+
+-- Note first, and Archive in each template
+abbrev pub checked_packages : List PackageForm → List PackageForm
+checked_packages given = map with_archives (note_form ∷ given)

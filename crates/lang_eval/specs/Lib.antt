@@ -1,0 +1,13 @@
+pub mod Names
+pub mod Value
+pub mod Found
+pub mod Next
+pub mod Shown
+pub mod Kinds
+pub mod Parts
+pub mod Builtin
+pub mod Typed
+pub mod Checking
+pub mod Language
+pub mod RoleSets
+pub mod Iou

@@ -1,0 +1,41 @@
+-- The roles of an action, one after another.
+use Rattle.std.specs.Prelude.{Bool, if◌then◌else◌, [], ◌++◌, Result, Ok, Err}
+use Rattle.ledger_terms.specs.Parties.{set_of}
+use Rattle.ledger_terms.specs.declared.action.Action.{Action}
+use Rattle.ledger_terms.specs.declared.action.Action.TheVariants.{Create, Exercise, Fetch}
+use Rattle.ledger_model.specs.declared.roles.Roles.{Roles}
+use Rattle.lang_eval.specs.declared.role_fault.RoleFault.{RoleFault}
+use Rattle.lang_eval.specs.declared.role_fault.RoleFault.TheVariants.{NoRoles}
+use Rattle.lang_eval.specs.declared.contract_parties.ContractParties.{ContractParties}
+use Rattle.lang_eval.specs.Found.{Packages}
+use Rattle.lang_eval.specs.Parts.{PartyNames}
+use Rattle.lang_eval.specs.Language.{parties_if_typed, observers_if_typed}
+
+abbrev pub on_parties : {A B : Type 0} → Result A RoleFault → (A → Result B RoleFault) → Result B RoleFault
+on_parties (Ok p) go = go p
+on_parties (Err e) go = Err NoRoles
+
+abbrev pub stakeholders_in : ContractParties → PartyNames
+stakeholders_in p = set_of (p.signatories ++ p.observers)
+
+-- of a contract with these actors and informees
+abbrev pub with_actors : ContractParties → PartyNames → PartyNames → Roles
+with_actors p actors informees =
+    record {
+      signatories = p.signatories;
+      observers = p.observers;
+      actors = actors;
+      informees = informees;
+      confirmers = set_of (p.signatories ++ actors);
+    }
+
+abbrev pub told_first : ContractParties → Bool → PartyNames
+told_first p consuming = if consuming then stakeholders_in p else p.signatories
+
+abbrev pub roles_after : Packages → Action → Result Roles RoleFault
+roles_after packages (Create id i) = on_parties (parties_if_typed packages i) (λ p. Ok (with_actors p [] (stakeholders_in p)))
+roles_after packages (Exercise id salt i choice args actors consuming result) =
+    on_parties (parties_if_typed packages i) (λ p.
+    on_parties (observers_if_typed packages (record { id = id; instance = i; choice = choice; args = args })) (λ o.
+    Ok (with_actors p actors (set_of (told_first p consuming ++ (actors ++ o))))))
+roles_after packages (Fetch id salt i actors) = on_parties (parties_if_typed packages i) (λ p. Ok (with_actors p actors (set_of (p.signatories ++ actors))))

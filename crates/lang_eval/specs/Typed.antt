@@ -1,0 +1,169 @@
+-- Packages that are well typed.
+use Rattle.std.specs.Prelude.{◌≡◌, ℕ, Bool, true, false, List, [], ◌∷◌, ◌++◌, map, Option, Some, None, find, if◌then◌else◌, codes}
+use Rattle.std.specs.List.{list_any}
+use Rattle.ledger_terms.specs.Parties.{same_name}
+use Rattle.ledger_terms.specs.declared.kind.Kind.{Kind}
+use Rattle.ledger_terms.specs.declared.kind.Kind.TheVariants.{Unit as UnitKind, Int as IntKind, Bool as BoolKind, Text as TextKind, Party as PartyKind, Contract as ContractKind, Parties as PartiesKind}
+use Rattle.ledger_terms.specs.declared.value.Value.{Value}
+use Rattle.ledger_terms.specs.declared.value.Value.TheVariants.{Unit as UnitValue, Int, Bool as BoolValue, Text, Party, Contract, Parties}
+use Rattle.ledger_terms.specs.declared.field_decl.FieldDecl.{FieldDecl}
+use Rattle.ledger_terms.specs.declared.template_name.TemplateName.{TemplateName}
+use Rattle.ledger_terms.specs.Syntax.{ExprForm, ExprForms, Literal, Var, Add, Sub, Mul, Less, LessEq, Equal, Both, Either, Negate, Cond, Cat, SetOf, Union, Has, NoExprs, MoreExprs, StmtForm, StmtForms, Bind, Assert, Create, Exercise, Fetch, When, NoStmts, MoreStmts}
+use Rattle.ledger_terms.specs.Packages.{PackageForm, TemplateForm, ChoiceForm}
+use Rattle.lang_eval.specs.Found.{Packages, template_in}
+use Rattle.lang_eval.specs.Builtin.{archive_name, archive_of}
+
+-- the names in scope with their kinds
+abbrev pub Scope : Type 0
+Scope = List (List ℕ × Kind)
+
+-- the name isn't in scope yet
+abbrev pub IsNew : List ℕ → List (List ℕ) → Type 0
+IsNew name names = list_any (λ n. same_name n name) names ≡ false
+
+-- the kind of a name in scope
+abbrev pub kind_named : List ℕ → Scope → Option Kind
+kind_named name [] = None
+kind_named name (b ∷ bs) = if same_name b.0 name then Some b.1 else kind_named name bs
+
+abbrev pub names_in : Scope → List (List ℕ)
+names_in scope = map (λ (b : List ℕ × Kind). b.0) scope
+
+-- no name stands twice
+abbrev pub AreDistinct : List (List ℕ) → Type 0
+AreDistinct [] = Unit {0}
+AreDistinct (name ∷ names) = IsNew name names × AreDistinct names
+
+-- The kind of a literal. A contract is no literal.
+abbrev pub IsLiteral : Value → Kind → Type 0
+IsLiteral UnitValue k = k ≡ UnitKind
+IsLiteral (Int n) k = k ≡ IntKind
+IsLiteral (BoolValue b) k = k ≡ BoolKind
+IsLiteral (Text t) k = k ≡ TextKind
+IsLiteral (Party a) k = k ≡ PartyKind
+IsLiteral (Contract id) k = ⊥
+IsLiteral (Parties s) k = k ≡ PartiesKind
+
+abbrev mutual
+  -- the expression has this kind in this scope
+  pub HasKind : ExprForm → Scope → Kind → Type 0
+  HasKind (Literal v) scope k = IsLiteral v k
+  HasKind (Var x) scope k = kind_named x scope ≡ Some k
+  HasKind (Add a b) scope k = HasKind a scope IntKind × HasKind b scope IntKind × (k ≡ IntKind)
+  HasKind (Sub a b) scope k = HasKind a scope IntKind × HasKind b scope IntKind × (k ≡ IntKind)
+  HasKind (Mul a b) scope k = HasKind a scope IntKind × HasKind b scope IntKind × (k ≡ IntKind)
+  HasKind (Less a b) scope k = HasKind a scope IntKind × HasKind b scope IntKind × (k ≡ BoolKind)
+  HasKind (LessEq a b) scope k = HasKind a scope IntKind × HasKind b scope IntKind × (k ≡ BoolKind)
+  HasKind (Equal a b) scope k = ((j : Kind) × HasKind a scope j × HasKind b scope j) × (k ≡ BoolKind)
+  HasKind (Both a b) scope k = HasKind a scope BoolKind × HasKind b scope BoolKind × (k ≡ BoolKind)
+  HasKind (Either a b) scope k = HasKind a scope BoolKind × HasKind b scope BoolKind × (k ≡ BoolKind)
+  HasKind (Negate a) scope k = HasKind a scope BoolKind × (k ≡ BoolKind)
+  HasKind (Cond c a b) scope k = HasKind c scope BoolKind × HasKind a scope k × HasKind b scope k
+  HasKind (Cat a b) scope k = HasKind a scope TextKind × HasKind b scope TextKind × (k ≡ TextKind)
+  HasKind (SetOf es) scope k = HaveKind es scope PartyKind × (k ≡ PartiesKind)
+  HasKind (Union a b) scope k = HasKind a scope PartiesKind × HasKind b scope PartiesKind × (k ≡ PartiesKind)
+  HasKind (Has a b) scope k = HasKind a scope PartiesKind × HasKind b scope PartyKind × (k ≡ BoolKind)
+
+  -- each of them has it
+  pub HaveKind : ExprForms → Scope → Kind → Type 0
+  HaveKind NoExprs scope k = Unit {0}
+  HaveKind (MoreExprs e es) scope k = HasKind e scope k × HaveKind es scope k
+
+-- they are as many as these fields or parameters, and have their kinds
+abbrev pub HaveKindsOf : ExprForms → Scope → List FieldDecl → Type 0
+HaveKindsOf NoExprs scope [] = Unit {0}
+HaveKindsOf (MoreExprs e es) scope (d ∷ ds) = HasKind e scope d.kind × HaveKindsOf es scope ds
+HaveKindsOf es scope ds = ⊥
+
+-- the fields or parameters in scope, each after a first name and a dot
+abbrev pub scope_of : List ℕ → List FieldDecl → Scope
+scope_of first [] = []
+scope_of first (d ∷ ds) = (first ++ codes "." ++ d.name, d.kind) ∷ scope_of first ds
+
+-- no name of the first scope is in the second
+abbrev pub AreNew : Scope → Scope → Type 0
+AreNew [] scope = Unit {0}
+AreNew (b ∷ bs) scope = IsNew b.0 (names_in scope) × AreNew bs scope
+
+abbrev pub choice_among : List ℕ → List ChoiceForm → Option ChoiceForm
+choice_among name choices = find (λ c. same_name c.name name) choices
+
+-- the choice of that name, Archive among them
+abbrev pub choice_named : TemplateForm → List ℕ → Option ChoiceForm
+choice_named t name = if same_name archive_name name then Some (archive_of t.signatories) else choice_among name t.choices
+
+abbrev mutual
+  -- In this scope the statement is well typed, and after it the second scope is there. The templates of the packages are
+  -- those that it may name.
+  pub IsTyped : StmtForm → Packages → Scope → Scope → Type 0
+  IsTyped (Bind x e) packages scope after =
+      (k : Kind) × HasKind e scope k × IsNew x (names_in scope) × (after ≡ scope ++ (x, k) ∷ [])
+  IsTyped (Assert e) packages scope after = HasKind e scope BoolKind × (after ≡ scope)
+  IsTyped (Create x t fields) packages scope after =
+      (template : TemplateForm) × (template_in t packages ≡ Some template) × HaveKindsOf fields scope template.fields
+      × IsNew x (names_in scope) × (after ≡ scope ++ (x, ContractKind) ∷ [])
+  IsTyped (Exercise x t e choice args) packages scope after =
+      (template : TemplateForm) × (template_in t packages ≡ Some template) × (c : ChoiceForm) × (choice_named template choice ≡ Some c)
+      × HasKind e scope ContractKind × HaveKindsOf args scope c.params
+      × IsNew x (names_in scope) × (after ≡ scope ++ (x, c.returns) ∷ [])
+  IsTyped (Fetch x t e) packages scope after =
+      (template : TemplateForm) × (template_in t packages ≡ Some template) × HasKind e scope ContractKind
+      × AreNew (scope_of x template.fields) scope × (after ≡ scope ++ scope_of x template.fields)
+  IsTyped (When e first second) packages scope after =
+      HasKind e scope BoolKind × ((inside : Scope) × AreTyped first packages scope inside) × ((inside : Scope) × AreTyped second packages scope inside)
+      × (after ≡ scope)
+
+  -- the same of statements in order
+  pub AreTyped : StmtForms → Packages → Scope → Scope → Type 0
+  AreTyped NoStmts packages scope after = after ≡ scope
+  AreTyped (MoreStmts s ss) packages scope after = (between : Scope) × IsTyped s packages scope between × AreTyped ss packages between after
+
+abbrev pub decl_names : List FieldDecl → List (List ℕ)
+decl_names decls = map (λ (d : FieldDecl). d.name) decls
+
+abbrev pub this_scope : TemplateForm → Scope
+this_scope t = scope_of (codes "this") t.fields
+
+abbrev pub choice_scope : TemplateForm → ChoiceForm → Scope
+choice_scope t c = this_scope t ++ scope_of (codes "arg") c.params
+
+abbrev pub body_scope : TemplateForm → ChoiceForm → Scope
+body_scope t c = (codes "self", ContractKind) ∷ choice_scope t c
+
+-- a choice, where the templates of these packages may be named
+pub record IsChoice (packages : Packages) (t : TemplateForm) (c : ChoiceForm) : Type 0 where
+  pub free : same_name archive_name c.name ≡ false
+  pub params : AreDistinct (decl_names c.params)
+  pub controllers : HasKind c.controllers (choice_scope t c) PartiesKind
+  pub observers : HasKind c.observers (choice_scope t c) PartiesKind
+  pub body : (end : Scope) × AreTyped c.body packages (body_scope t c) end × HasKind c.result end c.returns
+
+abbrev pub AreChoices : Packages → TemplateForm → List ChoiceForm → Type 0
+AreChoices packages t [] = Unit {0}
+AreChoices packages t (c ∷ cs) = IsChoice packages t c × AreChoices packages t cs
+
+pub record IsTemplate (packages : Packages) (t : TemplateForm) : Type 0 where
+  pub fields : AreDistinct (decl_names t.fields)
+  pub ensure : HasKind t.ensure (this_scope t) BoolKind
+  pub signatories : HasKind t.signatories (this_scope t) PartiesKind
+  pub observers : HasKind t.observers (this_scope t) PartiesKind
+  pub names : AreDistinct (map (λ (c : ChoiceForm). c.name) t.choices)
+  pub choices : AreChoices packages t t.choices
+
+abbrev pub AreTemplates : Packages → List TemplateForm → Type 0
+AreTemplates packages [] = Unit {0}
+AreTemplates packages (t ∷ ts) = IsTemplate packages t × AreTemplates packages ts
+
+abbrev pub package_names : Packages → List (List ℕ)
+package_names packages = map (λ (p : PackageForm). p.name) packages
+
+-- a package after those before it, whose templates and its own it may name
+pub record IsPackage (before : Packages) (p : PackageForm) : Type 0 where
+  pub name : IsNew p.name (package_names before)
+  pub names : AreDistinct (map (λ (t : TemplateForm). t.name) p.templates)
+  pub templates : AreTemplates (before ++ p ∷ []) p.templates
+
+-- packages in order, after those before them
+abbrev pub ArePackages : Packages → Packages → Type 0
+ArePackages before [] = Unit {0}
+ArePackages before (p ∷ ps) = IsPackage before p × ArePackages (before ++ p ∷ []) ps

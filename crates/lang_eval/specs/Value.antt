@@ -1,0 +1,117 @@
+-- The value of an expression, or its first fault from the left.
+use Rattle.std.specs.Prelude.{ℕ, ◌^◌, Bool, true, false, not, cond, List, [], ◌∷◌, ◌++◌, length, ℤ, pos, negsuc, ◌+ℤ◌, ◌-ℤ◌, ◌*ℤ◌, nat_lt, nat_le, int_lt, int_le, Option, Some, None, Result, Ok, Err}
+use Rattle.ledger_terms.specs.declared.value.Value.{Value}
+use Rattle.ledger_terms.specs.declared.value.Value.TheVariants.{Int, Party, Parties, Text, Bool as BoolValue, Unit as UnitValue}
+use Rattle.ledger_terms.specs.contracts.value.ValuePartialEq.TheImpl as value_eq
+use Rattle.ledger_terms.specs.Parties.{set_of, with_parties, has_party}
+use Rattle.ledger_terms.specs.Syntax.{ExprForm, ExprForms, Literal, Var, Add, Sub, Mul, Less, LessEq, Equal, Both, Either, Negate, Cond, Cat, SetOf, Union, Has, NoExprs, MoreExprs}
+use Rattle.lang_eval.specs.declared.binding.Binding.{Binding}
+use Rattle.lang_eval.specs.declared.eval_fault.EvalFault.{EvalFault}
+use Rattle.lang_eval.specs.declared.eval_fault.EvalFault.TheVariants.{Overflow, TooLarge}
+use Rattle.lang_eval.specs.Names.{Names, binding_of}
+
+abbrev pub Answer : Type 0
+Answer = Result Value EvalFault
+
+-- whether a number fits 64 bits
+abbrev pub fits_i64 : ℤ → Bool
+fits_i64 (pos n) = nat_lt n (2 ^ 63)
+fits_i64 (negsuc n) = nat_lt n (2 ^ 63)
+
+abbrev pub number : ℤ → Answer
+number n = cond (fits_i64 n) (Ok (Int n)) (Err Overflow)
+
+-- Operands of another kind, which no checked expression has, give Unit.
+abbrev pub sum_of : Value → Value → Answer
+sum_of (Int x) (Int y) = number (x +ℤ y)
+sum_of a b = Ok UnitValue
+
+abbrev pub difference_of : Value → Value → Answer
+difference_of (Int x) (Int y) = number (x -ℤ y)
+difference_of a b = Ok UnitValue
+
+abbrev pub product_of : Value → Value → Answer
+product_of (Int x) (Int y) = number (x *ℤ y)
+product_of a b = Ok UnitValue
+
+abbrev pub is_less : Value → Value → Value
+is_less (Int x) (Int y) = BoolValue (int_lt x y)
+is_less a b = UnitValue
+
+abbrev pub is_less_eq : Value → Value → Value
+is_less_eq (Int x) (Int y) = BoolValue (int_le x y)
+is_less_eq a b = UnitValue
+
+abbrev pub negation_of : Value → Value
+negation_of (BoolValue b) = BoolValue (not b)
+negation_of a = UnitValue
+
+-- the texts after one another, in at most 256 bytes
+abbrev pub text_of : Value → Value → Answer
+text_of (Text x) (Text y) = cond (nat_le (length (x ++ y)) 256) (Ok (Text (x ++ y))) (Err TooLarge)
+text_of a b = Ok UnitValue
+
+abbrev pub union_of : Value → Value → Value
+union_of (Parties x) (Parties y) = Parties (with_parties y x)
+union_of a b = UnitValue
+
+abbrev pub has_member : Value → Value → Value
+has_member (Parties x) (Party y) = BoolValue (has_party x y)
+has_member a b = UnitValue
+
+-- the parties among values
+abbrev pub parties_among : List Value → List (List ℕ)
+parties_among [] = []
+parties_among (Party a ∷ vs) = a ∷ parties_among vs
+parties_among (v ∷ vs) = parties_among vs
+
+abbrev pub is_true : Value → Bool
+is_true (BoolValue b) = b
+is_true v = false
+
+abbrev pub value_in : Option Binding → Value
+value_in None = UnitValue
+value_in (Some b) = b.value
+
+-- goes on with a value, or stays at a fault
+abbrev pub with_value : {A B : Type 0} → Result A EvalFault → (A → Result B EvalFault) → Result B EvalFault
+with_value (Ok v) go = go v
+with_value (Err e) go = Err e
+
+-- the second only where the first is true
+abbrev pub both_of : Value → Answer → Answer
+both_of (BoolValue true) second = second
+both_of v second = Ok v
+
+-- the second only where the first is false
+abbrev pub either_of : Value → Answer → Answer
+either_of (BoolValue false) second = second
+either_of v second = Ok v
+
+abbrev mutual
+  pub val : ExprForm → Names → Answer
+  val (Literal v) names = Ok v
+  val (Var x) names = Ok (value_in (binding_of x names))
+  val (Add a b) names = with_value (val a names) (λ x. with_value (val b names) (λ y. sum_of x y))
+  val (Sub a b) names = with_value (val a names) (λ x. with_value (val b names) (λ y. difference_of x y))
+  val (Mul a b) names = with_value (val a names) (λ x. with_value (val b names) (λ y. product_of x y))
+  val (Less a b) names = with_value (val a names) (λ x. with_value (val b names) (λ y. Ok (is_less x y)))
+  val (LessEq a b) names = with_value (val a names) (λ x. with_value (val b names) (λ y. Ok (is_less_eq x y)))
+  val (Equal a b) names = with_value (val a names) (λ x. with_value (val b names) (λ y. Ok (BoolValue (value_eq.ghosts.eq x y))))
+  val (Both a b) names = with_value (val a names) (λ x. both_of x (val b names))
+  val (Either a b) names = with_value (val a names) (λ x. either_of x (val b names))
+  val (Negate a) names = with_value (val a names) (λ x. Ok (negation_of x))
+  val (Cond c a b) names = with_value (val c names) (λ v. cond (is_true v) (val a names) (val b names))
+  val (Cat a b) names = with_value (val a names) (λ x. with_value (val b names) (λ y. text_of x y))
+  val (SetOf es) names = with_value (vals es names) (λ vs. Ok (Parties (set_of (parties_among vs))))
+  val (Union a b) names = with_value (val a names) (λ x. with_value (val b names) (λ y. Ok (union_of x y)))
+  val (Has a b) names = with_value (val a names) (λ x. with_value (val b names) (λ y. Ok (has_member x y)))
+
+  -- the values of expressions, in order
+  pub vals : ExprForms → Names → Result (List Value) EvalFault
+  vals NoExprs names = Ok []
+  vals (MoreExprs e es) names = with_value (val e names) (λ v. with_value (vals es names) (λ vs. Ok (v ∷ vs)))
+
+-- whether a test is true
+abbrev pub truth : ExprForm → Names → Result Bool EvalFault
+truth e names = with_value (val e names) (λ v. Ok (is_true v))

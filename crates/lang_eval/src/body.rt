@@ -1,0 +1,249 @@
+//! What a choice's body does next.
+ghost use Rattle.std.specs.Prelude.{◌≡◌, ◌≢◌, ◌++◌, [], Err, OnOk, IfOk, codes};
+ghost use Rattle.ledger_terms.specs.Answers.{UnlessMemory};
+ghost use Rattle.ledger_terms.specs.ExprForms.{expr_form};
+ghost use Rattle.ledger_terms.specs.StmtForms.{stmt_form, stmt_list_form};
+ghost use Rattle.lang_eval.specs.Names.{bound_to, with_fields, with_this};
+ghost use Rattle.lang_eval.specs.Found.{template_in, fields_of};
+ghost use Rattle.lang_eval.specs.Next.{ran, ran_all, next, next_of, names_of, closed, id_of, value_seen, fields_seen};
+ghost use Rattle.lang_eval.specs.Shown.{shown};
+
+use crate::bindings::Bindings;
+use crate::checked::Checked;
+use crate::eval_fault::EvalFault;
+use crate::evaluate::{eval_expr, eval_list, eval_test};
+use crate::run::Run;
+use ledger_model::{ChoiceCall, Seen, SeenList, Step};
+use ledger_terms::{
+    Choice, Expr, FieldDecl, Hash, Instance, Name, Stmt, StmtList, Template, TemplateName, Text, Value,
+    copy_value,
+};
+use std::alloc::{AllocError, Global};
+
+fn bind(names: &mut Bindings, name: Name, value: Value) -> Result<(), AllocError>
+    ensures { OnOk result (names.new ≡ bound_to name value names.old) }
+{
+    let name = Text::of(*names.allocator(), name.as_str())?;
+    names.bind(name, value)?;
+    Ok(())
+}
+
+fn dotted(alloc: Global, first: &str, name: Name) -> Result<Text, AllocError>
+    ensures { IfOk result (λ t. t ≡ first.now ++ codes "." ++ name) }
+{
+    let mut text = Text::of(alloc, first)?;
+    text.push_str(".")?;
+    text.push_str(name.as_str())?;
+    Ok(text)
+}
+
+/// Binds each value under the name of its field, after `first` and a dot.
+pub(crate) fn bind_fields(names: &mut Bindings, first: &str, decls: &[FieldDecl], values: &[Value]) -> Result<(), AllocError>
+    ensures { OnOk result (names.new ≡ with_fields first.now decls.now values.now names.old) }
+{
+    let mut at = 0;
+    while at < decls.len() && at < values.len() {
+        let name = dotted(*names.allocator(), first, decls[at].name)?;
+        let value = copy_value(&values[at])?;
+        names.bind(name, value)?;
+        at += 1;
+    }
+    Ok(())
+}
+
+fn seen_value(seen: &Seen) -> Result<Value, AllocError>
+    ensures { IfOk result (λ v. v ≡ value_seen seen.now) }
+{
+    match seen {
+        Seen::Created(id) => Ok(Value::Contract(*id)),
+        Seen::Returned(value) => copy_value(value),
+        Seen::Fetched(_) => Ok(Value::Unit),
+    }
+}
+
+fn seen_fields(seen: &Seen) -> &[Value]
+    ensures { result.now ≡ fields_seen seen.now }
+{
+    match seen {
+        Seen::Fetched(instance) => instance.fields.as_slice(),
+        _ => &[],
+    }
+}
+
+fn fields(checked: &Checked, template: TemplateName) -> &[FieldDecl]
+    ensures { result.now ≡ fields_of (template_in template checked.now) }
+{
+    match checked.template(template) {
+        Some(template) => template.fields.as_slice(),
+        None => &[],
+    }
+}
+
+fn eval_id(contract: &Expr, names: &Bindings) -> Result<Hash, EvalFault>
+    ensures { UnlessMemory EvalFault.Memory result (id_of (expr_form contract.now) names.now) }
+{
+    match eval_expr(contract, names)? {
+        Value::Contract(id) => Ok(id),
+        _ => Err(EvalFault::Assert),
+    }
+}
+
+#[cycle(run)]
+fn run_stmt<'s>(stmt: &Stmt, checked: &Checked, names: &mut Bindings, seen: &'s [Seen]) -> Result<Run<'s>, EvalFault>
+    ensures { result ≢ Err EvalFault.Memory → shown result names.new ≡ ran (stmt_form stmt.now) checked.now names.old seen.now }
+{
+    match stmt {
+        Stmt::Bind { name, value } => {
+            let value = eval_expr(value, names)?;
+            bind(names, *name, value)?;
+            Ok(Run::Went(seen))
+        }
+        Stmt::Assert(test) => {
+            if eval_test(test, names)? {
+                Ok(Run::Went(seen))
+            } else {
+                Err(EvalFault::Assert)
+            }
+        }
+        Stmt::Create {
+            bind: name,
+            template,
+            fields,
+        } => match seen.split_first() {
+            Some((first, rest)) => {
+                bind(names, *name, seen_value(first)?)?;
+                Ok(Run::Went(rest))
+            }
+            None => {
+                let fields = eval_list(fields, names)?;
+                Ok(Run::Stopped(Step::Create {
+                    template: *template,
+                    fields,
+                }))
+            }
+        },
+        Stmt::Exercise {
+            bind: name,
+            template,
+            contract,
+            choice,
+            args,
+        } => match seen.split_first() {
+            Some((first, rest)) => {
+                bind(names, *name, seen_value(first)?)?;
+                Ok(Run::Went(rest))
+            }
+            None => {
+                let id = eval_id(contract, names)?;
+                let args = eval_list(args, names)?;
+                Ok(Run::Stopped(Step::Exercise {
+                    template: *template,
+                    id,
+                    choice: *choice,
+                    args,
+                }))
+            }
+        },
+        Stmt::Fetch {
+            bind: name,
+            template,
+            contract,
+        } => match seen.split_first() {
+            Some((first, rest)) => {
+                bind_fields(names, name.as_str(), fields(checked, *template), seen_fields(first))?;
+                Ok(Run::Went(rest))
+            }
+            None => {
+                let id = eval_id(contract, names)?;
+                Ok(Run::Stopped(Step::Fetch {
+                    template: *template,
+                    id,
+                }))
+            }
+        },
+        Stmt::When { test, yes, no } => {
+            if eval_test(test, names)? {
+                return run_side(yes, checked, names, seen);
+            }
+            run_side(no, checked, names, seen)
+        }
+    }
+}
+
+/// One side of a `when`, whose names end with it.
+#[cycle(run)]
+fn run_side<'s>(stmts: &StmtList, checked: &Checked, names: &mut Bindings, seen: &'s [Seen]) -> Result<Run<'s>, EvalFault>
+    ensures { result ≢ Err EvalFault.Memory → shown result names.new ≡ closed names.old (ran_all (stmt_list_form stmts.now) checked.now names.old seen.now) }
+{
+    let kept = names.len();
+    match run_list(stmts, checked, names, seen)? {
+        Run::Stopped(step) => Ok(Run::Stopped(step)),
+        Run::Went(rest) => {
+            names.truncate(kept);
+            Ok(Run::Went(rest))
+        }
+    }
+}
+
+#[cycle(run)]
+fn run_list<'s>(stmts: &StmtList, checked: &Checked, names: &mut Bindings, seen: &'s [Seen]) -> Result<Run<'s>, EvalFault>
+    ensures { result ≢ Err EvalFault.Memory → shown result names.new ≡ ran_all (stmt_list_form stmts.now) checked.now names.old seen.now }
+{
+    let mut rest = seen;
+    for stmt in stmts.as_slice() {
+        match run_stmt(stmt, checked, names, rest)? {
+            Run::Stopped(step) => return Ok(Run::Stopped(step)),
+            Run::Went(left) => rest = left,
+        }
+    }
+    Ok(Run::Went(rest))
+}
+
+/// The names of a contract's fields.
+pub(crate) fn field_names(alloc: Global, template: &Template, instance: &Instance) -> Result<Bindings, AllocError>
+    ensures { IfOk result (λ n. n ≡ with_this template.now.fields instance.now.fields []) }
+{
+    let mut names = Bindings::new(alloc);
+    bind_fields(&mut names, "this", template.fields.as_slice(), instance.fields.as_slice())?;
+    Ok(names)
+}
+
+fn body_names(alloc: Global, template: &Template, choice: &Choice, call: &ChoiceCall) -> Result<Bindings, AllocError>
+    ensures { IfOk result (λ n. n ≡ names_of template.now choice.now call.now) }
+{
+    let mut names = Bindings::new(alloc);
+    names.bind(Text::of(alloc, "self")?, Value::Contract(call.id))?;
+    bind_fields(&mut names, "this", template.fields.as_slice(), call.instance.fields.as_slice())?;
+    bind_fields(&mut names, "arg", choice.params.as_slice(), call.args.as_slice())?;
+    Ok(names)
+}
+
+/// What a body does next, with the template and the choice at hand.
+pub(crate) fn next_by(alloc: Global, checked: &Checked, template: &Template, choice: &Choice, call: &ChoiceCall, so_far: &[Seen]) -> Result<Step, EvalFault>
+    ensures { UnlessMemory EvalFault.Memory result (next_of template.now choice.now checked.now call.now so_far.now) }
+{
+    let mut names = body_names(alloc, template, choice, call)?;
+    match run_list(&choice.body, checked, &mut names, so_far)? {
+        Run::Stopped(step) => Ok(step),
+        Run::Went(_) => {
+            let result = eval_expr(&choice.result, &names)?;
+            Ok(Step::Done(result))
+        }
+    }
+}
+
+/// The next thing that the body of the call's choice does after `so_far`, what its children gave in order: a child that
+/// it asks for, its end with the result, or the first fault of an expression. The sizes of arguments and of the result
+/// are left to the caller.
+#[tactic(auto, unfolding(crate::specs::Next::next))]
+pub fn next_step(alloc: Global, checked: &Checked, call: &ChoiceCall, so_far: &SeenList) -> Result<Step, EvalFault>
+    ensures { UnlessMemory EvalFault.Memory result (next checked.now call.now so_far.now) }
+{
+    match checked.template(call.instance.template) {
+        Some(template) => match checked.choice(call.instance.template, call.choice) {
+            Some(choice) => next_by(alloc, checked, template, choice, call, so_far.as_slice()),
+            None => Err(EvalFault::Assert),
+        },
+        None => Err(EvalFault::Assert),
+    }
+}

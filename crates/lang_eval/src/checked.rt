@@ -1,0 +1,153 @@
+//! Packages that are well typed.
+ghost use Rattle.std.specs.Prelude.{◌≡◌, ◌∷◌, [], find, IfOk, option_copied};
+ghost use Rattle.ledger_terms.specs.ExprForms.{expr_form};
+ghost use Rattle.ledger_terms.specs.Parties.{same_name};
+ghost use Rattle.lang_eval.specs.Found.{template_in, choice_in};
+ghost use Rattle.lang_eval.specs.Builtin.{with_archive, with_archives, archive_of, note_form, checked_packages};
+ghost use Rattle.lang_eval.specs.Typed.{ArePackages};
+
+use crate::forms::no_parties;
+use crate::note::{archive_name, note_package};
+use ledger_terms::{
+    Choice, Expr, FieldDeclList, Kind, Name, Package, PackageList, StmtList, Template,
+    TemplateList, TemplateName, Value,
+};
+use std::alloc::{AllocError, Global};
+use std::marker::Model;
+
+/// Packages that are well typed, Note first, in which each template has the choice Archive.
+#[derive(Debug, Drop)]
+pub struct Checked {
+    packages: PackageList,
+}
+
+impl Model for Checked {
+    ghost use Rattle.lang_eval.specs.Found.{Packages};
+    ghost use Rattle.lang_eval.specs.Checking.{AreChecked};
+
+    ghost use Rattle.std.specs.Coded.{coded_list};
+    ghost use Rattle.ledger_terms.specs.Packages.{coded_package};
+
+    ghost Value = { Packages };
+
+    ghost coded = { coded_list coded_package };
+
+    ghost view = { λ c. c.packages };
+
+    ghost invariant = { λ c. AreChecked c.packages };
+}
+
+fn package_named(packages: &[Package], name: Name) -> Option<&Package>
+    ensures { option_copied result ≡ find (λ p. same_name p.name name) packages.now }
+{
+    packages.iter().find(|package| package.name == name)
+}
+
+fn template_named(templates: &[Template], name: Name) -> Option<&Template>
+    ensures { option_copied result ≡ find (λ t. same_name t.name name) templates.now }
+{
+    templates.iter().find(|template| template.name == name)
+}
+
+fn choice_named(choices: &[Choice], name: Name) -> Option<&Choice>
+    ensures { option_copied result ≡ find (λ c. same_name c.name name) choices.now }
+{
+    choices.iter().find(|choice| choice.name == name)
+}
+
+/// The choice Archive of a template with these signatories, which are its controllers (Ledger Model: archiving).
+fn archive(alloc: Global, signatories: &Expr) -> Result<Choice, AllocError>
+    ensures { IfOk result (λ c. c ≡ archive_of (expr_form signatories.now)) }
+{
+    Ok(Choice {
+        name: archive_name(),
+        consuming: true,
+        params: FieldDeclList::new(alloc),
+        controllers: signatories.clone()?,
+        observers: no_parties(alloc),
+        returns: Kind::Unit,
+        body: StmtList::new(alloc),
+        result: Expr::Literal(Value::Unit),
+    })
+}
+
+fn template_with_archive(alloc: Global, template: Template) -> Result<Template, AllocError>
+    ensures { IfOk result (λ t. t ≡ with_archive template) }
+{
+    let Template {
+        name,
+        fields,
+        ensure,
+        signatories,
+        observers,
+        mut choices,
+    } = template;
+    choices.push(archive(alloc, &signatories)?)?;
+    Ok(Template {
+        name,
+        fields,
+        ensure,
+        signatories,
+        observers,
+        choices,
+    })
+}
+
+fn package_with_archives(alloc: Global, given: Package) -> Result<Package, AllocError>
+    ensures { IfOk result (λ p. p ≡ with_archives given) }
+{
+    let Package {
+        name,
+        templates: without,
+    } = given;
+    let mut templates = TemplateList::new(alloc);
+    for template in without.into_vec() {
+        templates.push(template_with_archive(alloc, template)?)?;
+    }
+    Ok(Package { name, templates })
+}
+
+impl Checked {
+    ghost use Rattle.lang_eval.specs.Checking.{AreChecked};
+
+    /// The packages with Note before them and with the choice Archive at the end of each template's choices.
+    pub fn of(alloc: Global, packages: PackageList) -> Result<Checked, AllocError>
+        requires { ArePackages (note_form ∷ []) packages }
+        ensures { IfOk result (λ c. c ≡ checked_packages packages) }
+    {
+        let mut checked = PackageList::new(alloc);
+        checked.push(package_with_archives(alloc, note_package(alloc)?)?)?;
+        for given in packages.into_vec() {
+            checked.push(package_with_archives(alloc, given)?)?;
+        }
+        Ok(Checked { packages: checked })
+    }
+
+    /// The packages in order, which come of well-typed ones after Note.
+    pub fn as_slice(&self) -> &[Package]
+        ensures packages { result.now ≡ self.now }
+        ensures checked { AreChecked self.now }
+    {
+        self.packages.as_slice()
+    }
+
+    /// The template of that name, and none exactly where there is none.
+    pub fn template(&self, name: TemplateName) -> Option<&Template>
+        ensures { option_copied result ≡ template_in name self.now }
+    {
+        match package_named(self.packages.as_slice(), name.package) {
+            Some(package) => template_named(package.templates.as_slice(), name.name),
+            None => None,
+        }
+    }
+
+    /// The choice of that name of that template, Archive among them, and none exactly where there is none.
+    pub fn choice(&self, template: TemplateName, choice: Name) -> Option<&Choice>
+        ensures { option_copied result ≡ choice_in template choice self.now }
+    {
+        match self.template(template) {
+            Some(template) => choice_named(template.choices.as_slice(), choice),
+            None => None,
+        }
+    }
+}

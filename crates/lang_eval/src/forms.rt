@@ -1,0 +1,40 @@
+//! Small forms of the language, for packages that are made here.
+ghost use Rattle.std.specs.Prelude.{◌≡◌, IfOk};
+ghost use Rattle.ledger_terms.specs.ExprForms.{expr_form};
+ghost use Rattle.ledger_terms.specs.Syntax.{Var, SetOf, NoExprs};
+ghost use Rattle.lang_eval.specs.Builtin.{one_party, declared};
+
+use ledger_terms::{Expr, ExprList, FieldDecl, Kind, Name, Text};
+use std::alloc::{AllocError, Global};
+
+/// A variable.
+pub(crate) fn variable(alloc: Global, name: &str) -> Result<Expr, AllocError>
+    ensures { IfOk result (λ e. expr_form e ≡ Var name.now) }
+{
+    Ok(Expr::Var(Text::of(alloc, name)?))
+}
+
+/// The set of the one party that a variable names.
+#[tactic(auto, using(ledger_terms::proofs::ExprRows::form_SetOf))]
+pub(crate) fn one_party(alloc: Global, name: &str) -> Result<Expr, AllocError>
+    ensures { IfOk result (λ e. expr_form e ≡ one_party name.now) }
+{
+    let mut parties = ExprList::new(alloc);
+    parties.push(variable(alloc, name)?)?;
+    Ok(Expr::SetOf(parties))
+}
+
+/// A field or a parameter.
+pub(crate) fn field(name: Name, kind: Kind) -> FieldDecl
+    ensures { result ≡ declared name kind }
+{
+    FieldDecl { name, kind }
+}
+
+/// The empty set.
+#[tactic(auto, using(ledger_terms::proofs::ExprRows::form_SetOf))]
+pub(crate) fn no_parties(alloc: Global) -> Expr
+    ensures { expr_form result ≡ SetOf NoExprs }
+{
+    Expr::SetOf(ExprList::new(alloc))
+}

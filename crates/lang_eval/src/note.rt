@@ -1,0 +1,125 @@
+//! The built-in package Note.
+ghost use Rattle.std.specs.Prelude.{◌≡◌, ℕ, List, IfOk, codes};
+ghost use Rattle.ledger_terms.specs.ExprForms.{expr_form, list_form};
+ghost use Rattle.ledger_terms.specs.StmtForms.{stmt_form, stmt_list_form};
+ghost use Rattle.ledger_terms.specs.Syntax.{Var, NoExprs, MoreExprs, Literal, Create, Exercise};
+ghost use Rattle.ledger_terms.specs.declared.value.Value.TheVariants.{Text as TextValue};
+ghost use Rattle.lang_eval.specs.Builtin.{archive_name, note_form, note_fields, note_template_form, flash_form, flash_body, one_party, note_template};
+
+use crate::forms::{field, no_parties, one_party, variable};
+use ledger_terms::{
+    Choice, ChoiceList, Expr, ExprList, FieldDeclList, Kind, Name, Package, Stmt, StmtList,
+    Template, TemplateList, TemplateName, Text, Value,
+};
+use std::alloc::{AllocError, Global};
+
+/// The name of the choice that each template has.
+pub fn archive_name() -> Name
+    ensures { result ≡ archive_name }
+{
+    Name::read("Archive").unwrap()
+}
+
+/// The name of the package and of its template.
+pub fn note_name() -> Name
+    ensures { result ≡ codes "Note" }
+{
+    Name::read("Note").unwrap()
+}
+
+/// The template of notes.
+pub fn note_template() -> TemplateName
+    ensures { result ≡ note_template }
+{
+    TemplateName {
+        package: note_name(),
+        name: note_name(),
+    }
+}
+
+fn note_fields(alloc: Global) -> Result<FieldDeclList, AllocError>
+    ensures { IfOk result (λ f. f ≡ note_fields) }
+{
+    let mut fields = FieldDeclList::new(alloc);
+    fields.push(field(Name::read("owner").unwrap(), Kind::Party))?;
+    fields.push(field(Name::read("reader").unwrap(), Kind::Party))?;
+    fields.push(field(Name::read("text").unwrap(), Kind::Text))?;
+    Ok(fields)
+}
+
+fn flash_create(alloc: Global) -> Result<Stmt, AllocError>
+    ensures { IfOk result (λ s. stmt_form s ≡ Create (codes "x") note_template (MoreExprs (Var (codes "this.owner")) (MoreExprs (Var (codes "this.reader")) (MoreExprs (Literal (TextValue (codes "flash"))) NoExprs)))) }
+{
+    let mut fields = ExprList::new(alloc);
+    fields.push(variable(alloc, "this.owner")?)?;
+    fields.push(variable(alloc, "this.reader")?)?;
+    fields.push(Expr::Literal(Value::Text(Text::of(alloc, "flash")?)))?;
+    Ok(Stmt::Create {
+        bind: Name::read("x").unwrap(),
+        template: note_template(),
+        fields,
+    })
+}
+
+fn flash_archive(alloc: Global) -> Result<Stmt, AllocError>
+    ensures { IfOk result (λ s. stmt_form s ≡ Exercise (codes "y") note_template (Var (codes "x")) archive_name NoExprs) }
+{
+    Ok(Stmt::Exercise {
+        bind: Name::read("y").unwrap(),
+        template: note_template(),
+        contract: variable(alloc, "x")?,
+        choice: archive_name(),
+        args: ExprList::new(alloc),
+    })
+}
+
+fn flash_body(alloc: Global) -> Result<StmtList, AllocError>
+    ensures { IfOk result (λ b. stmt_list_form b ≡ flash_body) }
+{
+    let mut body = StmtList::new(alloc);
+    body.push(flash_create(alloc)?)?;
+    body.push(flash_archive(alloc)?)?;
+    Ok(body)
+}
+
+fn flash(alloc: Global) -> Result<Choice, AllocError>
+    ensures { IfOk result (λ c. c ≡ flash_form) }
+{
+    Ok(Choice {
+        name: Name::read("Flash").unwrap(),
+        consuming: false,
+        params: FieldDeclList::new(alloc),
+        controllers: one_party(alloc, "this.owner")?,
+        observers: no_parties(alloc),
+        returns: Kind::Unit,
+        body: flash_body(alloc)?,
+        result: Expr::Literal(Value::Unit),
+    })
+}
+
+fn note(alloc: Global) -> Result<Template, AllocError>
+    ensures { IfOk result (λ t. t ≡ note_template_form) }
+{
+    let mut choices = ChoiceList::new(alloc);
+    choices.push(flash(alloc)?)?;
+    Ok(Template {
+        name: note_name(),
+        fields: note_fields(alloc)?,
+        ensure: Expr::Literal(Value::Bool(true)),
+        signatories: one_party(alloc, "this.owner")?,
+        observers: one_party(alloc, "this.reader")?,
+        choices,
+    })
+}
+
+/// A note of an owner, who signs it, to a reader, who observes it. Its choice Flash creates a second note and archives it.
+pub fn note_package(alloc: Global) -> Result<Package, AllocError>
+    ensures { IfOk result (λ p. p ≡ note_form) }
+{
+    let mut templates = TemplateList::new(alloc);
+    templates.push(note(alloc)?)?;
+    Ok(Package {
+        name: note_name(),
+        templates,
+    })
+}

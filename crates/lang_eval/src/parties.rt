@@ -1,0 +1,138 @@
+//! The tests of a Create and of an Exercise before its body, but for sizes.
+ghost use Rattle.std.specs.Prelude.{◌≡◌, IfOk};
+ghost use Rattle.ledger_terms.specs.Answers.{UnlessMemory};
+ghost use Rattle.ledger_terms.specs.ExprForms.{expr_form};
+ghost use Rattle.lang_eval.specs.Parts.{parties_of, call_names, contract_parties_of, created_parties_of, choice_parties_of, choice_observers_of, parties_of_contract, parties_of_created, parties_of_choice, observers_of_choice, is_consuming_call};
+
+use crate::bindings::Bindings;
+use crate::body::{bind_fields, field_names};
+use crate::checked::Checked;
+use crate::choice_parties::ChoiceParties;
+use crate::contract_parties::ContractParties;
+use crate::eval_fault::EvalFault;
+use crate::evaluate::{eval_expr, eval_test};
+use ledger_model::ChoiceCall;
+use ledger_terms::{Choice, Expr, Instance, PartySet, Template, Value};
+use std::alloc::{AllocError, Global};
+
+fn eval_parties(expr: &Expr, names: &Bindings) -> Result<PartySet, EvalFault>
+    ensures { UnlessMemory EvalFault.Memory result (parties_of (expr_form expr.now) names.now) }
+{
+    match eval_expr(expr, names)? {
+        Value::Parties(parties) => Ok(parties),
+        _ => Err(EvalFault::NoSignatory),
+    }
+}
+
+fn call_names(alloc: Global, template: &Template, choice: &Choice, call: &ChoiceCall) -> Result<Bindings, AllocError>
+    ensures { IfOk result (λ n. n ≡ call_names template.now choice.now call.now) }
+{
+    let mut names = field_names(alloc, template, &call.instance)?;
+    bind_fields(&mut names, "arg", choice.params.as_slice(), call.args.as_slice())?;
+    Ok(names)
+}
+
+fn parties_by(alloc: Global, template: &Template, instance: &Instance) -> Result<ContractParties, EvalFault>
+    ensures { UnlessMemory EvalFault.Memory result (contract_parties_of template.now instance.now) }
+{
+    let names = field_names(alloc, template, instance)?;
+    let signatories = eval_parties(&template.signatories, &names)?;
+    if signatories.as_slice().is_empty() {
+        return Err(EvalFault::NoSignatory);
+    }
+    let observers = eval_parties(&template.observers, &names)?;
+    Ok(ContractParties {
+        signatories,
+        observers,
+    })
+}
+
+fn created_by(alloc: Global, template: &Template, instance: &Instance) -> Result<ContractParties, EvalFault>
+    ensures { UnlessMemory EvalFault.Memory result (created_parties_of template.now instance.now) }
+{
+    let names = field_names(alloc, template, instance)?;
+    if !eval_test(&template.ensure, &names)? {
+        return Err(EvalFault::Ensure);
+    }
+    parties_by(alloc, template, instance)
+}
+
+fn choice_by(alloc: Global, template: &Template, choice: &Choice, call: &ChoiceCall) -> Result<ChoiceParties, EvalFault>
+    ensures { UnlessMemory EvalFault.Memory result (choice_parties_of template.now choice.now call.now) }
+{
+    let names = call_names(alloc, template, choice, call)?;
+    let controllers = eval_parties(&choice.controllers, &names)?;
+    let observers = eval_parties(&choice.observers, &names)?;
+    Ok(ChoiceParties {
+        controllers,
+        observers,
+    })
+}
+
+fn observers_by(alloc: Global, template: &Template, choice: &Choice, call: &ChoiceCall) -> Result<PartySet, EvalFault>
+    ensures { UnlessMemory EvalFault.Memory result (choice_observers_of template.now choice.now call.now) }
+{
+    let names = call_names(alloc, template, choice, call)?;
+    eval_parties(&choice.observers, &names)
+}
+
+/// The signatories and observers of a contract, whatever its `ensure` says.
+#[tactic(auto, unfolding(crate::specs::Parts::parties_of_contract))]
+pub fn parties_of_contract(alloc: Global, checked: &Checked, instance: &Instance) -> Result<ContractParties, EvalFault>
+    ensures { UnlessMemory EvalFault.Memory result (parties_of_contract checked.now instance.now) }
+{
+    match checked.template(instance.template) {
+        Some(template) => parties_by(alloc, template, instance),
+        None => Err(EvalFault::Assert),
+    }
+}
+
+/// The signatories and observers of a contract that is created, after its `ensure`. The size of the instance is left to
+/// the caller.
+#[tactic(auto, unfolding(crate::specs::Parts::parties_of_created))]
+pub fn parties_of_created(alloc: Global, checked: &Checked, instance: &Instance) -> Result<ContractParties, EvalFault>
+    ensures { UnlessMemory EvalFault.Memory result (parties_of_created checked.now instance.now) }
+{
+    match checked.template(instance.template) {
+        Some(template) => created_by(alloc, template, instance),
+        None => Err(EvalFault::Assert),
+    }
+}
+
+/// The controllers and observers of a call of a choice. The size of the arguments is left to the caller.
+#[tactic(auto, unfolding(crate::specs::Parts::parties_of_choice))]
+pub fn parties_of_choice(alloc: Global, checked: &Checked, call: &ChoiceCall) -> Result<ChoiceParties, EvalFault>
+    ensures { UnlessMemory EvalFault.Memory result (parties_of_choice checked.now call.now) }
+{
+    match checked.template(call.instance.template) {
+        Some(template) => match checked.choice(call.instance.template, call.choice) {
+            Some(choice) => choice_by(alloc, template, choice, call),
+            None => Err(EvalFault::Assert),
+        },
+        None => Err(EvalFault::Assert),
+    }
+}
+
+/// The observers of a call of a choice, whatever its controllers are.
+#[tactic(auto, unfolding(crate::specs::Parts::observers_of_choice))]
+pub fn observers_of_choice(alloc: Global, checked: &Checked, call: &ChoiceCall) -> Result<PartySet, EvalFault>
+    ensures { UnlessMemory EvalFault.Memory result (observers_of_choice checked.now call.now) }
+{
+    match checked.template(call.instance.template) {
+        Some(template) => match checked.choice(call.instance.template, call.choice) {
+            Some(choice) => observers_by(alloc, template, choice, call),
+            None => Err(EvalFault::Assert),
+        },
+        None => Err(EvalFault::Assert),
+    }
+}
+
+/// Whether a call consumes its contract, as its choice says.
+pub fn is_consuming_call(checked: &Checked, call: &ChoiceCall) -> bool
+    ensures { result ≡ is_consuming_call checked.now call.now }
+{
+    match checked.choice(call.instance.template, call.choice) {
+        Some(choice) => choice.consuming,
+        None => false,
+    }
+}
