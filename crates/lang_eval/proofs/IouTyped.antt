@@ -61,15 +61,20 @@ down_typed =
       params = (refl, tt);
       controllers = ((refl, tt), refl);
       observers = (tt, refl);
-      body =
-        (before_down,
-         (before_down,
-          ((refl, refl, refl),
-           (inside_down, (inside_down, (loop_template_form, refl, down_form, refl, refl, ((refl, refl, refl), tt), refl, refl), refl)),
-           (before_down, refl),
-           refl),
-          refl),
-         refl);
+      body = (
+        before_down,
+        (
+          before_down,
+          (
+            (refl, refl, refl),
+            (inside_down, (inside_down, (loop_template_form, refl, down_form, refl, refl, ((refl, refl, refl), tt), refl, refl), refl)),
+            (before_down, refl),
+            refl,
+          ),
+          refl,
+        ),
+        refl,
+      );
     }
 
 loop_typed_template : IsTemplate known loop_template_form

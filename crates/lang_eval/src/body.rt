@@ -15,8 +15,8 @@ use crate::evaluate::{eval_expr, eval_list, eval_test};
 use crate::run::Run;
 use ledger_model::{ChoiceCall, Seen, SeenList, Step};
 use ledger_terms::{
-    Choice, Expr, FieldDecl, Hash, Instance, Name, Stmt, StmtList, Template, TemplateName, Text, Value,
-    copy_value,
+    Choice, Expr, FieldDecl, Hash, Instance, Name, Stmt, StmtList, Template, TemplateName, Text,
+    Value, copy_value,
 };
 use std::alloc::{AllocError, Global};
 
@@ -38,7 +38,12 @@ fn dotted(alloc: Global, first: &str, name: Name) -> Result<Text, AllocError>
 }
 
 /// Binds each value under the name of its field, after `first` and a dot.
-pub(crate) fn bind_fields(names: &mut Bindings, first: &str, decls: &[FieldDecl], values: &[Value]) -> Result<(), AllocError>
+pub(crate) fn bind_fields(
+    names: &mut Bindings,
+    first: &str,
+    decls: &[FieldDecl],
+    values: &[Value],
+) -> Result<(), AllocError>
     ensures { OnOk result (names.new ≡ with_fields first.now decls.now values.now names.old) }
 {
     let mut at = 0;
@@ -89,7 +94,12 @@ fn eval_id(contract: &Expr, names: &Bindings) -> Result<Hash, EvalFault>
 }
 
 #[cycle(run)]
-fn run_stmt<'s>(stmt: &Stmt, checked: &Checked, names: &mut Bindings, seen: &'s [Seen]) -> Result<Run<'s>, EvalFault>
+fn run_stmt<'s>(
+    stmt: &Stmt,
+    checked: &Checked,
+    names: &mut Bindings,
+    seen: &'s [Seen],
+) -> Result<Run<'s>, EvalFault>
     ensures { result ≢ Err EvalFault.Memory → shown result names.new ≡ ran (stmt_form stmt.now) checked.now names.old seen.now }
 {
     match stmt {
@@ -150,7 +160,12 @@ fn run_stmt<'s>(stmt: &Stmt, checked: &Checked, names: &mut Bindings, seen: &'s 
             contract,
         } => match seen.split_first() {
             Some((first, rest)) => {
-                bind_fields(names, name.as_str(), fields(checked, *template), seen_fields(first))?;
+                bind_fields(
+                    names,
+                    name.as_str(),
+                    fields(checked, *template),
+                    seen_fields(first),
+                )?;
                 Ok(Run::Went(rest))
             }
             None => {
@@ -172,7 +187,12 @@ fn run_stmt<'s>(stmt: &Stmt, checked: &Checked, names: &mut Bindings, seen: &'s 
 
 /// One side of a `when`, whose names end with it.
 #[cycle(run)]
-fn run_side<'s>(stmts: &StmtList, checked: &Checked, names: &mut Bindings, seen: &'s [Seen]) -> Result<Run<'s>, EvalFault>
+fn run_side<'s>(
+    stmts: &StmtList,
+    checked: &Checked,
+    names: &mut Bindings,
+    seen: &'s [Seen],
+) -> Result<Run<'s>, EvalFault>
     ensures { result ≢ Err EvalFault.Memory → shown result names.new ≡ closed names.old (ran_all (stmt_list_form stmts.now) checked.now names.old seen.now) }
 {
     let kept = names.len();
@@ -186,7 +206,12 @@ fn run_side<'s>(stmts: &StmtList, checked: &Checked, names: &mut Bindings, seen:
 }
 
 #[cycle(run)]
-fn run_list<'s>(stmts: &StmtList, checked: &Checked, names: &mut Bindings, seen: &'s [Seen]) -> Result<Run<'s>, EvalFault>
+fn run_list<'s>(
+    stmts: &StmtList,
+    checked: &Checked,
+    names: &mut Bindings,
+    seen: &'s [Seen],
+) -> Result<Run<'s>, EvalFault>
     ensures { result ≢ Err EvalFault.Memory → shown result names.new ≡ ran_all (stmt_list_form stmts.now) checked.now names.old seen.now }
 {
     let mut rest = seen;
@@ -200,26 +225,57 @@ fn run_list<'s>(stmts: &StmtList, checked: &Checked, names: &mut Bindings, seen:
 }
 
 /// The names of a contract's fields.
-pub(crate) fn field_names(alloc: Global, template: &Template, instance: &Instance) -> Result<Bindings, AllocError>
+pub(crate) fn field_names(
+    alloc: Global,
+    template: &Template,
+    instance: &Instance,
+) -> Result<Bindings, AllocError>
     ensures { IfOk result (λ n. n ≡ with_this template.now.fields instance.now.fields []) }
 {
     let mut names = Bindings::new(alloc);
-    bind_fields(&mut names, "this", template.fields.as_slice(), instance.fields.as_slice())?;
+    bind_fields(
+        &mut names,
+        "this",
+        template.fields.as_slice(),
+        instance.fields.as_slice(),
+    )?;
     Ok(names)
 }
 
-fn body_names(alloc: Global, template: &Template, choice: &Choice, call: &ChoiceCall) -> Result<Bindings, AllocError>
+fn body_names(
+    alloc: Global,
+    template: &Template,
+    choice: &Choice,
+    call: &ChoiceCall,
+) -> Result<Bindings, AllocError>
     ensures { IfOk result (λ n. n ≡ names_of template.now choice.now call.now) }
 {
     let mut names = Bindings::new(alloc);
     names.bind(Text::of(alloc, "self")?, Value::Contract(call.id))?;
-    bind_fields(&mut names, "this", template.fields.as_slice(), call.instance.fields.as_slice())?;
-    bind_fields(&mut names, "arg", choice.params.as_slice(), call.args.as_slice())?;
+    bind_fields(
+        &mut names,
+        "this",
+        template.fields.as_slice(),
+        call.instance.fields.as_slice(),
+    )?;
+    bind_fields(
+        &mut names,
+        "arg",
+        choice.params.as_slice(),
+        call.args.as_slice(),
+    )?;
     Ok(names)
 }
 
 /// What a body does next, with the template and the choice at hand.
-pub(crate) fn next_by(alloc: Global, checked: &Checked, template: &Template, choice: &Choice, call: &ChoiceCall, so_far: &[Seen]) -> Result<Step, EvalFault>
+pub(crate) fn next_by(
+    alloc: Global,
+    checked: &Checked,
+    template: &Template,
+    choice: &Choice,
+    call: &ChoiceCall,
+    so_far: &[Seen],
+) -> Result<Step, EvalFault>
     ensures { UnlessMemory EvalFault.Memory result (next_of template.now choice.now checked.now call.now so_far.now) }
 {
     let mut names = body_names(alloc, template, choice, call)?;
@@ -236,7 +292,12 @@ pub(crate) fn next_by(alloc: Global, checked: &Checked, template: &Template, cho
 /// it asks for, its end with the result, or the first fault of an expression. The sizes of arguments and of the result
 /// are left to the caller.
 #[tactic(auto, unfolding(crate::specs::Next::next))]
-pub fn next_step(alloc: Global, checked: &Checked, call: &ChoiceCall, so_far: &SeenList) -> Result<Step, EvalFault>
+pub fn next_step(
+    alloc: Global,
+    checked: &Checked,
+    call: &ChoiceCall,
+    so_far: &SeenList,
+) -> Result<Step, EvalFault>
     ensures { UnlessMemory EvalFault.Memory result (next checked.now call.now so_far.now) }
 {
     match checked.template(call.instance.template) {

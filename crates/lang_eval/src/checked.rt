@@ -24,7 +24,6 @@ pub struct Checked {
 impl Model for Checked {
     ghost use Rattle.lang_eval.specs.Found.{Packages};
     ghost use Rattle.lang_eval.specs.Checking.{AreChecked};
-
     ghost use Rattle.std.specs.Coded.{coded_list};
     ghost use Rattle.ledger_terms.specs.Packages.{coded_package};
 

@@ -62,7 +62,13 @@ fn recreates(alloc: Global, owner: Expr, amount: Expr) -> Result<StmtList, Alloc
 }
 
 /// A choice that is controlled by a party, has one parameter and runs a body.
-fn recreating(alloc: Global, name: Name, controller: &str, param: FieldDecl, body: StmtList) -> Result<Choice, AllocError>
+fn recreating(
+    alloc: Global,
+    name: Name,
+    controller: &str,
+    param: FieldDecl,
+    body: StmtList,
+) -> Result<Choice, AllocError>
     ensures { (owner amount : ExprForm) → stmt_list_form body ≡ recreates owner amount → IfOk result (λ c. c ≡ recreating name controller.now param owner amount) }
 {
     let mut params = FieldDeclList::new(alloc);
@@ -82,9 +88,19 @@ fn recreating(alloc: Global, name: Name, controller: &str, param: FieldDecl, bod
 fn transfer(alloc: Global) -> Result<Choice, AllocError>
     ensures { IfOk result (λ c. c ≡ transfer_form) }
 {
-    let body = recreates(alloc, variable(alloc, "arg.to")?, variable(alloc, "this.amount")?)?;
+    let body = recreates(
+        alloc,
+        variable(alloc, "arg.to")?,
+        variable(alloc, "this.amount")?,
+    )?;
     let to = field(Name::read("to").unwrap(), Kind::Party);
-    recreating(alloc, Name::read("Transfer").unwrap(), "this.owner", to, body)
+    recreating(
+        alloc,
+        Name::read("Transfer").unwrap(),
+        "this.owner",
+        to,
+        body,
+    )
 }
 
 fn grown(alloc: Global) -> Result<Expr, AllocError>

@@ -31,7 +31,10 @@ pub use evaluate::{eval_expr, eval_list, eval_test};
 pub use kinds::{call_has_kinds, has_kinds};
 pub use ledger_model::{ChoiceCall, Roles, Seen, SeenList, Step};
 pub use note::{note_package, note_template};
-pub use parties::{observers_of_choice, parties_of_choice, parties_of_contract, parties_of_created, is_consuming_call};
+pub use parties::{
+    is_consuming_call, observers_of_choice, parties_of_choice, parties_of_contract,
+    parties_of_created,
+};
 pub use role_fault::RoleFault;
 pub use role_sets::roles;
 

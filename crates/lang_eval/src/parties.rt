@@ -24,15 +24,29 @@ fn eval_parties(expr: &Expr, names: &Bindings) -> Result<PartySet, EvalFault>
     }
 }
 
-fn call_names(alloc: Global, template: &Template, choice: &Choice, call: &ChoiceCall) -> Result<Bindings, AllocError>
+fn call_names(
+    alloc: Global,
+    template: &Template,
+    choice: &Choice,
+    call: &ChoiceCall,
+) -> Result<Bindings, AllocError>
     ensures { IfOk result (λ n. n ≡ call_names template.now choice.now call.now) }
 {
     let mut names = field_names(alloc, template, &call.instance)?;
-    bind_fields(&mut names, "arg", choice.params.as_slice(), call.args.as_slice())?;
+    bind_fields(
+        &mut names,
+        "arg",
+        choice.params.as_slice(),
+        call.args.as_slice(),
+    )?;
     Ok(names)
 }
 
-fn parties_by(alloc: Global, template: &Template, instance: &Instance) -> Result<ContractParties, EvalFault>
+fn parties_by(
+    alloc: Global,
+    template: &Template,
+    instance: &Instance,
+) -> Result<ContractParties, EvalFault>
     ensures { UnlessMemory EvalFault.Memory result (contract_parties_of template.now instance.now) }
 {
     let names = field_names(alloc, template, instance)?;
@@ -47,7 +61,11 @@ fn parties_by(alloc: Global, template: &Template, instance: &Instance) -> Result
     })
 }
 
-fn created_by(alloc: Global, template: &Template, instance: &Instance) -> Result<ContractParties, EvalFault>
+fn created_by(
+    alloc: Global,
+    template: &Template,
+    instance: &Instance,
+) -> Result<ContractParties, EvalFault>
     ensures { UnlessMemory EvalFault.Memory result (created_parties_of template.now instance.now) }
 {
     let names = field_names(alloc, template, instance)?;
@@ -57,7 +75,12 @@ fn created_by(alloc: Global, template: &Template, instance: &Instance) -> Result
     parties_by(alloc, template, instance)
 }
 
-fn choice_by(alloc: Global, template: &Template, choice: &Choice, call: &ChoiceCall) -> Result<ChoiceParties, EvalFault>
+fn choice_by(
+    alloc: Global,
+    template: &Template,
+    choice: &Choice,
+    call: &ChoiceCall,
+) -> Result<ChoiceParties, EvalFault>
     ensures { UnlessMemory EvalFault.Memory result (choice_parties_of template.now choice.now call.now) }
 {
     let names = call_names(alloc, template, choice, call)?;
@@ -69,7 +92,12 @@ fn choice_by(alloc: Global, template: &Template, choice: &Choice, call: &ChoiceC
     })
 }
 
-fn observers_by(alloc: Global, template: &Template, choice: &Choice, call: &ChoiceCall) -> Result<PartySet, EvalFault>
+fn observers_by(
+    alloc: Global,
+    template: &Template,
+    choice: &Choice,
+    call: &ChoiceCall,
+) -> Result<PartySet, EvalFault>
     ensures { UnlessMemory EvalFault.Memory result (choice_observers_of template.now choice.now call.now) }
 {
     let names = call_names(alloc, template, choice, call)?;
@@ -78,7 +106,11 @@ fn observers_by(alloc: Global, template: &Template, choice: &Choice, call: &Choi
 
 /// The signatories and observers of a contract, whatever its `ensure` says.
 #[tactic(auto, unfolding(crate::specs::Parts::parties_of_contract))]
-pub fn parties_of_contract(alloc: Global, checked: &Checked, instance: &Instance) -> Result<ContractParties, EvalFault>
+pub fn parties_of_contract(
+    alloc: Global,
+    checked: &Checked,
+    instance: &Instance,
+) -> Result<ContractParties, EvalFault>
     ensures { UnlessMemory EvalFault.Memory result (parties_of_contract checked.now instance.now) }
 {
     match checked.template(instance.template) {
@@ -90,7 +122,11 @@ pub fn parties_of_contract(alloc: Global, checked: &Checked, instance: &Instance
 /// The signatories and observers of a contract that is created, after its `ensure`. The size of the instance is left to
 /// the caller.
 #[tactic(auto, unfolding(crate::specs::Parts::parties_of_created))]
-pub fn parties_of_created(alloc: Global, checked: &Checked, instance: &Instance) -> Result<ContractParties, EvalFault>
+pub fn parties_of_created(
+    alloc: Global,
+    checked: &Checked,
+    instance: &Instance,
+) -> Result<ContractParties, EvalFault>
     ensures { UnlessMemory EvalFault.Memory result (parties_of_created checked.now instance.now) }
 {
     match checked.template(instance.template) {
@@ -101,7 +137,11 @@ pub fn parties_of_created(alloc: Global, checked: &Checked, instance: &Instance)
 
 /// The controllers and observers of a call of a choice. The size of the arguments is left to the caller.
 #[tactic(auto, unfolding(crate::specs::Parts::parties_of_choice))]
-pub fn parties_of_choice(alloc: Global, checked: &Checked, call: &ChoiceCall) -> Result<ChoiceParties, EvalFault>
+pub fn parties_of_choice(
+    alloc: Global,
+    checked: &Checked,
+    call: &ChoiceCall,
+) -> Result<ChoiceParties, EvalFault>
     ensures { UnlessMemory EvalFault.Memory result (parties_of_choice checked.now call.now) }
 {
     match checked.template(call.instance.template) {
@@ -115,7 +155,11 @@ pub fn parties_of_choice(alloc: Global, checked: &Checked, call: &ChoiceCall) ->
 
 /// The observers of a call of a choice, whatever its controllers are.
 #[tactic(auto, unfolding(crate::specs::Parts::observers_of_choice))]
-pub fn observers_of_choice(alloc: Global, checked: &Checked, call: &ChoiceCall) -> Result<PartySet, EvalFault>
+pub fn observers_of_choice(
+    alloc: Global,
+    checked: &Checked,
+    call: &ChoiceCall,
+) -> Result<PartySet, EvalFault>
     ensures { UnlessMemory EvalFault.Memory result (observers_of_choice checked.now call.now) }
 {
     match checked.template(call.instance.template) {

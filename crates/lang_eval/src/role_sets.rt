@@ -11,12 +11,14 @@ use crate::kinds::{call_has_kinds, has_kinds};
 use crate::parties::{observers_of_choice, parties_of_contract};
 use crate::role_fault::{RoleFault, of_fault};
 use ledger_model::{ChoiceCall, Roles};
-use ledger_terms::{
-    Action, Hash, Instance, Name, PartySet, ValueList, copy_instance, copy_values,
-};
+use ledger_terms::{Action, Hash, Instance, Name, PartySet, ValueList, copy_instance, copy_values};
 use std::alloc::{AllocError, Global};
 
-fn parties_if_typed(alloc: Global, checked: &Checked, instance: &Instance) -> Result<ContractParties, RoleFault>
+fn parties_if_typed(
+    alloc: Global,
+    checked: &Checked,
+    instance: &Instance,
+) -> Result<ContractParties, RoleFault>
     ensures { UnlessMemory RoleFault.Memory result (parties_if_typed checked.now instance.now) }
 {
     if !has_kinds(checked, instance) {
@@ -28,7 +30,11 @@ fn parties_if_typed(alloc: Global, checked: &Checked, instance: &Instance) -> Re
     }
 }
 
-fn observers_if_typed(alloc: Global, checked: &Checked, call: &ChoiceCall) -> Result<PartySet, RoleFault>
+fn observers_if_typed(
+    alloc: Global,
+    checked: &Checked,
+    call: &ChoiceCall,
+) -> Result<PartySet, RoleFault>
     ensures { UnlessMemory RoleFault.Memory result (observers_if_typed checked.now call.now) }
 {
     if !call_has_kinds(checked, call) {
@@ -53,7 +59,12 @@ fn joined(alloc: Global, first: &PartySet, second: &PartySet) -> Result<PartySet
 
 /// The parties of each of three sets.
 #[tactic(auto, using(crate::proofs::RoleLaws::joined_sets))]
-fn joined_three(alloc: Global, first: &PartySet, second: &PartySet, third: &PartySet) -> Result<PartySet, AllocError>
+fn joined_three(
+    alloc: Global,
+    first: &PartySet,
+    second: &PartySet,
+    third: &PartySet,
+) -> Result<PartySet, AllocError>
     ensures { IfOk result (λ s. s ≡ set_of (first.now ++ (second.now ++ third.now))) }
 {
     let none = PartySet::new(alloc);
@@ -64,7 +75,11 @@ fn joined_three(alloc: Global, first: &PartySet, second: &PartySet, third: &Part
 }
 
 /// The stakeholders are told of a consuming Exercise, and the signatories of another.
-fn told_first(alloc: Global, parties: &ContractParties, consuming: bool) -> Result<PartySet, AllocError>
+fn told_first(
+    alloc: Global,
+    parties: &ContractParties,
+    consuming: bool,
+) -> Result<PartySet, AllocError>
     ensures { IfOk result (λ s. s ≡ told_first parties.now consuming) }
 {
     if consuming {
@@ -74,7 +89,12 @@ fn told_first(alloc: Global, parties: &ContractParties, consuming: bool) -> Resu
     }
 }
 
-fn with_actors(alloc: Global, parties: ContractParties, actors: PartySet, informees: PartySet) -> Result<Roles, AllocError>
+fn with_actors(
+    alloc: Global,
+    parties: ContractParties,
+    actors: PartySet,
+    informees: PartySet,
+) -> Result<Roles, AllocError>
     ensures { IfOk result (λ r. r ≡ with_actors parties actors informees) }
 {
     let confirmers = joined(alloc, &parties.signatories, &actors)?;
@@ -87,7 +107,12 @@ fn with_actors(alloc: Global, parties: ContractParties, actors: PartySet, inform
     })
 }
 
-fn call_of(id: Hash, instance: &Instance, choice: Name, args: &ValueList) -> Result<ChoiceCall, AllocError>
+fn call_of(
+    id: Hash,
+    instance: &Instance,
+    choice: Name,
+    args: &ValueList,
+) -> Result<ChoiceCall, AllocError>
     ensures { IfOk result (λ c. c ≡ record { id = id; instance = instance.now; choice = choice; args = args.now }) }
 {
     Ok(ChoiceCall {

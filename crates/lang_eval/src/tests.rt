@@ -2,8 +2,8 @@ use crate::body::next_by;
 use crate::iou::{iou_checked, iou_template, loop_template};
 use crate::*;
 use ledger_terms::{
-    Action, Choice, Expr, ExprList, FieldDeclList, Hash, Instance, Kind, Name, PartySet, Stmt, StmtList,
-    TemplateName, Text, Value, ValueList,
+    Action, Choice, Expr, ExprList, FieldDeclList, Hash, Instance, Kind, Name, PartySet, Stmt,
+    StmtList, TemplateName, Text, Value, ValueList,
 };
 use std::alloc::{AllocError, Global};
 use std::boxed::Box;
@@ -55,10 +55,17 @@ fn numbers_are_computed(rt: HostRuntime) -> Result<(), Fail> {
     assert_eq!(rt; eval_expr(&difference, &names), Ok(Value::Int(7)));
     let product = Expr::Mul(int(alloc, 6)?, int(alloc, -7)?);
     assert_eq!(rt; eval_expr(&product, &names), Ok(Value::Int(-42)));
-    assert_eq!(rt; eval_expr(&*overflow(alloc)?, &names), Err(EvalFault::Overflow));
+    assert_eq!(rt;
+        eval_expr(&*overflow(alloc)?, &names),
+        Err(EvalFault::Overflow)
+    );
     let below = Expr::Sub(int(alloc, i64::MIN)?, int(alloc, 1)?);
     assert_eq!(rt; eval_expr(&below, &names), Err(EvalFault::Overflow));
-    for (a, b, less, less_eq, equal) in [(1, 2, true, true, false), (2, 2, false, true, true), (3, 2, false, false, false)] {
+    for (a, b, less, less_eq, equal) in [
+        (1, 2, true, true, false),
+        (2, 2, false, true, true),
+        (3, 2, false, false, false),
+    ] {
         let test = Expr::Less(int(alloc, a)?, int(alloc, b)?);
         assert_eq!(rt; eval_expr(&test, &names), Ok(Value::Bool(less)));
         let test = Expr::LessEq(int(alloc, a)?, int(alloc, b)?);
@@ -82,7 +89,10 @@ fn tests_stop_where_they_are_decided(rt: HostRuntime) -> Result<(), Fail> {
     assert_eq!(rt; eval_expr(&skipped, &names), Ok(Value::Bool(true)));
     let reached = Expr::Either(boolean(alloc, false)?, Box::new(alloc, faults)?);
     assert_eq!(rt; eval_expr(&reached, &names), Err(EvalFault::Overflow));
-    assert_eq!(rt; eval_expr(&Expr::Negate(boolean(alloc, true)?), &names), Ok(Value::Bool(false)));
+    assert_eq!(rt;
+        eval_expr(&Expr::Negate(boolean(alloc, true)?), &names),
+        Ok(Value::Bool(false))
+    );
     let chosen = Expr::Cond(boolean(alloc, true)?, int(alloc, 1)?, overflow(alloc)?);
     assert_eq!(rt; eval_expr(&chosen, &names), Ok(Value::Int(1)));
     let chosen = Expr::Cond(boolean(alloc, false)?, overflow(alloc)?, int(alloc, 2)?);
@@ -94,26 +104,44 @@ fn tests_stop_where_they_are_decided(rt: HostRuntime) -> Result<(), Fail> {
 fn texts_and_sets_are_computed(rt: HostRuntime) -> Result<(), Fail> {
     let alloc = rt.alloc();
     let mut names = Bindings::new(alloc);
-    names.bind(Text::of(alloc, "this.text")?, Value::Text(Text::of(alloc, "ab")?))?;
+    names.bind(
+        Text::of(alloc, "this.text")?,
+        Value::Text(Text::of(alloc, "ab")?),
+    )?;
     let variable = Box::new(alloc, Expr::Var(Text::of(alloc, "this.text")?))?;
     let both = Expr::Cat(variable, text(alloc, "cd")?);
-    assert_eq!(rt; eval_expr(&both, &names), Ok(Value::Text(Text::of(alloc, "abcd")?)));
+    assert_eq!(rt;
+        eval_expr(&both, &names),
+        Ok(Value::Text(Text::of(alloc, "abcd")?))
+    );
     let mut long = Text::new(alloc);
     for _ in 0..32 {
         long.push_str("12345678")?;
     }
     assert_eq!(rt; long.len(), 256);
-    let fits = Expr::Cat(literal(alloc, Value::Text(long.clone()?))?, text(alloc, "")?);
+    let fits = Expr::Cat(
+        literal(alloc, Value::Text(long.clone()?))?,
+        text(alloc, "")?,
+    );
     assert!(rt; eval_expr(&fits, &names).is_ok());
     let too_long = Expr::Cat(literal(alloc, Value::Text(long))?, text(alloc, "9")?);
     assert_eq!(rt; eval_expr(&too_long, &names), Err(EvalFault::TooLarge));
-    let union = Expr::Union(parties(alloc, "Bob", "Carol")?, parties(alloc, "Alice", "Bob")?);
+    let union = Expr::Union(
+        parties(alloc, "Bob", "Carol")?,
+        parties(alloc, "Alice", "Bob")?,
+    );
     let Value::Parties(set) = eval_expr(&union, &names).map_err(|_| AllocError)? else {
         return Err(Fail::from(AllocError));
     };
-    assert_eq!(rt; set.as_slice(), [name("Alice")?, name("Bob")?, name("Carol")?].as_slice());
+    assert_eq!(rt;
+        set.as_slice(),
+        [name("Alice")?, name("Bob")?, name("Carol")?].as_slice()
+    );
     for (party, want) in [("Bob", true), ("Alice", false)] {
-        let has = Expr::Has(parties(alloc, "Bob", "Carol")?, literal(alloc, Value::Party(name(party)?))?);
+        let has = Expr::Has(
+            parties(alloc, "Bob", "Carol")?,
+            literal(alloc, Value::Party(name(party)?))?,
+        );
         assert_eq!(rt; eval_expr(&has, &names), Ok(Value::Bool(want)));
     }
     Ok(())
@@ -147,7 +175,12 @@ fn one(alloc: Global, value: Value) -> Result<ValueList, AllocError> {
     Ok(values)
 }
 
-fn call(alloc: Global, instance: Instance, choice: &str, args: ValueList) -> Result<ChoiceCall, AllocError> {
+fn call(
+    alloc: Global,
+    instance: Instance,
+    choice: &str,
+    args: ValueList,
+) -> Result<ChoiceCall, AllocError> {
     Ok(ChoiceCall {
         id: Hash([7; 32]),
         instance,
@@ -168,20 +201,42 @@ fn created(step: Result<Step, EvalFault>, want: TemplateName) -> Option<ValueLis
 fn transfer_and_grow_create_one_debt(rt: HostRuntime) -> Result<(), Fail> {
     let alloc = rt.alloc();
     let checked = iou_checked(alloc)?;
-    let transfer = call(alloc, iou(alloc, 10)?, "Transfer", one(alloc, Value::Party(name("Carol")?))?)?;
+    let transfer = call(
+        alloc,
+        iou(alloc, 10)?,
+        "Transfer",
+        one(alloc, Value::Party(name("Carol")?))?,
+    )?;
     let mut seen = SeenList::new(alloc);
-    let fields = created(next_step(alloc, &checked, &transfer, &seen), iou_template()).ok_or(AllocError)?;
-    let want = [Value::Party(name("Bank")?), Value::Party(name("Carol")?), Value::Int(10)];
+    let fields = created(next_step(alloc, &checked, &transfer, &seen), iou_template()).ok_or(
+        AllocError,
+    )?;
+    let want = [
+        Value::Party(name("Bank")?),
+        Value::Party(name("Carol")?),
+        Value::Int(10),
+    ];
     assert_eq!(rt; fields.as_slice(), want.as_slice());
     seen.push(Seen::Created(Hash([8; 32])))?;
     let end = next_step(alloc, &checked, &transfer, &seen);
     assert!(rt; matches!(&end, Ok(Step::Done(Value::Unit))));
     let grow = call(alloc, iou(alloc, 10)?, "Grow", one(alloc, Value::Int(5))?)?;
     let none = SeenList::new(alloc);
-    let fields = created(next_step(alloc, &checked, &grow, &none), iou_template()).ok_or(AllocError)?;
-    let want = [Value::Party(name("Bank")?), Value::Party(name("Alice")?), Value::Int(15)];
+    let fields = created(next_step(alloc, &checked, &grow, &none), iou_template()).ok_or(
+        AllocError,
+    )?;
+    let want = [
+        Value::Party(name("Bank")?),
+        Value::Party(name("Alice")?),
+        Value::Int(15),
+    ];
     assert_eq!(rt; fields.as_slice(), want.as_slice());
-    let too_far = call(alloc, iou(alloc, i64::MAX)?, "Grow", one(alloc, Value::Int(1))?)?;
+    let too_far = call(
+        alloc,
+        iou(alloc, i64::MAX)?,
+        "Grow",
+        one(alloc, Value::Int(1))?,
+    )?;
     let fault = next_step(alloc, &checked, &too_far, &none);
     assert!(rt; matches!(&fault, Err(EvalFault::Overflow)));
     Ok(())
@@ -193,11 +248,21 @@ fn flash_creates_and_archives_a_note(rt: HostRuntime) -> Result<(), Fail> {
     let checked = iou_checked(alloc)?;
     let flash = call(alloc, note(alloc)?, "Flash", ValueList::new(alloc))?;
     let mut seen = SeenList::new(alloc);
-    let fields = created(next_step(alloc, &checked, &flash, &seen), note_template()).ok_or(AllocError)?;
+    let fields = created(next_step(alloc, &checked, &flash, &seen), note_template()).ok_or(
+        AllocError,
+    )?;
     let third = fields.get(2).ok_or(AllocError)?;
     assert_eq!(rt; *third, Value::Text(Text::of(alloc, "flash")?));
     seen.push(Seen::Created(Hash([8; 32])))?;
-    let Ok(Step::Exercise { id, choice, args, .. }) = next_step(alloc, &checked, &flash, &seen) else {
+    let Ok(
+        Step::Exercise {
+            id,
+            choice,
+            args,
+            ..
+        },
+    ) = next_step(alloc, &checked, &flash, &seen)
+    else {
         return Err(Fail::from(AllocError));
     };
     assert_eq!(rt; id, Hash([8; 32]));
@@ -267,7 +332,10 @@ fn roles_are_those_of_the_action(rt: HostRuntime) -> Result<(), Fail> {
         instance: note(alloc)?,
     };
     let roles = roles(alloc, &checked, &create).map_err(|_| AllocError)?;
-    assert_eq!(rt; roles.informees.as_slice(), [alice, name("Bob")?].as_slice());
+    assert_eq!(rt;
+        roles.informees.as_slice(),
+        [alice, name("Bob")?].as_slice()
+    );
     assert_eq!(rt; roles.confirmers.as_slice(), [alice].as_slice());
     Ok(())
 }
