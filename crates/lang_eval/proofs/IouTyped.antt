@@ -1,5 +1,5 @@
 -- The package Iou is well typed after Note.
-use Rattle.std.proofs.Common.{◌≡◌, List, [], ◌∷◌, ◌++◌, refl, sym, ◌∙◌, ap, subst}
+use Rattle.std.proofs.Common.{◌≡◌, [], ◌∷◌, ◌++◌, refl, sym, ◌∙◌, ap, subst}
 use Rattle.std.specs.Prelude.{codes}
 use Rattle.ledger_terms.specs.declared.kind.Kind.TheVariants.{Contract as ContractKind, Unit as UnitKind}
 use Rattle.ledger_terms.specs.Packages.{PackageForm}

@@ -1,18 +1,15 @@
 -- The roles of an action one after another are its roles.
-use Rattle.std.proofs.Common.{◌≡◌, ℕ, Bool, List, [], ◌∷◌, ◌++◌, Result, Ok, Err, refl, sym, ◌∙◌, ap}
+use Rattle.std.proofs.Common.{◌≡◌, Bool, [], ◌∷◌, ◌++◌, Result, Ok, Err, refl, ◌∙◌}
 use Rattle.std.specs.Prelude.{◌&&◌, if◌then◌else◌}
 use Rattle.ledger_terms.specs.Parties.{with_party, with_parties, set_of}
-use Rattle.ledger_terms.specs.declared.instance.Instance.{Instance}
-use Rattle.ledger_terms.specs.declared.value.Value.{Value}
 use Rattle.ledger_terms.specs.declared.action.Action.{Action}
 use Rattle.ledger_terms.specs.declared.action.Action.TheVariants.{Create, Exercise, Fetch}
-use Rattle.ledger_model.specs.declared.roles.Roles.{Roles}
 use Rattle.lang_eval.specs.declared.role_fault.RoleFault.{RoleFault}
 use Rattle.lang_eval.specs.declared.role_fault.RoleFault.TheVariants.{NoRoles}
 use Rattle.lang_eval.specs.declared.contract_parties.ContractParties.{ContractParties}
 use Rattle.lang_eval.specs.Found.{Packages}
 use Rattle.lang_eval.specs.Parts.{PartyNames}
-use Rattle.lang_eval.specs.Language.{roles, parties_if_typed, observers_if_typed, or_no_roles, is_given, signatories_in, observers_in, set_given}
+use Rattle.lang_eval.specs.Language.{roles, parties_if_typed, observers_if_typed, is_given, signatories_in, observers_in, set_given}
 use Rattle.lang_eval.specs.RoleSets.{on_parties, roles_after, with_actors, stakeholders_in, told_first}
 
 pub with_parties-append : (a b s : PartyNames) → with_parties (a ++ b) s ≡ with_parties b (with_parties a s)

@@ -3,13 +3,11 @@ use Rattle.std.proofs.Common.{◌≡◌, ℕ, ◌+◌, ◌<◌, ◌≤◌, List,
 use Rattle.std.proofs.lemmas.List.{drop_more}
 use Rattle.std.proofs.Math.ListN.{drop_of_length-le}
 use Rattle.ledger_terms.specs.declared.value.Value.{Value}
-use Rattle.ledger_terms.specs.declared.value.Value.TheVariants.{Unit, Int, Bool, Text, Party, Contract, Parties}
 use Rattle.ledger_terms.specs.declared.expr.Expr.{Expr}
 use Rattle.ledger_terms.specs.ExprForms.{expr_form, exprs_of}
-use Rattle.ledger_terms.specs.Parties.{with_party, with_parties}
 use Rattle.lang_eval.specs.declared.eval_fault.EvalFault.{EvalFault}
 use Rattle.lang_eval.specs.Names.{Names}
-use Rattle.lang_eval.specs.Value.{val, vals, with_value, parties_among}
+use Rattle.lang_eval.specs.Value.{val, vals, with_value}
 
 -- values behind those that are there
 abbrev pub behind : List Value → Result (List Value) EvalFault → Result (List Value) EvalFault

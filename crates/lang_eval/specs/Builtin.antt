@@ -1,11 +1,11 @@
 -- What is there without being written: the package Note, and the choice Archive of each template.
-use Rattle.std.specs.Prelude.{◌≡◌, ℕ, Bool, true, false, List, [], ◌∷◌, ◌++◌, map, codes}
+use Rattle.std.specs.Prelude.{ℕ, true, false, List, [], ◌∷◌, ◌++◌, map, codes}
 use Rattle.ledger_terms.specs.declared.kind.Kind.{Kind}
 use Rattle.ledger_terms.specs.declared.kind.Kind.TheVariants.{Party as PartyKind, Text as TextKind, Unit as UnitKind}
 use Rattle.ledger_terms.specs.declared.value.Value.TheVariants.{Bool as BoolValue, Text as TextValue, Unit as UnitValue}
 use Rattle.ledger_terms.specs.declared.field_decl.FieldDecl.{FieldDecl}
 use Rattle.ledger_terms.specs.declared.template_name.TemplateName.{TemplateName}
-use Rattle.ledger_terms.specs.Syntax.{ExprForm, ExprForms, Literal, Var, SetOf, NoExprs, MoreExprs, StmtForms, Create, Exercise, NoStmts, MoreStmts}
+use Rattle.ledger_terms.specs.Syntax.{ExprForm, Literal, Var, SetOf, NoExprs, MoreExprs, StmtForms, Create, Exercise, NoStmts, MoreStmts}
 use Rattle.ledger_terms.specs.Packages.{PackageForm, TemplateForm, ChoiceForm}
 
 abbrev pub archive_name : List ℕ

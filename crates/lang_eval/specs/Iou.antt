@@ -1,6 +1,5 @@
 -- The package Iou of debts, and a loop.
 use Rattle.std.specs.Prelude.{ℕ, pos, true, false, List, [], ◌∷◌, codes}
-use Rattle.ledger_terms.specs.declared.kind.Kind.{Kind}
 use Rattle.ledger_terms.specs.declared.kind.Kind.TheVariants.{Party as PartyKind, Int as IntKind, Unit as UnitKind}
 use Rattle.ledger_terms.specs.declared.value.Value.TheVariants.{Int, Bool as BoolValue, Unit as UnitValue}
 use Rattle.ledger_terms.specs.declared.field_decl.FieldDecl.{FieldDecl}

@@ -1,8 +1,8 @@
 -- The names that an expression may use, with their values.
-use Rattle.std.specs.Prelude.{ℕ, List, ◌∷◌, [], ◌++◌, Option, find, option_map, codes}
+use Rattle.std.specs.Prelude.{ℕ, List, ◌∷◌, [], ◌++◌, Option, find, codes}
 use Rattle.ledger_terms.specs.Parties.{same_name}
 use Rattle.ledger_terms.specs.declared.value.Value.{Value}
-use Rattle.ledger_terms.specs.declared.value.Value.TheVariants.{Unit as UnitValue, Contract}
+use Rattle.ledger_terms.specs.declared.value.Value.TheVariants.{Contract}
 use Rattle.ledger_terms.specs.declared.field_decl.FieldDecl.{FieldDecl}
 use Rattle.lang_eval.specs.declared.binding.Binding.{Binding}
 

@@ -1,5 +1,5 @@
 -- Packages that are well typed.
-use Rattle.std.specs.Prelude.{◌≡◌, ℕ, Bool, true, false, List, [], ◌∷◌, ◌++◌, map, Option, Some, None, find, if◌then◌else◌, codes}
+use Rattle.std.specs.Prelude.{◌≡◌, ℕ, false, List, [], ◌∷◌, ◌++◌, map, Option, Some, None, find, if◌then◌else◌, codes}
 use Rattle.std.specs.List.{list_any}
 use Rattle.ledger_terms.specs.Parties.{same_name}
 use Rattle.ledger_terms.specs.declared.kind.Kind.{Kind}
@@ -7,7 +7,6 @@ use Rattle.ledger_terms.specs.declared.kind.Kind.TheVariants.{Unit as UnitKind, 
 use Rattle.ledger_terms.specs.declared.value.Value.{Value}
 use Rattle.ledger_terms.specs.declared.value.Value.TheVariants.{Unit as UnitValue, Int, Bool as BoolValue, Text, Party, Contract, Parties}
 use Rattle.ledger_terms.specs.declared.field_decl.FieldDecl.{FieldDecl}
-use Rattle.ledger_terms.specs.declared.template_name.TemplateName.{TemplateName}
 use Rattle.ledger_terms.specs.Syntax.{ExprForm, ExprForms, Literal, Var, Add, Sub, Mul, Less, LessEq, Equal, Both, Either, Negate, Cond, Cat, SetOf, Union, Has, NoExprs, MoreExprs, StmtForm, StmtForms, Bind, Assert, Create, Exercise, Fetch, When, NoStmts, MoreStmts}
 use Rattle.ledger_terms.specs.Packages.{PackageForm, TemplateForm, ChoiceForm}
 use Rattle.lang_eval.specs.Found.{Packages, template_in}

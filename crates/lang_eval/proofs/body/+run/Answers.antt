@@ -1,4 +1,3 @@
-use Rattle.std.proofs.Common.{◌≡◌, sym, ◌∙◌}
 use Rattle.lang_eval.proofs.Runs.{when_yes, when_no}
 use Rattle.lang_eval.proofs.body.+run.Goals as goal
 

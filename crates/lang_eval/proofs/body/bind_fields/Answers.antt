@@ -1,6 +1,5 @@
-use Rattle.std.proofs.Common.{◌≡◌, List, [], drop, sym, ◌∙◌}
+use Rattle.std.proofs.Common.{◌≡◌, [], drop, sym, ◌∙◌}
 use Rattle.std.proofs.Math.ListN.{drop_of_length-le}
-use Rattle.ledger_terms.specs.declared.value.Value.{Value}
 use Rattle.lang_eval.proofs.Runs.{with_no_values}
 use Rattle.lang_eval.proofs.body.bind_fields.Goals as goal
 

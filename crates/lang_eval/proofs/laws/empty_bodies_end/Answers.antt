@@ -1,4 +1,4 @@
-use Rattle.std.proofs.Common.{◌≡◌, ap, refl}
+use Rattle.std.proofs.Common.{ap}
 use Rattle.lang_eval.specs.Next.{ended, ran_all, names_of}
 use Rattle.lang_eval.proofs.laws.empty_bodies_end.Goals as goal
 

@@ -1,4 +1,4 @@
-use Rattle.std.proofs.Common.{◌≡◌, ap}
+use Rattle.std.proofs.Common.{ap}
 use Rattle.ledger_terms.specs.Packages.{ChoiceForm}
 use Rattle.ledger_terms.specs.SamePackages.{same_choice_decides}
 use Rattle.lang_eval.specs.Next.{next_of}
