@@ -87,7 +87,7 @@ fn transactions_and_rows_are_copied_and_compared(rt: HostRuntime) -> Result<(), 
         seed: Hash([6; 32]),
         roots: tree(&rt, alloc, 10)?,
     };
-    assert!(rt; tx.clone()? == tx);
+    assert!(rt; same_tx(&copy_tx(&tx)?, &tx));
     let row = ActiveRow {
         created_at: 3,
         known: Known {
@@ -99,8 +99,8 @@ fn transactions_and_rows_are_copied_and_compared(rt: HostRuntime) -> Result<(), 
             },
         },
     };
-    let copy = row.clone()?;
-    assert!(rt; copy == row);
+    let copy = copy_active_row(&row)?;
+    assert!(rt; same_active_row(&copy, &row));
     assert!(rt; same_known(&copy.known, &row.known));
     assert!(rt; same_instance(&copy_instance(&row.known.instance)?, &row.known.instance));
     for (first, second, want) in [(10, 10, true), (10, 11, false)] {
@@ -163,8 +163,40 @@ fn submissions_are_copied_and_compared(rt: HostRuntime) -> Result<(), Fail> {
             roots: DraftList::of(roots.into_vec()),
         },
     };
-    let copy = submission.clone()?;
-    assert!(rt; copy == submission);
+    let mut copy = copy_submission(&submission)?;
+    assert!(rt; same_submission(&copy, &submission) && same_what(&copy.what, &submission.what));
+    copy.ledger_time = None;
+    assert!(rt; !same_submission(&copy, &submission));
+    Ok(())
+}
+
+/// Transfer of the first contract of another command.
+fn command(rt: &impl Abort, alloc: Global, step: u16) -> Result<Command, AllocError> {
+    let mut path = Path::new(alloc);
+    path.push(step)?;
+    Ok(Command::Exercise {
+        template: iou(rt),
+        contract: ContractRef::Label(Label {
+            participant: name(rt, "P1"),
+            command: name(rt, "c1"),
+            path,
+        }),
+        choice: name(rt, "Transfer"),
+        args: ArgList::new(alloc),
+    })
+}
+
+#[test]
+fn commands_are_copied_and_compared(rt: HostRuntime) -> Result<(), Fail> {
+    let alloc = rt.alloc();
+    let first = command(&rt, alloc, 0)?;
+    assert!(rt; same_command(&copy_command(&first)?, &first));
+    assert!(rt; !same_command(&first, &command(&rt, alloc, 1)?));
+    let mut commands = CommandList::new(alloc);
+    commands.push(first)?;
+    let what = What::Commands(commands);
+    assert!(rt; same_what(&copy_what(&what)?, &what));
+    assert!(rt; !same_what(&what, &What::Commands(CommandList::new(alloc))));
     Ok(())
 }
 
