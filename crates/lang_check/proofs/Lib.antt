@@ -1,0 +1,15 @@
+pub mod Scopes
+pub mod Whens
+pub mod Steps
+pub mod Exprs
+pub mod Lists
+pub mod Stmts
+pub mod Wholes
+pub mod Valued
+pub mod Bound
+pub mod Bodies
+pub mod NoteTyped
+pub mod Lookups
+pub mod Calls
+pub mod Faulty
+pub mod EvalFaults

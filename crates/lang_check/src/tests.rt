@@ -1,0 +1,5 @@
+//! Packages with one fault, by its kind and place.
+mod bodies;
+mod declarations;
+mod exprs;
+mod parts;
