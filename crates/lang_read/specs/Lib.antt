@@ -1,3 +1,10 @@
 pub mod Listed
 pub mod Walk
 pub mod Faults
+pub mod Texts
+pub mod Parties
+pub mod Literals
+pub mod Operators
+pub mod Exprs
+pub mod Stmts
+pub mod Packages

@@ -1,14 +1,16 @@
 -- Reading as a function from a JSON value to what it says or its first fault. The order of a definition is the order of the walk.
-use Rattle.std.specs.Prelude.{ℕ, ℤ, pos, negsuc, ◌+◌, ◌&&◌, ◌||◌, Bool, true, false, List, nat_le, if◌then◌else◌, Option, Some, None, Result, Ok, Err, is_some, ok_or, ⊤}
+use Rattle.std.specs.Prelude.{◌≡◌, ◌≢◌, MatchResult, ℕ, ℤ, pos, negsuc, ◌+◌, ◌&&◌, ◌||◌, Bool, true, false, List, nat_le, if◌then◌else◌, Option, Some, None, Result, Ok, Err, is_some, ok_or, ⊤}
 use Rattle.std.specs.List.{list_all}
 use Rattle.std.specs.Str.{is_utf8}
+use Rattle.ledger_terms.specs.Answers.{FollowsOn}
 use Rattle.ledger_terms.specs.Names.{is_name}
+use Rattle.ledger_terms.specs.Pointers.{at_member}
 use Rattle.serde_json.specs.Read.{read}
 use Rattle.serde_json.specs.Data.{Data, Items, no_items, item, Members, no_members, member}
 use Rattle.serde_json.specs.Find.{as_str, as_number, as_i64, as_bool, as_array, as_object, get}
 use Rattle.lang_read.specs.Listed.{is_among}
 use Rattle.lang_read.specs.declared.script_fault.ScriptFault.{ScriptFault}
-use Rattle.lang_read.specs.declared.script_fault.ScriptFault.TheVariants.{NotJson, Shape, NotInteger, Limit}
+use Rattle.lang_read.specs.declared.script_fault.ScriptFault.TheVariants.{NotJson, Shape, NotInteger, Limit, Memory}
 
 -- the place of a value, as a JSON pointer
 abbrev pub Place : Type 0
@@ -18,6 +20,14 @@ infixl 10 ◌>>=◌
 abbrev pub ◌>>=◌ : {A B : Type 0} → Result A ScriptFault → (A → Result B ScriptFault) → Result B ScriptFault
 Ok a >>= f = f a
 Err e >>= f = Err e
+
+-- the call read what the definition says, whose form the second is, unless memory ran out
+abbrev pub FollowsAs : {A B : Type 0} → (A → B) → Result A ScriptFault → Result B ScriptFault → Type 0
+FollowsAs form result answer = MatchResult result (λ v. answer ≡ Ok (form v)) (λ e. e ≢ Memory → answer ≡ Err e)
+
+-- the same of a call that leaves in a place what the definition gives
+abbrev pub LeavesAs : {A B : Type 0} → B → Result A ScriptFault → Result B ScriptFault → Type 0
+LeavesAs left result answer = FollowsOn Memory left result answer
 
 -- nothing where the test holds, else the fault
 abbrev pub check : Bool → ScriptFault → Result ⊤ ScriptFault
@@ -71,6 +81,16 @@ has_members required optional d = has_each required d && members_fit required op
 
 unfoldable pub member_of : Place → List ℕ → Data → Result Data ScriptFault
 member_of at k d = ok_or (get k d) (Shape at)
+
+unfoldable pub name_in : Place → List ℕ → Data → Result (List ℕ) ScriptFault
+name_in at k d = do
+  m ← member_of at k d
+  name_of (at_member at k) m
+
+unfoldable pub truth_in : Place → List ℕ → Data → Result Bool ScriptFault
+truth_in at k d = do
+  m ← member_of at k d
+  truth_of (at_member at k) m
 
 -- ---- lists
 

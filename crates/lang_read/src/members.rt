@@ -3,12 +3,13 @@ ghost use Rattle.std.specs.Prelude.{◌≡◌, ◌≢◌, MatchResult, map, is_s
 ghost use Rattle.std.specs.List.{list_all};
 ghost use Rattle.serde_json.specs.Find.{get};
 ghost use Rattle.serde_json.specs.View.{view, members_view, items_view};
+ghost use Rattle.ledger_terms.specs.Answers.{Follows};
 ghost use Rattle.lang_read.specs.Listed.{is_among};
-ghost use Rattle.lang_read.specs.Walk.{has_members, has_each, members_among, member_of, items_of};
+ghost use Rattle.lang_read.specs.Walk.{has_members, has_each, members_among, member_of, items_of, name_in, truth_in};
 
-use crate::scalar::shape;
+use crate::scalar::{read_name, read_truth, shape};
 use crate::script_fault::ScriptFault;
-use ledger_terms::Pointer;
+use ledger_terms::{Name, Pointer};
 use serde_json::{Map, Value};
 
 /// Whether the value is an object that has the required members, and no others than these and the optional ones.
@@ -70,4 +71,22 @@ pub fn read_items<'v>(value: &'v Value, at: &Pointer) -> Result<&'v [Value], Scr
         Some(items) => Ok(items.as_slice()),
         None => shape(at),
     }
+}
+
+/// The name in a member.
+#[tactic(auto, unfolding(crate::specs::Walk::name_in))]
+pub fn name_in(value: &Value, at: &Pointer, name: &str) -> Result<Name, ScriptFault>
+    ensures { Follows ScriptFault.Memory result (name_in at.now name.now (view value.now)) }
+{
+    let found = member(value, at, name)?;
+    read_name(found, &at.member(name)?)
+}
+
+/// The truth value in a member.
+#[tactic(auto, unfolding(crate::specs::Walk::truth_in))]
+pub fn truth_in(value: &Value, at: &Pointer, name: &str) -> Result<bool, ScriptFault>
+    ensures { Follows ScriptFault.Memory result (truth_in at.now name.now (view value.now)) }
+{
+    let found = member(value, at, name)?;
+    read_truth(found, &at.member(name)?)
 }

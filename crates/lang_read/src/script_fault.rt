@@ -3,12 +3,14 @@ ghost use Rattle.std.specs.Prelude.{◌≡◌, option_map};
 ghost use Rattle.lang_read.specs.declared.script_fault.ScriptFault.TheVariants.{Memory};
 ghost use Rattle.lang_read.specs.Faults.{fault_name, fault_path};
 
+use lang_check::CheckFault;
 use ledger_terms::{Pointer, Text};
 use std::alloc::{AllocError, AllocFailed};
 
 /// The first fault of a script, or want of memory. A path is the place of the fault, as a JSON pointer from the script's
 /// root. `which` is the number of the limit that is broken and `found` the count or number that breaks it, 0 for a negative
-/// one. NotBuilt is a script without a fault of a form that is not run yet.
+/// one. Package is the first fault that the check of the packages finds, which has its own place in the list of packages;
+/// want of memory in that check is Memory. NotBuilt is a script without a fault of a form that is not run yet.
 #[derive(Debug, Drop)]
 pub enum ScriptFault {
     NotJson,
@@ -21,6 +23,9 @@ pub enum ScriptFault {
     Unknown {
         path: Pointer,
         name: Text,
+    },
+    Package {
+        fault: CheckFault,
     },
     Limit {
         path: Pointer,
@@ -44,6 +49,7 @@ impl ScriptFault {
             ScriptFault::Shape { .. } => "Shape",
             ScriptFault::NotInteger { .. } => "NotInteger",
             ScriptFault::Unknown { .. } => "Unknown",
+            ScriptFault::Package { .. } => "Package",
             ScriptFault::Limit { .. } => "Limit",
             ScriptFault::Repeated { .. } => "Repeated",
             ScriptFault::NotBuilt => "NotBuilt",
@@ -62,6 +68,7 @@ impl ScriptFault {
             ScriptFault::Limit { path, .. } => Some(path.as_str()),
             ScriptFault::Repeated { path } => Some(path.as_str()),
             ScriptFault::NotJson => None,
+            ScriptFault::Package { .. } => None,
             ScriptFault::NotBuilt => None,
             ScriptFault::Memory => None,
         }

@@ -1,0 +1,98 @@
+//! Expressions as members of objects.
+ghost use Rattle.std.specs.Prelude.{◌≡◌};
+ghost use Rattle.serde_json.specs.View.{view, items_view};
+ghost use Rattle.serde_json.specs.Find.{get};
+ghost use Rattle.ledger_terms.specs.Syntax.{NoExprs};
+ghost use Rattle.ledger_terms.specs.ExprForms.{expr_form, list_form};
+ghost use Rattle.lang_read.specs.Walk.{FollowsAs, LeavesAs, walk_items};
+ghost use Rattle.lang_read.specs.Exprs.{expr_in, expr_or, expr_step, exprs_in};
+
+use crate::expr::read_expr;
+use crate::members::{member, read_items};
+use crate::script_fault::ScriptFault;
+use ledger_terms::{Expr, ExprList, Pointer, Topology};
+use serde_json::Value;
+use std::alloc::Global;
+
+/// The expression in a member.
+#[tactic(auto, unfolding(crate::specs::Exprs::expr_in))]
+pub fn expr_in(
+    alloc: Global,
+    value: &Value,
+    at: &Pointer,
+    name: &str,
+    topology: &Topology,
+) -> Result<Expr, ScriptFault>
+    ensures { FollowsAs expr_form result (expr_in topology.now.hosts at.now name.now (view value.now)) }
+{
+    let found = member(value, at, name)?;
+    read_expr(alloc, found, &at.member(name)?, 1, topology)
+}
+
+/// The expression in a member, or `default` where there is no such member.
+#[tactic(auto, unfolding(crate::specs::Exprs::expr_or))]
+pub fn expr_or(
+    alloc: Global,
+    value: &Value,
+    at: &Pointer,
+    name: &str,
+    default: Expr,
+    topology: &Topology,
+) -> Result<Expr, ScriptFault>
+    ensures { FollowsAs expr_form result (expr_or topology.now.hosts at.now name.now (expr_form default) (view value.now)) }
+{
+    match value.get(name) {
+        Some(found) => read_expr(alloc, found, &at.member(name)?, 1, topology),
+        None => Ok(default),
+    }
+}
+
+#[tactic(auto, unfolding(crate::specs::Exprs::expr_step))]
+fn push_expr(
+    alloc: Global,
+    value: &Value,
+    at: &Pointer,
+    index: usize,
+    topology: &Topology,
+    exprs: &mut ExprList,
+) -> Result<(), ScriptFault>
+    ensures { LeavesAs (list_form exprs.new) result
+        (expr_step topology.now.hosts at.now index (list_form exprs.old) (view value.now)) }
+{
+    let here = at.item(index)?;
+    let expr = read_expr(alloc, value, &here, 1, topology)?;
+    exprs.push(expr)?;
+    Ok(())
+}
+
+fn read_exprs(
+    alloc: Global,
+    items: &[Value],
+    at: &Pointer,
+    topology: &Topology,
+) -> Result<ExprList, ScriptFault>
+    ensures { FollowsAs list_form result (walk_items (expr_step topology.now.hosts at.now) 0 NoExprs (items_view items.now)) }
+{
+    let mut exprs = ExprList::new(alloc);
+    'items: for (i, item) in items.iter().enumerate() {
+        push_expr(alloc, item, at, i, topology, &mut exprs)?;
+    }
+    Ok(exprs)
+}
+
+/// The list of expressions in a member, of any length.
+#[tactic(auto, unfolding(crate::specs::Exprs::exprs_in))]
+pub fn exprs_in(
+    alloc: Global,
+    value: &Value,
+    at: &Pointer,
+    name: &str,
+    topology: &Topology,
+) -> Result<ExprList, ScriptFault>
+    ensures { FollowsAs list_form result (exprs_in topology.now.hosts at.now name.now (view value.now)) }
+{
+    let found = member(value, at, name)?;
+    let here = at.member(name)?;
+    let items = read_items(found, &here)?;
+    read_exprs(alloc, items, &here, topology)
+}

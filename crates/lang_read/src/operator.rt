@@ -1,0 +1,70 @@
+//! Operators of expressions.
+ghost use Rattle.std.specs.Prelude.{◌≡◌};
+ghost use Rattle.serde_json.specs.View.{view};
+ghost use Rattle.ledger_terms.specs.Answers.{Follows};
+ghost use Rattle.lang_read.specs.Operators.{operator_named, operator_of, takes};
+
+use crate::binary::{Binary, binary_named};
+use crate::scalar::shape;
+use crate::script_fault::ScriptFault;
+use ledger_terms::Pointer;
+use serde_json::Value;
+
+/// What a list that is an expression begins with. `Var` stands before the text of a bound name, the others before
+/// expressions.
+#[derive(Clone, Copy, Debug, PartialEq, Eq)]
+pub enum Operator {
+    Var,
+    Two(Binary),
+    Negate,
+    Cond,
+    SetOf,
+}
+
+#[tactic(auto, unfolding(crate::specs::Operators::operator_named))]
+fn operator_named(word: &str) -> Option<Operator>
+    ensures { result ≡ operator_named word.now }
+{
+    match word {
+        "var" => Some(Operator::Var),
+        "not" => Some(Operator::Negate),
+        "if" => Some(Operator::Cond),
+        "set" => Some(Operator::SetOf),
+        _ => match binary_named(word) {
+            Some(binary) => Some(Operator::Two(binary)),
+            None => None,
+        },
+    }
+}
+
+impl Operator {
+    /// Whether so many items may stand behind the operator.
+    pub fn takes(self, operands: usize) -> bool
+        ensures { result ≡ takes self operands }
+    {
+        match self {
+            Operator::Var => operands == 1,
+            Operator::Two(_) => operands == 2,
+            Operator::Negate => operands == 1,
+            Operator::Cond => operands == 3,
+            Operator::SetOf => operands <= 16,
+        }
+    }
+}
+
+/// The operator that stands before so many items; `at` is the place of the list.
+#[tactic(auto, unfolding(crate::specs::Operators::operator_of))]
+pub fn read_operator(value: &Value, at: &Pointer, operands: usize) -> Result<Operator, ScriptFault>
+    ensures { Follows ScriptFault.Memory result (operator_of at.now operands (view value.now)) }
+{
+    let Some(word) = value.as_str() else {
+        return shape(at);
+    };
+    let Some(operator) = operator_named(word) else {
+        return shape(at);
+    };
+    if !operator.takes(operands) {
+        return shape(at);
+    }
+    Ok(operator)
+}

@@ -1,0 +1,43 @@
+//! Packages.
+ghost use Rattle.std.specs.Prelude.{◌≡◌, ◌≤◌, ◌+◌, length, IfOk};
+ghost use Rattle.serde_json.specs.View.{view};
+ghost use Rattle.ledger_terms.specs.Answers.{Follows};
+ghost use Rattle.lang_read.specs.Packages.{has_package_members, package_of};
+
+use crate::members::{fits, name_in};
+use crate::scalar::shape;
+use crate::script_fault::ScriptFault;
+use crate::template::templates_in;
+use ledger_terms::{Package, Pointer, Topology};
+use serde_json::Value;
+use std::alloc::Global;
+
+#[tactic(auto, unfolding(crate::specs::Packages::has_package_members))]
+fn has_package_members(value: &Value) -> bool
+    ensures { result ≡ has_package_members (view value.now) }
+{
+    fits(value, &["name", "templates"], &[])
+}
+
+/// The package that a JSON value spells, or its first fault. `at` is the place of the value, from which the places of faults
+/// go on. Parties are those of the topology. `before` is the number of templates in the packages before it, which count to
+/// the limit of templates in all.
+#[tactic(auto, unfolding(crate::specs::Packages::package_of))]
+pub fn read_package(
+    alloc: Global,
+    json: &Value,
+    at: &Pointer,
+    topology: &Topology,
+    before: u64,
+) -> Result<Package, ScriptFault>
+    requires { before ≤ 64 }
+    ensures exact { Follows ScriptFault.Memory result (package_of topology.now.hosts before at.now (view json.now)) }
+    ensures few { IfOk result (λ p. before + length p.templates ≤ 64) }
+{
+    if !has_package_members(json) {
+        return shape(at);
+    }
+    let name = name_in(json, at, "name")?;
+    let templates = templates_in(alloc, json, at, topology, before)?;
+    Ok(Package { name, templates })
+}

@@ -1,0 +1,164 @@
+//! Statements of a choice's body.
+ghost use Rattle.std.specs.Prelude.{◌≡◌, ◌≤◌, IfOk, OnOk, nat_le};
+ghost use Rattle.serde_json.specs.View.{view, items_view};
+ghost use Rattle.serde_json.specs.Find.{get};
+ghost use Rattle.ledger_terms.specs.Syntax.{NoStmts};
+ghost use Rattle.ledger_terms.specs.StmtForms.{stmt_form, stmt_list_form};
+ghost use Rattle.ledger_terms.specs.Answers.{Follows};
+ghost use Rattle.lang_read.specs.Walk.{FollowsAs, check};
+ghost use Rattle.lang_read.specs.Stmts.{has_when_members, stmt_of, when_of, else_of, block_of, stmts_from, body_in};
+
+use crate::expr_members::expr_in;
+use crate::members::{fits, member};
+use crate::scalar::shape;
+use crate::script_fault::ScriptFault;
+use crate::simple_stmt::read_simple;
+use ledger_terms::{Pointer, Stmt, StmtList, Topology};
+use serde_json::Value;
+use std::alloc::Global;
+
+#[tactic(auto, unfolding(crate::specs::Stmts::has_when_members))]
+fn has_when_members(value: &Value) -> bool
+    ensures { result ≡ has_when_members (view value.now) }
+{
+    fits(value, &["if", "then"], &["else"])
+}
+
+fn check_count(at: &Pointer, count: usize) -> Result<(), ScriptFault>
+    ensures first { Follows ScriptFault.Memory result (check (nat_le count 64) (ScriptFault.Limit at.now 9 count)) }
+    ensures within { OnOk result (count ≤ 64) }
+{
+    if count > 64 {
+        return Err(ScriptFault::Limit {
+            path: at.clone()?,
+            which: 9,
+            found: count as u64,
+        });
+    }
+    Ok(())
+}
+
+/// A statement, after so many in the lists up to it; gives that number after it too.
+#[cycle(stmt)]
+fn read_stmt(
+    alloc: Global,
+    value: &Value,
+    at: &Pointer,
+    before: usize,
+    topology: &Topology,
+) -> Result<(Stmt, usize), ScriptFault>
+    requires { before ≤ 64 }
+    ensures first { FollowsAs (λ s. (stmt_form s.0, s.1)) result (stmt_of topology.now.hosts at.now before (view value.now)) }
+    ensures within { IfOk result (λ s. s.1 ≤ 64) }
+{
+    if !fits(value, &["when"], &[]) {
+        let stmt = read_simple(alloc, value, at, topology)?;
+        return Ok((stmt, before));
+    }
+    let found = member(value, at, "when")?;
+    read_when(alloc, found, &at.member("when")?, before, topology)
+}
+
+#[cycle(stmt)]
+fn read_when(
+    alloc: Global,
+    value: &Value,
+    at: &Pointer,
+    before: usize,
+    topology: &Topology,
+) -> Result<(Stmt, usize), ScriptFault>
+    requires { before ≤ 64 }
+    ensures first { FollowsAs (λ s. (stmt_form s.0, s.1)) result (when_of topology.now.hosts at.now before (view value.now)) }
+    ensures within { IfOk result (λ s. s.1 ≤ 64) }
+{
+    if !has_when_members(value) {
+        return shape(at);
+    }
+    let test = expr_in(alloc, value, at, "if", topology)?;
+    let found = member(value, at, "then")?;
+    let (yes, count) = read_block(alloc, found, &at.member("then")?, before, topology)?;
+    let (no, count) = read_else(alloc, value, at, count, topology)?;
+    Ok((Stmt::When { test, yes, no }, count))
+}
+
+#[cycle(stmt)]
+fn read_else(
+    alloc: Global,
+    value: &Value,
+    at: &Pointer,
+    before: usize,
+    topology: &Topology,
+) -> Result<(StmtList, usize), ScriptFault>
+    requires { before ≤ 64 }
+    ensures first { FollowsAs (λ s. (stmt_list_form s.0, s.1)) result (else_of topology.now.hosts at.now before (view value.now)) }
+    ensures within { IfOk result (λ s. s.1 ≤ 64) }
+{
+    match value.get("else") {
+        Some(found) => read_block(alloc, found, &at.member("else")?, before, topology),
+        None => Ok((StmtList::new(alloc), before)),
+    }
+}
+
+#[cycle(stmt)]
+fn read_block(
+    alloc: Global,
+    value: &Value,
+    at: &Pointer,
+    before: usize,
+    topology: &Topology,
+) -> Result<(StmtList, usize), ScriptFault>
+    requires { before ≤ 64 }
+    ensures first { FollowsAs (λ s. (stmt_list_form s.0, s.1)) result (block_of topology.now.hosts at.now before (view value.now)) }
+    ensures within { IfOk result (λ s. s.1 ≤ 64) }
+{
+    match value {
+        Value::Array(items) => {
+            let count = before + items.len();
+            check_count(at, count)?;
+            read_stmts(alloc, items, at, count, topology)
+        }
+        _ => shape(at),
+    }
+}
+
+#[cycle(stmt)]
+fn read_stmts(
+    alloc: Global,
+    items: &Vec<Value>,
+    at: &Pointer,
+    before: usize,
+    topology: &Topology,
+) -> Result<(StmtList, usize), ScriptFault>
+    requires { before ≤ 64 }
+    ensures first { FollowsAs (λ s. (stmt_list_form s.0, s.1)) result (stmts_from topology.now.hosts at.now 0 (NoStmts, before) (items_view items.now.items)) }
+    ensures within { IfOk result (λ s. s.1 ≤ 64) }
+{
+    let mut stmts = StmtList::new(alloc);
+    let mut count = before;
+    'stmts: for i in 0..items.len() {
+        let here = at.item(i)?;
+        let (stmt, after) = read_stmt(alloc, &items[i], &here, count, topology)?;
+        stmts.push(stmt)?;
+        count = after;
+    }
+    Ok((stmts, count))
+}
+
+/// The statements in the member `body`, of which there are none where it is absent.
+#[tactic(auto, unfolding(crate::specs::Stmts::body_in))]
+pub fn body_in(
+    alloc: Global,
+    value: &Value,
+    at: &Pointer,
+    topology: &Topology,
+) -> Result<StmtList, ScriptFault>
+    ensures { FollowsAs stmt_list_form result (body_in topology.now.hosts at.now (view value.now)) }
+{
+    match value.get("body") {
+        Some(found) => {
+            let (stmts, _) = read_block(alloc, found, &at.member("body")?, 0, topology)?;
+            Ok(stmts)
+        }
+        None => Ok(StmtList::new(alloc)),
+    }
+}
