@@ -1,0 +1,173 @@
+-- An action and its consequences, built forwards: the tree, or the first fault with its path.
+use Rattle.std.specs.Prelude.{ℕ, zero, suc, ◌+◌, Bool, cond, nat_le, List, [], ◌∷◌, ◌++◌, Option, Some, None, Result, Ok, Err}
+use Rattle.ledger_terms.specs.declared.value.Value.{Value}
+use Rattle.ledger_terms.specs.declared.instance.Instance.{Instance}
+use Rattle.ledger_terms.specs.declared.known.Known.{Known}
+use Rattle.ledger_terms.specs.declared.action.Action.{Action}
+use Rattle.ledger_terms.specs.declared.action.Action.TheVariants.{Create, Exercise, Fetch}
+use Rattle.ledger_terms.specs.declared.action_node.ActionNode.{ActionNode}
+use Rattle.ledger_terms.specs.Forest.{NoRoots, join}
+use Rattle.ledger_terms.specs.Trees.{Actions}
+use Rattle.ledger_terms.specs.Grown.{tree_of}
+use Rattle.ledger_terms.specs.Parties.{is_subset}
+use Rattle.ledger_model.specs.Conformance.{seen_of}
+use Rattle.ledger_model.specs.Parties.{is_empty}
+use Rattle.ledger_model.specs.declared.step.ChoiceCall.{ChoiceCall}
+use Rattle.ledger_model.specs.declared.step.Seen.{Seen}
+use Rattle.ledger_model.specs.declared.step.Step.{Step}
+use Rattle.ledger_model.specs.declared.step.Step.TheVariants.{Create as CreateNext, Exercise as ExerciseNext, Fetch as FetchNext, Done}
+use Rattle.lang_eval.specs.declared.eval_fault.EvalFault.{EvalFault}
+use Rattle.lang_eval.specs.declared.eval_fault.EvalFault.TheVariants.{TooLarge}
+use Rattle.lang_eval.specs.Found.{Packages}
+use Rattle.lang_eval.specs.Next.{next}
+use Rattle.lang_eval.specs.Parts.{PartyNames, is_consuming_call}
+use Rattle.interpret.specs.declared.command_fault.CommandFault.{CommandFault}
+use Rattle.interpret.specs.declared.command_fault.CommandFault.TheVariants.{ContractUnknown, Eval, TooDeep, TooMany, Unauthorised}
+use Rattle.interpret.specs.declared.progress.Progress.{Progress}
+use Rattle.interpret.specs.Ids.{Hash, child_seed, contract_id}
+use Rattle.interpret.specs.Sizes.{is_small_result}
+use Rattle.interpret.specs.Tested.{created_signatories, call_controllers, are_authorised, authorisers, fetchers}
+use Rattle.interpret.specs.Usable.{usable}
+
+-- goes on with a value, or stays at a fault
+abbrev pub on : {A B : Type 0} → Result A CommandFault → (A → Result B CommandFault) → Result B CommandFault
+on (Ok v) go = go v
+on (Err e) go = Err e
+
+abbrev pub at_path : {A : Type 0} → List ℕ → Result A EvalFault → Result A CommandFault
+at_path path (Ok v) = Ok v
+at_path path (Err e) = Err (Eval path e)
+
+-- what a transaction did, with one more action, contract or consumption
+abbrev pub counted : Progress → Progress
+counted p = record { created = p.created; spent = p.spent; count = p.count + 1 }
+
+abbrev pub with_created : Known → Progress → Progress
+with_created k p = record { created = p.created ++ k ∷ []; spent = p.spent; count = p.count }
+
+abbrev pub with_spent : Bool → Hash → Progress → Progress
+with_spent consuming id p = record { created = p.created; spent = cond consuming (p.spent ++ id ∷ []) p.spent; count = p.count }
+
+-- What runs one action: at this progress, path and seed, authorised by these, the action that a step asks for.
+abbrev pub Runner : Type 0
+Runner = Progress → List ℕ → Hash → PartyNames → Step → Result (ActionNode × Progress) CommandFault
+
+-- what comes next: a fault, the end with a result, or a child
+pub data Turn : Type 0 where
+  Stop : CommandFault → Turn
+  End : Value → Turn
+  Child : Step → Turn
+
+-- What asks for actions one after another: what comes at an index after what was learnt, and what is learnt of an action.
+pub record Source : Type 0 where
+  pub turn : ℕ → List Seen → Turn
+  pub learn : List Seen → Action → List Seen
+
+-- the children of an action, its result, and the progress after them
+pub record Followed : Type 0 where
+  pub children : Actions
+  pub result : Value
+  pub progress : Progress
+
+abbrev pub turned : {A : Type 0} → Turn → (Value → Result A CommandFault) → (Step → Result A CommandFault) → Result A CommandFault
+turned (Stop e) done child = Err e
+turned (End v) done child = done v
+turned (Child s) done child = child s
+
+-- the rest of what a source asks for, after these children, in so many turns
+unfoldable pub follow : ℕ → Source → Runner → Hash → List ℕ → PartyNames → Progress → List Seen → Actions → ℕ → Result Followed CommandFault
+follow zero source run seed path by progress seen children index = Err (TooMany path)
+follow (suc turns) source run seed path by progress seen children index =
+    turned (source.turn index seen) (λ v. Ok (record { children = children; result = v; progress = progress })) (λ step.
+    on (run progress (path ++ index ∷ []) (child_seed seed index) by step) (λ x.
+    follow turns source run seed path by x.1 (source.learn seen x.0.action) (join children (tree_of x.0)) (index + 1)))
+
+-- one more than a transaction may have
+unfoldable pub most_children : ℕ
+most_children = 65
+
+-- A body ends with a result that keeps its limit, or goes on.
+abbrev pub step_turn : List ℕ → Step → Turn
+step_turn path (Done v) = cond (is_small_result v) (End v) (Stop (Eval path TooLarge))
+step_turn path (CreateNext t fields) = Child (CreateNext t fields)
+step_turn path (ExerciseNext t id choice args) = Child (ExerciseNext t id choice args)
+step_turn path (FetchNext t id) = Child (FetchNext t id)
+
+abbrev pub turn_of : List ℕ → Result Step EvalFault → Turn
+turn_of path (Ok s) = step_turn path s
+turn_of path (Err e) = Stop (Eval path e)
+
+-- the body of a call's choice, of the Exercise at this path
+abbrev pub body_source : Packages → ChoiceCall → List ℕ → Source
+body_source packages call path =
+    record {
+      turn = λ index seen. turn_of path (next packages call seen);
+      learn = λ seen a. seen ++ seen_of a ∷ [];
+    }
+
+abbrev pub created_node : Hash → Instance → ActionNode
+created_node seed i = record { seed = seed; action = Create (contract_id seed i) i; children = NoRoots }
+
+abbrev pub created_known : Hash → Instance → Known
+created_known seed i = record { id = contract_id seed i; salt = seed; instance = i }
+
+abbrev pub do_create : Packages → Progress → List ℕ → Hash → PartyNames → Instance → Result (ActionNode × Progress) CommandFault
+do_create packages progress path seed by i =
+    on (at_path path (created_signatories packages i)) (λ s. cond (is_subset s by)
+    (Ok (created_node seed i, with_created (created_known seed i) progress))
+    (Err (Unauthorised path)))
+
+abbrev pub call_of : Known → List ℕ → List Value → ChoiceCall
+call_of k choice args = record { id = k.id; instance = k.instance; choice = choice; args = args }
+
+abbrev pub exercised_node : Hash → Known → ChoiceCall → PartyNames → Bool → Followed → ActionNode
+exercised_node seed k call actors consuming f =
+    record { seed = seed; action = Exercise k.id k.salt k.instance call.choice call.args actors consuming f.result; children = f.children }
+
+-- A consuming Exercise consumes before its body runs.
+abbrev pub exercise_on : Packages → Runner → Progress → List ℕ → Hash → PartyNames → Known → List ℕ → List Value → Result (ActionNode × Progress) CommandFault
+exercise_on packages run progress path seed by k choice args =
+    on (at_path path (call_controllers packages (call_of k choice args))) (λ actors. cond (are_authorised actors by)
+    (on (follow most_children (body_source packages (call_of k choice args) path) run seed path (authorisers packages k.instance actors)
+    (with_spent (is_consuming_call packages (call_of k choice args)) k.id progress) [] NoRoots 0) (λ f.
+    Ok (exercised_node seed k (call_of k choice args) actors (is_consuming_call packages (call_of k choice args)) f, f.progress)))
+    (Err (Unauthorised path)))
+
+abbrev pub do_exercise : Packages → Runner → Progress → List ℕ → Hash → PartyNames → Option Known → List ℕ → List Value → Result (ActionNode × Progress) CommandFault
+do_exercise packages run progress path seed by None choice args = Err (ContractUnknown path)
+do_exercise packages run progress path seed by (Some k) choice args = exercise_on packages run (counted progress) path seed by k choice args
+
+abbrev pub fetched_node : Hash → Known → PartyNames → ActionNode
+fetched_node seed k actors = record { seed = seed; action = Fetch k.id k.salt k.instance actors; children = NoRoots }
+
+abbrev pub do_fetch : Packages → Progress → List ℕ → Hash → PartyNames → Option Known → Result (ActionNode × Progress) CommandFault
+do_fetch packages progress path seed by None = Err (ContractUnknown path)
+do_fetch packages progress path seed by (Some k) =
+    cond (is_empty (fetchers packages k.instance by)) (Err (Unauthorised path))
+    (Ok (fetched_node seed k (fetchers packages k.instance by), counted progress))
+
+-- the end of a body is no action, and nobody asks for it as one
+abbrev pub do_step : Packages → List Known → Runner → Runner
+do_step packages known run progress path seed by (CreateNext t fields) = do_create packages (counted progress) path seed by (record { template = t; fields = fields })
+do_step packages known run progress path seed by (ExerciseNext t id choice args) = do_exercise packages run progress path seed by (usable packages known progress id t) choice args
+do_step packages known run progress path seed by (FetchNext t id) = do_fetch packages progress path seed by (usable packages known progress id t)
+do_step packages known run progress path seed by (Done v) = Err (Unauthorised path)
+
+-- one action, where its children are run so
+abbrev pub level : Packages → List Known → Runner → Runner
+level packages known run progress path seed by step =
+    cond (nat_le 64 progress.count) (Err (TooMany path)) (do_step packages known run progress path seed by step)
+
+-- an action with so many levels left
+unfoldable pub act : ℕ → Packages → List Known → Runner
+act zero packages known = λ progress path seed by step. Err (TooDeep path)
+act (suc left) packages known = level packages known (act left packages known)
+
+-- what the code answers
+abbrev pub acted : Result ActionNode CommandFault → Progress → Result (ActionNode × Progress) CommandFault
+acted (Ok node) progress = Ok (node, progress)
+acted (Err e) progress = Err e
+
+abbrev pub followed : Result Value CommandFault → Actions → Progress → Result Followed CommandFault
+followed (Ok v) children progress = Ok (record { children = children; result = v; progress = progress })
+followed (Err e) children progress = Err e

@@ -1,0 +1,171 @@
+-- A prepared tree with its seeds and ids.
+use Rattle.std.specs.Prelude.{ℕ, ◌+◌, ◌-◌, Bool, true, ◌&&◌, cond, nat_le, is_some, List, [], ◌∷◌, ◌++◌, Option, Some, None, Result, Ok, Err}
+use Rattle.std.specs.List.{list_all}
+use Rattle.ledger_terms.specs.declared.known.Known.{Known}
+use Rattle.ledger_terms.specs.declared.instance.Instance.{Instance}
+use Rattle.ledger_terms.specs.declared.value.Value.{Value}
+use Rattle.ledger_terms.specs.declared.template_name.TemplateName.{TemplateName}
+use Rattle.ledger_terms.specs.declared.contract_ref.ContractRef.{ContractRef}
+use Rattle.ledger_terms.specs.declared.contract_ref.ContractRef.TheVariants.{Id, Label}
+use Rattle.ledger_terms.specs.declared.arg.Arg.{Arg}
+use Rattle.ledger_terms.specs.declared.arg.Arg.TheVariants.{Plain, Contract}
+use Rattle.ledger_terms.specs.declared.input.Input.{Input}
+use Rattle.ledger_terms.specs.declared.input.Input.TheVariants.{Known as KnownInput, Forged}
+use Rattle.ledger_terms.specs.declared.action.Action.{Action}
+use Rattle.ledger_terms.specs.declared.action.Action.TheVariants.{Create, Exercise, Fetch}
+use Rattle.ledger_terms.specs.Drafts.{Drafts, DraftAction, DraftCreate, DraftExercise, DraftFetch}
+use Rattle.ledger_terms.specs.Forest.{NoRoots, Root, join}
+use Rattle.ledger_terms.specs.Trees.{Actions}
+use Rattle.ledger_terms.specs.Grown.{tree_of}
+use Rattle.ledger_terms.specs.declared.action_node.ActionNode.{ActionNode}
+use Rattle.ledger_terms.specs.declared.draft.Draft.{Draft}
+use Rattle.ledger_terms.specs.declared.draft.Draft.TheVariants.{Create as CreateDraft, Exercise as ExerciseDraft, Fetch as FetchDraft}
+use Rattle.interpret.specs.declared.command_fault.CommandFault.{CommandFault}
+use Rattle.interpret.specs.declared.command_fault.CommandFault.TheVariants.{ContractUnknown, TooDeep, TooMany}
+use Rattle.interpret.specs.Ids.{Hash, child_seed, contract_id, label_seed}
+use Rattle.interpret.specs.Sizes.{are_spelled}
+use Rattle.interpret.specs.Usable.{find_known, find_salt}
+use Rattle.interpret.specs.Act.{on}
+use Rattle.interpret.specs.Commands.{all_resolved, referred, resolved, where_there}
+use Rattle.interpret.specs.Interpreted.{if_small}
+use Rattle.interpret.specs.Stops.{is_zero}
+
+-- each label names a known contract
+abbrev pub is_named : List Known → ContractRef → Bool
+is_named known (Id id) = true
+is_named known (Label l) = is_some (find_salt (label_seed l) known)
+
+abbrev pub is_arg_named : List Known → Arg → Bool
+is_arg_named known (Plain v) = true
+is_arg_named known (Contract r) = is_named known r
+
+abbrev pub are_named : List Known → List Arg → Bool
+are_named known args = list_all (λ a. is_arg_named known a) args
+
+abbrev pub is_id_named : List Known → Option ContractRef → Bool
+is_id_named known None = true
+is_id_named known (Some r) = is_named known r
+
+abbrev pub is_input_named : List Known → Input → Bool
+is_input_named known (KnownInput r) = is_named known r
+is_input_named known (Forged id salt template fields) = is_id_named known id && are_named known fields
+
+abbrev pub is_draft_named : List Known → DraftAction → Bool
+is_draft_named known (DraftCreate template fields) = are_named known fields
+is_draft_named known (DraftExercise input choice args actors consuming result) =
+    is_input_named known input && (are_named known args && is_arg_named known result)
+is_draft_named known (DraftFetch input actors) = is_input_named known input
+
+abbrev pub all_named : List Known → Drafts → Bool
+all_named known NoRoots = true
+all_named known (Root d children others) = all_named known children && (all_named known others && is_draft_named known d)
+
+-- the known contract that a reference names
+abbrev pub known_of : List Known → ContractRef → Option Known
+known_of known (Id id) = find_known id known
+known_of known (Label l) = find_salt (label_seed l) known
+
+-- An instance without a spelling has no id. The encoded bytes of its action exceed the limit, so nobody sees one.
+unfoldable pub id_of : Hash → Instance → Hash
+id_of salt i = cond (are_spelled i.fields) (contract_id salt i) salt
+
+abbrev pub forged_id : List Known → Option ContractRef → Hash → Instance → Option Hash
+forged_id known None salt i = Some (id_of salt i)
+forged_id known (Some r) salt i = referred known r
+
+abbrev pub with_fields : Option (List Value) → (List Value → Option Known) → Option Known
+with_fields None go = None
+with_fields (Some values) go = go values
+
+abbrev pub with_id : Hash → Instance → Option Hash → Option Known
+with_id salt i None = None
+with_id salt i (Some id) = Some (record { id = id; salt = salt; instance = i })
+
+abbrev pub instance_of : TemplateName → List Value → Instance
+instance_of template values = record { template = template; fields = values }
+
+abbrev pub forged_of : List Known → Option ContractRef → Hash → TemplateName → List Arg → Option Known
+forged_of known id salt template fields =
+    with_fields (all_resolved known fields) (λ values. with_id salt (instance_of template values) (forged_id known id salt (instance_of template values)))
+
+-- what an input stands for: a known contract whatever the tree does, or what is handed in
+abbrev pub input_of : List Known → Input → Option Known
+input_of known (KnownInput r) = known_of known r
+input_of known (Forged id salt template fields) = forged_of known id salt template fields
+
+abbrev pub there : {A B : Type 0} → Option A → (A → Option B) → Option B
+there None go = None
+there (Some x) go = go x
+
+abbrev pub exercised_action : List Known → Input → List ℕ → List Arg → List (List ℕ) → Bool → Arg → Option Action
+exercised_action known input choice args actors consuming result =
+    there (input_of known input) (λ k. there (all_resolved known args) (λ values. there (resolved known result) (λ v.
+    Some (Exercise k.id k.salt k.instance choice values actors consuming v))))
+
+abbrev pub fetched_action : List Known → Input → List (List ℕ) → Option Action
+fetched_action known input actors = there (input_of known input) (λ k. Some (Fetch k.id k.salt k.instance actors))
+
+-- the action of a draft with its seed, where the contracts that it names are known
+abbrev pub filled_action : List Known → Hash → DraftAction → Option Action
+filled_action known seed (DraftCreate template fields) =
+    there (all_resolved known fields) (λ values. Some (Create (id_of seed (instance_of template values)) (instance_of template values)))
+filled_action known seed (DraftExercise input choice args actors consuming result) = exercised_action known input choice args actors consuming result
+filled_action known seed (DraftFetch input actors) = fetched_action known input actors
+
+-- one tree: depth, number and contract are tried, and then what stands below
+abbrev pub fill_one : List Known → ℕ → List ℕ → Hash → ℕ → DraftAction → (ℕ → Result (Actions × ℕ) CommandFault) → Result (Actions × ℕ) CommandFault
+fill_one known left path seed count d below =
+    cond (is_zero left) (Err (TooDeep path)) (cond (nat_le 64 count) (Err (TooMany path))
+    (where_there (filled_action known seed d) (ContractUnknown path) (λ action.
+    on (below (count + 1)) (λ b. Ok (Root (record { seed = seed; action = action }) b.0 NoRoots, b.1)))))
+
+-- trees one after another, with so many actions before them
+abbrev pub fill_all : List Known → ℕ → Hash → List ℕ → ℕ → ℕ → Drafts → Result (Actions × ℕ) CommandFault
+fill_all known left seed path index count NoRoots = Ok (NoRoots, count)
+fill_all known left seed path index count (Root d children others) =
+    on (fill_one known left (path ++ index ∷ []) (child_seed seed index) count d
+    (λ n. fill_all known (left - 1) (child_seed seed index) (path ++ index ∷ []) 0 n children)) (λ x.
+    on (fill_all known left seed path (index + 1) x.1 others) (λ y. Ok (join x.0 y.0, y.1)))
+
+-- one draft with what stands below it
+abbrev pub fill_tree : List Known → ℕ → List ℕ → Hash → ℕ → Drafts → Result (Actions × ℕ) CommandFault
+fill_tree known left path seed count NoRoots = Ok (NoRoots, count)
+fill_tree known left path seed count (Root d children others) = fill_one known left path seed count d (λ n. fill_all known (left - 1) seed path 0 n children)
+
+-- what the code answers
+abbrev pub filled_node : Result ActionNode CommandFault → ℕ → Result (Actions × ℕ) CommandFault
+filled_node (Ok n) count = Ok (tree_of n, count)
+filled_node (Err e) count = Err e
+
+abbrev pub filled_list : Result Actions CommandFault → ℕ → Result (Actions × ℕ) CommandFault
+filled_list (Ok f) count = Ok (f, count)
+filled_list (Err e) count = Err e
+
+-- trees behind others
+abbrev pub behind : Actions → Result (Actions × ℕ) CommandFault → Result (Actions × ℕ) CommandFault
+behind front r = on r (λ y. Ok (join front y.0, y.1))
+
+abbrev pub draft_action : Draft → DraftAction
+draft_action (CreateDraft template fields) = DraftCreate template fields
+draft_action (ExerciseDraft input choice args actors consuming result children) = DraftExercise input choice args actors consuming result
+draft_action (FetchDraft input actors) = DraftFetch input actors
+
+abbrev pub fill_below : List Known → ℕ → List ℕ → Hash → ℕ → Drafts → Result (Actions × ℕ) CommandFault
+fill_below known left path seed count NoRoots = Ok (NoRoots, count)
+fill_below known left path seed count (Root d children others) = fill_all known left seed path 0 count children
+
+-- roots, the labels of each of which are resolved first
+abbrev pub fill_roots : List Known → Hash → ℕ → ℕ → Drafts → Result (Actions × ℕ) CommandFault
+fill_roots known seed index count NoRoots = Ok (NoRoots, count)
+fill_roots known seed index count (Root d children others) =
+    cond (all_named known (Root d children NoRoots))
+    (on (fill_tree known 16 (index ∷ []) (child_seed seed index) count (Root d children NoRoots)) (λ x.
+    on (fill_roots known seed (index + 1) x.1 others) (λ y. Ok (join x.0 y.0, y.1))))
+    (Err (ContractUnknown (index ∷ [])))
+
+abbrev pub roots_filled : List Known → Hash → Drafts → Result Actions CommandFault
+roots_filled known seed drafts = on (fill_roots known seed 0 0 drafts) (λ x. Ok x.0)
+
+-- the last test is that of the encoded bytes
+unfoldable pub filled : List Known → Hash → Drafts → Result Actions CommandFault
+filled known seed drafts = on (roots_filled known seed drafts) if_small

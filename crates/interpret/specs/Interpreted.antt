@@ -1,0 +1,35 @@
+-- Commands run in order, and the whole transaction or the first fault.
+use Rattle.std.specs.Prelude.{List, [], cond, nat_le, Result, Ok, Err}
+use Rattle.ledger_terms.specs.declared.known.Known.{Known}
+use Rattle.ledger_terms.specs.declared.command.Command.{Command}
+use Rattle.ledger_terms.specs.Forest.{NoRoots}
+use Rattle.ledger_terms.specs.Trees.{Actions}
+use Rattle.wire_form.specs.Lengths.{capped}
+use Rattle.lang_eval.specs.Found.{Packages}
+use Rattle.lang_eval.specs.Parts.{PartyNames}
+use Rattle.interpret.specs.declared.command_fault.CommandFault.{CommandFault}
+use Rattle.interpret.specs.declared.command_fault.CommandFault.TheVariants.{TooBig}
+use Rattle.interpret.specs.declared.progress.Progress.{Progress}
+use Rattle.interpret.specs.Ids.{Hash}
+use Rattle.interpret.specs.Act.{Followed, act, follow, most_children, on}
+use Rattle.interpret.specs.Commands.{commands_source}
+use Rattle.interpret.specs.Encoded.{encoded_bytes}
+
+-- nothing was done yet
+abbrev pub nothing_done : Progress
+nothing_done = record { created = []; spent = []; count = 0 }
+
+-- the roots, 16 levels deep at most
+abbrev pub run_commands : Packages → List Known → Hash → PartyNames → List Command → Result Followed CommandFault
+run_commands packages known seed by commands =
+    follow most_children (commands_source packages known commands) (act 16 packages known) seed [] by nothing_done [] NoRoots 0
+
+abbrev pub run_roots : Packages → List Known → Hash → PartyNames → List Command → Result Actions CommandFault
+run_roots packages known seed by commands = on (run_commands packages known seed by commands) (λ f. Ok f.children)
+
+-- the last test, of the sum of all encoded actions
+abbrev pub if_small : Actions → Result Actions CommandFault
+if_small forest = cond (nat_le (encoded_bytes forest) 32768) (Ok forest) (Err (TooBig (capped (encoded_bytes forest))))
+
+unfoldable pub interp : Packages → List Known → Hash → PartyNames → List Command → Result Actions CommandFault
+interp packages known seed by commands = on (run_roots packages known seed by commands) if_small

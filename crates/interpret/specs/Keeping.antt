@@ -1,0 +1,24 @@
+-- What a transaction keeps.
+use Rattle.std.specs.Prelude.{◌≡◌, ℕ, suc, ◌≤◌, true, max}
+use Rattle.ledger_terms.specs.Forest.{NoRoots, Root, size}
+use Rattle.ledger_terms.specs.Trees.{Actions}
+use Rattle.ledger_model.specs.Language.{roles_of}
+use Rattle.ledger_model.specs.Conformance.{Conforms}
+use Rattle.ledger_model.specs.Authority.{is_forest_authorised}
+use Rattle.lang_eval.specs.Found.{Packages}
+use Rattle.lang_eval.specs.Parts.{PartyNames}
+use Rattle.interpret.specs.Language.{the_language}
+use Rattle.interpret.specs.Encoded.{encoded_bytes}
+
+-- how many stand above one another at most
+abbrev pub depth : Actions → ℕ
+depth NoRoots = 0
+depth (Root act consequences others) = max (suc (depth consequences)) (depth others)
+
+-- It conforms, it is authorised by these requesters, and it keeps its limits.
+pub record KeepsRules (packages : Packages) (act_as : PartyNames) (forest : Actions) : Type 0 where
+  pub conforms : Conforms (the_language packages) forest
+  pub authorised : is_forest_authorised (roles_of (the_language packages)) act_as forest ≡ true
+  pub few : size forest ≤ 64
+  pub shallow : depth forest ≤ 16
+  pub small : encoded_bytes forest ≤ 32768

@@ -1,0 +1,16 @@
+pub mod Sizes
+pub mod Language
+pub mod Tries
+pub mod Ids
+pub mod Usable
+pub mod Tested
+pub mod Act
+pub mod Commands
+pub mod Encoded
+pub mod Interpreted
+pub mod Shown
+pub mod Wanted
+pub mod Keeping
+pub mod Stops
+pub mod Plain
+pub mod Filled

@@ -1,0 +1,73 @@
+-- Whether trees of actions are possible in the model, by tests in order.
+use Rattle.std.specs.Prelude.{Bool, true, false, ◌&&◌, List, [], ◌∷◌, ◌++◌, Result, Ok, Err}
+use Rattle.std.specs.Cmp.Lexicographic.{pointwise}
+use Rattle.ledger_terms.specs.declared.value.Value.{Value}
+use Rattle.ledger_terms.specs.declared.action.Action.{Action}
+use Rattle.ledger_terms.specs.declared.action.Action.TheVariants.{Create, Exercise, Fetch}
+use Rattle.ledger_terms.specs.contracts.value.ValuePartialEq.TheImpl as value_eq
+use Rattle.ledger_terms.specs.contracts.template_name.TemplateNamePartialEq.TheImpl as template_eq
+use Rattle.ledger_terms.specs.Forest.{NoRoots, Root}
+use Rattle.ledger_terms.specs.Trees.{Actions}
+use Rattle.ledger_terms.specs.Parties.{same_name}
+use Rattle.ledger_model.specs.Conformance.{Body, NoBody, BodyOf, body_of, seen_of}
+use Rattle.ledger_model.specs.declared.step.Seen.{Seen}
+use Rattle.ledger_model.specs.declared.step.Step.{Step}
+use Rattle.ledger_model.specs.declared.step.Step.TheVariants.{Create as CreateNext, Exercise as ExerciseNext, Fetch as FetchNext, Done}
+use Rattle.lang_eval.specs.declared.eval_fault.EvalFault.{EvalFault}
+use Rattle.lang_eval.specs.Found.{Packages}
+use Rattle.lang_eval.specs.Kinds.{has_kinds}
+use Rattle.lang_eval.specs.Next.{next}
+use Rattle.interpret.specs.Language.{is_creatable, is_exercisable}
+
+abbrev pub same_values : List Value → List Value → Bool
+same_values = pointwise value_eq.ghosts.eq
+
+-- the action is the one that a step asks for
+abbrev pub is_demanded : Step → Action → Bool
+is_demanded (CreateNext template fields) (Create id i) = template_eq.ghosts.eq i.template template && same_values i.fields fields
+is_demanded (ExerciseNext template id choice args) (Exercise id' salt i choice' args' actors consuming result) =
+    template_eq.ghosts.eq i.template template && (same_name id' id && (same_name choice' choice && same_values args' args))
+is_demanded (FetchNext template id) (Fetch id' salt i actors) = template_eq.ghosts.eq i.template template && same_name id' id
+is_demanded step action = false
+
+abbrev pub asks : Result Step EvalFault → Action → Bool
+asks (Ok step) action = is_demanded step action
+asks (Err e) action = false
+
+abbrev pub is_done : Step → Value → Bool
+is_done (Done v) result = value_eq.ghosts.eq v result
+is_done step result = false
+
+abbrev pub gives : Result Step EvalFault → Value → Bool
+gives (Ok step) result = is_done step result
+gives (Err e) result = false
+
+-- an action is possible by itself
+abbrev pub is_possible : Packages → Action → Bool
+is_possible packages (Create id i) = has_kinds packages i && is_creatable packages i
+is_possible packages (Exercise id salt i choice args actors consuming result) =
+    has_kinds packages i && is_exercisable packages (record { id = id; instance = i; choice = choice; args = args }) actors consuming result
+is_possible packages (Fetch id salt i actors) = has_kinds packages i
+
+abbrev pub continues : Packages → Body → List Seen → Action → Bool
+continues packages NoBody seen action = false
+continues packages (BodyOf call result) seen action = asks (next packages call seen) action
+
+abbrev pub ends : Packages → Body → List Seen → Bool
+ends packages NoBody seen = true
+ends packages (BodyOf call result) seen = gives (next packages call seen) result
+
+-- these trees are the rest of what a body does, and each is possible
+abbrev pub are_rest : Packages → Body → List Seen → Actions → Bool
+are_rest packages body seen NoRoots = ends packages body seen
+are_rest packages body seen (Root act consequences others) =
+    (continues packages body seen act.action && (is_possible packages act.action && are_rest packages (body_of act.action) [] consequences))
+    && are_rest packages body (seen ++ seen_of act.action ∷ []) others
+
+-- one tree
+abbrev pub is_tree_possible : Packages → Action → Actions → Bool
+is_tree_possible packages action consequences = is_possible packages action && are_rest packages (body_of action) [] consequences
+
+abbrev pub has_none : Actions → Bool
+has_none NoRoots = true
+has_none (Root act consequences others) = false

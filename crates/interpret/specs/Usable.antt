@@ -1,0 +1,40 @@
+-- The contracts that an action may use.
+use Rattle.std.specs.Prelude.{◌==◌, Bool, ◌&&◌, cond, List, Option, Some, None, find}
+use Rattle.std.specs.List.{list_any}
+use Rattle.std.specs.Cmp.Lexicographic.{pointwise}
+use Rattle.ledger_terms.specs.declared.known.Known.{Known}
+use Rattle.ledger_terms.specs.declared.template_name.TemplateName.{TemplateName}
+use Rattle.ledger_terms.specs.contracts.template_name.TemplateNamePartialEq.TheImpl as template_eq
+use Rattle.lang_eval.specs.Found.{Packages}
+use Rattle.lang_eval.specs.Kinds.{has_kinds}
+use Rattle.interpret.specs.Ids.{Hash}
+use Rattle.interpret.specs.declared.progress.Progress.{Progress}
+
+abbrev pub same_hash : Hash → Hash → Bool
+same_hash = pointwise ◌==◌
+
+abbrev pub find_known : Hash → List Known → Option Known
+find_known id known = find (λ k. same_hash k.id id) known
+
+abbrev pub find_salt : Hash → List Known → Option Known
+find_salt salt known = find (λ k. same_hash k.salt salt) known
+
+abbrev pub is_spent : Hash → List Hash → Bool
+is_spent id spent = list_any (λ d. same_hash d id) spent
+
+-- the first, and else the second
+abbrev pub first_found : Option Known → Option Known → Option Known
+first_found (Some k) other = Some k
+first_found None other = other
+
+-- a contract of that template, whose fields have its kinds
+abbrev pub of_template : Packages → TemplateName → Option Known → Option Known
+of_template packages template None = None
+of_template packages template (Some k) = cond (template_eq.ghosts.eq k.instance.template template && has_kinds packages k.instance) (Some k) None
+
+-- The contract of that id and template, where it is known or the transaction created it, and where the transaction hasn't
+-- consumed it.
+unfoldable pub usable : Packages → List Known → Progress → Hash → TemplateName → Option Known
+usable packages known progress id template =
+    cond (is_spent id progress.spent) None
+    (first_found (of_template packages template (find_known id known)) (of_template packages template (find_known id progress.created)))

@@ -1,0 +1,115 @@
+-- A finished tree that is as wanted: recognised, action by action, from what stands before it.
+use Rattle.std.specs.Prelude.{◌≡◌, ℕ, zero, suc, ◌+◌, ◌<◌, ◌≤◌, true, List, [], ◌∷◌, ◌++◌, Some}
+use Rattle.ledger_terms.specs.declared.value.Value.{Value}
+use Rattle.ledger_terms.specs.declared.value.Value.TheVariants.{Unit as UnitValue}
+use Rattle.ledger_terms.specs.declared.known.Known.{Known}
+use Rattle.ledger_terms.specs.declared.command.Command.{Command}
+use Rattle.ledger_terms.specs.declared.action.Action.{Action}
+use Rattle.ledger_terms.specs.declared.action.Action.TheVariants.{Create, Exercise, Fetch}
+use Rattle.ledger_terms.specs.declared.action_node.ActionNode.{ActionNode}
+use Rattle.ledger_terms.specs.Forest.{NoRoots, Root, preorder}
+use Rattle.ledger_terms.specs.Trees.{Act, Actions}
+use Rattle.ledger_model.specs.Language.{roles_of}
+use Rattle.ledger_model.specs.Conformance.{Demands, Possible}
+use Rattle.ledger_model.specs.Authority.{is_authorised, authorisers_below}
+use Rattle.ledger_model.specs.declared.step.Seen.{Seen}
+use Rattle.ledger_model.specs.declared.step.Step.{Step}
+use Rattle.lang_eval.specs.Found.{Packages}
+use Rattle.lang_eval.specs.Parts.{PartyNames}
+use Rattle.interpret.specs.declared.progress.Progress.{Progress}
+use Rattle.interpret.specs.Ids.{Hash, child_seed, contract_id}
+use Rattle.interpret.specs.Language.{the_language}
+use Rattle.interpret.specs.Tested.{fetchers}
+use Rattle.interpret.specs.Usable.{usable}
+use Rattle.interpret.specs.Act.{Source, End, Child, body_source, counted, with_created, with_spent}
+use Rattle.interpret.specs.Commands.{commands_source}
+use Rattle.interpret.specs.Interpreted.{nothing_done}
+use Rattle.interpret.specs.Encoded.{encoded_bytes}
+
+-- The contract of an action: a Create has the id of its seed and instance, and what another uses is known, or was created
+-- before, and wasn't consumed before.
+abbrev pub IsInput : Packages → List Known → Progress → Hash → Action → Type 0
+IsInput packages known progress seed (Create id i) = id ≡ contract_id seed i
+IsInput packages known progress seed (Exercise id salt i choice args actors consuming result) =
+    usable packages known progress id i.template ≡ Some (record { id = id; salt = salt; instance = i })
+IsInput packages known progress seed (Fetch id salt i actors) =
+    usable packages known progress id i.template ≡ Some (record { id = id; salt = salt; instance = i })
+
+-- the actors of a Fetch are the set of stakeholders among the authorisers
+abbrev pub IsFetchedBy : Packages → PartyNames → Action → Type 0
+IsFetchedBy packages by (Create id i) = Unit {0}
+IsFetchedBy packages by (Exercise id salt i choice args actors consuming result) = Unit {0}
+IsFetchedBy packages by (Fetch id salt i actors) = actors ≡ fetchers packages i by
+
+-- what an action has to meet by itself
+pub record IsSound (packages : Packages) (known : List Known) (progress : Progress) (by : PartyNames) (seed : Hash) (action : Action) : Type 0 where
+  pub input : IsInput packages known progress seed action
+  pub possible : Possible (the_language packages) action
+  pub authorised : is_authorised (roles_of (the_language packages)) by action ≡ true
+  pub fetched : IsFetchedBy packages by action
+
+-- what a transaction did, with one more action
+abbrev pub after_action : Progress → Hash → Action → Progress
+after_action p seed (Create id i) = with_created (record { id = id; salt = seed; instance = i }) (counted p)
+after_action p seed (Exercise id salt i choice args actors consuming result) = with_spent consuming id (counted p)
+after_action p seed (Fetch id salt i actors) = counted p
+
+abbrev pub after : Progress → Act → Progress
+after p act = after_action p act.seed act.action
+
+abbrev pub after_all : Progress → List Act → Progress
+after_all p [] = p
+after_all p (act ∷ more) = after_all (after p act) more
+
+abbrev pub one_less : ℕ → ℕ
+one_less zero = zero
+one_less (suc n) = n
+
+-- nothing is asked for
+abbrev pub no_source : Source
+no_source = record { turn = λ index seen. End UnitValue; learn = λ seen a. [] }
+
+-- what asks for the consequences of the action at a path, and what they have to result in
+abbrev pub source_of : Packages → List ℕ → Action → Source
+source_of packages path (Create id i) = no_source
+source_of packages path (Exercise id salt i choice args actors consuming result) =
+    body_source packages (record { id = id; instance = i; choice = choice; args = args }) path
+source_of packages path (Fetch id salt i actors) = no_source
+
+abbrev pub result_of : Action → Value
+result_of (Create id i) = UnitValue
+result_of (Exercise id salt i choice args actors consuming result) = result
+result_of (Fetch id salt i actors) = UnitValue
+
+-- These trees are the rest of what a source asks for, after this progress, with so many levels left: each action is the
+-- one that is asked for, has the seed of its place, is sound, and has the consequences that its choice asks for; they end
+-- with the result.
+abbrev pub Wanted : Packages → List Known → ℕ → Source → Value → PartyNames → List Seen → Hash → List ℕ → ℕ → Progress → Actions → Type 0
+Wanted packages known left source result by seen seed path index progress NoRoots = source.turn index seen ≡ End result
+Wanted packages known left source result by seen seed path index progress (Root act consequences others) =
+    ((step : Step) × (source.turn index seen ≡ Child step) × Demands (Some step) act.action)
+    × (0 < left)
+    × (progress.count < 64)
+    × (act.seed ≡ child_seed seed index)
+    × IsSound packages known progress by act.seed act.action
+    × Wanted packages known (one_less left) (source_of packages (path ++ index ∷ []) act.action) (result_of act.action)
+    (authorisers_below (roles_of (the_language packages)) act.action) [] act.seed (path ++ index ∷ []) 0 (after progress act) consequences
+    × Wanted packages known left source result by (source.learn seen act.action) seed path (index + 1) (after_all (after progress act) (preorder consequences)) others
+
+-- The transaction that commands ask for: its roots answer the commands in order, 16 levels deep at most, and its encoded
+-- actions keep their limit.
+pub record IsWanted (packages : Packages) (known : List Known) (seed : Hash) (act_as : PartyNames) (commands : List Command) (forest : Actions) : Type 0 where
+  pub roots : Wanted packages known 16 (commands_source packages known commands) UnitValue act_as [] seed [] 0 nothing_done forest
+  pub small : encoded_bytes forest ≤ 32768
+
+-- a whole tree is what a step asks for, and as wanted
+pub record IsTree (packages : Packages) (known : List Known) (left : ℕ) (progress : Progress) (path : List ℕ) (seed : Hash) (by : PartyNames) (step : Step) (node : ActionNode) : Type 0 where
+  pub some : 0 < left
+  pub room : progress.count < 64
+  pub seeded : node.seed ≡ seed
+  pub demanded : Demands (Some step) node.action
+  pub sound : IsSound packages known progress by node.seed node.action
+  pub children : Wanted packages known (one_less left) (source_of packages path node.action) (result_of node.action) (authorisers_below (roles_of (the_language packages)) node.action) [] node.seed path 0 (after_action progress node.seed node.action) node.children
+
+abbrev pub progress_with : Progress → ActionNode → Progress
+progress_with p n = after_all (after_action p n.seed n.action) (preorder n.children)

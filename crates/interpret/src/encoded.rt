@@ -1,0 +1,30 @@
+//! The encoded bytes of a transaction.
+ghost use Rattle.std.specs.Prelude.{◌≡◌};
+ghost use Rattle.wire_form.specs.Lengths.{capped};
+ghost use Rattle.interpret.specs.Encoded.{action_bytes, encoded_bytes};
+
+use ledger_terms::{Action, ActionNodeList};
+use wire_form::{action_len, is_spellable_action};
+
+fn action_bytes(action: &Action) -> u64
+    ensures { result ≡ capped (action_bytes action.now) }
+{
+    if !is_spellable_action(action) {
+        return u64::MAX;
+    }
+    (action_len(action) as u64).saturating_add(32)
+}
+
+/// The sum of 32 and the spelling's length over all actions, or the greatest u64 where that is more. An action without a
+/// spelling counts as more than any limit.
+pub fn encoded_bytes(forest: &ActionNodeList) -> u64
+    ensures { result ≡ capped (encoded_bytes forest.now) }
+{
+    let mut bytes: u64 = 0;
+    for node in forest.as_slice() {
+        bytes = bytes
+            .saturating_add(action_bytes(&node.action))
+            .saturating_add(encoded_bytes(&node.children));
+    }
+    bytes
+}

@@ -1,0 +1,300 @@
+//! Whether trees of actions are possible in the model, tried by running choices again.
+ghost use Rattle.std.specs.Prelude.{◌≡◌, IfOk, [], ◌&&◌};
+ghost use Rattle.std.specs.Bool.{Decides};
+ghost use Rattle.ledger_terms.specs.Grown.{tree_of};
+ghost use Rattle.ledger_model.specs.Conformance.{BodyOf, Conforms, body_of};
+ghost use Rattle.lang_eval.specs.Parts.{parties_of_choice};
+ghost use Rattle.lang_eval.specs.Next.{next};
+ghost use Rattle.interpret.specs.Language.{the_language, same_truth, are_controllers, is_creatable, is_exercisable};
+ghost use Rattle.interpret.specs.Tries.{are_rest, asks, gives, has_none, is_demanded, is_done, is_possible, is_tree_possible};
+
+use crate::seen_of::what_is_seen;
+use crate::sizes::{are_small_args, is_small_instance, is_small_result};
+use lang_eval::{
+    Checked, EvalFault, call_has_kinds, has_kinds, is_consuming_call, next_step, parties_of_choice,
+    parties_of_created,
+};
+use ledger_model::{ChoiceCall, SeenList, Step};
+use ledger_terms::{
+    Action, ActionNode, ActionNodeList, Hash, Instance, Name, PartySet, Value, ValueList,
+    copy_instance, copy_values,
+};
+use std::alloc::{AllocError, Global};
+
+fn demanded(step: &Step, action: &Action) -> bool
+    ensures { result ≡ is_demanded step.now action.now }
+{
+    match (step, action) {
+        (Step::Create { template, fields }, Action::Create { id: _, instance }) => {
+            instance.template == *template && instance.fields == *fields
+        }
+        (
+            Step::Exercise {
+                template,
+                id,
+                choice,
+                args,
+            },
+            Action::Exercise {
+                id: its_id,
+                instance,
+                choice: its_choice,
+                args: its_args,
+                ..
+            },
+        ) => {
+            instance.template == *template
+                && *its_id == *id
+                && *its_choice == *choice
+                && *its_args == *args
+        }
+        (
+            Step::Fetch { template, id },
+            Action::Fetch {
+                id: its_id,
+                instance,
+                ..
+            },
+        ) => instance.template == *template && *its_id == *id,
+        _ => false,
+    }
+}
+
+fn done(step: &Step, wanted: &Value) -> bool
+    ensures { result ≡ is_done step.now wanted.now }
+{
+    match step {
+        Step::Done(value) => *value == *wanted,
+        _ => false,
+    }
+}
+
+/// Whether the body asks for the action next.
+fn asked(
+    alloc: Global,
+    checked: &Checked,
+    call: &ChoiceCall,
+    seen: &SeenList,
+    action: &Action,
+) -> Result<bool, AllocError>
+    ensures { IfOk result (λ b. b ≡ asks (next checked.now call.now seen.now) action.now) }
+{
+    match next_step(alloc, checked, call, seen) {
+        Ok(step) => Ok(demanded(&step, action)),
+        Err(EvalFault::Memory) => Err(AllocError),
+        Err(_) => Ok(false),
+    }
+}
+
+/// Whether the body is done, with that result.
+fn ended(
+    alloc: Global,
+    checked: &Checked,
+    call: &ChoiceCall,
+    seen: &SeenList,
+    wanted: &Value,
+) -> Result<bool, AllocError>
+    ensures { IfOk result (λ b. b ≡ gives (next checked.now call.now seen.now) wanted.now) }
+{
+    match next_step(alloc, checked, call, seen) {
+        Ok(step) => Ok(done(&step, wanted)),
+        Err(EvalFault::Memory) => Err(AllocError),
+        Err(_) => Ok(false),
+    }
+}
+
+/// The call of an Exercise.
+pub(crate) fn call_of(
+    id: &Hash,
+    instance: &Instance,
+    choice: Name,
+    args: &ValueList,
+) -> Result<ChoiceCall, AllocError>
+    ensures { IfOk result (λ c. c ≡ record { id = id.now; instance = instance.now; choice = choice; args = args.now }) }
+{
+    Ok(ChoiceCall {
+        id: *id,
+        instance: copy_instance(instance)?,
+        choice,
+        args: copy_values(args)?,
+    })
+}
+
+#[tactic(auto, unfolding(crate::specs::Language::is_creatable))]
+fn creatable(alloc: Global, checked: &Checked, instance: &Instance) -> Result<bool, AllocError>
+    ensures { IfOk result (λ b. b ≡ is_creatable checked.now instance.now) }
+{
+    if !is_small_instance(instance) {
+        return Ok(false);
+    }
+    match parties_of_created(alloc, checked, instance) {
+        Ok(_) => Ok(true),
+        Err(EvalFault::Memory) => Err(AllocError),
+        Err(_) => Ok(false),
+    }
+}
+
+fn controlled(
+    alloc: Global,
+    checked: &Checked,
+    call: &ChoiceCall,
+    actors: &PartySet,
+) -> Result<bool, AllocError>
+    ensures { IfOk result (λ b. b ≡ are_controllers (parties_of_choice checked.now call.now) actors.now) }
+{
+    match parties_of_choice(alloc, checked, call) {
+        Ok(parties) => Ok(parties.controllers == *actors),
+        Err(EvalFault::Memory) => Err(AllocError),
+        Err(_) => Ok(false),
+    }
+}
+
+#[tactic(auto, unfolding(crate::specs::Language::is_exercisable))]
+fn exercisable(
+    alloc: Global,
+    checked: &Checked,
+    call: &ChoiceCall,
+    actors: &PartySet,
+    consuming: bool,
+    value: &Value,
+) -> Result<bool, AllocError>
+    ensures { IfOk result (λ b. b ≡ is_exercisable checked.now call.now actors.now consuming value.now) }
+{
+    if !call_has_kinds(checked, call) {
+        return Ok(false);
+    }
+    if !are_small_args(&call.args) {
+        return Ok(false);
+    }
+    if !is_small_result(value) {
+        return Ok(false);
+    }
+    if is_consuming_call(checked, call) != consuming {
+        return Ok(false);
+    }
+    controlled(alloc, checked, call, actors)
+}
+
+/// Whether an action is possible by itself.
+fn possible(alloc: Global, checked: &Checked, action: &Action) -> Result<bool, AllocError>
+    ensures { IfOk result (λ b. b ≡ is_possible checked.now action.now) }
+{
+    match action {
+        Action::Create { id: _, instance } => {
+            if !has_kinds(checked, instance) {
+                return Ok(false);
+            }
+            creatable(alloc, checked, instance)
+        }
+        Action::Exercise {
+            id,
+            salt: _,
+            instance,
+            choice,
+            args,
+            actors,
+            consuming,
+            result,
+        } => {
+            if !has_kinds(checked, instance) {
+                return Ok(false);
+            }
+            let call = call_of(id, instance, *choice, args)?;
+            exercisable(alloc, checked, &call, actors, *consuming, result)
+        }
+        Action::Fetch {
+            id: _,
+            salt: _,
+            instance,
+            actors: _,
+        } => Ok(has_kinds(checked, instance)),
+    }
+}
+
+fn none(children: &ActionNodeList) -> bool
+    ensures { result ≡ has_none children.now }
+{
+    children.as_slice().is_empty()
+}
+
+/// Whether the consequences of an action are what its choice does.
+#[cycle(rest)]
+#[tactic(auto, using(crate::proofs::Tried::no_body))]
+fn rest_below(alloc: Global, checked: &Checked, node: &ActionNode) -> Result<bool, AllocError>
+    ensures { IfOk result (λ b. b ≡ are_rest checked.now (body_of node.now.action) [] node.now.children) }
+{
+    match &node.action {
+        Action::Exercise {
+            id,
+            instance,
+            choice,
+            args,
+            result,
+            ..
+        } => {
+            let call = call_of(id, instance, *choice, args)?;
+            follows(alloc, checked, &call, result, &node.children)
+        }
+        Action::Create { id: _, instance: _ } => Ok(none(&node.children)),
+        Action::Fetch { .. } => Ok(none(&node.children)),
+    }
+}
+
+/// Whether an action is possible with all below it.
+#[cycle(rest)]
+fn tree_possible(alloc: Global, checked: &Checked, node: &ActionNode) -> Result<bool, AllocError>
+    ensures { IfOk result (λ b. b ≡ is_tree_possible checked.now node.now.action node.now.children) }
+{
+    if !possible(alloc, checked, &node.action)? {
+        return Ok(false);
+    }
+    rest_below(alloc, checked, node)
+}
+
+/// Whether a child is the next that the body asks for, and possible with all below it.
+#[cycle(rest)]
+fn child_follows(
+    alloc: Global,
+    checked: &Checked,
+    call: &ChoiceCall,
+    seen: &SeenList,
+    node: &ActionNode,
+) -> Result<bool, AllocError>
+    ensures { IfOk result (λ b. b ≡ (asks (next checked.now call.now seen.now) node.now.action && is_tree_possible checked.now node.now.action node.now.children)) }
+{
+    if !asked(alloc, checked, call, seen, &node.action)? {
+        return Ok(false);
+    }
+    tree_possible(alloc, checked, node)
+}
+
+/// Whether these trees are what the call's choice does, to that result. A tree is tried whole before the body goes on
+/// after it, so no body runs on a contract whose fields have other kinds than its template's.
+#[cycle(rest)]
+fn follows(
+    alloc: Global,
+    checked: &Checked,
+    call: &ChoiceCall,
+    wanted: &Value,
+    children: &ActionNodeList,
+) -> Result<bool, AllocError>
+    ensures { IfOk result (λ b. b ≡ are_rest checked.now (BodyOf call.now wanted.now) [] children.now) }
+{
+    let mut seen = SeenList::new(alloc);
+    for node in children.as_slice() {
+        if !child_follows(alloc, checked, call, &seen, node)? {
+            return Ok(false);
+        }
+        seen.push(what_is_seen(&node.action)?)?;
+    }
+    ended(alloc, checked, call, &seen, wanted)
+}
+
+/// Whether a tree of actions is possible in the model (Ledger Model: conformance): its root is possible by itself, and the
+/// consequences of each Exercise are what its choice does, each possible itself, to the result that it has. Seeds, ids
+/// and authority play no part, and neither does what a Fetch has as actors.
+pub fn reexecute(alloc: Global, checked: &Checked, root: &ActionNode) -> Result<bool, AllocError>
+    ensures { IfOk result (λ b. Decides b (Conforms (the_language checked.now) (tree_of root.now))) }
+{
+    tree_possible(alloc, checked, root)
+}
