@@ -1,0 +1,16 @@
+-- Who is informed of an action.
+use Rattle.std.specs.Prelude.{Bool}
+use Rattle.ledger_terms.specs.Parties.{meets_set}
+use Rattle.ledger_terms.specs.Trees.{Act, Actions}
+use Rattle.ledger_terms.specs.Forest as forest
+use Rattle.lang_eval.specs.Found.{Packages}
+use Rattle.lang_eval.specs.Parts.{PartyNames}
+use Rattle.lang_eval.specs.Language.{roles_in}
+
+-- an informee of the action is one of the parties
+abbrev pub is_informed : Packages → PartyNames → Act → Bool
+is_informed packages parties act = meets_set (roles_in packages act.action).informees parties
+
+-- an action of which one of the parties is informed stays whole, and any other gives way to the projection of what is below it
+abbrev pub projection : Packages → PartyNames → Actions → Actions
+projection packages parties roots = forest.project (is_informed packages parties) roots
