@@ -1,0 +1,4 @@
+pub mod Walking
+pub mod Firsts
+pub mod Breaking
+pub mod Places

@@ -1,0 +1,28 @@
+-- How an action breaks consistency with those before it.
+use Rattle.std.specs.Prelude.{◌≡◌, ◌≢◌, Bool, true, false, List, Contains, not, ◌&&◌, ◌||◌, if◌then◌else◌}
+use Rattle.std.specs.List.{list_any}
+use Rattle.ledger_terms.specs.Trees.{Act}
+use Rattle.ledger_terms.specs.declared.instance.Instance.{Instance}
+use Rattle.ledger_terms.specs.contracts.instance.InstancePartialEq.TheImpl as instance_eq
+use Rattle.ledger_model.specs.Terms.{Hash, id_of, instance_of, is_create, is_on, creates, consumes}
+use Rattle.ledger_model.specs.Consistency.{SameContract}
+
+pub data Breaks (earlier : List Act) (a : Act) : Type 0 where
+  -- it isn't a Create, and none of its contract stands before it
+  NotCreated : is_create a.action ≡ false → list_any (creates (id_of a.action)) earlier ≡ false → Breaks earlier a
+  -- it is a Create, and not the first on its contract
+  CreatedLate : is_create a.action ≡ true → list_any (is_on (id_of a.action)) earlier ≡ true → Breaks earlier a
+  -- it follows a consuming Exercise
+  AfterConsumption : list_any (consumes (id_of a.action)) earlier ≡ true → Breaks earlier a
+  -- an earlier action on its contract carries another instance
+  OtherInstance : (b : Act) → Contains earlier b → SameContract b a → instance_of b.action ≢ instance_of a.action → Breaks earlier a
+
+-- an action on the contract carries another instance
+abbrev pub differs : Hash → Instance → Act → Bool
+differs c i b = is_on c b && not (instance_eq.ghosts.eq (instance_of b.action) i)
+
+-- the same by a test
+abbrev pub breaks : List Act → Act → Bool
+breaks earlier a =
+    (if is_create a.action then list_any (is_on (id_of a.action)) earlier else not (list_any (creates (id_of a.action)) earlier))
+    || (list_any (consumes (id_of a.action)) earlier || list_any (differs (id_of a.action) (instance_of a.action)) earlier)

@@ -1,0 +1,17 @@
+-- What a walk leaves that stops at the first action that a test finds.
+use Rattle.std.specs.Prelude.{◌≡◌, ℕ, suc, ◌%◌, ◌^◌, Bool, true, false, List, [], ◌∷◌, ◌++◌, Some, None}
+use Rattle.ledger_terms.specs.Trees.{Act, Actions}
+use Rattle.ledger_terms.specs.Forest.{NoRoots, Root}
+use Rattle.consist.specs.First.{acts_in, first_found}
+
+-- the actions of trees in pre-order, each with its path below this one; the first root is that of the number
+abbrev pub placed_from : List ℕ → ℕ → Actions → List (List ℕ × Act)
+placed_from above k NoRoots = []
+placed_from above k (Root act below others) =
+    (above ++ k % 2 ^ 16 ∷ [], act) ∷ (placed_from (above ++ k % 2 ^ 16 ∷ []) 0 below ++ placed_from above (suc k) others)
+
+-- it stopped at the path, or it went through all
+abbrev pub IsWalked : (List Act → Act → Bool) → (earlier : List Act) → (path : List ℕ) → (placed : List (List ℕ × Act)) → Bool → (met : List Act) → (left : List ℕ) → Type 0
+IsWalked test earlier path placed true met left = first_found test earlier placed ≡ Some left
+IsWalked test earlier path placed false met left =
+    (first_found test earlier placed ≡ None) × (met ≡ earlier ++ acts_in placed) × (left ≡ path)

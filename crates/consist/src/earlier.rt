@@ -1,0 +1,123 @@
+//! Actions that stand before another.
+ghost use Rattle.std.specs.Prelude.{◌≡◌};
+ghost use Rattle.std.specs.List.{list_any};
+ghost use Rattle.ledger_model.specs.Terms.{id_of, instance_of, is_create, is_consuming, is_on, creates, consumes};
+ghost use Rattle.consist.specs.Breaks.{differs};
+
+use ledger_terms::{Action, ActionNode, Hash, Instance};
+use std::marker::Model;
+
+/// An action that was met already.
+#[derive(Drop)]
+pub(crate) struct Earlier<'a> {
+    node: &'a ActionNode,
+}
+
+impl<'a> Model for Earlier<'a> {
+    ghost use Rattle.ledger_terms.specs.Trees.{Act};
+    ghost use Rattle.std.specs.Coded.{codes};
+
+    ghost Value = { Act };
+
+    ghost coded = { Prim.hlevel codes };
+
+    ghost view = { λ e. record { seed = e.node.now.seed; action = e.node.now.action } };
+}
+
+/// The contract that an action is on.
+pub(crate) fn id_of(action: &Action) -> Hash
+    ensures { result ≡ id_of action.now }
+{
+    match action {
+        Action::Create { id, .. } => *id,
+        Action::Exercise { id, .. } => *id,
+        Action::Fetch { id, .. } => *id,
+    }
+}
+
+/// The instance that an action carries.
+pub(crate) fn instance_of(action: &Action) -> &Instance
+    ensures { result.now ≡ instance_of action.now }
+{
+    match action {
+        Action::Create { instance, .. } => instance,
+        Action::Exercise { instance, .. } => instance,
+        Action::Fetch { instance, .. } => instance,
+    }
+}
+
+pub(crate) fn is_create(action: &Action) -> bool
+    ensures { result ≡ is_create action.now }
+{
+    match action {
+        Action::Create { .. } => true,
+        Action::Exercise { .. } => false,
+        Action::Fetch { .. } => false,
+    }
+}
+
+fn is_consuming(action: &Action) -> bool
+    ensures { result ≡ is_consuming action.now }
+{
+    match action {
+        Action::Create { .. } => false,
+        Action::Exercise { consuming, .. } => *consuming,
+        Action::Fetch { .. } => false,
+    }
+}
+
+impl<'a> Earlier<'a> {
+    pub(crate) fn of(node: &'a ActionNode) -> Earlier<'a>
+        ensures { result ≡ record { seed = node.now.seed; action = node.now.action } }
+    {
+        Earlier { node }
+    }
+
+    fn is_on(&self, id: Hash) -> bool
+        ensures { result ≡ is_on id self.now }
+    {
+        id_of(&self.node.action) == id
+    }
+
+    fn creates(&self, id: Hash) -> bool
+        ensures { result ≡ creates id self.now }
+    {
+        self.is_on(id) && is_create(&self.node.action)
+    }
+
+    fn consumes(&self, id: Hash) -> bool
+        ensures { result ≡ consumes id self.now }
+    {
+        self.is_on(id) && is_consuming(&self.node.action)
+    }
+
+    fn differs(&self, id: Hash, instance: &Instance) -> bool
+        ensures { result ≡ differs id instance.now self.now }
+    {
+        self.is_on(id) && *instance_of(&self.node.action) != *instance
+    }
+}
+
+pub(crate) fn some_on(earlier: &[Earlier<'_>], id: Hash) -> bool
+    ensures { result ≡ list_any (is_on id) earlier.now }
+{
+    earlier.iter().any(|e| e.is_on(id))
+}
+
+pub(crate) fn some_creates(earlier: &[Earlier<'_>], id: Hash) -> bool
+    ensures { result ≡ list_any (creates id) earlier.now }
+{
+    earlier.iter().any(|e| e.creates(id))
+}
+
+pub(crate) fn some_consumes(earlier: &[Earlier<'_>], id: Hash) -> bool
+    ensures { result ≡ list_any (consumes id) earlier.now }
+{
+    earlier.iter().any(|e| e.consumes(id))
+}
+
+pub(crate) fn some_differs(earlier: &[Earlier<'_>], id: Hash, instance: &Instance) -> bool
+    ensures { result ≡ list_any (differs id instance.now) earlier.now }
+{
+    earlier.iter().any(|e| e.differs(id, instance))
+}

@@ -1,0 +1,32 @@
+//! What breaking consistency is to the ledger model, as the clauses of functions that do nothing.
+ghost use Rattle.std.specs.Prelude.{◌≡◌, ◌↔◌, ◌++◌, ◌∷◌, [], List, map};
+ghost use Rattle.ledger_terms.specs.Trees.{Act, Actions};
+ghost use Rattle.ledger_model.specs.Forest.{Commit, acts, ledger_acts};
+ghost use Rattle.ledger_model.specs.declared.commit.Commit.{Commit as Part};
+ghost use Rattle.ledger_model.specs.Consistency.{Consistent};
+ghost use Rattle.consist.specs.Breaks.{Breaks};
+ghost use Rattle.consist.specs.First.{NoneShows, acts_in};
+ghost use Rattle.consist.specs.Placed.{placed, placed_in, acts_of_parts, part_of};
+ghost use Rattle.consist.specs.Rules.{IsUnordered};
+
+/// A list of actions is consistent exactly where none breaks consistency with those before it.
+pub fn consistent_where_none_breaks()
+    ensures { (all : List Act) → Consistent all ↔ NoneShows Breaks all }
+{}
+
+/// An action breaks consistency exactly where the list with it is no longer consistent.
+pub fn breaking_ends_consistency()
+    ensures { (earlier : List Act) (a : Act) → Consistent earlier → Consistent (earlier ++ a ∷ []) ↔ (Breaks earlier a → ⊥) }
+{}
+
+/// Where a list of actions is consistent, each stretch of it is ordered, as each transaction of a consistent ledger.
+pub fn consistent_transactions_are_ordered()
+    ensures { (before actions after : List Act) → Consistent (before ++ (actions ++ after)) → NoneShows IsUnordered actions }
+{}
+
+/// The placed actions are the actions, and those of a ledger's commits without their requesters are the ledger's.
+pub fn places_leave_actions()
+    ensures transaction { (roots : Actions) → acts_in (placed roots) ≡ acts roots }
+    ensures parts { (parts : List Part) → acts_in (placed_in parts) ≡ acts_of_parts parts }
+    ensures ledger { (ledger : List Commit) → acts_of_parts (map part_of ledger) ≡ ledger_acts ledger }
+{}

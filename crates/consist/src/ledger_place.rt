@@ -1,0 +1,9 @@
+//! Where an action of a ledger stands.
+use ledger_terms::Path;
+
+/// The place in the log of an action's commit, and the action's path there.
+#[derive(Debug, Drop)]
+pub struct LedgerPlace {
+    pub commit: u64,
+    pub path: Path,
+}
