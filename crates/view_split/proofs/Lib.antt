@@ -1,0 +1,19 @@
+mod Grow
+mod Joins
+mod Walks
+mod FaultFacts
+mod Filling
+pub mod Assembled
+pub mod Sight
+pub mod Cores
+pub mod Once
+pub mod Fitting
+pub mod Shown
+pub mod Confirming
+pub mod TreesKept
+pub mod Roots
+pub mod Sealed
+pub mod Tops
+pub mod Signed
+pub mod Within
+pub mod Holes

@@ -1,0 +1,79 @@
+-- What stands below an action of a view's core: actions, and holes for the views below.
+use Rattle.std.specs.Prelude.{◌≡◌, ℕ, suc, ◌+◌, List, [], ◌∷◌, ◌++◌, Option, Some, None, refl}
+use Rattle.std.proofs.Common.{◌∙◌, ap}
+use Rattle.std.specs.Coded.{Coded, code_by, coded_list, coded_option}
+use Rattle.ledger_terms.specs.Forest.{Forest, NoRoots, Root}
+
+-- Nothing, or an action, what stands below it and what comes after it, or a hole for a view below and what comes after it.
+pub data Holed (A : Type 0) : Type 0 where
+  NoMore : Holed A
+  Inner : (root : A) (below others : Holed A) → Holed A
+  Hole : (others : Holed A) → Holed A
+
+module _ {A : Type 0} where
+  -- what stands in it, in pre-order
+  abbrev pub inner : Holed A → List A
+  inner NoMore = []
+  inner (Inner root below others) = root ∷ (inner below ++ inner others)
+  inner (Hole others) = inner others
+
+  -- how many holes it has
+  abbrev pub holes : Holed A → ℕ
+  holes NoMore = 0
+  holes (Inner root below others) = holes below + holes others
+  holes (Hole others) = suc (holes others)
+
+  -- how many stand side by side in it, holes counted
+  abbrev pub width : Holed A → ℕ
+  width NoMore = 0
+  width (Inner root below others) = suc (width others)
+  width (Hole others) = suc (width others)
+
+  -- one after another
+  abbrev pub beside : Holed A → Holed A → Holed A
+  beside NoMore more = more
+  beside (Inner root below others) more = Inner root below (beside others more)
+  beside (Hole others) more = Hole (beside others more)
+
+  -- the trees that are left once each hole in pre-order has taken one
+  abbrev pub after_holes : Holed A → Forest A → Forest A
+  after_holes NoMore trees = trees
+  after_holes (Inner root below others) trees = after_holes others (after_holes below trees)
+  after_holes (Hole others) NoRoots = NoRoots
+  after_holes (Hole others) (Root root below more) = after_holes others more
+
+  -- Each hole in pre-order takes the next tree. Without one it takes nothing.
+  abbrev pub fill : Holed A → Forest A → Forest A
+  fill NoMore trees = NoRoots
+  fill (Inner root below others) trees = Root root (fill below trees) (fill others (after_holes below trees))
+  fill (Hole others) NoRoots = fill others NoRoots
+  fill (Hole others) (Root root below more) = Root root below (fill others more)
+
+  -- It as a list of marks (nothing, a hole, an action), what stands below and after before the mark, and back.
+  abbrev pub marks : Holed A → List (Option (Option A)) → List (Option (Option A))
+  marks NoMore after = None ∷ after
+  marks (Hole others) after = marks others (Some None ∷ after)
+  marks (Inner root below others) after = marks below (marks others (Some (Some root) ∷ after))
+
+  abbrev pub unmarked : List (Option (Option A)) → List (Holed A) → List (Holed A)
+  unmarked [] stack = stack
+  unmarked (None ∷ after) stack = unmarked after (NoMore ∷ stack)
+  unmarked (Some None ∷ after) [] = []
+  unmarked (Some None ∷ after) (others ∷ stack) = unmarked after (Hole others ∷ stack)
+  unmarked (Some (Some root) ∷ after) [] = []
+  unmarked (Some (Some root) ∷ after) (others ∷ []) = []
+  unmarked (Some (Some root) ∷ after) (others ∷ below ∷ stack) = unmarked after (Inner root below others ∷ stack)
+
+  abbrev pub first_or_none : List (Holed A) → Holed A
+  first_or_none [] = NoMore
+  first_or_none (h ∷ hs) = h
+
+  pub unmarked-marks : (h : Holed A) (after : List (Option (Option A))) (stack : List (Holed A)) → unmarked (marks h after) stack ≡ unmarked after (h ∷ stack)
+  unmarked-marks NoMore after stack = refl
+  unmarked-marks (Hole others) after stack = unmarked-marks others (Some None ∷ after) stack
+  unmarked-marks (Inner root below others) after stack =
+      unmarked-marks below (marks others (Some (Some root) ∷ after)) stack ∙ unmarked-marks others (Some (Some root) ∷ after) (below ∷ stack)
+
+  abbrev pub coded_holed : Coded A → Coded (Holed A)
+  coded_holed c =
+      code_by (List (Option (Option A))) (coded_list (coded_option (coded_option c))) (λ h. marks h []) (λ l. first_or_none (unmarked l [])) (λ h. ap first_or_none (unmarked-marks h [] []))

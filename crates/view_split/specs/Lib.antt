@@ -1,0 +1,15 @@
+pub mod Holed
+pub mod SplitView
+pub mod CoreLists
+pub mod CoresFall
+pub mod ViewLists
+pub mod ViewsFall
+pub mod Split
+pub mod Filled
+pub mod Numbered
+pub mod Seen
+pub mod Placed
+pub mod Rules
+pub mod Within
+pub mod Faults
+pub mod Walked

@@ -1,0 +1,44 @@
+-- The actions of cores with their numbers.
+use Rattle.std.specs.Prelude.{ℕ, List, [], ◌∷◌, ◌++◌}
+use Rattle.ledger_terms.specs.Trees.{Act}
+use Rattle.ledger_terms.specs.Forest.{Forest, NoRoots, Root, join, number_from}
+use Rattle.ledger_model.specs.Terms.{PartySet}
+use Rattle.ledger_model.specs.Views.{View}
+use Rattle.view_split.specs.Holed.{Holed, NoMore, Inner, Hole}
+use Rattle.view_split.specs.SplitView.{SplitView}
+use Rattle.view_split.specs.Split.{assembled}
+
+abbrev pub map_forest : {A B : Type 0} → (A → B) → Forest A → Forest B
+map_forest f NoRoots = NoRoots
+map_forest f (Root root below others) = Root (f root) (map_forest f below) (map_forest f others)
+
+-- A core lies over the trees that it is filled to. What stands where it has an action, in pre-order:
+abbrev pub core_in : {A B : Type 0} → Holed A → Forest B → List B
+core_in NoMore trees = []
+core_in (Inner root below others) NoRoots = []
+core_in (Inner root below others) (Root x children more) = x ∷ (core_in below children ++ core_in others more)
+core_in (Hole others) NoRoots = []
+core_in (Hole others) (Root x children more) = core_in others more
+
+-- and the trees that fill its holes.
+abbrev pub held_in : {A B : Type 0} → Holed A → Forest B → Forest B
+held_in NoMore trees = NoRoots
+held_in (Inner root below others) NoRoots = NoRoots
+held_in (Inner root below others) (Root x children more) = join (held_in below children) (held_in others more)
+held_in (Hole others) NoRoots = NoRoots
+held_in (Hole others) (Root x children more) = Root x children (held_in others more)
+
+-- each view with what stands where its core has an action, in the trees that the views are put back to
+abbrev pub with_cores : {V B : Type 0} → (V → Holed Act) → Forest V → Forest B → Forest (V × List B)
+with_cores below_of NoRoots trees = NoRoots
+with_cores below_of (Root view subviews others) NoRoots = NoRoots
+with_cores below_of (Root view subviews others) (Root x children more) =
+    Root (view, x ∷ core_in (below_of view) children) (with_cores below_of subviews (held_in (below_of view) children)) (with_cores below_of others more)
+
+-- each view with the actions of its core, which have their numbers among all that the views are put back to
+abbrev pub numbered : Forest SplitView → Forest (SplitView × List (ℕ × Act))
+numbered views = with_cores (λ (view : SplitView). view.below) views (number_from 0 (assembled views))
+
+-- the view that the ledger's definitions see in one, and its confirmers
+abbrev pub seen_as : SplitView × List (ℕ × Act) → View × PartySet
+seen_as view = (record { informees = (view.0).informees; core = view.1 }, (view.0).confirmers)

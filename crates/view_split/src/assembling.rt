@@ -1,0 +1,77 @@
+//! Putting views back.
+ghost use Rattle.std.specs.Prelude.{◌≡◌, IfOk, OnOk};
+ghost use Rattle.ledger_terms.specs.Forest.{join};
+ghost use Rattle.ledger_terms.specs.Grown.{tree_of};
+ghost use Rattle.view_split.specs.Holed.{fill, after_holes};
+ghost use Rattle.view_split.specs.ViewLists.{view_tree};
+ghost use Rattle.view_split.specs.Split.{assembled};
+
+use crate::core_node::{CoreChild, CoreChildList};
+use crate::trees::Trees;
+use crate::view::{View, ViewList};
+use ledger_terms::{ActionNode, ActionNodeList, copy_action};
+use std::alloc::{AllocError, Global};
+
+/// Puts a core's children at the end, with a tree in the place of each hole.
+fn fill_into(
+    alloc: Global,
+    core: &CoreChildList,
+    trees: &mut Trees,
+    out: &mut ActionNodeList,
+) -> Result<(), AllocError>
+    ensures filled { OnOk result (out.new ≡ join out.old (fill core.now trees.old)) }
+    ensures left { OnOk result (trees.new ≡ after_holes core.now trees.old) }
+{
+    for child in core.as_slice() {
+        match child {
+            CoreChild::Inner(node) => {
+                let mut children = ActionNodeList::new(alloc);
+                fill_into(alloc, &node.children, trees, &mut children)?;
+                out.push(ActionNode {
+                    seed: node.seed,
+                    action: copy_action(&node.action)?,
+                    children,
+                })?;
+            }
+            CoreChild::Hole => {
+                if let Some(tree) = trees.pop() {
+                    out.push(tree)?;
+                }
+            }
+        }
+    }
+    Ok(())
+}
+
+#[cycle(assemble)]
+fn assemble_into(
+    alloc: Global,
+    views: &ViewList,
+    out: &mut ActionNodeList,
+) -> Result<(), AllocError>
+    ensures { OnOk result (out.new ≡ join out.old (assembled views.now)) }
+{
+    for view in views.as_slice() {
+        out.push(assemble(alloc, view)?)?;
+    }
+    Ok(())
+}
+
+/// A view with all views below it, as the tree of its first action: each hole of a core, in pre-order, is filled by the next
+/// view below. Of a view that has more holes than subviews the last holes stay empty, and subviews that are left over are
+/// dropped; no view that is split off a transaction is so.
+#[cycle(assemble)]
+pub fn assemble(alloc: Global, view: &View) -> Result<ActionNode, AllocError>
+    ensures { IfOk result (λ n. tree_of n ≡ assembled (view_tree view.now)) }
+{
+    let mut below = ActionNodeList::new(alloc);
+    assemble_into(alloc, &view.subviews, &mut below)?;
+    let mut trees = Trees::of(below);
+    let mut children = ActionNodeList::new(alloc);
+    fill_into(alloc, &view.core.children, &mut trees, &mut children)?;
+    Ok(ActionNode {
+        seed: view.core.seed,
+        action: copy_action(&view.core.action)?,
+        children,
+    })
+}

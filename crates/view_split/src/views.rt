@@ -1,0 +1,12 @@
+//! Transactions that are split.
+use crate::view::ViewList;
+use ledger_terms::{Hash, PartySet};
+
+/// A transaction with its actions split into views. `act_as`, `ledger_time` and `seed` are those of the transaction.
+#[derive(Debug, Drop)]
+pub struct Views {
+    pub act_as: PartySet,
+    pub ledger_time: u64,
+    pub seed: Hash,
+    pub roots: ViewList,
+}
