@@ -1,0 +1,28 @@
+use Rattle.std.proofs.Common.{◌≡◌, ◌≤◌, List, ℕ, length, refl, ap, arith}
+use Rattle.sha2.specs.Sha256.{sha256}
+use Rattle.view_split.specs.ViewLists.{view_tree, view_count}
+use Rattle.blind_tree.proofs.KeptGrow.{view_at, spellable_view, kept_step, kept_end, kept_digests-length, kept_count-of}
+use Rattle.blind_tree.specs.Kept.{kept, kept_digests}
+use Rattle.blind_tree.proofs.keep.+keep.Goals as goal
+
+pub keep_into-keep_view-requires : goal.keep_into-keep_view-requires
+keep_into-keep_view-requires t c =
+    let less : view_count (view_tree c.view-item.result) ≤ view_count c.args.views.now =
+    rw (c.view-item.is, ← c.as_slice-view-items.ensures) (view_at _ _ _ c.loop-view-test.true) in
+    (omega (arith, less, c.decreases), (spellable_view _ _ _ c.loop-view-test.true c.view-item.is c.loop-view.invariant.0).0)
+
+pub keep_into-loop-view-preserved : goal.keep_into-loop-view-preserved
+keep_into-loop-view-preserved t c = (
+  (spellable_view _ _ _ c.loop-view-test.true c.view-item.is c.loop-view.invariant.0).1,
+  kept_step _ _ _ _ _ _ _ c.loop-view-test.true c.view-item.is c.in_ok-kept.ensures c.in_ok-push.ensures.ok c.loop-view.invariant.1,
+)
+
+pub keep_into-returns : goal.keep_into-returns
+keep_into-returns t c = kept_end _ _ _ _ c.loop-view-test.false c.loop-view.invariant.1
+
+pub keep_view-view_hash-digest-requires : goal.keep_view-view_hash-digest-requires
+keep_view-view_hash-digest-requires t c =
+    let all : c.as_slice.result.now ≡ kept_digests (kept sha256 c.args.view.now.subviews) =
+    rw (c.as_slice.ensures.value, c.in_ok-below.ensures, c.in_ok-keep_into.ensures, c.new-subviews.ensures) refl in
+    let l = ap (λ (xs : List (List ℕ)). length xs) all in
+    omega (arith, l, kept_digests-length (kept sha256 c.args.view.now.subviews), kept_count-of c.args.view.now.subviews, c.requires.1)

@@ -1,0 +1,15 @@
+use Rattle.std.proofs.Common.{◌↔◌, ◌+◌, ◌*◌, drop}
+use Rattle.view_split.specs.ViewLists.{view_tree, view_count}
+use Rattle.blind_tree.specs.LeafBytes.{AreSpellableViews}
+use Rattle.blind_tree.proofs.Fitting.{AllViews}
+use Rattle.blind_tree.proofs.spellable.+views.Given as goal
+
+abbrev pub decreases-is_view : goal.decreases-is_view
+decreases-is_view l = 2 * view_count (view_tree l.view.now)
+
+abbrev pub decreases-are_views : goal.decreases-are_views
+decreases-are_views l = 2 * view_count l.views.now + 1
+
+-- all fit where those that are left do
+abbrev pub invariant-are_views-loop-view : goal.invariant-are_views-loop-view
+invariant-are_views-loop-view l = AllViews (drop l.view-index l.view-items) ↔ AreSpellableViews l.views

@@ -1,0 +1,56 @@
+-- When two trees agree.
+use Rattle.std.specs.Prelude.{◌≡◌, ◌≢◌, ℕ, List, Contains}
+use Rattle.wire_form.specs.InRange.{IsHash}
+use Rattle.blind_tree.specs.Digests.{Hashing}
+use Rattle.blind_tree.specs.Vertices.{Vertices, NoVertices, BlindVertex, InnerVertex}
+use Rattle.blind_tree.specs.declared.leaf.Leaf.{Leaf}
+use Rattle.blind_tree.specs.declared.leaf.Leaf.TheVariants.{Blind, Plain}
+use Rattle.blind_tree.specs.declared.tree.Tree.{Tree}
+
+-- two different strings, one of each list, have one hash
+pub record Clash (sha : Hashing) (some others : List (List ℕ)) : Type 0 where
+  pub one : List ℕ
+  pub other : List ℕ
+  pub of_some : Contains some one
+  pub of_others : Contains others other
+  pub differ : one ≢ other
+  pub meet : sha one ≡ sha other
+
+-- every hash and salt has 32 bytes
+abbrev pub IsSizedLeaf : Leaf → Type 0
+IsSizedLeaf (Blind hash) = IsHash hash
+IsSizedLeaf (Plain salt bytes) = IsHash salt
+
+abbrev pub AreSized : Vertices → Type 0
+AreSized NoVertices = Unit {0}
+AreSized (BlindVertex hash others) = IsHash hash × AreSized others
+AreSized (InnerVertex informees contents subviews others) = IsSizedLeaf informees × IsSizedLeaf contents × AreSized subviews × AreSized others
+
+pub record IsSized (tree : Tree) : Type 0 where
+  pub common_is : IsSizedLeaf tree.common
+  pub requesters_is : IsSizedLeaf tree.requesters
+  pub vertices : AreSized tree.views
+
+-- one leaf, where both show it
+abbrev pub AgreeLeaf : Leaf → Leaf → Type 0
+AgreeLeaf (Plain salt bytes) (Plain salt2 bytes2) = (salt ≡ salt2) × (bytes ≡ bytes2)
+AgreeLeaf (Plain salt bytes) (Blind hash) = Unit {0}
+AgreeLeaf (Blind hash) leaf = Unit {0}
+
+-- as many vertices, and one leaf wherever both show it
+abbrev pub Agree : Vertices → Vertices → Type 0
+Agree NoVertices NoVertices = Unit {0}
+Agree NoVertices (BlindVertex hash others) = ⊥
+Agree NoVertices (InnerVertex informees contents subviews others) = ⊥
+Agree (BlindVertex hash others) NoVertices = ⊥
+Agree (BlindVertex hash others) (BlindVertex hash2 others2) = Agree others others2
+Agree (BlindVertex hash others) (InnerVertex informees2 contents2 subviews2 others2) = Agree others others2
+Agree (InnerVertex informees contents subviews others) NoVertices = ⊥
+Agree (InnerVertex informees contents subviews others) (BlindVertex hash2 others2) = Agree others others2
+Agree (InnerVertex informees contents subviews others) (InnerVertex informees2 contents2 subviews2 others2) =
+    AgreeLeaf informees informees2 × AgreeLeaf contents contents2 × Agree subviews subviews2 × Agree others others2
+
+pub record AgreeTrees (t u : Tree) : Type 0 where
+  pub common_agree : AgreeLeaf t.common u.common
+  pub requesters_agree : AgreeLeaf t.requesters u.requesters
+  pub vertices : Agree t.views u.views

@@ -1,0 +1,146 @@
+-- A transaction's tree as it is blinded for each recipient.
+use Rattle.std.specs.Prelude.{ℕ, Bool, true, false, List, [], ◌∷◌, if◌then◌else◌, ◌||◌, Option, Some, None, slice_get}
+use Rattle.std.specs.List.{list_any}
+use Rattle.ledger_terms.specs.Parties.{same_name}
+use Rattle.ledger_terms.specs.Hosting.{hosts_at}
+use Rattle.ledger_terms.specs.Forest.{Forest, NoRoots, Root, preorder}
+use Rattle.ledger_terms.specs.declared.host.Host.{Host}
+use Rattle.hash_id.specs.Strings.{leaf_salt_string, leaf_hash_string, view_hash_string, tree_hash_string}
+use Rattle.wire_form.specs.Spelling.{spell_parties}
+use Rattle.view_split.specs.SplitView.{SplitView}
+use Rattle.view_split.specs.Numbered.{map_forest}
+use Rattle.view_split.specs.Seen.{is_sight}
+use Rattle.view_split.specs.declared.views.Views.{Views}
+use Rattle.blind_tree.specs.Vertices.{Vertices, NoVertices, BlindVertex, InnerVertex}
+use Rattle.blind_tree.specs.Digests.{Hashing}
+use Rattle.blind_tree.specs.LeafBytes.{common_bytes, roles_bytes, core_bytes}
+use Rattle.blind_tree.specs.declared.leaf.Leaf.{Leaf}
+use Rattle.blind_tree.specs.declared.leaf.Leaf.TheVariants.{Blind, Plain}
+use Rattle.blind_tree.specs.declared.tree.Tree.{Tree}
+use Rattle.blind_tree.specs.declared.recipient.Recipient.{Recipient}
+use Rattle.blind_tree.specs.declared.recipient.Recipient.TheVariants.{Participant, Mediator}
+
+abbrev pub salt_of : Hashing → (kind : ℕ) (seed : List ℕ) → List ℕ
+salt_of sha kind seed = sha (leaf_salt_string kind seed)
+
+-- the hash of a leaf of a kind, whose salt comes from a seed
+abbrev pub digest_of : Hashing → (kind : ℕ) (seed bytes : List ℕ) → List ℕ
+digest_of sha kind seed bytes = sha (leaf_hash_string kind (salt_of sha kind seed) bytes)
+
+abbrev pub leaf_of : Hashing → (shows : Bool) (kind : ℕ) (seed bytes : List ℕ) → Leaf
+leaf_of sha shows kind seed bytes = if shows then Plain (salt_of sha kind seed) bytes else Blind (digest_of sha kind seed bytes)
+
+-- the hashes of a view's leaves, and of views side by side
+abbrev pub roles_digest : Hashing → SplitView → List ℕ
+roles_digest sha view = digest_of sha 3 view.first.seed (roles_bytes view)
+
+abbrev pub core_digest : Hashing → SplitView → List ℕ
+core_digest sha view = digest_of sha 4 view.first.seed (core_bytes view)
+
+abbrev pub view_digests : Hashing → Forest SplitView → List (List ℕ)
+view_digests sha NoRoots = []
+view_digests sha (Root view subviews others) =
+    sha (view_hash_string (roles_digest sha view) (core_digest sha view) (view_digests sha subviews)) ∷ view_digests sha others
+
+-- What a tree shows of a view: its hash alone; what stands below it; its informees and confirmers too; or its contents too.
+pub data Shown : Type 0 where
+  Hidden : Shown
+  Passed : Shown
+  Named : Shown
+  Whole : Shown
+
+abbrev pub is_hidden : Shown → Bool
+is_hidden Hidden = true
+is_hidden Passed = false
+is_hidden Named = false
+is_hidden Whole = false
+
+abbrev pub shows_roles : Shown → Bool
+shows_roles Hidden = false
+shows_roles Passed = false
+shows_roles Named = true
+shows_roles Whole = true
+
+abbrev pub shows_core : Shown → Bool
+shows_core Hidden = false
+shows_core Passed = false
+shows_core Named = false
+shows_core Whole = true
+
+abbrev pub views_shown : Forest (Shown × SplitView) → Forest SplitView
+views_shown = map_forest (λ (m : Shown × SplitView). m.1)
+
+-- the vertices of views, each with what is shown of it
+abbrev pub vertices_shown : Hashing → Forest (Shown × SplitView) → Vertices
+vertices_shown sha NoRoots = NoVertices
+vertices_shown sha (Root marked subviews others) =
+    if is_hidden marked.0
+    then
+    BlindVertex (sha (view_hash_string (roles_digest sha marked.1) (core_digest sha marked.1) (view_digests sha (views_shown subviews))))
+    (vertices_shown sha others)
+    else
+    InnerVertex
+    (leaf_of sha (shows_roles marked.0) 3 (marked.1).first.seed (roles_bytes marked.1))
+    (leaf_of sha (shows_core marked.0) 4 (marked.1).first.seed (core_bytes marked.1))
+    (vertices_shown sha subviews)
+    (vertices_shown sha others)
+
+-- one of these views, or of those below them, has a hosted informee
+abbrev pub has_sight : (List ℕ → Bool) → Forest SplitView → Bool
+has_sight hosts views = list_any (is_sight hosts) (preorder views)
+
+-- one of these views has
+abbrev pub sees_root : (List ℕ → Bool) → Forest SplitView → Bool
+sees_root hosts NoRoots = false
+sees_root hosts (Root view subviews others) = is_sight hosts view || sees_root hosts others
+
+-- Whole what is seen: a view with a hosted informee, or one below such a view, as above says. Passed what stands above such
+-- a view.
+abbrev pub shown : (sees below : Bool) → Shown
+shown sees below = if sees then Whole else (if below then Passed else Hidden)
+
+abbrev pub shown_to : (hosts : List ℕ → Bool) (above : Bool) → Forest SplitView → Forest (Shown × SplitView)
+shown_to hosts above NoRoots = NoRoots
+shown_to hosts above (Root view subviews others) =
+    Root (shown (above || is_sight hosts view) (has_sight hosts subviews), view)
+    (shown_to hosts (above || is_sight hosts view) subviews)
+    (shown_to hosts above others)
+
+-- to the mediator the informees and confirmers of every view
+abbrev pub named : SplitView → Shown × SplitView
+named view = (Named, view)
+
+-- a tree that shows so much of each view, and the requesters or not
+abbrev pub tree_of : Hashing → (sender : List ℕ) (shows_requesters : Bool) → Views → Forest (Shown × SplitView) → Tree
+tree_of sha sender shows_requesters views marked =
+    record {
+      common = leaf_of sha true 1 views.seed (common_bytes sender views.ledger_time);
+      requesters = leaf_of sha shows_requesters 2 views.seed (spell_parties views.act_as);
+      views = vertices_shown sha marked;
+    }
+
+-- for a participant that hosts these, and may be the sender
+abbrev pub blind_to : Hashing → Views → (sender : List ℕ) (hosts : List ℕ → Bool) (is_sender : Bool) → Tree
+blind_to sha views sender hosts is_sender =
+    tree_of sha sender (sees_root hosts views.roots || is_sender) views (shown_to hosts false views.roots)
+
+abbrev pub blind_for_mediator : Hashing → Views → (sender : List ℕ) → Tree
+blind_for_mediator sha views sender = tree_of sha sender false views (map_forest named views.roots)
+
+abbrev pub has_name : Option Host → List ℕ → Bool
+has_name None name = false
+has_name (Some host) name = same_name host.name name
+
+-- whether the host at an index has this name
+abbrev pub is_host_named : List Host → ℕ → List ℕ → Bool
+is_host_named hosts p name = has_name (slice_get hosts p) name
+
+-- for a recipient
+abbrev pub blind_for : Hashing → Views → (sender : List ℕ) → List Host → Recipient → Tree
+blind_for sha views sender hosts (Participant p) = blind_to sha views sender (hosts_at hosts p) (is_host_named hosts p sender)
+blind_for sha views sender hosts Mediator = blind_for_mediator sha views sender
+
+-- the hash of a transaction, which each of its trees has
+abbrev pub transaction_digest : Hashing → Views → (sender : List ℕ) → List ℕ
+transaction_digest sha views sender =
+    sha (tree_hash_string (digest_of sha 1 views.seed (common_bytes sender views.ledger_time)) (digest_of sha 2 views.seed (spell_parties views.act_as)) (view_digests sha views.roots))

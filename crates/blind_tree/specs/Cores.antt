@@ -1,0 +1,41 @@
+-- The one spelling of cores, and which have one.
+use Rattle.std.specs.Prelude.{ℕ, ◌≤◌, List, [], ◌∷◌, ◌++◌}
+use Rattle.std.specs.Int.{w16, to_be_bytes}
+use Rattle.ledger_terms.specs.Trees.{Act}
+use Rattle.wire_form.specs.Spelling.{spell_action}
+use Rattle.wire_form.specs.Spellable.{IsSpellableAction}
+use Rattle.view_split.specs.Holed.{Holed, NoMore, Inner, Hole, width}
+use Rattle.view_split.specs.CoreLists.{act_of}
+use Rattle.view_split.specs.declared.core_node.CoreChild.{CoreChild}
+use Rattle.view_split.specs.declared.core_node.CoreChild.TheVariants as children
+
+-- what stands side by side: behind a tag an action, two bytes of count and what stands below it, or a tag for a hole
+abbrev pub spell_children : Holed Act → List ℕ
+spell_children NoMore = []
+spell_children (Inner act below others) =
+    (0 ∷ (act.seed ++ spell_action act.action ++ to_be_bytes w16 (width below) ++ spell_children below)) ++ spell_children others
+spell_children (Hole others) = (1 ∷ []) ++ spell_children others
+
+-- a core: the seed of its first action, that action, two bytes of count and what stands below it
+abbrev pub spell_core : Act → Holed Act → List ℕ
+spell_core first below = first.seed ++ spell_action first.action ++ to_be_bytes w16 (width below) ++ spell_children below
+
+abbrev pub spell_child : CoreChild → List ℕ
+spell_child (children.Inner core) = 0 ∷ spell_core (act_of core) core.children
+spell_child children.Hole = 1 ∷ []
+
+-- actions that have room, and at most 63 children
+abbrev pub AreSpellableChildren : Holed Act → Type 0
+AreSpellableChildren NoMore = Unit {0}
+AreSpellableChildren (Inner act below others) =
+    IsSpellableAction act.action × (width below ≤ 63) × AreSpellableChildren below × AreSpellableChildren others
+AreSpellableChildren (Hole others) = AreSpellableChildren others
+
+pub record IsSpellableCore (first : Act) (below : Holed Act) : Type 0 where
+  pub action : IsSpellableAction first.action
+  pub few : width below ≤ 63
+  pub children : AreSpellableChildren below
+
+abbrev pub IsSpellableChild : CoreChild → Type 0
+IsSpellableChild (children.Inner core) = IsSpellableCore (act_of core) core.children
+IsSpellableChild children.Hole = Unit {0}

@@ -1,0 +1,44 @@
+-- The hashes of a tree, by a function of strings, and the strings that are hashed.
+use Rattle.std.specs.Prelude.{ℕ, List, [], ◌∷◌, ◌++◌}
+use Rattle.hash_id.specs.Strings.{leaf_hash_string, view_hash_string, tree_hash_string}
+use Rattle.blind_tree.specs.Vertices.{Vertices, NoVertices, BlindVertex, InnerVertex}
+use Rattle.blind_tree.specs.declared.leaf.Leaf.{Leaf}
+use Rattle.blind_tree.specs.declared.leaf.Leaf.TheVariants.{Blind, Plain}
+use Rattle.blind_tree.specs.declared.tree.Tree.{Tree}
+
+abbrev pub Hashing : Type 0
+Hashing = List ℕ → List ℕ
+
+-- of a leaf of a kind
+abbrev pub leaf_digest : Hashing → ℕ → Leaf → List ℕ
+leaf_digest sha kind (Blind hash) = hash
+leaf_digest sha kind (Plain salt bytes) = sha (leaf_hash_string kind salt bytes)
+
+-- of vertices side by side
+abbrev pub digests : Hashing → Vertices → List (List ℕ)
+digests sha NoVertices = []
+digests sha (BlindVertex hash others) = hash ∷ digests sha others
+digests sha (InnerVertex informees contents subviews others) =
+    sha (view_hash_string (leaf_digest sha 3 informees) (leaf_digest sha 4 contents) (digests sha subviews)) ∷ digests sha others
+
+abbrev pub root_string : Hashing → Tree → List ℕ
+root_string sha tree = tree_hash_string (leaf_digest sha 1 tree.common) (leaf_digest sha 2 tree.requesters) (digests sha tree.views)
+
+abbrev pub root_digest : Hashing → Tree → List ℕ
+root_digest sha tree = sha (root_string sha tree)
+
+-- the strings that hashing a tree hashes
+abbrev pub leaf_strings : ℕ → Leaf → List (List ℕ)
+leaf_strings kind (Blind hash) = []
+leaf_strings kind (Plain salt bytes) = leaf_hash_string kind salt bytes ∷ []
+
+abbrev pub vertex_strings : Hashing → Vertices → List (List ℕ)
+vertex_strings sha NoVertices = []
+vertex_strings sha (BlindVertex hash others) = vertex_strings sha others
+vertex_strings sha (InnerVertex informees contents subviews others) =
+    view_hash_string (leaf_digest sha 3 informees) (leaf_digest sha 4 contents) (digests sha subviews)
+    ∷ (leaf_strings 3 informees ++ (leaf_strings 4 contents ++ (vertex_strings sha subviews ++ vertex_strings sha others)))
+
+abbrev pub tree_strings : Hashing → Tree → List (List ℕ)
+tree_strings sha tree =
+    root_string sha tree ∷ (leaf_strings 1 tree.common ++ (leaf_strings 2 tree.requesters ++ vertex_strings sha tree.views))

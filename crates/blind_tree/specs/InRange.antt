@@ -1,0 +1,67 @@
+-- What leaves, vertices and trees the formats spell.
+use Rattle.std.specs.Prelude.{ℕ, suc, ◌≤◌, ◌<◌, ◌^◌, length, max}
+use Rattle.wire_form.specs.InRange.{IsHash}
+use Rattle.blind_tree.specs.Vertices.{Vertices, NoVertices, BlindVertex, InnerVertex, count}
+use Rattle.blind_tree.specs.declared.leaf.Leaf.{Leaf}
+use Rattle.blind_tree.specs.declared.leaf.Leaf.TheVariants.{Blind, Plain}
+use Rattle.blind_tree.specs.declared.vertex.Vertex.{Vertex}
+use Rattle.blind_tree.specs.declared.vertex.Vertex.TheVariants as vertices
+use Rattle.blind_tree.specs.declared.tree.Tree.{Tree}
+
+-- a hash, or a salt and fewer than 2^32 bytes
+abbrev pub IsLeaf : Leaf → Type 0
+IsLeaf (Blind hash) = IsHash hash
+IsLeaf (Plain salt bytes) = IsHash salt × (length bytes < 2 ^ 32)
+
+-- how many vertices stand one below another at most
+abbrev pub nesting : Vertices → ℕ
+nesting NoVertices = 0
+nesting (BlindVertex hash others) = max 1 (nesting others)
+nesting (InnerVertex informees contents subviews others) = max (suc (nesting subviews)) (nesting others)
+
+-- leaves and hashes, and at most 64 side by side below each
+abbrev pub AreVertices : Vertices → Type 0
+AreVertices NoVertices = Unit {0}
+AreVertices (BlindVertex hash others) = IsHash hash × AreVertices others
+AreVertices (InnerVertex informees contents subviews others) =
+    IsLeaf informees × IsLeaf contents × (count subviews ≤ 64) × AreVertices subviews × AreVertices others
+
+-- at most 64 side by side and 16 one below another
+pub record IsTree (tree : Tree) : Type 0 where
+  pub common_is : IsLeaf tree.common
+  pub requesters_is : IsLeaf tree.requesters
+  pub few : count tree.views ≤ 64
+  pub nested : nesting tree.views ≤ 16
+  pub vertices : AreVertices tree.views
+
+-- fewer than 2^32 bytes
+abbrev pub IsSpellableLeaf : Leaf → Type 0
+IsSpellableLeaf (Blind hash) = Unit {0}
+IsSpellableLeaf (Plain salt bytes) = length bytes < 2 ^ 32
+
+-- leaves that have room, and at most 64 side by side below each
+abbrev pub AreSpellable : Vertices → Type 0
+AreSpellable NoVertices = Unit {0}
+AreSpellable (BlindVertex hash others) = AreSpellable others
+AreSpellable (InnerVertex informees contents subviews others) =
+    IsSpellableLeaf informees × IsSpellableLeaf contents × (count subviews ≤ 64) × AreSpellable subviews × AreSpellable others
+
+-- the same of one vertex
+abbrev pub IsSpellable : Vertex → Type 0
+IsSpellable (vertices.Blind hash) = Unit {0}
+IsSpellable (vertices.Inner informees contents subviews) =
+    IsSpellableLeaf informees × IsSpellableLeaf contents × (count subviews ≤ 64) × AreSpellable subviews
+
+-- What has room in a spelling: leaves of fewer than 2^32 bytes, and vertices of which at most 64 stand side by side and 16 one
+-- below another.
+pub record IsSpellableTree (tree : Tree) : Type 0 where
+  pub common_is : IsSpellableLeaf tree.common
+  pub requesters_is : IsSpellableLeaf tree.requesters
+  pub few : count tree.views ≤ 64
+  pub nested : nesting tree.views ≤ 16
+  pub vertices : AreSpellable tree.views
+
+-- vertices on so many levels at most, which have room in a spelling
+pub record FitLevels (levels : ℕ) (vertices : Vertices) : Type 0 where
+  pub nested : nesting vertices ≤ levels
+  pub each : AreSpellable vertices

@@ -1,0 +1,97 @@
+-- A transaction's tree with every hash kept, and what each recipient gets of it.
+use Rattle.std.specs.Prelude.{ℕ, Bool, true, false, List, [], ◌∷◌, if◌then◌else◌, ◌||◌}
+use Rattle.std.specs.List.{list_any}
+use Rattle.ledger_terms.specs.Hosting.{hosts_at}
+use Rattle.ledger_terms.specs.Forest.{Forest, NoRoots, Root, preorder}
+use Rattle.ledger_terms.specs.declared.host.Host.{Host}
+use Rattle.hash_id.specs.Strings.{view_hash_string}
+use Rattle.wire_form.specs.Spelling.{spell_parties}
+use Rattle.view_split.specs.SplitView.{SplitView}
+use Rattle.view_split.specs.declared.views.Views.{Views}
+use Rattle.blind_tree.specs.Vertices.{Vertices, NoVertices, BlindVertex, InnerVertex}
+use Rattle.blind_tree.specs.Digests.{Hashing}
+use Rattle.blind_tree.specs.LeafBytes.{common_bytes, roles_bytes, core_bytes}
+use Rattle.blind_tree.specs.Blind.{salt_of, digest_of, is_host_named}
+use Rattle.blind_tree.specs.KeptParts.{KeptPart}
+use Rattle.blind_tree.specs.declared.kept.KeptLeaf.{KeptLeaf}
+use Rattle.blind_tree.specs.declared.kept.KeptTree.{KeptTree}
+use Rattle.blind_tree.specs.declared.leaf.Leaf.{Leaf}
+use Rattle.blind_tree.specs.declared.leaf.Leaf.TheVariants.{Blind, Plain}
+use Rattle.blind_tree.specs.declared.tree.Tree.{Tree}
+use Rattle.blind_tree.specs.declared.recipient.Recipient.{Recipient}
+use Rattle.blind_tree.specs.declared.recipient.Recipient.TheVariants.{Participant, Mediator}
+
+abbrev pub kept_leaf : Hashing → (kind : ℕ) (seed bytes : List ℕ) → KeptLeaf
+kept_leaf sha kind seed bytes = record { salt = salt_of sha kind seed; bytes = bytes; digest = digest_of sha kind seed bytes }
+
+-- the hashes of views side by side
+abbrev pub kept_digests : Forest KeptPart → List (List ℕ)
+kept_digests NoRoots = []
+kept_digests (Root part subviews others) = part.digest ∷ kept_digests others
+
+abbrev pub kept_part : Hashing → SplitView → Forest KeptPart → KeptPart
+kept_part sha view below =
+    record {
+      informees = view.informees;
+      roles = kept_leaf sha 3 view.first.seed (roles_bytes view);
+      core = kept_leaf sha 4 view.first.seed (core_bytes view);
+      digest = sha (view_hash_string (kept_leaf sha 3 view.first.seed (roles_bytes view)).digest (kept_leaf sha 4 view.first.seed (core_bytes view)).digest (kept_digests below));
+    }
+
+abbrev pub kept : Hashing → Forest SplitView → Forest KeptPart
+kept sha NoRoots = NoRoots
+kept sha (Root view subviews others) = Root (kept_part sha view (kept sha subviews)) (kept sha subviews) (kept sha others)
+
+abbrev pub kept_tree : Hashing → Views → (sender : List ℕ) → KeptTree
+kept_tree sha views sender =
+    record {
+      common = kept_leaf sha 1 views.seed (common_bytes sender views.ledger_time);
+      requesters = kept_leaf sha 2 views.seed (spell_parties views.act_as);
+      views = kept sha views.roots;
+    }
+
+abbrev pub is_kept_sight : (List ℕ → Bool) → KeptPart → Bool
+is_kept_sight hosts part = list_any hosts part.informees
+
+abbrev pub has_kept_sight : (List ℕ → Bool) → Forest KeptPart → Bool
+has_kept_sight hosts views = list_any (is_kept_sight hosts) (preorder views)
+
+abbrev pub sees_kept_root : (List ℕ → Bool) → Forest KeptPart → Bool
+sees_kept_root hosts NoRoots = false
+sees_kept_root hosts (Root part subviews others) = is_kept_sight hosts part || sees_kept_root hosts others
+
+abbrev pub cut_leaf : Bool → KeptLeaf → Leaf
+cut_leaf shows leaf = if shows then Plain leaf.salt leaf.bytes else Blind leaf.digest
+
+-- a view and what is cut of those below it, with what is cut of those after it
+abbrev pub cut_part : (sees below : Bool) → KeptPart → (subviews others : Vertices) → Vertices
+cut_part sees below part subviews others =
+    if sees || below
+    then InnerVertex (cut_leaf sees part.roles) (cut_leaf sees part.core) subviews others
+    else BlindVertex part.digest others
+
+-- what a participant gets of views
+abbrev pub cut : (hosts : List ℕ → Bool) (above : Bool) → Forest KeptPart → Vertices
+cut hosts above NoRoots = NoVertices
+cut hosts above (Root part subviews others) =
+    cut_part (above || is_kept_sight hosts part) (has_kept_sight hosts subviews) part (cut hosts (above || is_kept_sight hosts part) subviews) (cut hosts above others)
+
+-- the same of one view, seen or not
+abbrev pub cut_one : (hosts : List ℕ → Bool) (sees : Bool) → KeptPart → Forest KeptPart → Vertices
+cut_one hosts sees part subviews = cut_part sees (has_kept_sight hosts subviews) part (cut hosts sees subviews) NoVertices
+
+-- what the mediator gets of views
+abbrev pub cut_for_mediator : Forest KeptPart → Vertices
+cut_for_mediator NoRoots = NoVertices
+cut_for_mediator (Root part subviews others) =
+    InnerVertex (cut_leaf true part.roles) (cut_leaf false part.core) (cut_for_mediator subviews) (cut_for_mediator others)
+
+abbrev pub cut_shows : KeptTree → Bool → Vertices → Tree
+cut_shows kept shows_requesters views =
+    record { common = cut_leaf true kept.common; requesters = cut_leaf shows_requesters kept.requesters; views = views }
+
+-- what a recipient gets of a tree
+abbrev pub cut_tree : KeptTree → (sender : List ℕ) → List Host → Recipient → Tree
+cut_tree kept sender hosts (Participant p) =
+    cut_shows kept (sees_kept_root (hosts_at hosts p) kept.views || is_host_named hosts p sender) (cut (hosts_at hosts p) false kept.views)
+cut_tree kept sender hosts Mediator = cut_shows kept false (cut_for_mediator kept.views)

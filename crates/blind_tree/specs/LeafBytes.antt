@@ -1,0 +1,41 @@
+-- The bytes of leaves, and which transactions have them.
+use Rattle.std.specs.Prelude.{ℕ, ◌≤◌, List, ◌++◌}
+use Rattle.std.specs.Int.{w64, to_be_bytes}
+use Rattle.ledger_terms.specs.Forest.{Forest, NoRoots, Root}
+use Rattle.ledger_terms.specs.Roots.{trees_count}
+use Rattle.wire_form.specs.Spelling.{spell_name, spell_parties}
+use Rattle.wire_form.specs.Spellable.{IsSpellableSet}
+use Rattle.view_split.specs.SplitView.{SplitView}
+use Rattle.view_split.specs.declared.views.Views.{Views}
+use Rattle.blind_tree.specs.Cores.{IsSpellableCore, spell_core}
+
+-- of the common leaf: sender and ledger time
+abbrev pub common_bytes : List ℕ → ℕ → List ℕ
+common_bytes sender ledger_time = spell_name sender ++ to_be_bytes w64 ledger_time
+
+-- of a view's informees leaf: informees and confirmers
+abbrev pub roles_bytes : SplitView → List ℕ
+roles_bytes view = spell_parties view.informees ++ spell_parties view.confirmers
+
+-- of a view's contents leaf: its core
+abbrev pub core_bytes : SplitView → List ℕ
+core_bytes view = spell_core view.first view.below
+
+-- sets of at most 128 names and a core that has room
+pub record IsSpellableView (view : SplitView) : Type 0 where
+  pub informees_are : IsSpellableSet view.informees
+  pub confirmers_are : IsSpellableSet view.confirmers
+  pub core : IsSpellableCore view.first view.below
+
+-- the same of each, and at most 65,536 side by side below each
+abbrev pub AreSpellableViews : Forest SplitView → Type 0
+AreSpellableViews NoRoots = Unit {0}
+AreSpellableViews (Root view subviews others) =
+    IsSpellableView view × (trees_count subviews ≤ 65536) × AreSpellableViews subviews × AreSpellableViews others
+
+-- What the leaves of a transaction have room for: sets of at most 128 names, actions of which each has a spelling, and at most
+-- 63 children of each in its core. At most 65,536 views stand side by side.
+pub record AreSpellable (views : Views) : Type 0 where
+  pub requesters : IsSpellableSet views.act_as
+  pub few : trees_count views.roots ≤ 65536
+  pub each : AreSpellableViews views.roots

@@ -1,0 +1,35 @@
+-- What each kind of leaf holds: its one spelling, and what of it is in range.
+use Rattle.std.specs.Prelude.{◌≡◌, ℕ, ◌<◌, ◌^◌, List, ◌++◌}
+use Rattle.wire_form.specs.InRange.{IsName, IsPartySet}
+use Rattle.wire_form.specs.Spelling.{spell_parties}
+use Rattle.view_split.specs.Holed.{holes}
+use Rattle.view_split.specs.CoreLists.{act_of}
+use Rattle.blind_tree.specs.Cores.{spell_core}
+use Rattle.blind_tree.specs.LeafBytes.{common_bytes}
+use Rattle.blind_tree.specs.Seen.{IsCore}
+use Rattle.blind_tree.specs.declared.found_core.FoundCore.{FoundCore}
+
+-- sender and ledger time
+abbrev pub spell_common : List ℕ × ℕ → List ℕ
+spell_common head = common_bytes head.0 head.1
+
+abbrev pub IsCommon : List ℕ × ℕ → Type 0
+IsCommon head = IsName head.0 × (head.1 < 2 ^ 64)
+
+-- informees and confirmers
+abbrev pub Sets : Type 0
+Sets = List (List ℕ) × List (List ℕ)
+
+abbrev pub spell_roles : Sets → List ℕ
+spell_roles sets = spell_parties sets.0 ++ spell_parties sets.1
+
+abbrev pub AreRoles : Sets → Type 0
+AreRoles sets = IsPartySet sets.0 × IsPartySet sets.1
+
+-- a core, of which the number of holes is known
+abbrev pub spell_found : FoundCore → List ℕ
+spell_found found = spell_core (act_of found.core) (found.core).children
+
+pub record IsFound (found : FoundCore) : Type 0 where
+  pub core : IsCore (act_of found.core) (found.core).children
+  pub counted : found.holes ≡ holes (found.core).children

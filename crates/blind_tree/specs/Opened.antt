@@ -1,0 +1,42 @@
+-- Views that are opened, put behind those before them.
+use Rattle.std.specs.Prelude.{ℕ, suc, List, [], ◌∷◌, ◌++◌, Result, Ok, Err, if◌then◌else◌}
+use Rattle.ledger_terms.specs.Forest.{Forest, join}
+use Rattle.wire_form.specs.declared.wire_fault.WireFault.{WireFault}
+use Rattle.wire_form.specs.declared.wire_fault.WireFault.TheVariants.{Bad}
+use Rattle.view_split.specs.SplitView.{SplitView}
+use Rattle.view_split.specs.ViewLists.{view_tree}
+use Rattle.view_split.specs.declared.view.View.{View}
+use Rattle.view_split.specs.declared.placed_view.PlacedView.{PlacedView}
+use Rattle.blind_tree.specs.Vertices.{Vertices, NoVertices, BlindVertex, InnerVertex}
+use Rattle.blind_tree.specs.Opening.{with_read, view_read, is_open, placed}
+use Rattle.blind_tree.specs.declared.leaf.Leaf.{Leaf}
+use Rattle.blind_tree.specs.declared.vertex.Vertex.{Vertex}
+use Rattle.blind_tree.specs.declared.vertex.Vertex.TheVariants as vertices
+
+-- the view of a vertex with all below it
+abbrev pub vertex_read : Vertex → Result View WireFault
+vertex_read (vertices.Blind hash) = Err (Bad 0)
+vertex_read (vertices.Inner informees contents subviews) = view_read informees contents subviews
+
+-- all views of vertices, behind those before them
+abbrev pub views_after : Vertices → Forest SplitView → Result (Forest SplitView) WireFault
+views_after NoVertices so_far = Ok so_far
+views_after (BlindVertex hash others) so_far = Err (Bad 0)
+views_after (InnerVertex informees contents subviews others) so_far =
+    with_read (view_read informees contents subviews) (λ view. views_after others (join so_far (view_tree view)))
+
+-- the topmost views that are opened, behind those before them
+abbrev pub opened_after : List ℕ → ℕ → Vertices → List PlacedView → Result (List PlacedView) WireFault
+opened_after above k NoVertices so_far = Ok so_far
+opened_after above k (BlindVertex hash others) so_far = opened_after above (suc k) others so_far
+opened_after above k (InnerVertex informees contents subviews others) so_far =
+    if is_open informees contents
+    then with_read (view_read informees contents subviews) (λ view. opened_after above (suc k) others (so_far ++ placed (above ++ k ∷ []) view ∷ []))
+    else with_read (opened_after (above ++ k ∷ []) 0 subviews so_far) (λ more. opened_after above (suc k) others more)
+
+-- the same of one vertex, by its leaves and those below it
+abbrev pub inner_opened : List ℕ → ℕ → (informees contents : Leaf) → Vertices → List PlacedView → Result (List PlacedView) WireFault
+inner_opened above k informees contents subviews so_far =
+    if is_open informees contents
+    then with_read (view_read informees contents subviews) (λ view. Ok (so_far ++ placed (above ++ k ∷ []) view ∷ []))
+    else opened_after (above ++ k ∷ []) 0 subviews so_far

@@ -1,0 +1,120 @@
+-- What is read of a tree, in the order in which it is read. The first fault decides the place: 0 for a leaf or a vertex that
+-- shows its hash alone, else the place in the bytes of the leaf that is read.
+use Rattle.std.specs.Prelude.{ℕ, suc, nat_eq, Bool, true, false, List, [], ◌∷◌, ◌++◌, length, Option, Some, None, Result, Ok, Err, if◌then◌else◌}
+use Rattle.std.specs.Int.{w64}
+use Rattle.wire_form.specs.Formats.{Reading, both_at}
+use Rattle.wire_form.specs.Fields.{name_at, number_at}
+use Rattle.wire_form.specs.Reading.{set_at}
+use Rattle.wire_form.specs.declared.wire_fault.WireFault.{WireFault}
+use Rattle.wire_form.specs.declared.wire_fault.WireFault.TheVariants.{Bad}
+use Rattle.ledger_terms.specs.Forest.{Forest, NoRoots, join}
+use Rattle.view_split.specs.SplitView.{SplitView}
+use Rattle.view_split.specs.ViewLists.{view_tree}
+use Rattle.view_split.specs.declared.view.View.{View}
+use Rattle.view_split.specs.declared.placed_view.PlacedView.{PlacedView}
+use Rattle.view_split.specs.declared.opened_tree.OpenedTree.{OpenedTree}
+use Rattle.blind_tree.specs.Vertices.{Vertices, NoVertices, BlindVertex, InnerVertex, count}
+use Rattle.blind_tree.specs.CoreReading.{found_at}
+use Rattle.blind_tree.specs.Reading.{read_all}
+use Rattle.blind_tree.specs.declared.found_core.FoundCore.{FoundCore}
+use Rattle.blind_tree.specs.declared.leaf.Leaf.{Leaf}
+use Rattle.blind_tree.specs.declared.leaf.Leaf.TheVariants.{Blind, Plain}
+use Rattle.blind_tree.specs.declared.tree.Tree.{Tree}
+use Rattle.blind_tree.specs.declared.view_roles.ViewRoles.{ViewRoles}
+use Rattle.blind_tree.specs.declared.roles_tree.RolesTree.{RolesTree}
+
+-- what was read and then what comes of it
+abbrev pub with_read : {A B : Type 0} → Result A WireFault → (A → Result B WireFault) → Result B WireFault
+with_read (Ok x) go = go x
+with_read (Err fault) go = Err fault
+
+-- the whole bytes of a leaf
+abbrev pub read_leaf : {A : Type 0} → Reading A → Leaf → Result A WireFault
+read_leaf read (Blind hash) = Err (Bad 0)
+read_leaf read (Plain salt bytes) = read_all read bytes
+
+-- of a common leaf: sender and ledger time
+unfoldable pub head_at : Reading (List ℕ × ℕ)
+head_at = both_at name_at (number_at w64)
+
+-- of an informees leaf: informees and confirmers
+unfoldable pub roles_at : Reading (List (List ℕ) × List (List ℕ))
+roles_at = both_at set_at set_at
+
+abbrev pub view_roles : List ℕ → List (List ℕ) × List (List ℕ) → ViewRoles
+view_roles path roles = record { path = path; informees = roles.0; confirmers = roles.1 }
+
+-- The informees and confirmers of views side by side, the first of which is number k below a path, each before those below it.
+abbrev pub roles_listed : List ℕ → ℕ → Vertices → Result (List ViewRoles) WireFault
+roles_listed above k NoVertices = Ok []
+roles_listed above k (BlindVertex hash others) = Err (Bad 0)
+roles_listed above k (InnerVertex informees contents subviews others) =
+    with_read (read_leaf roles_at informees) (λ roles. with_read (roles_listed (above ++ k ∷ []) 0 subviews) (λ below.
+    with_read (roles_listed above (suc k) others) (λ rest. Ok (view_roles (above ++ k ∷ []) roles ∷ (below ++ rest)))))
+
+-- what the mediator reads of a tree
+abbrev pub told : Tree → Result RolesTree WireFault
+told tree =
+    with_read (read_leaf head_at tree.common) (λ head. with_read (roles_listed [] 0 tree.views) (λ views. Ok (record { sender = head.0; views = views })))
+
+-- ---- what a participant opens
+
+abbrev pub is_open : Leaf → Leaf → Bool
+is_open (Plain salt bytes) (Plain salt2 bytes2) = true
+is_open (Plain salt bytes) (Blind hash) = false
+is_open (Blind hash) leaf = false
+
+abbrev pub leaf_length : Leaf → ℕ
+leaf_length (Blind hash) = 0
+leaf_length (Plain salt bytes) = length bytes
+
+-- informees and confirmers, and a core
+abbrev pub ViewParts : Type 0
+ViewParts = (List (List ℕ) × List (List ℕ)) × FoundCore
+
+abbrev pub view_of : ViewParts → Forest SplitView → View
+view_of parts below = record { informees = parts.0.0; confirmers = parts.0.1; core = (parts.1).core; subviews = below }
+
+-- The leaves of a vertex with so many vertices below it: the informees leaf, then the contents leaf, and then whether its core
+-- has as many holes.
+abbrev pub parts_read : (informees contents : Leaf) (subviews : ℕ) → Result ViewParts WireFault
+parts_read informees contents subviews =
+    with_read (read_leaf roles_at informees) (λ roles. with_read (read_leaf found_at contents) (λ found.
+    if nat_eq found.holes subviews then Ok (roles, found) else Err (Bad (leaf_length contents))))
+
+-- all the views of vertices side by side, each before those below it
+abbrev pub views_read : Vertices → Result (Forest SplitView) WireFault
+views_read NoVertices = Ok NoRoots
+views_read (BlindVertex hash others) = Err (Bad 0)
+views_read (InnerVertex informees contents subviews others) =
+    with_read (parts_read informees contents (count subviews)) (λ parts. with_read (views_read subviews) (λ below.
+    with_read (views_read others) (λ rest. Ok (join (view_tree (view_of parts below)) rest))))
+
+-- a view with all below it
+abbrev pub view_read : (informees contents : Leaf) → Vertices → Result View WireFault
+view_read informees contents subviews =
+    with_read (parts_read informees contents (count subviews)) (λ parts. with_read (views_read subviews) (λ below. Ok (view_of parts below)))
+
+abbrev pub placed : List ℕ → View → PlacedView
+placed path view = record { path = path; view = view }
+
+-- The topmost vertices with two plain leaves, each read with all below it, where the first of these vertices is number k below
+-- a path.
+abbrev pub views_opened : List ℕ → ℕ → Vertices → Result (List PlacedView) WireFault
+views_opened above k NoVertices = Ok []
+views_opened above k (BlindVertex hash others) = views_opened above (suc k) others
+views_opened above k (InnerVertex informees contents subviews others) =
+    if is_open informees contents
+    then with_read (view_read informees contents subviews) (λ view. with_read (views_opened above (suc k) others) (λ rest. Ok (placed (above ++ k ∷ []) view ∷ rest)))
+    else with_read (views_opened (above ++ k ∷ []) 0 subviews) (λ first. with_read (views_opened above (suc k) others) (λ rest. Ok (first ++ rest)))
+
+-- a leaf that need not be shown
+abbrev pub read_if_plain : {A : Type 0} → Reading A → Leaf → Result (Option A) WireFault
+read_if_plain read (Blind hash) = Ok None
+read_if_plain read (Plain salt bytes) = with_read (read_all read bytes) (λ x. Ok (Some x))
+
+-- what a participant reads of a tree
+abbrev pub tree_opened : Tree → Result OpenedTree WireFault
+tree_opened tree =
+    with_read (read_leaf head_at tree.common) (λ head. with_read (read_if_plain set_at tree.requesters) (λ requesters.
+    with_read (views_opened [] 0 tree.views) (λ views. Ok (record { sender = head.0; ledger_time = head.1; requesters = requesters; views = views }))))

@@ -1,0 +1,20 @@
+-- The informees and confirmers of views, put behind those before them.
+use Rattle.std.specs.Prelude.{ℕ, suc, List, [], ◌∷◌, ◌++◌, Result, Ok, Err}
+use Rattle.wire_form.specs.declared.wire_fault.WireFault.{WireFault}
+use Rattle.wire_form.specs.declared.wire_fault.WireFault.TheVariants.{Bad}
+use Rattle.blind_tree.specs.Vertices.{Vertices, NoVertices, BlindVertex, InnerVertex}
+use Rattle.blind_tree.specs.Opening.{with_read, read_leaf, roles_at, view_roles}
+use Rattle.blind_tree.specs.declared.leaf.Leaf.{Leaf}
+use Rattle.blind_tree.specs.declared.view_roles.ViewRoles.{ViewRoles}
+
+abbrev pub roles_after : List ℕ → ℕ → Vertices → List ViewRoles → Result (List ViewRoles) WireFault
+roles_after above k NoVertices so_far = Ok so_far
+roles_after above k (BlindVertex hash others) so_far = Err (Bad 0)
+roles_after above k (InnerVertex informees contents subviews others) so_far =
+    with_read (read_leaf roles_at informees) (λ roles.
+    with_read (roles_after (above ++ k ∷ []) 0 subviews (so_far ++ view_roles (above ++ k ∷ []) roles ∷ [])) (λ more. roles_after above (suc k) others more))
+
+-- the same of one view, by its informees leaf and the vertices below it
+abbrev pub view_told : List ℕ → ℕ → Leaf → Vertices → List ViewRoles → Result (List ViewRoles) WireFault
+view_told above k informees subviews so_far =
+    with_read (read_leaf roles_at informees) (λ roles. roles_after (above ++ k ∷ []) 0 subviews (so_far ++ view_roles (above ++ k ∷ []) roles ∷ []))

@@ -1,0 +1,69 @@
+-- Vertices side by side, with all that stands below them.
+use Rattle.std.specs.Prelude.{◌≡◌, ℕ, suc, ◌≤◌, List, [], ◌∷◌, Option, Some, None, refl, ◌⊎◌}
+use Rattle.std.proofs.Common.{◌∙◌, ap, inl, inr}
+use Rattle.std.specs.Coded.{Coded, code_by, coded_list, codes}
+use Rattle.blind_tree.specs.declared.leaf.Leaf.{Leaf}
+
+-- None, or a first one that shows its hash alone, or one that shows its two leaves and what stands below it; and those after
+-- it.
+pub data Vertices : Type 0 where
+  NoVertices : Vertices
+  BlindVertex : (hash : List ℕ) (others : Vertices) → Vertices
+  InnerVertex : (informees contents : Leaf) (subviews others : Vertices) → Vertices
+
+-- how many stand side by side
+abbrev pub count : Vertices → ℕ
+count NoVertices = 0
+count (BlindVertex hash others) = suc (count others)
+count (InnerVertex informees contents subviews others) = suc (count others)
+
+-- those of one list and then those of another
+abbrev pub beside : Vertices → Vertices → Vertices
+beside NoVertices more = more
+beside (BlindVertex hash others) more = BlindVertex hash (beside others more)
+beside (InnerVertex informees contents subviews others) more = InnerVertex informees contents subviews (beside others more)
+
+-- at most 65,536 side by side below each
+abbrev pub AreNarrow : Vertices → Type 0
+AreNarrow NoVertices = Unit {0}
+AreNarrow (BlindVertex hash others) = AreNarrow others
+AreNarrow (InnerVertex informees contents subviews others) = (count subviews ≤ 65536) × AreNarrow subviews × AreNarrow others
+
+-- the same, and at most so many at the top
+abbrev pub IsNarrow : Vertices → Type 0
+IsNarrow views = (count views ≤ 65536) × AreNarrow views
+
+-- Vertices as a list of marks (nothing, a hash, two leaves), what stands below and after before the mark, and back.
+abbrev pub Mark : Type 0
+Mark = List ℕ ⊎ (Leaf × Leaf)
+
+abbrev pub marks : Vertices → List (Option Mark) → List (Option Mark)
+marks NoVertices after = None ∷ after
+marks (BlindVertex hash others) after = marks others (Some (inl hash) ∷ after)
+marks (InnerVertex informees contents subviews others) after = marks subviews (marks others (Some (inr (informees, contents)) ∷ after))
+
+abbrev pub unmarked : List (Option Mark) → List Vertices → List Vertices
+unmarked [] stack = stack
+unmarked (None ∷ after) stack = unmarked after (NoVertices ∷ stack)
+unmarked (Some (inl hash) ∷ after) [] = []
+unmarked (Some (inl hash) ∷ after) (others ∷ stack) = unmarked after (BlindVertex hash others ∷ stack)
+unmarked (Some (inr leaves) ∷ after) [] = []
+unmarked (Some (inr leaves) ∷ after) (others ∷ []) = []
+unmarked (Some (inr leaves) ∷ after) (others ∷ subviews ∷ stack) = unmarked after (InnerVertex leaves.0 leaves.1 subviews others ∷ stack)
+
+abbrev pub first_or_none : List Vertices → Vertices
+first_or_none [] = NoVertices
+first_or_none (v ∷ vs) = v
+
+pub unmarked-marks : (v : Vertices) (after : List (Option Mark)) (stack : List Vertices) → unmarked (marks v after) stack ≡ unmarked after (v ∷ stack)
+unmarked-marks NoVertices after stack = refl
+unmarked-marks (BlindVertex hash others) after stack = unmarked-marks others (Some (inl hash) ∷ after) stack
+unmarked-marks (InnerVertex informees contents subviews others) after stack =
+    unmarked-marks subviews (marks others (Some (inr (informees, contents)) ∷ after)) stack ∙ unmarked-marks others (Some (inr (informees, contents)) ∷ after) (subviews ∷ stack)
+
+pub coded_mark : Coded (Option Mark)
+coded_mark = hlevel codes
+
+abbrev pub coded_vertices : Coded Vertices
+coded_vertices =
+    code_by (List (Option Mark)) (coded_list coded_mark) (λ v. marks v []) (λ l. first_or_none (unmarked l [])) (λ v. ap first_or_none (unmarked-marks v [] []))

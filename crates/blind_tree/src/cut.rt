@@ -1,0 +1,170 @@
+//! Cutting a recipient's tree from a transaction's tree with every hash. Nothing is hashed here.
+ghost use Rattle.std.specs.Prelude.{◌≡◌, IfOk, OnOk, false};
+ghost use Rattle.std.specs.List.{list_any};
+ghost use Rattle.ledger_terms.specs.Hosting.{hosts_at};
+ghost use Rattle.blind_tree.specs.Vertices.{beside};
+ghost use Rattle.blind_tree.specs.VertexLists.{one_vertex};
+ghost use Rattle.blind_tree.specs.Blind.{is_host_named};
+ghost use Rattle.blind_tree.specs.KeptLists.{one_kept, part_kept};
+ghost use Rattle.blind_tree.specs.Kept.{cut, cut_for_mediator, cut_leaf, cut_one, cut_tree, has_kept_sight, sees_kept_root};
+
+use crate::kept::{KeptLeaf, KeptList, KeptTree, KeptView};
+use crate::leaf::Leaf;
+use crate::recipient::Recipient;
+use crate::tree::Tree;
+use crate::vertex::{Vertex, VertexList};
+use ledger_terms::{Name, ParticipantId, PartySet, Topology};
+use std::alloc::{AllocError, Global};
+
+/// What a recipient gets of a transaction's tree.
+pub(crate) fn cut_for(
+    alloc: Global,
+    kept: &KeptTree,
+    sender: Name,
+    topology: &Topology,
+    to: Recipient,
+) -> Result<Tree, AllocError>
+    ensures { IfOk result (λ tree. tree ≡ cut_tree kept.now sender topology.now.hosts to) }
+{
+    let mut views = VertexList::new(alloc);
+    let shows_requesters = match to {
+        Recipient::Participant(at) => {
+            cut_into(alloc, &kept.views, topology, at, false, &mut views)?;
+            sees_root(&kept.views, topology, at) || is_sender(topology, at, sender)
+        }
+        Recipient::Mediator => {
+            name_into(alloc, &kept.views, &mut views)?;
+            false
+        }
+    };
+    Ok(Tree {
+        common: leaf_of(&kept.common, true)?,
+        requesters: leaf_of(&kept.requesters, shows_requesters)?,
+        views,
+    })
+}
+
+// Whether the participant at an index has the sender's name.
+fn is_sender(topology: &Topology, at: ParticipantId, sender: Name) -> bool
+    ensures { result ≡ is_host_named topology.now.hosts at sender }
+{
+    match topology.hosts.get(at.0 as usize) {
+        Some(host) => host.name == sender,
+        None => false,
+    }
+}
+
+// Whether a participant hosts one of these parties.
+fn is_hosted(topology: &Topology, at: ParticipantId, parties: &PartySet) -> bool
+    ensures { result ≡ list_any (hosts_at topology.now.hosts at) parties.now }
+{
+    parties
+        .as_slice()
+        .iter()
+        .any(|party| topology.hosts(at, *party))
+}
+
+// Whether a participant sees one of these views, those below them not counted.
+fn sees_root(views: &KeptList, topology: &Topology, at: ParticipantId) -> bool
+    ensures { result ≡ sees_kept_root (hosts_at topology.now.hosts at) views.now }
+{
+    for view in views.as_slice() {
+        if is_hosted(topology, at, &view.informees) {
+            return true;
+        }
+    }
+    false
+}
+
+// Whether a participant sees one of these views, or one below them.
+fn is_seen(views: &KeptList, topology: &Topology, at: ParticipantId) -> bool
+    ensures { result ≡ has_kept_sight (hosts_at topology.now.hosts at) views.now }
+{
+    for view in views.as_slice() {
+        if is_hosted(topology, at, &view.informees) || is_seen(&view.subviews, topology, at) {
+            return true;
+        }
+    }
+    false
+}
+
+// A leaf, plain or blind.
+fn leaf_of(leaf: &KeptLeaf, shows: bool) -> Result<Leaf, AllocError>
+    ensures { IfOk result (λ l. l ≡ cut_leaf shows leaf.now) }
+{
+    if shows {
+        Ok(Leaf::Plain {
+            salt: leaf.salt,
+            bytes: leaf.bytes.clone()?,
+        })
+    } else {
+        Ok(Leaf::Blind(leaf.digest))
+    }
+}
+
+// Puts what a participant gets of these views at the end. `above` says whether it sees a view above them.
+#[cycle(cut)]
+fn cut_into(
+    alloc: Global,
+    views: &KeptList,
+    topology: &Topology,
+    at: ParticipantId,
+    above: bool,
+    out: &mut VertexList,
+) -> Result<(), AllocError>
+    ensures { OnOk result (out.new ≡ beside out.old (cut (hosts_at topology.now.hosts at) above views.now)) }
+{
+    for view in views.as_slice() {
+        let sees = above || is_hosted(topology, at, &view.informees);
+        let vertex = cut_view(alloc, view, topology, at, sees)?;
+        out.push(vertex)?;
+    }
+    Ok(())
+}
+
+#[cycle(cut)]
+fn cut_view(
+    alloc: Global,
+    view: &KeptView,
+    topology: &Topology,
+    at: ParticipantId,
+    sees: bool,
+) -> Result<Vertex, AllocError>
+    ensures { IfOk result (λ vertex. one_vertex vertex ≡ cut_one (hosts_at topology.now.hosts at) sees (part_kept view.now) view.now.subviews) }
+{
+    if !sees && !is_seen(&view.subviews, topology, at) {
+        return Ok(Vertex::Blind(view.digest));
+    }
+    let mut subviews = VertexList::new(alloc);
+    cut_into(alloc, &view.subviews, topology, at, sees, &mut subviews)?;
+    Ok(Vertex::Inner {
+        informees: leaf_of(&view.roles, sees)?,
+        contents: leaf_of(&view.core, sees)?,
+        subviews,
+    })
+}
+
+// Puts what the mediator gets of these views at the end.
+#[cycle(name)]
+fn name_into(alloc: Global, views: &KeptList, out: &mut VertexList) -> Result<(), AllocError>
+    ensures { OnOk result (out.new ≡ beside out.old (cut_for_mediator views.now)) }
+{
+    for view in views.as_slice() {
+        let vertex = name_view(alloc, view)?;
+        out.push(vertex)?;
+    }
+    Ok(())
+}
+
+#[cycle(name)]
+fn name_view(alloc: Global, view: &KeptView) -> Result<Vertex, AllocError>
+    ensures { IfOk result (λ vertex. one_vertex vertex ≡ cut_for_mediator (one_kept view.now)) }
+{
+    let mut subviews = VertexList::new(alloc);
+    name_into(alloc, &view.subviews, &mut subviews)?;
+    Ok(Vertex::Inner {
+        informees: leaf_of(&view.roles, true)?,
+        contents: leaf_of(&view.core, false)?,
+        subviews,
+    })
+}

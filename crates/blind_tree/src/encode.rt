@@ -1,0 +1,80 @@
+//! Writing trees as bytes.
+ghost use Rattle.std.specs.Prelude.{◌≡◌, ◌++◌, ◌≤◌, IfOk, OnOk, length};
+ghost use Rattle.blind_tree.specs.Vertices.{count};
+ghost use Rattle.blind_tree.specs.InRange.{AreSpellable, IsSpellable, IsSpellableLeaf, IsSpellableTree};
+ghost use Rattle.blind_tree.specs.Spelling.{spell_leaf, spell_tree, spell_vertex, spell_vertices};
+
+use crate::leaf::Leaf;
+use crate::tree::Tree;
+use crate::vertex::{Vertex, VertexList};
+use ledger_terms::Bytes;
+use std::alloc::{AllocError, Global};
+use wire_form::{encode_hash, encode_u32};
+
+/// The spelling of a tree.
+pub fn encode_tree(alloc: Global, tree: &Tree) -> Result<Bytes, AllocError>
+    requires { IsSpellableTree tree.now }
+    ensures { IfOk result (λ bytes. bytes ≡ spell_tree tree.now) }
+{
+    let mut out = Bytes::new(alloc);
+    encode_leaf(&tree.common, &mut out)?;
+    encode_leaf(&tree.requesters, &mut out)?;
+    encode_vertices(&tree.views, &mut out)?;
+    Ok(out)
+}
+
+// Puts a leaf's spelling at the end.
+fn encode_leaf(leaf: &Leaf, out: &mut Bytes) -> Result<(), AllocError>
+    requires { IsSpellableLeaf leaf.now }
+    ensures { OnOk result (out.new ≡ out.old ++ spell_leaf leaf.now) }
+{
+    match leaf {
+        Leaf::Blind(hash) => {
+            out.push(0)?;
+            encode_hash(hash, out)
+        }
+        Leaf::Plain { salt, bytes } => {
+            out.push(1)?;
+            encode_hash(salt, out)?;
+            encode_u32(bytes.len() as u32, out)?;
+            out.extend(bytes.as_slice())
+        }
+    }
+}
+
+// Puts the spelling of vertices at the end, their count first.
+#[cycle(vertices)]
+fn encode_vertices(vertices: &VertexList, out: &mut Bytes) -> Result<(), AllocError>
+    requires few { count vertices.now ≤ 64 }
+    requires each { AreSpellable vertices.now }
+    ensures { OnOk result (out.new ≡ out.old ++ spell_vertices vertices.now) }
+{
+    out.extend(&(vertices.len() as u16).to_be_bytes())?;
+    for vertex in vertices.as_slice() {
+        encode_vertex(vertex, out)?;
+    }
+    Ok(())
+}
+
+#[cycle(vertices)]
+fn encode_vertex(vertex: &Vertex, out: &mut Bytes) -> Result<(), AllocError>
+    requires { IsSpellable vertex.now }
+    ensures { OnOk result (out.new ≡ out.old ++ spell_vertex vertex.now) }
+{
+    match vertex {
+        Vertex::Blind(hash) => {
+            out.push(0)?;
+            encode_hash(hash, out)
+        }
+        Vertex::Inner {
+            informees,
+            contents,
+            subviews,
+        } => {
+            out.push(1)?;
+            encode_leaf(informees, out)?;
+            encode_leaf(contents, out)?;
+            encode_vertices(subviews, out)
+        }
+    }
+}

@@ -1,0 +1,134 @@
+//! Making a transaction's tree with every hash.
+ghost use Rattle.std.specs.Prelude.{◌≡◌, IfOk, OnOk};
+ghost use Rattle.ledger_terms.specs.Forest.{join};
+ghost use Rattle.sha2.specs.Sha256.{sha256};
+ghost use Rattle.wire_form.specs.Spelling.{spell_parties};
+ghost use Rattle.wire_form.specs.Spellable.{IsSpellableSet};
+ghost use Rattle.view_split.specs.CoreLists.{act_of};
+ghost use Rattle.view_split.specs.ViewLists.{part_of, view_tree};
+ghost use Rattle.blind_tree.specs.Cores.{IsSpellableCore, spell_core};
+ghost use Rattle.blind_tree.specs.LeafBytes.{AreSpellable, AreSpellableViews, IsSpellableView, common_bytes, roles_bytes};
+ghost use Rattle.blind_tree.specs.KeptLists.{one_kept};
+ghost use Rattle.blind_tree.specs.Kept.{kept, kept_digests, kept_leaf, kept_tree};
+
+use crate::core_bytes::encode_core;
+use crate::kept::{KeptLeaf, KeptList, KeptTree, KeptView};
+use hash_id::{leaf_hash, leaf_salt, view_hash};
+use ledger_terms::{Bytes, Hash, Name, PartySet};
+use std::alloc::{AllocError, Global};
+use view_split::{CoreNode, View, ViewList, Views};
+use wire_form::{encode_name, encode_parties, encode_u64};
+
+/// The tree of a transaction with every hash: each leaf is spelled and hashed once, and each view hashed once.
+pub(crate) fn keep(alloc: Global, views: &Views, sender: Name) -> Result<KeptTree, AllocError>
+    requires { AreSpellable views.now }
+    ensures { IfOk result (λ tree. tree ≡ kept_tree sha256 views.now sender) }
+{
+    let common = keep_leaf(
+        1,
+        &views.seed,
+        spelled_head(alloc, sender, views.ledger_time)?,
+    );
+    let requesters = keep_leaf(2, &views.seed, spelled_set(alloc, &views.act_as)?);
+    let mut roots = KeptList::new(alloc);
+    keep_into(alloc, &views.roots, &mut roots)?;
+    Ok(KeptTree {
+        common,
+        requesters,
+        views: roots,
+    })
+}
+
+// A leaf of a kind with its salt and its hash.
+fn keep_leaf(kind: u8, seed: &Hash, bytes: Bytes) -> KeptLeaf
+    ensures { result ≡ kept_leaf sha256 kind seed.now bytes }
+{
+    let salt = leaf_salt(kind, seed);
+    let digest = leaf_hash(kind, &salt, bytes.as_slice());
+    KeptLeaf {
+        salt,
+        bytes,
+        digest,
+    }
+}
+
+fn spelled_head(alloc: Global, sender: Name, ledger_time: u64) -> Result<Bytes, AllocError>
+    ensures { IfOk result (λ bytes. bytes ≡ common_bytes sender ledger_time) }
+{
+    let mut bytes = Bytes::new(alloc);
+    encode_name(&sender, &mut bytes)?;
+    encode_u64(ledger_time, &mut bytes)?;
+    Ok(bytes)
+}
+
+fn spelled_set(alloc: Global, parties: &PartySet) -> Result<Bytes, AllocError>
+    requires { IsSpellableSet parties.now }
+    ensures { IfOk result (λ bytes. bytes ≡ spell_parties parties.now) }
+{
+    let mut bytes = Bytes::new(alloc);
+    encode_parties(parties, &mut bytes)?;
+    Ok(bytes)
+}
+
+fn spelled_roles(alloc: Global, view: &View) -> Result<Bytes, AllocError>
+    requires { IsSpellableView (part_of view.now) }
+    ensures { IfOk result (λ bytes. bytes ≡ roles_bytes (part_of view.now)) }
+{
+    let mut bytes = Bytes::new(alloc);
+    encode_parties(&view.informees, &mut bytes)?;
+    encode_parties(&view.confirmers, &mut bytes)?;
+    Ok(bytes)
+}
+
+fn spelled_core(alloc: Global, core: &CoreNode) -> Result<Bytes, AllocError>
+    requires { IsSpellableCore (act_of core.now) core.now.children }
+    ensures { IfOk result (λ bytes. bytes ≡ spell_core (act_of core.now) core.now.children) }
+{
+    let mut bytes = Bytes::new(alloc);
+    encode_core(core, &mut bytes)?;
+    Ok(bytes)
+}
+
+// Puts views with their hashes at the end.
+#[cycle(keep)]
+fn keep_into(alloc: Global, views: &ViewList, out: &mut KeptList) -> Result<(), AllocError>
+    requires { AreSpellableViews views.now }
+    ensures { OnOk result (out.new ≡ join out.old (kept sha256 views.now)) }
+{
+    for view in views.as_slice() {
+        let kept = keep_view(alloc, view)?;
+        out.push(kept)?;
+    }
+    Ok(())
+}
+
+#[cycle(keep)]
+fn keep_view(alloc: Global, view: &View) -> Result<KeptView, AllocError>
+    requires { AreSpellableViews (view_tree view.now) }
+    ensures { IfOk result (λ one. one_kept one ≡ kept sha256 (view_tree view.now)) }
+{
+    let mut subviews = KeptList::new(alloc);
+    keep_into(alloc, &view.subviews, &mut subviews)?;
+    let below = hashes_of(alloc, &subviews)?;
+    let roles = keep_leaf(3, &view.core.seed, spelled_roles(alloc, view)?);
+    let core = keep_leaf(4, &view.core.seed, spelled_core(alloc, &view.core)?);
+    let digest = view_hash(&roles.digest, &core.digest, below.as_slice());
+    Ok(KeptView {
+        informees: view.informees.clone()?,
+        roles,
+        core,
+        digest,
+        subviews,
+    })
+}
+
+// The hashes of views side by side.
+fn hashes_of(alloc: Global, views: &KeptList) -> Result<Vec<Hash>, AllocError>
+    ensures { IfOk result (λ hashes. hashes.items ≡ kept_digests views.now) }
+{
+    let mut hashes = Vec::new(alloc);
+    for view in views.as_slice() {
+        hashes.push(view.digest)?;
+    }
+    Ok(hashes)
+}

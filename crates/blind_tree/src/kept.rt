@@ -1,0 +1,89 @@
+//! A transaction's tree with every hash, made once, from which the trees of all recipients are cut.
+ghost use Rattle.std.specs.Prelude.{◌≡◌, OnOk, OnErr};
+ghost use Rattle.ledger_terms.specs.Forest.{NoRoots, join};
+ghost use Rattle.blind_tree.specs.KeptLists.{kept_of, one_kept};
+
+use ledger_terms::{Bytes, Hash, PartySet};
+use std::alloc::{AllocError, Global};
+use std::marker::Model;
+
+/// What is hashed in a leaf, with its hash.
+#[derive(Debug, Drop)]
+pub struct KeptLeaf {
+    pub salt: Hash,
+    pub bytes: Bytes,
+    pub digest: Hash,
+}
+
+/// A view's informees, its leaves and its hash.
+#[cycle(kept)]
+#[derive(Debug, Drop)]
+pub struct KeptView {
+    pub informees: PartySet,
+    pub roles: KeptLeaf,
+    pub core: KeptLeaf,
+    pub digest: Hash,
+    pub subviews: KeptList,
+}
+
+/// Views with their hashes, which contracts see as a forest.
+#[cycle(kept)]
+#[derive(Debug, Drop)]
+pub struct KeptList {
+    views: Vec<KeptView>,
+}
+
+impl Model for KeptList {
+    ghost use Rattle.ledger_terms.specs.Forest.{Forest};
+    ghost use Rattle.blind_tree.specs.KeptParts.{KeptPart, coded_kept};
+
+    ghost Value = { Forest KeptPart };
+
+    ghost coded = { coded_kept };
+
+    ghost use Rattle.blind_tree.specs.KeptLists.{kept_of, kept_count};
+
+    ghost view = { λ l. kept_of l.views.items };
+
+    ghost size = { kept_count };
+
+    ghost use Rattle.blind_tree.specs.KeptFall.{falls};
+
+    ghost size_decreases = { λ l h. falls l };
+}
+
+impl KeptList {
+    /// No views.
+    pub fn new(alloc: Global) -> KeptList
+        ensures { result ≡ NoRoots }
+    {
+        KeptList {
+            views: Vec::new(alloc),
+        }
+    }
+
+    /// The views as a slice.
+    pub fn as_slice(&self) -> &[KeptView]
+        ensures { kept_of result.now ≡ self.now }
+    {
+        self.views.as_slice()
+    }
+
+    /// Puts a view at the end.
+    #[tactic(auto, using(crate::proofs::KeptGrow::kept_pushed))]
+    pub fn push(&mut self, view: KeptView) -> Result<(), AllocError>
+        ensures ok { OnOk result (self.new ≡ join self.old (one_kept view)) }
+        ensures err { OnErr result (self.new ≡ self.old) }
+    {
+        self.views.push(view)?;
+        Ok(())
+    }
+}
+
+/// The leaves of a transaction and its views, with their hashes.
+#[derive(Debug, Drop)]
+pub struct KeptTree {
+    pub common: KeptLeaf,
+    pub requesters: KeptLeaf,
+    pub views: KeptList,
+}

@@ -1,0 +1,178 @@
+//! What a participant reads of a tree.
+ghost use Rattle.std.specs.Prelude.{◌≡◌, ◌<◌, ◌++◌, ◌∷◌, [], Ok, OnOk};
+ghost use Rattle.ledger_terms.specs.Answers.{Follows, FollowsOn};
+ghost use Rattle.wire_form.specs.declared.wire_fault.WireFault.TheVariants as WireFault;
+ghost use Rattle.view_split.specs.ViewLists.{view_tree};
+ghost use Rattle.ledger_terms.specs.Forest.{join};
+ghost use Rattle.blind_tree.specs.Vertices.{AreNarrow, IsNarrow};
+ghost use Rattle.blind_tree.specs.VertexLists.{one_vertex};
+ghost use Rattle.blind_tree.specs.Opening.{placed, tree_opened, view_read, views_read};
+ghost use Rattle.blind_tree.specs.Opened.{inner_opened, opened_after, vertex_read};
+
+use crate::core_read::read_core;
+use crate::informees::path_below;
+use crate::leaf::Leaf;
+use crate::leaves::{are_plain, read_head, read_requesters, read_roles, shown_len};
+use crate::tree::Tree;
+use crate::vertex::{Vertex, VertexList};
+use ledger_terms::Path;
+use std::alloc::Global;
+use view_split::{OpenedTree, PlacedView, PlacedViewList, View, ViewList};
+use wire_form::WireFault;
+
+/// What a participant reads in its tree: sender, ledger time, the requesters where they are shown, and the topmost views that
+/// are shown, with all below them. It reads the common leaf, the requesters leaf where that is plain, and then, from the left,
+/// each topmost vertex whose two leaves are plain, with every vertex below it: first its informees leaf, then its contents leaf.
+/// Faults are a leaf that isn't plain or isn't one spelling of its kind, a blind vertex below such a vertex, and a core that
+/// hasn't as many holes as its vertex has subviews. The place is that in the leaf's bytes, the number of those bytes where the
+/// holes differ, and 0 where there are no bytes.
+pub fn opened(alloc: Global, tree: &Tree) -> Result<OpenedTree, WireFault>
+    requires { IsNarrow tree.now.views }
+    ensures { Follows WireFault.Memory result (tree_opened tree.now) }
+{
+    let (sender, ledger_time) = read_head(&tree.common)?;
+    let requesters = read_requesters(alloc, &tree.requesters)?;
+    let mut views = PlacedViewList::new(alloc);
+    open_all(alloc, &Path::new(alloc), &tree.views, &mut views)?;
+    Ok(OpenedTree {
+        sender,
+        ledger_time,
+        requesters,
+        views,
+    })
+}
+
+// Puts the topmost views that vertices show at the end. `above` is the path of the view above them.
+#[cycle(open)]
+fn open_all(
+    alloc: Global,
+    above: &Path,
+    vertices: &VertexList,
+    out: &mut PlacedViewList,
+) -> Result<(), WireFault>
+    requires { IsNarrow vertices.now }
+    ensures { FollowsOn WireFault.Memory out.new result (opened_after above.now 0 vertices.now out.old) }
+{
+    let items = vertices.as_slice();
+    for at in 0..items.len() {
+        open_vertex(alloc, above, at, &items[at], out)?;
+    }
+    Ok(())
+}
+
+#[cycle(open)]
+#[tactic(auto, using(crate::proofs::OpenedLaws::opened_one))]
+fn open_vertex(
+    alloc: Global,
+    above: &Path,
+    at: usize,
+    vertex: &Vertex,
+    out: &mut PlacedViewList,
+) -> Result<(), WireFault>
+    requires step { at < 65536 }
+    requires narrow { AreNarrow (one_vertex vertex.now) }
+    ensures { FollowsOn WireFault.Memory out.new result (opened_after above.now at (one_vertex vertex.now) out.old) }
+{
+    match vertex {
+        Vertex::Blind(_) => Ok(()),
+        Vertex::Inner {
+            informees,
+            contents,
+            subviews,
+        } => open_inner(alloc, above, at, informees, contents, subviews, out),
+    }
+}
+
+#[cycle(open)]
+fn open_inner(
+    alloc: Global,
+    above: &Path,
+    at: usize,
+    informees: &Leaf,
+    contents: &Leaf,
+    subviews: &VertexList,
+    out: &mut PlacedViewList,
+) -> Result<(), WireFault>
+    requires step { at < 65536 }
+    requires narrow { IsNarrow subviews.now }
+    ensures { FollowsOn WireFault.Memory out.new result (inner_opened above.now at informees.now contents.now subviews.now out.old) }
+{
+    if are_plain(informees, contents) {
+        let view = read_view(alloc, informees, contents, subviews)?;
+        let path = path_below(above, at)?;
+        put_view(path, view, out)
+    } else {
+        let path = path_below(above, at)?;
+        open_all(alloc, &path, subviews, out)
+    }
+}
+
+fn put_view(path: Path, view: View, out: &mut PlacedViewList) -> Result<(), WireFault>
+    ensures { FollowsOn WireFault.Memory out.new result (Ok (out.old ++ placed path view ∷ [])) }
+{
+    match out.push(PlacedView { path, view }) {
+        Ok(()) => Ok(()),
+        Err(_) => Err(WireFault::Memory),
+    }
+}
+
+// The view of a vertex with all below it.
+#[cycle(read)]
+fn read_view(
+    alloc: Global,
+    informees: &Leaf,
+    contents: &Leaf,
+    subviews: &VertexList,
+) -> Result<View, WireFault>
+    ensures { Follows WireFault.Memory result (view_read informees.now contents.now subviews.now) }
+{
+    let (informees, confirmers) = read_roles(alloc, informees)?;
+    let found = read_core(alloc, contents)?;
+    if found.holes != subviews.len() {
+        return Err(WireFault::Bad {
+            at: shown_len(contents),
+        });
+    }
+    let subviews = read_views(alloc, subviews)?;
+    Ok(View {
+        informees,
+        confirmers,
+        core: found.core,
+        subviews,
+    })
+}
+
+#[cycle(read)]
+fn read_views(alloc: Global, vertices: &VertexList) -> Result<ViewList, WireFault>
+    ensures { Follows WireFault.Memory result (views_read vertices.now) }
+{
+    let mut views = ViewList::new(alloc);
+    for vertex in vertices.as_slice() {
+        let view = read_vertex(alloc, vertex)?;
+        push_view(view, &mut views)?;
+    }
+    Ok(views)
+}
+
+#[cycle(read)]
+fn read_vertex(alloc: Global, vertex: &Vertex) -> Result<View, WireFault>
+    ensures { Follows WireFault.Memory result (vertex_read vertex.now) }
+{
+    match vertex {
+        Vertex::Blind(_) => Err(WireFault::Bad { at: 0 }),
+        Vertex::Inner {
+            informees,
+            contents,
+            subviews,
+        } => read_view(alloc, informees, contents, subviews),
+    }
+}
+
+fn push_view(view: View, views: &mut ViewList) -> Result<(), WireFault>
+    ensures { FollowsOn WireFault.Memory views.new result (Ok (join views.old (view_tree view))) }
+{
+    match views.push(view) {
+        Ok(()) => Ok(()),
+        Err(_) => Err(WireFault::Memory),
+    }
+}

@@ -1,0 +1,60 @@
+//! Root hashes of trees.
+ghost use Rattle.std.specs.Prelude.{◌≡◌, ◌++◌, IfOk, OnOk};
+ghost use Rattle.std.specs.Bool.{Decides};
+ghost use Rattle.sha2.specs.Sha256.{sha256};
+ghost use Rattle.blind_tree.specs.Vertices.{IsNarrow, AreNarrow};
+ghost use Rattle.blind_tree.specs.Digests.{digests, root_digest};
+
+use crate::leaf::hash_of;
+use crate::tree::Tree;
+use crate::vertex::{Vertex, VertexList};
+use hash_id::{tree_hash, view_hash};
+use ledger_terms::Hash;
+use std::alloc::{AllocError, Global};
+
+/// The hash of a tree: the same whatever the tree shows.
+pub fn root_of(alloc: Global, tree: &Tree) -> Result<Hash, AllocError>
+    requires { IsNarrow tree.now.views }
+    ensures { IfOk result (λ hash. hash ≡ root_digest sha256 tree.now) }
+{
+    let mut views = Vec::new(alloc);
+    hashes_into(&tree.views, &mut views)?;
+    let common = hash_of(1, &tree.common);
+    let requesters = hash_of(2, &tree.requesters);
+    Ok(tree_hash(&common, &requesters, views.as_slice()))
+}
+
+/// Whether `root` is the hash of a tree.
+pub fn verify(alloc: Global, tree: &Tree, root: &Hash) -> Result<bool, AllocError>
+    requires { IsNarrow tree.now.views }
+    ensures { IfOk result (λ same. Decides same (root.now ≡ root_digest sha256 tree.now)) }
+{
+    let hash = root_of(alloc, tree)?;
+    Ok(*root == hash)
+}
+
+// Puts the hashes of vertices at the end.
+fn hashes_into(vertices: &VertexList, out: &mut Vec<Hash>) -> Result<(), AllocError>
+    requires { AreNarrow vertices.now }
+    ensures { OnOk result (out.new.items ≡ out.old.items ++ digests sha256 vertices.now) }
+{
+    for vertex in vertices.as_slice() {
+        match vertex {
+            Vertex::Blind(hash) => {
+                out.push(*hash)?;
+            }
+            Vertex::Inner {
+                informees,
+                contents,
+                subviews,
+            } => {
+                let mut below = Vec::new(*out.allocator());
+                hashes_into(subviews, &mut below)?;
+                let first = hash_of(3, informees);
+                let second = hash_of(4, contents);
+                out.push(view_hash(&first, &second, below.as_slice()))?;
+            }
+        }
+    }
+    Ok(())
+}
