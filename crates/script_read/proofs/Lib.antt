@@ -1,0 +1,10 @@
+pub mod HostWalks
+pub mod NewHosts
+pub mod RoundWalks
+pub mod RoundLaws
+pub mod Submissions
+pub mod Topologies
+pub mod TreeSizes
+pub mod Trees
+pub mod VettedHosts
+pub mod Walked

@@ -1,0 +1,135 @@
+-- The topology of a script is one that a synchroniser can be made for.
+use Rattle.std.proofs.Common.{◌≡◌, ℕ, ◌+◌, ◌≤◌, true, List, [], length, map, Option, Some, None, Ok, ok_or, refl, sym, ap, ◌∙◌, arith, pos, negsuc, ℤ}
+use Rattle.std.specs.Prelude.{codes}
+use Rattle.std.proofs.lemmas.Bool.Decides.{nat_tests}
+use Rattle.std.proofs.lemmas.List.{take_all, length-map}
+use Rattle.serde_json.specs.Data.{Data, Items}
+use Rattle.serde_json.specs.Find.{as_number, as_i64, get}
+use Rattle.ledger_terms.specs.Pointers.{at_member}
+use Rattle.ledger_terms.specs.Packages.{PackageForm}
+use Rattle.ledger_terms.specs.Topologies.{IsWait, IsValid}
+use Rattle.ledger_terms.specs.declared.host.Host.{Host}
+use Rattle.ledger_terms.specs.declared.params.Params.{Params}
+use Rattle.ledger_terms.specs.declared.topology.Topology.{Topology}
+use Rattle.lang_read.specs.Walk.{Place, integer_of, within, count_found, items_of, item_count, check, json_of}
+use Rattle.lang_read.specs.declared.script_fault.ScriptFault.TheVariants.{Shape, NotInteger, Limit}
+use Rattle.script_read.specs.Hosts.{participants_at, participants_of, hosts_of, hosts_in, wait_if, wait_in, response_in, reaction_in, skew_in, params_of, vetting_step, vetting_in}
+use Rattle.script_read.specs.Rounds.{rounds_in}
+use Rattle.script_read.specs.Script.{has_script_members, topology_in, checked_in, script_of, script_in}
+use Rattle.script_read.specs.declared.script.Script.{Script}
+use Rattle.script_read.proofs.Walked.{after, passed, given, walk_keeps}
+use Rattle.script_read.proofs.HostWalks.{AreHosts, hosts_kept}
+use Rattle.script_read.proofs.VettedHosts.{key, AreVetted, vetting_kept, keys_length, keys_apart, keys_sum}
+
+-- ---- times
+
+in_range : (low high : ℕ) (z : ℤ) (n : ℕ) → within low high z ≡ true → n ≡ count_found z → (low ≤ n) × (n ≤ high)
+in_range low high (pos m) n h e = (grind (arith, nat_tests), grind (arith, nat_tests))
+in_range low high (negsuc m) n h e = absurd (cc)
+
+pub integer_range : (at : Place) (which low high : ℕ) (d : Data) (n : ℕ) → integer_of at which low high d ≡ Ok n → (low ≤ n) × (n ≤ high)
+unfolding integer_of
+integer_range at which low high d n h =
+    let a = after (ok_or (as_number d) (Shape at)) _ n h in
+    let b = after (ok_or (as_i64 a.0) (NotInteger at)) _ n a.2 in
+    let c = after (check (within low high b.0) (Limit at which (count_found b.0))) _ n b.2 in
+    in_range low high b.0 n (passed _ _ c.0 c.1) (given (count_found b.0) n c.2)
+
+wait_range : (at : Place) (default : ℕ) (o : Option Data) (n : ℕ) → 100000 ≤ default → default ≤ 1000000000000 → wait_if at default o ≡ Ok n → IsWait n
+wait_range at default None n p q h = let same = given default n h in record { least = omega arith; most = omega arith }
+wait_range at default (Some d) n p q h =
+    let r = integer_range at 16 100000 1000000000000 d n h in record { least = omega (arith, r.0); most = omega (arith, r.1) }
+
+-- three times in their ranges
+record AreTimes (params : Params) : Type 0 where
+  response : IsWait params.response_timeout
+  reaction : IsWait params.reaction_timeout
+  skew : IsWait params.skew
+
+times_valid : (d : Data) (params : Params) → params_of d ≡ Ok params → AreTimes params
+unfolding params_of response_in reaction_in skew_in wait_in
+times_valid d params h =
+    let a = after (response_in d) _ params h in
+    let b = after (reaction_in d) _ params a.2 in
+    let c = after (skew_in d) _ params b.2 in
+    rw (given (record { response_timeout = a.0; reaction_timeout = b.0; skew = c.0 }) params c.2) (record {
+      response = wait_range (at_member [] (codes "response_timeout")) 30000000 (get (codes "response_timeout") d) a.0 (omega arith) (omega arith) a.1;
+      reaction = wait_range (at_member [] (codes "reaction_timeout")) 30000000 (get (codes "reaction_timeout") d) b.0 (omega arith) (omega arith) b.1;
+      skew = wait_range (at_member [] (codes "skew")) 60000000 (get (codes "skew") d) c.0 (omega arith) (omega arith) c.1;
+    })
+
+-- ---- participants
+
+-- 1 to 8 of them, read from the items of the member
+pub record AreRead (d : Data) (hosts : List Host) : Type 0 where
+  member : Data
+  items : Items
+  count : ℕ
+  found : participants_of d ≡ Ok member
+  listed : items_of participants_at member ≡ Ok items
+  some : 1 ≤ item_count items
+  few : item_count items ≤ 8
+  kept : AreHosts (item_count items) (hosts, count)
+
+pub hosts_read : (d : Data) (hosts : List Host) → hosts_in d ≡ Ok hosts → AreRead d hosts
+unfolding hosts_in
+hosts_read d hosts h =
+    let m = after (participants_of d) _ hosts h in
+    let s = after (hosts_of participants_at m.0) _ hosts m.2 in
+    let kept = hosts_kept participants_at m.0 s.0 s.1 in
+    rw (given s.0.0 hosts s.2) (record {
+      member = m.0;
+      items = kept.0;
+      count = s.0.1;
+      found = m.1;
+      listed = kept.1;
+      some = kept.2;
+      few = kept.3;
+      kept = kept.4;
+    })
+
+-- names and parties of those with what they have vetted
+pub vetted_keys : (packages : List PackageForm) (d : Data) (known hosts : List Host) → AreRead d known → vetting_in packages known d ≡ Ok hosts → map key hosts ≡ map key known
+unfolding vetting_in
+vetted_keys packages d known hosts r h =
+    let m = after (participants_of d) _ hosts h in
+    let t = after (items_of participants_at m.0) _ hosts m.2 in
+    let one = given r.member m.0 (sym r.found ∙ m.1) in
+    let items = given r.items t.0 (sym r.listed ∙ (ap (items_of participants_at) (sym one) ∙ t.1)) in
+    let kept = walk_keeps (vetting_step packages known participants_at) (AreVetted known) (vetting_kept packages known participants_at) 0 [] hosts t.0 (record { keys = refl }) t.2 in
+    let all : length (map key known) ≤ 0 + item_count t.0 = rw items (omega (arith, r.kept.many, length-map known key)) in
+    kept.keys ∙ take_all _ (map key known) all
+
+-- ---- the whole
+
+known_valid : (packages : List PackageForm) (d : Data) (known hosts : List Host) (params : Params) → AreRead d known → AreTimes params → vetting_in packages known d ≡ Ok hosts → IsValid (record { hosts = hosts; params = params })
+known_valid packages d known hosts params r t h =
+    let keys = vetted_keys packages d known hosts r h in
+    let many = keys_length hosts known keys in
+    let sum = keys_sum hosts known keys in
+    record {
+      some_host = omega (arith, many, r.kept.many, r.some);
+      few_hosts = omega (arith, many, r.kept.many, r.few);
+      few_parties = omega (arith, sum, r.kept.counted, r.kept.few);
+      apart = keys_apart hosts known keys r.kept.apart;
+      response_timeout = t.response;
+      reaction_timeout = t.reaction;
+      skew = t.skew;
+    }
+
+pub script_valid : (bytes : List ℕ) (s : Script) → script_in bytes ≡ Ok s → IsValid s.topology
+unfolding script_in script_of topology_in
+script_valid bytes s h =
+    let v = after (json_of bytes) _ s h in
+    let a = after (check (has_script_members v.0) (Shape [])) _ s v.2 in
+    let known = after (topology_in v.0) _ s a.2 in
+    let checked = after (checked_in known.0.hosts v.0) _ s known.2 in
+    let hosts = after (vetting_in checked.0 known.0.hosts v.0) _ s checked.2 in
+    let rounds = after (rounds_in known.0.hosts v.0) _ s hosts.2 in
+    let is = given (record { topology = record { hosts = hosts.0; params = known.0.params }; checked = checked.0; rounds = rounds.0 }) s rounds.2 in
+    let x = after (hosts_in v.0) _ known.0 known.1 in
+    let y = after (params_of v.0) _ known.0 x.2 in
+    let whole = given (record { hosts = x.0; params = y.0 }) known.0 y.2 in
+    let own : known.0.hosts ≡ x.0 = ap (λ (t : Topology). t.hosts) whole in
+    let times : known.0.params ≡ y.0 = ap (λ (t : Topology). t.params) whole in
+    rw (ap (λ (s : Script). s.topology) is) (known_valid checked.0 v.0 known.0.hosts hosts.0 known.0.params (rw own (hosts_read v.0 x.0 x.1)) (rw times (times_valid v.0 y.0 y.1)) hosts.1)

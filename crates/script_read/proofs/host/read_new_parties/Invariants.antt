@@ -1,0 +1,9 @@
+use Rattle.std.proofs.Common.{◌≡◌, [], drop}
+use Rattle.serde_json.specs.View.{items_view}
+use Rattle.lang_read.specs.Walk.{walk_items}
+use Rattle.script_read.specs.Hosts.{new_party_step}
+use Rattle.script_read.proofs.host.read_new_parties.Given as goal
+
+abbrev pub invariant-items : goal.invariant-items
+invariant-items l =
+    walk_items (new_party_step l.hosts l.at) l.i l.parties (items_view (drop l.i l.items)) ≡ walk_items (new_party_step l.hosts l.at) 0 [] (items_view l.items)

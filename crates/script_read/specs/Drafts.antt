@@ -1,0 +1,233 @@
+-- Prepared trees: drafts of actions, each with its children. At most 64 stand in one tree, and at most 16 deep.
+use Rattle.std.specs.Prelude.{ℕ, ◌+◌, Bool, ◌||◌, List, [], ◌∷◌, nat_le, Option, Some, None, if◌then◌else◌, Result, Ok, Err, codes, ⊤}
+use Rattle.std.specs.Ordering.{nat_cmp, match_ordering}
+use Rattle.std.specs.Cmp.Lexicographic.{slice_cmp}
+use Rattle.serde_json.specs.Data.{Data, null, boolean, number, string, array, object, Items, no_items, item, Members, no_members, member}
+use Rattle.ledger_terms.specs.Forest.{NoRoots, Root, join}
+use Rattle.ledger_terms.specs.Drafts.{DraftAction, Drafts, DraftCreate, DraftExercise, DraftFetch}
+use Rattle.ledger_terms.specs.Pointers.{at_item, at_member}
+use Rattle.ledger_terms.specs.declared.host.Host.{Host}
+use Rattle.ledger_terms.specs.declared.arg.Arg.{Arg}
+use Rattle.ledger_terms.specs.declared.contract_ref.ContractRef.{ContractRef}
+use Rattle.ledger_terms.specs.declared.input.Input.{Input}
+use Rattle.ledger_terms.specs.declared.input.Input.TheVariants as input
+use Rattle.ledger_terms.specs.declared.template_name.TemplateName.{TemplateName}
+use Rattle.lang_read.specs.Walk.{◌>>=◌, check, Place, name_in, truth_in, has_members, item_count, member_of}
+use Rattle.lang_read.specs.Texts.{template_in}
+use Rattle.lang_read.specs.Parties.{parties_of}
+use Rattle.lang_read.specs.declared.script_fault.ScriptFault.{ScriptFault}
+use Rattle.lang_read.specs.declared.script_fault.ScriptFault.TheVariants.{Shape, Limit}
+use Rattle.script_read.specs.Refs.{hash_of, reference_of}
+use Rattle.script_read.specs.Args.{arg_of, args_in}
+use Rattle.script_read.specs.Commands.{reference_in, has_create_members, is_create, is_exercise}
+
+-- ---- inputs
+
+-- `{"known": ..}`
+unfoldable pub is_known : Data → Bool
+is_known d = has_members (codes "known" ∷ []) [] d
+
+unfoldable pub has_forged_members : Data → Bool
+has_forged_members d = has_members (codes "id" ∷ codes "salt" ∷ codes "instance" ∷ []) [] d
+
+unfoldable pub some_id_of : List Host → Place → Data → Result (Option ContractRef) ScriptFault
+some_id_of hosts at d = do
+  reference ← reference_of hosts at d
+  Ok (Some reference)
+
+-- a reference, or null
+unfoldable pub id_of : List Host → Place → Data → Result (Option ContractRef) ScriptFault
+id_of hosts at null = Ok None
+id_of hosts at (boolean b) = some_id_of hosts at (boolean b)
+id_of hosts at (number n) = some_id_of hosts at (number n)
+id_of hosts at (string s) = some_id_of hosts at (string s)
+id_of hosts at (array ds) = some_id_of hosts at (array ds)
+id_of hosts at (object ms) = some_id_of hosts at (object ms)
+
+unfoldable pub id_in : List Host → Place → Data → Result (Option ContractRef) ScriptFault
+id_in hosts at d = do
+  m ← member_of at (codes "id") d
+  id_of hosts (at_member at (codes "id")) m
+
+unfoldable pub salt_in : Place → Data → Result (List ℕ) ScriptFault
+salt_in at d = do
+  m ← member_of at (codes "salt") d
+  hash_of (at_member at (codes "salt")) m
+
+unfoldable pub instance_of : List Host → Place → Data → Result (TemplateName × List Arg) ScriptFault
+instance_of hosts at d = do
+  _ ← check (has_create_members d) (Shape at)
+  template ← template_in at d
+  fields ← args_in hosts at (codes "fields") 5 d
+  Ok (template, fields)
+
+unfoldable pub instance_in : List Host → Place → Data → Result (TemplateName × List Arg) ScriptFault
+instance_in hosts at d = do
+  m ← member_of at (codes "instance") d
+  instance_of hosts (at_member at (codes "instance")) m
+
+unfoldable pub forged_of : List Host → Place → Data → Result Input ScriptFault
+forged_of hosts at d = do
+  _ ← check (has_forged_members d) (Shape at)
+  id ← id_in hosts at d
+  salt ← salt_in at d
+  parts ← instance_in hosts at d
+  Ok (input.Forged id salt parts.0 parts.1)
+
+unfoldable pub known_of : List Host → Place → Data → Result Input ScriptFault
+known_of hosts at d = do
+  reference ← reference_in hosts at (codes "known") d
+  Ok (input.Known reference)
+
+unfoldable pub input_of : List Host → Place → Data → Result Input ScriptFault
+input_of hosts at d = if is_known d then known_of hosts at d else forged_of hosts at d
+
+unfoldable pub input_in : List Host → Place → Data → Result Input ScriptFault
+input_in hosts at d = do
+  m ← member_of at (codes "contract") d
+  input_of hosts (at_member at (codes "contract")) m
+
+-- ---- drafts without children
+
+unfoldable pub actors_in : List Host → Place → Data → Result (List (List ℕ)) ScriptFault
+actors_in hosts at d = do
+  m ← member_of at (codes "actors") d
+  parties_of hosts (at_member at (codes "actors")) m
+
+unfoldable pub result_in : List Host → Place → Data → Result Arg ScriptFault
+result_in hosts at d = do
+  m ← member_of at (codes "result") d
+  arg_of hosts (at_member at (codes "result")) m
+
+-- a tree of one action
+abbrev pub alone : DraftAction → Drafts
+alone a = Root a NoRoots NoRoots
+
+unfoldable pub create_draft_of : List Host → Place → Data → Result Drafts ScriptFault
+create_draft_of hosts at d = do
+  parts ← instance_of hosts at d
+  Ok (alone (DraftCreate parts.0 parts.1))
+
+unfoldable pub has_fetch_members : Data → Bool
+has_fetch_members d = has_members (codes "contract" ∷ codes "actors" ∷ []) [] d
+
+unfoldable pub fetch_draft_of : List Host → Place → Data → Result Drafts ScriptFault
+fetch_draft_of hosts at d = do
+  _ ← check (has_fetch_members d) (Shape at)
+  contract ← input_in hosts at d
+  actors ← actors_in hosts at d
+  Ok (alone (DraftFetch contract actors))
+
+unfoldable pub is_fetch : Data → Bool
+is_fetch d = has_members (codes "fetch" ∷ []) [] d
+
+unfoldable pub create_draft_in : List Host → Place → Data → Result Drafts ScriptFault
+create_draft_in hosts at d = do
+  m ← member_of at (codes "create") d
+  create_draft_of hosts (at_member at (codes "create")) m
+
+unfoldable pub fetch_draft_in : List Host → Place → Data → Result Drafts ScriptFault
+fetch_draft_in hosts at d = do
+  m ← member_of at (codes "fetch") d
+  fetch_draft_of hosts (at_member at (codes "fetch")) m
+
+-- ---- an exercise but for its children
+
+unfoldable pub has_draft_members : Data → Bool
+has_draft_members d =
+    has_members (codes "contract" ∷ codes "choice" ∷ codes "args" ∷ codes "actors" ∷ codes "consuming" ∷ codes "result" ∷ codes "children" ∷ []) [] d
+
+-- the contract, the choice and its arguments
+unfoldable pub call_of : List Host → Place → Data → Result (Input × List ℕ × List Arg) ScriptFault
+call_of hosts at d = do
+  contract ← input_in hosts at d
+  choice ← name_in at (codes "choice") d
+  args ← args_in hosts at (codes "args") 6 d
+  Ok (contract, choice, args)
+
+-- the actors, whether it consumes, and the result
+unfoldable pub effect_of : List Host → Place → Data → Result (List (List ℕ) × Bool × Arg) ScriptFault
+effect_of hosts at d = do
+  actors ← actors_in hosts at d
+  consuming ← truth_in at (codes "consuming") d
+  result ← result_in hosts at d
+  Ok (actors, consuming, result)
+
+unfoldable pub exercise_draft_of : List Host → Place → Data → Result DraftAction ScriptFault
+exercise_draft_of hosts at d = do
+  _ ← check (has_draft_members d) (Shape at)
+  call ← call_of hosts at d
+  effect ← effect_of hosts at d
+  Ok (DraftExercise call.0 call.1 call.2 effect.0 effect.1 effect.2)
+
+-- ---- trees
+
+-- the object has one member, of the three that there are
+unfoldable pub is_draft : Data → Bool
+is_draft d = is_create d || (is_exercise d || is_fetch d)
+
+-- drafts stand at most 16 deep
+unfoldable pub within_tree : Place → ℕ → Result ⊤ ScriptFault
+within_tree at depth = check (nat_le depth 16) (Limit at 19 17)
+
+-- a draft without children
+unfoldable pub leaf_of : List Host → Place → Data → Result Drafts ScriptFault
+leaf_of hosts at d = if is_create d then create_draft_in hosts at d else fetch_draft_in hosts at d
+
+-- Each reading takes the number of drafts in the lists so far, and gives that number after it.
+abbrev mutual
+  -- a draft at a depth
+  pub draft_of : List Host → Place → ℕ → ℕ → Data → Result (Drafts × ℕ) ScriptFault
+  draft_of hosts at depth n (object ms) =
+      check (is_draft (object ms)) (Shape at)
+      >>= (λ _. within_tree at depth
+      >>= (λ _. if is_exercise (object ms)
+      then exercise_member hosts at depth n ms
+      else (leaf_of hosts at (object ms) >>= (λ f. Ok (f, n)))))
+  draft_of hosts at depth n null = Err (Shape at)
+  draft_of hosts at depth n (boolean b) = Err (Shape at)
+  draft_of hosts at depth n (number m) = Err (Shape at)
+  draft_of hosts at depth n (string s) = Err (Shape at)
+  draft_of hosts at depth n (array ds) = Err (Shape at)
+
+  -- the member `exercise`, looked up as `get` does
+  pub exercise_member : List Host → Place → ℕ → ℕ → Members → Result (Drafts × ℕ) ScriptFault
+  exercise_member hosts at depth n no_members = Err (Shape at)
+  exercise_member hosts at depth n (member k d ms) =
+      match_ordering (slice_cmp nat_cmp (codes "exercise") k) (exercise_member hosts at depth n ms) (node_of hosts (at_member at (codes "exercise")) depth n d) (exercise_member hosts at depth n ms)
+
+  -- an exercise with its children
+  pub node_of : List Host → Place → ℕ → ℕ → Data → Result (Drafts × ℕ) ScriptFault
+  node_of hosts at depth n (object ms) =
+      exercise_draft_of hosts at (object ms)
+      >>= (λ a. children_member hosts at depth n ms
+      >>= (λ c. Ok (Root a c.0 NoRoots, c.1)))
+  node_of hosts at depth n null = Err (Shape at)
+  node_of hosts at depth n (boolean b) = Err (Shape at)
+  node_of hosts at depth n (number m) = Err (Shape at)
+  node_of hosts at depth n (string s) = Err (Shape at)
+  node_of hosts at depth n (array ds) = Err (Shape at)
+
+  -- the member `children`, looked up as `get` does
+  pub children_member : List Host → Place → ℕ → ℕ → Members → Result (Drafts × ℕ) ScriptFault
+  children_member hosts at depth n no_members = Err (Shape at)
+  children_member hosts at depth n (member k d ms) =
+      match_ordering (slice_cmp nat_cmp (codes "children") k) (children_member hosts at depth n ms) (tree_of hosts (at_member at (codes "children")) (depth + 1) n d) (children_member hosts at depth n ms)
+
+  -- the drafts of a list, which stand at a depth
+  pub tree_of : List Host → Place → ℕ → ℕ → Data → Result (Drafts × ℕ) ScriptFault
+  tree_of hosts at depth n (array ds) =
+      check (nat_le (n + item_count ds) 64) (Limit at 18 (n + item_count ds))
+      >>= (λ _. drafts_from hosts at depth 0 (NoRoots, n + item_count ds) ds)
+  tree_of hosts at depth n null = Err (Shape at)
+  tree_of hosts at depth n (boolean b) = Err (Shape at)
+  tree_of hosts at depth n (number m) = Err (Shape at)
+  tree_of hosts at depth n (string s) = Err (Shape at)
+  tree_of hosts at depth n (object ms) = Err (Shape at)
+
+  -- the drafts from the i-th item on, behind those before
+  pub drafts_from : List Host → Place → ℕ → ℕ → Drafts × ℕ → Items → Result (Drafts × ℕ) ScriptFault
+  drafts_from hosts at depth i before no_items = Ok before
+  drafts_from hosts at depth i before (item d ds) =
+      draft_of hosts (at_item at i) depth before.1 d
+      >>= (λ f. drafts_from hosts at depth (i + 1) (join before.0 f.0, f.1) ds)

@@ -1,0 +1,86 @@
+-- References to contracts: ids and labels.
+use Rattle.std.specs.Prelude.{ℕ, ◌+◌, ◌-◌, ◌*◌, Bool, ◌==◌, ◌&&◌, List, [], ◌∷◌, ◌++◌, length, nat_le, Option, Some, None, option_and_then, if◌then◌else◌, Result, Ok, ok_or}
+use Rattle.std.specs.List.{slice_split}
+use Rattle.std.specs.Result.{result_ok}
+use Rattle.hex.specs.Hex.{decode_sized}
+use Rattle.serde_json.specs.Data.{Data}
+use Rattle.serde_json.specs.Find.{as_str}
+use Rattle.ledger_terms.specs.Names.{is_name}
+use Rattle.ledger_terms.specs.declared.host.Host.{Host}
+use Rattle.ledger_terms.specs.declared.label.Label.{Label}
+use Rattle.ledger_terms.specs.declared.contract_ref.ContractRef.{ContractRef}
+use Rattle.ledger_terms.specs.declared.contract_ref.ContractRef.TheVariants as reference
+use Rattle.lang_read.specs.Walk.{◌>>=◌, check, Place}
+use Rattle.lang_read.specs.Texts.{parts_round}
+use Rattle.lang_read.specs.declared.script_fault.ScriptFault.{ScriptFault}
+use Rattle.lang_read.specs.declared.script_fault.ScriptFault.TheVariants.{Shape, Limit, Unknown}
+use Rattle.script_read.specs.Hosts.{is_participant}
+
+-- ---- ids
+
+-- 64 digits of either case
+abbrev pub hash_named : List ℕ → Option (List ℕ)
+hash_named s = result_ok (decode_sized s 32)
+
+unfoldable pub hash_of : Place → Data → Result (List ℕ) ScriptFault
+hash_of at d = do
+  s ← ok_or (as_str d) (Shape at)
+  ok_or (hash_named s) (Shape at)
+
+-- ---- labels
+
+abbrev pub is_digit : ℕ → Bool
+is_digit b = nat_le 48 b && nat_le b 57
+
+-- 0 to 63 in decimal, with no zero before it
+abbrev pub step_named : List ℕ → Option ℕ
+step_named (b ∷ []) = if is_digit b then Some (b - 48) else None
+step_named (b ∷ c ∷ []) =
+    if nat_le 49 b && (is_digit b && (is_digit c && nat_le ((b - 48) * 10 + (c - 48)) 63))
+    then Some ((b - 48) * 10 + (c - 48))
+    else None
+step_named [] = None
+step_named (b ∷ c ∷ e ∷ more) = None
+
+-- the steps that the words name, behind those before
+abbrev pub steps_from : List ℕ → List (List ℕ) → Option (List ℕ)
+steps_from before [] = Some before
+steps_from before (w ∷ ws) = option_and_then (λ n. steps_from (before ++ n ∷ []) ws) (step_named w)
+
+-- steps with dots between them
+unfoldable pub path_named : List ℕ → Option (List ℕ)
+path_named s = steps_from [] (slice_split (λ b. b == 46) s)
+
+abbrev pub label_with : List ℕ → List ℕ → List ℕ → Option Label
+label_with participant command path =
+    if is_name participant && is_name command
+    then Some (record { participant = participant; command = command; path = path })
+    else None
+
+-- `participant:command:path`
+unfoldable pub label_named : List ℕ → Option Label
+label_named s =
+    option_and_then (λ p. option_and_then (λ q. option_and_then (label_with p.0 q.0) (path_named q.1)) (parts_round 58 p.1)) (parts_round 58 s)
+
+-- a label that is spelled so, of at most 16 steps and a participant that there is
+unfoldable pub label_of : List Host → Place → List ℕ → Result Label ScriptFault
+label_of hosts at s = do
+  label ← ok_or (label_named s) (Shape at)
+  _ ← check (nat_le (length label.path) 16) (Limit at 20 (length label.path))
+  _ ← check (is_participant hosts label.participant) (Unknown at label.participant)
+  Ok label
+
+-- what stands behind a `#`, where the text begins with one
+abbrev pub behind_mark : List ℕ → Option (List ℕ)
+behind_mark [] = None
+behind_mark (b ∷ bs) = if b == 35 then Some bs else None
+
+abbrev pub reference_by : List Host → Place → List ℕ → Option (List ℕ) → Result ContractRef ScriptFault
+reference_by hosts at s (Some label) = label_of hosts at label >>= (λ l. Ok (reference.Label l))
+reference_by hosts at s None = ok_or (hash_named s) (Shape at) >>= (λ h. Ok (reference.Id h))
+
+-- a label, or an id
+unfoldable pub reference_of : List Host → Place → Data → Result ContractRef ScriptFault
+reference_of hosts at d = do
+  s ← ok_or (as_str d) (Shape at)
+  reference_by hosts at s (behind_mark s)

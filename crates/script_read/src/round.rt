@@ -1,0 +1,15 @@
+//! Rounds.
+use ledger_terms::{ListOf, ParticipantIdList, SubmissionList};
+
+/// A round of a script: how far the time is moved first, in microseconds, which participants are paused, whether the
+/// mediator holds its verdicts back, and what is submitted, in order.
+#[derive(Debug, Drop)]
+pub struct Round {
+    pub advance: u64,
+    pub paused: ParticipantIdList,
+    pub hold_verdicts: bool,
+    pub submits: SubmissionList,
+}
+
+/// Rounds in order.
+pub type RoundList = ListOf<Round>;
