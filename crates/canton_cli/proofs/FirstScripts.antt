@@ -12,7 +12,8 @@ use Rattle.ledger_terms.specs.declared.what.What.TheVariants.{Commands}
 use Rattle.ledger_terms.specs.declared.submission.Submission.{Submission}
 use Rattle.lang_read.specs.Walk.{◌>>=◌, check, has_members}
 use Rattle.lang_read.specs.declared.script_fault.ScriptFault.TheVariants.{NotBuilt}
-use Rattle.proto_model.specs.Note.{note_name, note_template}
+use Rattle.lang_eval.specs.Builtin.{note_template}
+use Rattle.proto_model.specs.Note.{note_name}
 use Rattle.canton_cli.specs.declared.script.Script.{Script}
 use Rattle.canton_cli.specs.FirstForm.{Read, text_in, list_in, sole_of, is_text, is_text_if, is_party, is_submission, command_id_in, is_script, words_in, note_args, name_in, parties_in, host_in, fields_in, create_in, command_in, party_of, actor_in, wanted_in, submission_in, submits_in, submits_if, round_in, rounds_in, sole_host_in, played_in, first_form}
 use Rattle.canton_cli.specs.FirstScript.{note_submission, IsFirst}

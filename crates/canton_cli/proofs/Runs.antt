@@ -21,7 +21,8 @@ use Rattle.ledger_model.proofs.Fits.{sealed_of, opens_of}
 use Rattle.proto_model.specs.PlainReading.{plain_reading}
 use Rattle.proto_model.specs.NoteForm.{request_to_self}
 use Rattle.proto_model.specs.NoteLog.{note_log, LeavesTime}
-use Rattle.proto_model.proofs.NoteConforms.{from_test, to_test}
+use Rattle.proto_model.specs.BuiltIn.{built_in}
+use Rattle.proto_model.proofs.Conforming.{decides}
 use Rattle.proto_model.proofs.OneRequest.{empty_genuine}
 use Rattle.report_text.specs.declared.submit_result.SubmitResult.{SubmitResult}
 use Rattle.canton_cli.specs.declared.script.Script.{Script}
@@ -29,7 +30,7 @@ use Rattle.canton_cli.specs.Play.{request_of_script}
 use Rattle.canton_cli.specs.Run.{IsRun, IsSettled, hosts_of, params_of, requests_in, if_request, results_of}
 
 lawful : (hosts : List Host) → IsReading (plain_reading hosts)
-lawful hosts = record { confirms_hosted = λ p name h. h; conforms_is = λ roots. (from_test roots, to_test roots) }
+lawful hosts = record { confirms_hosted = λ p name h. h; conforms_is = λ roots. decides built_in roots }
 
 pub is_run : (script : Script) (log : List Entry) (results : List SubmitResult)
     → Genuine (plain_reading (hosts_of script)) (params_of script) log

@@ -19,6 +19,7 @@ use Rattle.proto_model.specs.NoteLog.{approval, note_log, sole_host, LeavesTime}
 use Rattle.proto_model.specs.Plain.{IsPlain, spell_plain}
 use Rattle.proto_model.specs.PlainReading.{plain_reading, shown_of_form, view_of_form}
 use Rattle.proto_model.proofs.PlainLaws.{plain_again}
+use Rattle.proto_model.proofs.NoteRoles.{signs}
 use Rattle.proto_model.proofs.NoteRun.{request_owed, request_genuine, request_collides_not}
 use Rattle.proto_model.proofs.Sealed.{same_self, or_false}
 use Rattle.report_text.specs.declared.submit_result.SubmitResult.TheVariants.{Sent}
@@ -44,7 +45,7 @@ module _ (name command party text : List ℕ) (params : Params) (plain : IsPlain
   answered : answer_of (reader_of (sole_host name party) params (next_entry [] (RequestMessage (note_request 0 name command party text 0)))) ≡ Some (record { from = 0; request = 0; verdicts = approval })
   answered =
       ap (λ (o : Option Shown). answer_of (record { hosts = sole_host name party; params = params; me = 0; items = record { time = 1; content = received o } ∷ []; claimed = []; outbox = [] })) is_shown
-      ∙ responds (sole_host name party) params (shown_of_form (note_form name command party text 0)) (view_of_form (note_form name command party text 0)) refl (or_false _ ∙ (or_false _ ∙ same_self party)) approval owed_shown
+      ∙ responds (sole_host name party) params (shown_of_form (note_form name command party text 0)) (view_of_form (note_form name command party text 0)) refl (rw (signs party text) (or_false _ ∙ (or_false _ ∙ same_self party))) approval owed_shown
 
   pub log_is : log_of_request (sole_host name party) params (note_request 0 name command party text 0) ≡ note_log (note_request 0 name command party text 0)
   unfolding log_of_request

@@ -16,7 +16,8 @@ use Rattle.ledger_terms.specs.declared.submission.Submission.{Submission}
 use Rattle.lang_read.specs.declared.script_fault.ScriptFault.{ScriptFault}
 use Rattle.lang_read.specs.declared.script_fault.ScriptFault.TheVariants.{NotBuilt}
 use Rattle.lang_read.specs.Walk.{◌>>=◌, check, has_members}
-use Rattle.proto_model.specs.Note.{note_name, note_template}
+use Rattle.lang_eval.specs.Builtin.{note_template}
+use Rattle.proto_model.specs.Note.{note_name}
 use Rattle.canton_cli.specs.declared.script.Script.{Script}
 
 abbrev pub Read : Type 0 → Type 0

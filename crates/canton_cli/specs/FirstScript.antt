@@ -4,7 +4,8 @@ use Rattle.std.proofs.Common.{◌⊎◌}
 use Rattle.ledger_terms.specs.declared.command.Command.TheVariants.{Create}
 use Rattle.ledger_terms.specs.declared.what.What.TheVariants.{Commands}
 use Rattle.ledger_terms.specs.declared.submission.Submission.{Submission}
-use Rattle.proto_model.specs.Note.{note_name, note_template}
+use Rattle.lang_eval.specs.Builtin.{note_template}
+use Rattle.proto_model.specs.Note.{note_name}
 use Rattle.canton_cli.specs.declared.script.Script.{Script}
 use Rattle.canton_cli.specs.FirstForm.{default_params, note_args}
 use Rattle.canton_cli.specs.Play.{sole_submission}

@@ -56,10 +56,19 @@ fn line(alloc: Global, finish: &Finish) -> Result<String, AllocError> {
     format!(in alloc; "canton_cli: {why}")
 }
 
-/// The line for a fault of the script.
+/// The line for a fault of the script: its name, and its place where it has one. A fault of packages has its kind before
+/// its place.
 fn fault_line(alloc: Global, fault: &ScriptFault) -> Result<String, AllocError> {
     let name = fault.name();
-    format!(in alloc; "canton_cli: script {name}")
+    if let ScriptFault::Package { fault } = fault {
+        let kind = fault.kind.name();
+        let place = fault.at.as_str();
+        return format!(in alloc; "canton_cli: script {name} {kind} {place}");
+    }
+    match fault.path() {
+        Some(path) => format!(in alloc; "canton_cli: script {name} {path}"),
+        None => format!(in alloc; "canton_cli: script {name}"),
+    }
 }
 
 fn main(rt: HostRuntime) -> ExitCode {

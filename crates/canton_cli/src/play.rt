@@ -118,7 +118,7 @@ fn view_of(alloc: Global, node: &Node<'_>) -> Result<NodeView, AllocError>
 fn nothing(alloc: Global, setup: &Setup) -> Result<Played, AllocError>
     ensures { IfOk result (λ played. (played.log ≡ []) × (played.results ≡ []) × (played.views ≡ view_in (begun setup.now.topology.hosts setup.now.topology.params 0) ∷ [])) }
 {
-    let node = Node::new(alloc, setup, ParticipantId(0));
+    let node = Node::new(alloc, setup, ParticipantId(0))?;
     let mut views = NodeViewList::new(alloc);
     views.push(view_of(alloc, &node)?)?;
     Ok(Played {
@@ -134,7 +134,7 @@ fn one_request(alloc: Global, setup: &Setup, request: Request) -> Result<Played,
     ensures results { IfOk result (λ played. played.results ≡ Sent 0 0 ∷ []) }
     ensures views { IfOk result (λ played. played.views ≡ view_at (plain_reading setup.now.topology.hosts) setup.now.topology.params played.log 0 ∷ []) }
 {
-    let mut node = Node::new(alloc, setup, ParticipantId(0));
+    let mut node = Node::new(alloc, setup, ParticipantId(0))?;
     let mut log = EntryList::new(alloc);
     settle(alloc, &mut node, &mut log, request)?;
     let mut results = SubmitResultList::new(alloc);

@@ -18,14 +18,15 @@ pub struct Script {
     pub rounds: RoundSubmissionList,
 }
 
-/// The script that the bytes are JSON of. NotJson comes exactly where they are JSON of nothing, and NotBuilt exactly where
-/// they are JSON of something else than the form that is run today: one participant with at most one party, and at most one
-/// create of the built-in Note.
+/// The script that the bytes are JSON of, or its first fault in the order of the walk of scripts. NotBuilt comes exactly where
+/// a script has no fault and another form than the one that is run today: one participant with at most one party, and at
+/// most one create of the built-in Note.
 #[tactic(auto, unfolding(crate::specs::Script::script_of))]
 pub fn read_script(alloc: Global, bytes: &[u8]) -> Result<Script, ScriptFault>
     ensures exact { Follows ScriptFault.Memory result (script_of bytes.now) }
     ensures first { IfOk result IsFirst }
 {
+    script_read::read_script(alloc, bytes)?;
     let value = read_json(alloc, bytes)?;
     read_first_form(alloc, &value)
 }

@@ -1,3 +1,9 @@
+mod cut;
+mod readings;
+mod trees;
+mod views;
+mod worked;
+
 use crate::finish::Finish;
 use crate::top_call::run;
 use crate::words::WordList;
@@ -93,8 +99,12 @@ fn names_faults_of_scripts(rt: HostRuntime) -> Result<(), Fail> {
         fault_name(rt.alloc(), "{\"participants\":[{\"name\":\"P")?,
         "NotJson"
     );
+    assert_eq!(rt; fault_name(rt.alloc(), "{\"participants\":[]}")?, "Shape");
     assert_eq!(rt;
-        fault_name(rt.alloc(), "{\"participants\":[]}")?,
+        fault_name(
+            rt.alloc(),
+            "{\"participants\":[{\"name\":\"P1\",\"parties\":[]}],\"skew\":100000,\"rounds\":[]}"
+        )?,
         "NotBuilt"
     );
     Ok(())

@@ -4,9 +4,7 @@ use Rattle.std.specs.Prelude.{◌&&◌, ◌||◌, not, if◌then◌else◌, slic
 use Rattle.std.specs.List.{list_any}
 use Rattle.std.proofs.lemmas.List.Folds.{list_any-append}
 use Rattle.ledger_terms.specs.declared.host.Host.{Host}
-use Rattle.ledger_terms.specs.declared.value.Value.{Value}
-use Rattle.ledger_terms.specs.declared.value.Value.TheVariants.{Unit as UnitValue, Int, Bool as BoolValue, Text, Party, Contract, Parties}
-use Rattle.ledger_terms.specs.Parties.{set_of, is_subset}
+use Rattle.ledger_terms.specs.Parties.{is_subset}
 use Rattle.ledger_model.specs.declared.check.LocalVerdict.{LocalVerdict}
 use Rattle.ledger_model.specs.declared.check.LocalVerdict.TheVariants.{Approve, Reject}
 use Rattle.ledger_model.specs.declared.check.Reason.{Reason}
@@ -16,23 +14,12 @@ use Rattle.ledger_model.specs.Status.{is_unknown}
 use Rattle.ledger_model.specs.Inbox.{Item, item_time, has_hosted_stakeholder, is_locked_in_inbox, status_in_inbox}
 use Rattle.ledger_model.specs.Checks.{is_within, verdict_on_view}
 use Rattle.proto_model.specs.declared.plain_form.PlainForm.{PlainForm}
-use Rattle.proto_model.specs.NoteLanguage.{party_in, is_note, is_short, owner_of}
-use Rattle.proto_model.specs.PlainReading.{plain_reading, is_authentic, root_of, vets, shown_of_form, view_of_form}
+use Rattle.proto_model.specs.BuiltIn.{built_in, built_in_language, conforms}
+use Rattle.proto_model.specs.PlainReading.{plain_reading, is_authentic, root_of, roots_of_form, vets, shown_of_form, view_of_form}
 use Rattle.node_core.specs.Findings.{first_reason}
 
 pub any_append : (p : List ℕ → Bool) (xs ys : List (List ℕ)) → list_any p (xs ++ ys) ≡ (list_any p xs || list_any p ys)
 any_append p xs ys = list_any-append p xs ys
-
--- the set of at most one party
-pub owner_set : (field : Option Value) → set_of (party_in field ++ []) ≡ party_in field
-owner_set None = refl
-owner_set (Some UnitValue) = refl
-owner_set (Some (Int n)) = refl
-owner_set (Some (BoolValue b)) = refl
-owner_set (Some (Text t)) = refl
-owner_set (Some (Party p)) = refl
-owner_set (Some (Contract c)) = refl
-owner_set (Some (Parties ps)) = refl
 
 -- one check of the one action of a core
 abbrev tried : Reason → Bool → LocalVerdict → LocalVerdict
@@ -40,7 +27,7 @@ tried reason shown others = if shown || false then Reject reason (if shown then 
 
 abbrev all_tried : (hosted authentic vetted near locked used conformant authorised : Bool) → LocalVerdict
 all_tried hosted authentic vetted near locked used conformant authorised =
-    tried IdMismatch (not authentic) (tried NotVetted (not vetted) (tried TimeSkew (not near) (tried Locked locked (tried Inactive (hosted && false) (tried NotFresh used (tried Unordered (hosted && false) (tried NotConformant (not (conformant && true)) (tried NotAuthorised (not authorised) Approve))))))))
+    tried IdMismatch (not authentic) (tried NotVetted (not vetted) (tried TimeSkew (not near) (tried Locked locked (tried Inactive (hosted && false) (tried NotFresh used (tried Unordered (hosted && false) (tried NotConformant (not conformant) (tried NotAuthorised (not authorised) Approve))))))))
 
 abbrev found : (authentic vetted near locked used conformant authorised : Bool) → LocalVerdict
 found authentic vetted near locked used conformant authorised =
@@ -60,6 +47,6 @@ all_found false true true true false false true true = refl
 all_found true true true true false false true false = refl
 all_found false true true true false false true false = refl
 
-pub verdict_is : (hosts : List Host) (params : Params) (p : ParticipantId) (items : List Item) (k : ℕ) (form : PlainForm) → found (is_authentic (root_of form)) (vets (slice_get hosts p) form.instance.template.package) (is_within params.skew form.ledger_time (item_time (slice_get items k))) (has_hosted_stakeholder (plain_reading hosts) p (root_of form) && is_locked_in_inbox (plain_reading []) params items k form.id) (has_hosted_stakeholder (plain_reading hosts) p (root_of form) && not (is_unknown (status_in_inbox (plain_reading []) items k form.id))) (is_note form.instance && is_short form.instance) (is_subset (owner_of form.instance) form.requesters) ≡ verdict_on_view (plain_reading hosts) params p items k (shown_of_form form) (view_of_form form)
+pub verdict_is : (hosts : List Host) (params : Params) (p : ParticipantId) (items : List Item) (k : ℕ) (form : PlainForm) → found (is_authentic (root_of form)) (vets (slice_get hosts p) form.instance.template.package) (is_within params.skew form.ledger_time (item_time (slice_get items k))) (has_hosted_stakeholder (plain_reading hosts) p (root_of form) && is_locked_in_inbox (plain_reading []) params items k form.id) (has_hosted_stakeholder (plain_reading hosts) p (root_of form) && not (is_unknown (status_in_inbox (plain_reading []) items k form.id))) (conforms built_in (roots_of_form form)) (is_subset (built_in_language.signatories form.instance) form.requesters) ≡ verdict_on_view (plain_reading hosts) params p items k (shown_of_form form) (view_of_form form)
 verdict_is hosts params p items k form =
-    all_found (has_hosted_stakeholder (plain_reading hosts) p (root_of form)) (is_authentic (root_of form)) (vets (slice_get hosts p) form.instance.template.package) (is_within params.skew form.ledger_time (item_time (slice_get items k))) (has_hosted_stakeholder (plain_reading hosts) p (root_of form) && is_locked_in_inbox (plain_reading []) params items k form.id) (has_hosted_stakeholder (plain_reading hosts) p (root_of form) && not (is_unknown (status_in_inbox (plain_reading []) items k form.id))) (is_note form.instance && is_short form.instance) (is_subset (owner_of form.instance) form.requesters)
+    all_found (has_hosted_stakeholder (plain_reading hosts) p (root_of form)) (is_authentic (root_of form)) (vets (slice_get hosts p) form.instance.template.package) (is_within params.skew form.ledger_time (item_time (slice_get items k))) (has_hosted_stakeholder (plain_reading hosts) p (root_of form) && is_locked_in_inbox (plain_reading []) params items k form.id) (has_hosted_stakeholder (plain_reading hosts) p (root_of form) && not (is_unknown (status_in_inbox (plain_reading []) items k form.id))) (conforms built_in (roots_of_form form)) (is_subset (built_in_language.signatories form.instance) form.requesters)

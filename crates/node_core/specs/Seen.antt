@@ -1,5 +1,5 @@
 -- The items of a participant, as the definitions of the ledger model see them.
-use Rattle.std.specs.Prelude.{ℕ, List, [], ◌∷◌, map, Option, Some, None}
+use Rattle.std.specs.Prelude.{List, map}
 use Rattle.ledger_model.specs.Inbox.{Content, Item, Received, Told, Nothing}
 use Rattle.proto_model.specs.PlainReading.{shown_of_form}
 use Rattle.node_core.specs.declared.content.Content.{Content as OwnContent}
@@ -16,8 +16,3 @@ seen_item item = record { time = item.time; content = seen_content item.content 
 
 abbrev pub seen : List OwnItem → List Item
 seen items = map seen_item items
-
--- a party as a list of at most one
-abbrev pub parties_of : Option (List ℕ) → List (List ℕ)
-parties_of None = []
-parties_of (Some party) = party ∷ []

@@ -2,47 +2,29 @@
 ghost use Rattle.std.specs.Prelude.{◌≡◌, ◌&&◌, not, ◌∷◌, [], option_copied, ◌++◌, suc, take, IfOk, nat_le, length, slice_get};
 ghost use Rattle.std.specs.List.{list_any};
 ghost use Rattle.ledger_terms.specs.Hosting.{hosts_at};
-ghost use Rattle.ledger_terms.specs.Parties.{has_party, set_of, is_subset};
-ghost use Rattle.wire_form.specs.Spelling.{spell_instance};
+ghost use Rattle.ledger_terms.specs.Parties.{has_party};
 ghost use Rattle.ledger_model.specs.Inbox.{has_hosted_stakeholder, shown_at, is_locked_in_inbox, status_in_inbox};
 ghost use Rattle.ledger_model.specs.Status.{is_unknown};
 ghost use Rattle.ledger_model.specs.Checks.{is_within, verdict_on_view, verdicts_owed};
-ghost use Rattle.proto_model.specs.NoteLanguage.{is_note, are_note_fields, is_short, party_in, owner_of};
 ghost use Rattle.proto_model.specs.PlainReading.{plain_reading, vets, root_of, shown_of_form, view_of_form};
-ghost use Rattle.node_core.specs.Seen.{seen, parties_of};
+ghost use Rattle.node_core.specs.Seen.{seen};
 ghost use Rattle.node_core.specs.Jobs.{confirms_some_view};
 
 use crate::findings::{Findings, first_reason};
 use crate::inbox::{is_locked, items_through, opened_at, status, time_at};
 use crate::item::Item;
-use ledger_terms::{Instance, Name, ParticipantId, PartySet, Path, Value};
-use proto_model::{
-    LocalVerdict, OpenedForm, Setup, Status, ViewVerdict, ViewVerdictList, note_template,
-};
+use ledger_terms::{Name, ParticipantId, PartySet, Path};
+use proto_model::{LocalVerdict, OpenedForm, Setup, Status, ViewVerdict, ViewVerdictList};
 use std::alloc::{AllocError, Global};
-use wire_form::instance_len;
 
-/// How many bytes an instance may be spelled with.
-const MOST_BYTES: usize = 1024;
-
-// The party that a field holds, where it holds one.
-fn party_in(field: Option<&Value>) -> Option<Name>
-    ensures { parties_of result ≡ party_in (option_copied field.entry) }
+// Whether a participant hosts one of the parties.
+fn hosts_some(setup: &Setup, me: ParticipantId, parties: &PartySet) -> bool
+    ensures { result ≡ list_any (hosts_at setup.now.topology.hosts me) parties.now }
 {
-    match field {
-        Some(Value::Party(party)) => Some(*party),
-        _ => None,
-    }
-}
-
-// Whether a participant hosts the party that a field of the instance holds.
-fn hosts_field(setup: &Setup, me: ParticipantId, instance: &Instance, at: usize) -> bool
-    ensures { result ≡ list_any (hosts_at setup.now.topology.hosts me) (party_in (slice_get instance.now.fields at)) }
-{
-    match party_in(instance.fields.get(at)) {
-        Some(party) => setup.topology.hosts(me, party),
-        None => false,
-    }
+    parties
+        .as_slice()
+        .iter()
+        .any(|party| setup.topology.hosts(me, *party))
 }
 
 /// Whether a participant hosts a stakeholder of the contract that the form creates.
@@ -50,16 +32,15 @@ fn hosts_field(setup: &Setup, me: ParticipantId, instance: &Instance, at: usize)
 pub fn hosts_stakeholder(setup: &Setup, me: ParticipantId, opened: &OpenedForm) -> bool
     ensures { result ≡ has_hosted_stakeholder (plain_reading setup.now.topology.hosts) me (root_of opened.now.form) }
 {
-    hosts_field(setup, me, &opened.form.instance, 0)
-        || hosts_field(setup, me, &opened.form.instance, 1)
+    hosts_some(setup, me, &opened.roles.signatories)
+        || hosts_some(setup, me, &opened.roles.observers)
 }
 
 /// Whether a participant confirms the one view of the form.
-#[tactic(auto, using(crate::proofs::CheckFacts::owner_set))]
 fn confirms(setup: &Setup, me: ParticipantId, opened: &OpenedForm) -> bool
-    ensures { result ≡ list_any (hosts_at setup.now.topology.hosts me) (set_of (owner_of opened.now.form.instance ++ [])) }
+    ensures { result ≡ list_any (hosts_at setup.now.topology.hosts me) (view_of_form opened.now.form).confirmers }
 {
-    hosts_field(setup, me, &opened.form.instance, 0)
+    hosts_some(setup, me, &opened.roles.confirmers)
 }
 
 /// Whether a participant confirms a view of the request at a place.
@@ -91,46 +72,6 @@ fn is_near(skew: u64, ledger_time: u64, time: u64) -> bool
     ensures { result ≡ is_within skew ledger_time time }
 {
     ledger_time.saturating_sub(time) <= skew && time.saturating_sub(ledger_time) <= skew
-}
-
-fn has_note_fields(fields: &[Value]) -> bool
-    ensures { result ≡ are_note_fields fields.now }
-{
-    match fields {
-        [Value::Party(_), Value::Party(_), Value::Text(_)] => true,
-        _ => false,
-    }
-}
-
-fn is_note(instance: &Instance) -> bool
-    ensures { result ≡ is_note instance.now }
-{
-    let note = note_template();
-    instance.template.package == note.package
-        && instance.template.name == note.name
-        && has_note_fields(instance.fields.as_slice())
-}
-
-fn is_short(instance: &Instance) -> bool
-    ensures { result ≡ is_short instance.now }
-{
-    instance_len(instance) <= MOST_BYTES
-}
-
-fn is_requested(requesters: &PartySet, instance: &Instance) -> bool
-    ensures { result ≡ is_subset (owner_of instance.now) requesters.now }
-{
-    match party_in(instance.fields.get(0)) {
-        Some(owner) => requesters.contains(owner),
-        None => true,
-    }
-}
-
-// Whether the form creates a note that may be spelled.
-fn is_conformant(instance: &Instance) -> bool
-    ensures { result ≡ (is_note instance.now && is_short instance.now) }
-{
-    is_note(instance) && is_short(instance)
 }
 
 // Whether the contract is locked, where a stakeholder is hosted.
@@ -190,15 +131,14 @@ pub fn verdict_on(
     );
     let locked = finds_locked(setup, me, items, place, opened);
     let used = finds_used(setup, me, items, place, opened);
-    let conformant = is_conformant(&form.instance);
-    let authorised = is_requested(&form.requesters, &form.instance);
+    let authorised = opened.roles.signatories.subset(&form.requesters);
     first_reason(&Findings {
         authentic: opened.authentic,
         vetted,
         near,
         locked,
         used,
-        conformant,
+        conformant: opened.conformant,
         authorised,
     })
 }

@@ -1,7 +1,7 @@
 //! Copies of what messages hold.
 ghost use Rattle.std.specs.Prelude.{◌≡◌, IfOk};
 
-use ledger_terms::{Instance, ParticipantIdList, Path};
+use ledger_terms::{ParticipantIdList, Path};
 use proto_model::{Decision, Verdict};
 use std::alloc::AllocError;
 
@@ -17,13 +17,6 @@ fn copy_participants(participants: &ParticipantIdList) -> Result<ParticipantIdLi
     ensures { IfOk result (λ copy. copy ≡ participants.now) }
 {
     participants.clone()
-}
-
-#[tactic(auto, using(std::proofs::lemmas::List::Elements::same_from_all_zip))]
-pub fn copy_instance(instance: &Instance) -> Result<Instance, AllocError>
-    ensures { IfOk result (λ copy. copy ≡ instance.now) }
-{
-    instance.clone()
 }
 
 fn copy_decision(decision: &Decision) -> Result<Decision, AllocError>

@@ -16,7 +16,7 @@ use crate::opening::item_of;
 use crate::{check, inbox, stores};
 use ledger_model::CommitList;
 use ledger_terms::{ActiveRowList, Hash, ParticipantId};
-use proto_model::{Entry, Response, Setup, Status, ViewVerdictList};
+use proto_model::{BuiltIn, Entry, Response, Setup, Status, ViewVerdictList};
 use std::alloc::{AllocError, Global};
 use std::marker::Model;
 
@@ -25,6 +25,7 @@ use std::marker::Model;
 #[derive(Drop)]
 pub struct Node<'s> {
     setup: &'s Setup,
+    built_in: BuiltIn,
     me: ParticipantId,
     items: Vec<Item>,
     claimed: Vec<u64>,
@@ -49,16 +50,17 @@ impl<'s> Model for Node<'s> {
 
 impl<'s> Node<'s> {
     /// A participant that has read nothing.
-    pub fn new(alloc: Global, setup: &'s Setup, me: ParticipantId) -> Node<'s>
-        ensures { result ≡ begun setup.now.topology.hosts setup.now.topology.params me }
+    pub fn new(alloc: Global, setup: &'s Setup, me: ParticipantId) -> Result<Node<'s>, AllocError>
+        ensures { IfOk result (λ node. node ≡ begun setup.now.topology.hosts setup.now.topology.params me) }
     {
-        Node {
+        Ok(Node {
             setup,
+            built_in: BuiltIn::new(alloc)?,
             me,
             items: Vec::new(alloc),
             claimed: Vec::new(alloc),
             outbox: Vec::new(alloc),
-        }
+        })
     }
 
     /// How many entries it has read.
@@ -75,7 +77,7 @@ impl<'s> Node<'s> {
         ensures inbox { OnOk result ((before : List EntryValue) → self.old.items ≡ inbox (reading_of self.old) self.old.me before → self.new.items ≡ inbox (reading_of self.old) self.old.me (before ++ entry.now ∷ [])) }
         ensures err { OnErr result (self.new ≡ self.old) }
     {
-        let item = item_of(alloc, self.me, self.items.as_slice(), entry)?;
+        let item = item_of(alloc, &self.built_in, self.me, self.items.as_slice(), entry)?;
         self.items.push(item)?;
         Ok(())
     }

@@ -10,7 +10,7 @@ use crate::copies::copy_verdict;
 use crate::inbox::opened_at;
 use crate::item::Item;
 use ledger_terms::ParticipantId;
-use proto_model::{Entry, Envelope, Message, Request, Verdict, open_envelope};
+use proto_model::{BuiltIn, Entry, Envelope, Message, Request, Verdict, open_envelope};
 use std::alloc::{AllocError, Global};
 
 // The bytes of the first envelope to a participant.
@@ -25,13 +25,18 @@ fn envelope_to(me: ParticipantId, envelopes: &[Envelope]) -> Option<&[u8]>
     None
 }
 
-fn received(alloc: Global, me: ParticipantId, request: &Request) -> Result<Content, AllocError>
+fn received(
+    alloc: Global,
+    built_in: &BuiltIn,
+    me: ParticipantId,
+    request: &Request,
+) -> Result<Content, AllocError>
     ensures { IfOk result (λ content. seen_content content ≡ received (option_map shown_of_form (plain_to me request.now))) }
 {
     let Some(bytes) = envelope_to(me, request.envelopes.as_slice()) else {
         return Ok(Content::Nothing);
     };
-    match open_envelope(alloc, bytes)? {
+    match open_envelope(alloc, built_in, bytes)? {
         Some(opened) => Ok(Content::Received(opened)),
         None => Ok(Content::Nothing),
     }
@@ -48,6 +53,7 @@ fn told(items: &[Item], verdict: &Verdict) -> Result<Content, AllocError>
 
 fn content_of(
     alloc: Global,
+    built_in: &BuiltIn,
     me: ParticipantId,
     items: &[Item],
     message: &Message,
@@ -55,7 +61,7 @@ fn content_of(
     ensures { IfOk result (λ content. seen_content content ≡ content_from (λ request. option_map shown_of_form (plain_to me request)) (seen items.now) message.now) }
 {
     match message {
-        Message::Request(request) => received(alloc, me, request),
+        Message::Request(request) => received(alloc, built_in, me, request),
         Message::Verdict(verdict) => told(items, verdict),
         Message::Response(_) => Ok(Content::Nothing),
         Message::Tick => Ok(Content::Nothing),
@@ -65,13 +71,14 @@ fn content_of(
 /// What an entry is to the participant that has these items.
 pub fn item_of(
     alloc: Global,
+    built_in: &BuiltIn,
     me: ParticipantId,
     items: &[Item],
     entry: &Entry,
 ) -> Result<Item, AllocError>
     ensures { IfOk result (λ item. seen_item item ≡ record { time = entry.now.time; content = content_from (λ request. option_map shown_of_form (plain_to me request)) (seen items.now) entry.now.message }) }
 {
-    let content = content_of(alloc, me, items, &entry.message)?;
+    let content = content_of(alloc, built_in, me, items, &entry.message)?;
     Ok(Item {
         time: entry.time,
         content,

@@ -7,30 +7,18 @@ ghost use Rattle.node_core.specs.Seen.{seen};
 ghost use Rattle.node_core.specs.Scans.{authentic_at};
 
 use crate::check::hosts_stakeholder;
-use crate::copies::copy_instance;
 use crate::inbox::{is_approved, opened_at};
 use crate::item::Item;
 use ledger_model::{Commit, CommitList};
-use ledger_terms::{
-    Action, ActionNode, ActionNodeList, ActiveRow, ActiveRowList, Known, ParticipantId,
-};
-use proto_model::{OpenedForm, Setup};
+use ledger_terms::{ActionNodeList, ActiveRow, ActiveRowList, Known, ParticipantId, copy_instance};
+use proto_model::{OpenedForm, Setup, root_node};
 use std::alloc::{AllocError, Global};
 
 fn commit_of(alloc: Global, place: u64, opened: &OpenedForm) -> Result<Commit, AllocError>
     ensures { IfOk result (λ commit. commit ≡ record { place = place; roots = roots_of_form opened.now.form }) }
 {
-    let form = &opened.form;
-    let instance = copy_instance(&form.instance)?;
     let mut roots = ActionNodeList::new(alloc);
-    roots.push(ActionNode {
-        seed: form.root_seed,
-        action: Action::Create {
-            id: form.id,
-            instance,
-        },
-        children: ActionNodeList::new(alloc),
-    })?;
+    roots.push(root_node(alloc, &opened.form)?)?;
     Ok(Commit { place, roots })
 }
 
@@ -69,13 +57,12 @@ fn row_of(place: u64, opened: &OpenedForm) -> Result<ActiveRow, AllocError>
     ensures { IfOk result (λ row. row ≡ active_row place (root_of opened.now.form)) }
 {
     let form = &opened.form;
-    let instance = copy_instance(&form.instance)?;
     Ok(ActiveRow {
         created_at: place,
         known: Known {
             id: form.id,
             salt: form.root_seed,
-            instance,
+            instance: copy_instance(&form.instance)?,
         },
     })
 }

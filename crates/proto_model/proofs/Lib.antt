@@ -1,5 +1,6 @@
 pub mod PlainLaws
-pub mod NoteConforms
+pub mod NoteRoles
+pub mod Conforming
 pub mod Sealed
 pub mod NoteForms
 pub mod OneCreate

@@ -14,12 +14,17 @@ use Rattle.ledger_model.specs.Genuine.{IsSealed, Genuine, NoCollision}
 use Rattle.ledger_model.specs.Checks.{verdicts_owed, verdicts_on, verdict_on_view, is_confirmed_by, authorises_children, is_requested, is_within}
 use Rattle.ledger_model.specs.Inbox.{Received, inbox, received, shown_in}
 use Rattle.proto_model.specs.NoteForm.{root_seed_of, note_of, note_form, note_request, request_to_self}
-use Rattle.proto_model.specs.NoteLanguage.{is_short, note_conforms, note_language}
+use Rattle.proto_model.specs.BuiltIn.{built_in, built_in_language, conforms}
 use Rattle.proto_model.specs.NoteLog.{approval, request_entry, note_log, sole_host, LeavesTime}
 use Rattle.proto_model.specs.NoteRequest.{IsNoteRequest}
 use Rattle.proto_model.specs.Plain.{IsPlain, spell_plain, plain_of}
-use Rattle.proto_model.specs.PlainReading.{contract_id_of, is_authentic, plain_to, plain_reading, root_of, roots_of_form, shown_of_form, view_of_form, whole_of_form}
+use Rattle.interpret.specs.Ids.{contract_id}
+use Rattle.proto_model.specs.PlainReading.{is_authentic, plain_to, plain_reading, root_of, roots_of_form, shown_of_form, view_of_form, whole_of_form}
 use Rattle.proto_model.specs.declared.plain_form.PlainForm.{PlainForm}
+use Rattle.interpret.specs.Sizes.{is_small_instance}
+use Rattle.lang_eval.specs.Parts.{parties_of_created}
+use Rattle.interpret.specs.Language.{is_creatable}
+use Rattle.proto_model.proofs.NoteRoles.{has_kinds, has_roles, signs, observes}
 use Rattle.proto_model.proofs.OneCreate.{approves}
 use Rattle.proto_model.proofs.OneRequest.{one_view, genuine, no_collision}
 use Rattle.proto_model.proofs.PlainLaws.{plain_again}
@@ -46,8 +51,13 @@ short_name : (name : List ℕ) → is_name name ≡ true → length name ≤ 32
 short_name name h = from_le_test _ _ (and_parts (nat_le (length name) 32) (is_spelled name) h).0
 
 -- a note's spelling has at most 1,024 bytes
-short_note : (party text : List ℕ) → length party ≤ 32 → length text ≤ 256 → is_short (note_of party text) ≡ true
-short_note party text few many = le_test _ _ (simp length-append (omega arith))
+short_note : (party text : List ℕ) → length party ≤ 32 → length text ≤ 256 → is_small_instance (note_of party text) ≡ true
+unfolding is_small_instance
+short_note party text few many = rw (le_test (length text) 256 many) (le_test _ _ (simp length-append (omega arith)))
+
+creatable : (party text : List ℕ) → length party ≤ 32 → length text ≤ 256 → is_creatable built_in (note_of party text) ≡ true
+unfolding is_creatable built_in parties_of_created
+creatable party text few many = rw (short_note party text few many) refl
 
 within_one : (skew : ℕ) → 1 ≤ skew → is_within skew 0 1 ≡ true
 within_one skew h = and_from _ _ (le_test 0 (1 + skew) (omega arith)) (le_test 1 (0 + skew) (omega arith))
@@ -72,22 +82,22 @@ module _ (name command bytes party text seed own id : List ℕ) (params : Params
         opened = λ p. to_self command bytes (seeded party text seed own id) p read;
         hosted = hosted name party;
         confirming = (0, omega arith, refl);
-        note = refl;
-        owner = refl;
-        reader = refl;
+        has_roles = has_roles party text id;
+        signs = signs party text;
+        observes = observes party text;
       }
 
   note_sealed : IsSealed (plain_reading (sole_host name party)) (request_to_self 0 command bytes)
   note_sealed = sealed (sole_host name party) (request_to_self 0 command bytes) (seeded party text seed own id) party is_note_request
 
   confirmed : is_confirmed_by (plain_reading (sole_host name party)) 0 (view_of_form (seeded party text seed own id)) ≡ true
-  confirmed = or_false _ ∙ hosted name party 0
+  confirmed = rw (signs party text) (or_false _ ∙ hosted name party 0)
 
-  authorised : (authorises_children (roles_of note_language) (shown_of_form (seeded party text seed own id)) (0, root_of (seeded party text seed own id)) && is_requested (roles_of note_language) (shown_of_form (seeded party text seed own id)) (view_of_form (seeded party text seed own id)) (0, root_of (seeded party text seed own id))) ≡ true
-  authorised = rw (same_self party) refl
+  authorised : (authorises_children (roles_of built_in_language) (shown_of_form (seeded party text seed own id)) (0, root_of (seeded party text seed own id)) && is_requested (roles_of built_in_language) (shown_of_form (seeded party text seed own id)) (view_of_form (seeded party text seed own id)) (0, root_of (seeded party text seed own id))) ≡ true
+  authorised = rw (signs party text, same_self party) refl
 
-  conforming : note_conforms (roots_of_form (seeded party text seed own id)) ≡ true
-  conforming = rw (short_note party text few many) refl
+  conforming : conforms built_in (roots_of_form (seeded party text seed own id)) ≡ true
+  conforming = rw (has_kinds party text, creatable party text few many) refl
 
   approved : verdict_on_view (plain_reading (sole_host name party)) params 0 (record { time = 1; content = Received (shown_of_form (seeded party text seed own id)) } ∷ []) 0 (shown_of_form (seeded party text seed own id)) (view_of_form (seeded party text seed own id)) ≡ Approve
   approved =
@@ -122,7 +132,7 @@ module _ (name command party text : List ℕ) (params : Params) (plain : IsPlain
   texted = ((((plain.instance).fields).each) 2 UnitValue (omega arith)).few
 
   its_id : is_authentic (root_of (note_form name command party text 0)) ≡ true
-  its_id = same_self (contract_id_of (root_seed_of name command) (note_of party text))
+  its_id = same_self (contract_id (root_seed_of name command) (note_of party text))
 
   pub request_owed : verdicts_owed (plain_reading (sole_host name party)) params 0 (inbox (plain_reading (sole_host name party)) 0 (request_entry (note_request 0 name command party text 0) ∷ [])) 0 ≡ approval
   request_owed = owed name command _ party text _ _ _ params leaves known its_id named texted

@@ -20,7 +20,7 @@ use Rattle.ledger_model.specs.Inbox.{is_informed}
 use Rattle.ledger_model.specs.Checks.{is_confirmed_by}
 use Rattle.ledger_model.specs.Genuine.{IsCovered, IsRootCovered, IsSealed}
 use Rattle.ledger_model.proofs.Lists.{In, in_from_Contains}
-use Rattle.proto_model.specs.NoteLanguage.{has_note_roles, owner_of}
+use Rattle.proto_model.specs.BuiltIn.{built_in_language}
 use Rattle.proto_model.specs.NoteRequest.{IsNoteRequest}
 use Rattle.proto_model.specs.PlainReading.{plain_to, plain_reading, root_of, roots_of_form, view_of_form, shown_of_form, whole_of_form}
 use Rattle.proto_model.specs.declared.plain_form.PlainForm.{PlainForm}
@@ -64,7 +64,7 @@ module _ (hosts : List Host) (request : Request) (form : PlainForm) (party : Lis
 
   informs : (p : ℕ) → is_informed (plain_reading hosts) p (root_of form) ≡ nat_eq p request.sender
   informs p =
-      rw (r.owner, r.reader, twice party) (or_false _ ∙ r.hosted p)
+      rw (r.signs, r.observes, twice party) (or_false _ ∙ r.hosted p)
 
   opens : (p : ℕ) → roots_in ((plain_reading hosts).shown p request) ≡ project (is_informed (plain_reading hosts) p) (roots_of_form form)
   opens p = ap (λ (o : Option PlainForm). roots_in (option_map shown_of_form o)) (r.opened p) ∙ (by_test (nat_eq p request.sender) ∙ ap (λ b. if b then roots_of_form form else NoRoots) (sym (informs p)))
@@ -74,7 +74,7 @@ module _ (hosts : List Host) (request : Request) (form : PlainForm) (party : Lis
       by_test false = refl
 
   confirmed : is_confirmed_by (plain_reading hosts) request.sender (view_of_form form) ≡ true
-  confirmed = rw r.owner sender_hosts
+  confirmed = rw r.signs sender_hosts
 
   one_act : (a : Act) → Contains (acts (roots_of_form form)) a → root_of form ≡ a
   one_act a h = by_case (in_from_Contains (root_of form ∷ []) a h)
@@ -83,11 +83,11 @@ module _ (hosts : List Host) (request : Request) (form : PlainForm) (party : Lis
       by_case (inl same) = same
       by_case (inr none) = absurd none
 
-  signs : list_any (hosts_at hosts request.sender) (owner_of form.instance) ≡ true
-  signs = rw r.owner sender_hosts
+  signs : list_any (hosts_at hosts request.sender) (built_in_language.signatories form.instance) ≡ true
+  signs = rw r.signs sender_hosts
 
-  guarded : (a : Act) → Contains (acts (roots_of_form form)) a → (p : ℕ) × (list_any ((plain_reading hosts).confirms p) (owner_of (instance_of a.action)) ≡ true)
-  guarded a h = (request.sender, subst (λ (x : Act). list_any (hosts_at hosts request.sender) (owner_of (instance_of x.action)) ≡ true) (one_act a h) signs)
+  guarded : (a : Act) → Contains (acts (roots_of_form form)) a → (p : ℕ) × (list_any ((plain_reading hosts).confirms p) (built_in_language.signatories (instance_of a.action)) ≡ true)
+  guarded a h = (request.sender, subst (λ (x : Act). list_any (hosts_at hosts request.sender) (built_in_language.signatories (instance_of x.action)) ≡ true) (one_act a h) signs)
 
   viewed_here : (i : ℕ) (a : Act) → slice_get (root_of form ∷ []) i ≡ Some a → (view : OpenedView) × Contains (view_of_form form ∷ []) view × Contains view.core (i, a) × (is_confirmed_by (plain_reading hosts) request.sender view ≡ true)
   viewed_here zero a e = (view_of_form form, (0, omega arith, refl), (0, omega arith, ap (λ (x : Act). (0, x)) (same_Some _ a e)), confirmed)
@@ -147,7 +147,7 @@ module _ (hosts : List Host) (request : Request) (form : PlainForm) (party : Lis
       record {
         transaction = whole_of_form form;
         is_whole = ap (option_map whole_of_form) to_sender;
-        has_roles = λ a h. subst (λ (x : Act). has_note_roles x.action ≡ true) (one_act a h) r.note;
+        has_roles = λ a h. subst (λ (x : Act). built_in_language.has_roles x.action ≡ true) (one_act a h) r.has_roles;
         opens = opens;
         guarded = guarded;
         viewed = λ p shown i a is e signs. viewed p shown i a is e;

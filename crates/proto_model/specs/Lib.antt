@@ -1,5 +1,5 @@
 pub mod Note
-pub mod NoteLanguage
+pub mod BuiltIn
 pub mod Plain
 pub mod PlainReading
 pub mod NoteRequest

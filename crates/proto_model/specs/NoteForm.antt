@@ -5,9 +5,9 @@ use Rattle.hash_id.specs.Strings.{root_seed_string, child_seed_string}
 use Rattle.ledger_terms.specs.declared.value.Value.TheVariants.{Party, Text}
 use Rattle.ledger_terms.specs.declared.instance.Instance.{Instance}
 use Rattle.ledger_model.specs.declared.message.Request.{Request}
-use Rattle.proto_model.specs.Note.{note_template}
+use Rattle.lang_eval.specs.Builtin.{note_template}
 use Rattle.proto_model.specs.Plain.{spell_plain}
-use Rattle.proto_model.specs.PlainReading.{contract_id_of}
+use Rattle.interpret.specs.Ids.{contract_id}
 use Rattle.proto_model.specs.declared.plain_form.PlainForm.{PlainForm}
 
 abbrev pub note_of : (party text : List ℕ) → Instance
@@ -27,7 +27,7 @@ note_form participant command party text ledger_time =
       ledger_time = ledger_time;
       seed = seed_of participant command;
       root_seed = root_seed_of participant command;
-      id = contract_id_of (root_seed_of participant command) (note_of party text);
+      id = contract_id (root_seed_of participant command) (note_of party text);
       instance = note_of party text;
     }
 

@@ -3,8 +3,8 @@ use Rattle.std.specs.Prelude.{◌≡◌, ℕ, true, List, [], ◌∷◌, Some, N
 use Rattle.ledger_terms.specs.Hosting.{hosts_at}
 use Rattle.ledger_terms.specs.declared.host.Host.{Host}
 use Rattle.ledger_model.specs.declared.message.Request.{Request}
-use Rattle.proto_model.specs.NoteLanguage.{is_note, owner_of, reader_of}
-use Rattle.proto_model.specs.PlainReading.{plain_to}
+use Rattle.proto_model.specs.BuiltIn.{built_in_language}
+use Rattle.proto_model.specs.PlainReading.{plain_to, root_of}
 use Rattle.proto_model.specs.declared.plain_form.PlainForm.{PlainForm}
 
 -- The request is of a note that its sender's party makes to itself, the sender alone hosts the party, and the plain form is
@@ -13,6 +13,6 @@ pub record IsNoteRequest (hosts : List Host) (request : Request) (form : PlainFo
   pub opened : (p : ℕ) → plain_to p request ≡ (if nat_eq p request.sender then Some form else None)
   pub hosted : (p : ℕ) → hosts_at hosts p party ≡ nat_eq p request.sender
   pub confirming : Contains request.confirming request.sender
-  pub note : is_note form.instance ≡ true
-  pub owner : owner_of form.instance ≡ party ∷ []
-  pub reader : reader_of form.instance ≡ party ∷ []
+  pub has_roles : built_in_language.has_roles (root_of form).action ≡ true
+  pub signs : built_in_language.signatories form.instance ≡ party ∷ []
+  pub observes : built_in_language.observers form.instance ≡ party ∷ []

@@ -1,25 +1,20 @@
 -- How the definitions of the ledger model read requests whose envelopes have the plain form.
 use Rattle.std.specs.Prelude.{ℕ, Bool, false, List, [], ◌∷◌, ◌++◌, Option, Some, None, option_map, option_and_then, nat_eq, slice_get, if◌then◌else◌}
 use Rattle.std.specs.Str.{bytes_eq}
-use Rattle.sha2.specs.Sha256.{sha256}
-use Rattle.hash_id.specs.Strings.{contract_id_string}
 use Rattle.ledger_terms.specs.Hosting.{hosts_at}
-use Rattle.ledger_terms.specs.Parties.{has_party, set_of}
+use Rattle.ledger_terms.specs.Parties.{has_party}
 use Rattle.ledger_terms.specs.declared.host.Host.{Host}
 use Rattle.ledger_terms.specs.declared.action.Action.TheVariants.{Create, Exercise, Fetch}
 use Rattle.ledger_model.specs.Terms.{Act, Action, Instance, id_of, instance_of}
 use Rattle.ledger_model.specs.Forest.{Forest, NoRoots, Root}
 use Rattle.ledger_model.specs.declared.message.Envelope.{Envelope}
 use Rattle.ledger_model.specs.declared.message.Request.{Request}
+use Rattle.ledger_model.specs.Language.{roles_of}
 use Rattle.ledger_model.specs.Reading.{Reading, Transaction, OpenedView, Shown}
-use Rattle.wire_form.specs.Spelling.{spell_instance}
-use Rattle.proto_model.specs.NoteLanguage.{note_language, note_conforms, owner_of}
+use Rattle.interpret.specs.Ids.{contract_id}
+use Rattle.proto_model.specs.BuiltIn.{built_in, built_in_language, conforms}
 use Rattle.proto_model.specs.Plain.{plain_of}
 use Rattle.proto_model.specs.declared.plain_form.PlainForm.{PlainForm}
-
--- the id that a salt and an instance give
-unfoldable pub contract_id_of : List ℕ → Instance → List ℕ
-contract_id_of salt instance = sha256 (contract_id_string salt (spell_instance instance))
 
 -- a Create's salt is its seed
 abbrev pub salt_in : (seed : List ℕ) → Action → List ℕ
@@ -32,7 +27,7 @@ salt_of act = salt_in act.seed act.action
 
 -- the id is that of salt and instance
 abbrev pub is_authentic : Act → Bool
-is_authentic act = bytes_eq (id_of act.action) (contract_id_of (salt_of act) (instance_of act.action))
+is_authentic act = bytes_eq (id_of act.action) (contract_id (salt_of act) (instance_of act.action))
 
 -- the one root
 abbrev pub root_of : PlainForm → Act
@@ -41,9 +36,9 @@ root_of form = record { seed = form.root_seed; action = Create form.id form.inst
 abbrev pub roots_of_form : PlainForm → Forest Act
 roots_of_form form = Root (root_of form) NoRoots NoRoots
 
--- the one view, which the signatories confirm
+-- the one view
 abbrev pub view_of_form : PlainForm → OpenedView
-view_of_form form = record { path = 0 ∷ []; confirmers = set_of (owner_of form.instance ++ []); core = (0, root_of form) ∷ [] }
+view_of_form form = record { path = 0 ∷ []; confirmers = (roles_of built_in_language (root_of form).action).confirmers; core = (0, root_of form) ∷ [] }
 
 abbrev pub shown_of_form : PlainForm → Shown
 shown_of_form form =
@@ -71,8 +66,8 @@ plain_reading hosts =
       whole = λ request. option_map whole_of_form (plain_to request.sender request);
       shown = λ p request. option_map shown_of_form (plain_to p request);
       is_authentic = is_authentic;
-      language = note_language;
-      conforms = note_conforms;
+      language = built_in_language;
+      conforms = conforms built_in;
       hosts = hosts_at hosts;
       confirms = hosts_at hosts;
       has_vetted = λ p name. vets (slice_get hosts p) name;

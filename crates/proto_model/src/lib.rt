@@ -1,18 +1,18 @@
 //! The protocol over the messages of the log: what envelopes say, and how the definitions of the ledger model read them.
 #![tactic(auto)]
 
+pub mod built_in;
 pub mod laws;
-pub mod note;
 pub mod note_request;
 pub mod opened_form;
 pub mod plain_form;
 pub mod setup;
 
+pub use built_in::BuiltIn;
 pub use ledger_model::{
     Decision, Entry, EntryList, Envelope, EnvelopeList, LocalVerdict, Message, Outcome, Reason,
     Request, Response, Status, Verdict, ViewVerdict, ViewVerdictList,
 };
-pub use note::{note_name, note_template};
-pub use opened_form::{OpenedForm, id_of_contract, open_envelope};
+pub use opened_form::{OpenedForm, open_envelope, root_node};
 pub use plain_form::{PlainForm, decode_plain, encode_plain};
 pub use setup::Setup;

@@ -3,10 +3,10 @@ ghost use Rattle.std.specs.Prelude.{◌≡◌, ◌≤◌, ◌∷◌, [], length,
 ghost use Rattle.proto_model.specs.Plain.{IsPlain, plain_of, spell_plain};
 ghost use Rattle.proto_model.specs.NoteForm.{note_of, note_form, note_request, request_to_self, seed_of, root_seed_of};
 
-use crate::note::note_template;
-use crate::opened_form::id_of_contract;
 use crate::plain_form::{PlainForm, encode_plain};
 use hash_id::{child_seed, root_seed};
+use interpret::contract_id;
+use lang_eval::note_template;
 use ledger_model::{Envelope, EnvelopeList, Request};
 use ledger_terms::{
     Bytes, Hash, Instance, Name, ParticipantId, ParticipantIdList, PartySet, Text, Value, ValueList,
@@ -65,9 +65,9 @@ pub fn note_form(
     let seed = transaction_seed(participant, command);
     let own_seed = action_seed(participant, command);
     let instance = note_of(alloc, party, text)?;
-    let id = id_of_contract(alloc, &own_seed, &instance)?;
+    let id = contract_id(alloc, &own_seed, &instance)?;
     let requesters = set_of_one(alloc, party)?;
-    // these state that names and hashes have their lengths
+    // the prover learns from these calls that a name and hashes have the lengths that the format asks for
     let _name = party.as_bytes();
     let _seed_bytes = seed.as_bytes();
     let _own_seed_bytes = own_seed.as_bytes();

@@ -1,49 +1,97 @@
 //! An envelope of the plain form, opened.
 ghost use Rattle.std.specs.Prelude.{◌≡◌, IfOk, option_map};
+ghost use Rattle.ledger_terms.specs.Grown.{tree_of};
+ghost use Rattle.ledger_model.specs.Language.{roles_of};
 ghost use Rattle.wire_form.specs.Spellable.{IsSpellableInstance};
+ghost use Rattle.proto_model.specs.BuiltIn.{built_in, built_in_language, conforms, nobody, roles_or_nobody};
 ghost use Rattle.proto_model.specs.Plain.{plain_of};
-ghost use Rattle.proto_model.specs.PlainReading.{contract_id_of, is_authentic, root_of};
+ghost use Rattle.proto_model.specs.PlainReading.{is_authentic, root_of, roots_of_form};
 
+use crate::built_in::BuiltIn;
 use crate::plain_form::{PlainForm, decode_plain};
-use hash_id::contract_id;
-use ledger_terms::{Bytes, Hash, Instance};
+use interpret::{contract_id, reexecute};
+use lang_eval::{RoleFault, Roles, roles};
+use ledger_terms::{Action, ActionNode, ActionNodeList, PartySet, copy_instance};
 use std::alloc::{AllocError, Global};
-use wire_form::encode_instance;
 
-/// What an envelope of the plain form says, and whether the id of its contract is that of the salt and the instance.
-#[derive(Debug, Drop)]
+/// What an envelope of the plain form says, and what its reader finds of the contract that it creates: whether the id is
+/// that of the salt and the instance, whether the create conforms, and who is involved, which is nobody where the language
+/// gives no roles.
+#[derive(Drop)]
 pub struct OpenedForm {
     pub form: PlainForm,
     pub authentic: bool,
-    ghost exact: { authentic ≡ is_authentic (root_of form) },
+    pub conformant: bool,
+    pub roles: Roles,
+    ghost id_is: { authentic ≡ is_authentic (root_of form) },
+    ghost conforms_is: { conformant ≡ conforms built_in (roots_of_form form) },
+    ghost roles_are: { roles ≡ roles_of built_in_language (root_of form).action },
 }
 
-/// The id of the contract with this salt and this instance.
-#[tactic(auto, unfolding(crate::specs::PlainReading::contract_id_of))]
-pub fn id_of_contract(alloc: Global, salt: &Hash, instance: &Instance) -> Result<Hash, AllocError>
-    requires { IsSpellableInstance instance.now }
-    ensures { IfOk result (λ id. id ≡ contract_id_of salt.now instance.now) }
+/// The one root of the transaction.
+pub fn root_node(alloc: Global, form: &PlainForm) -> Result<ActionNode, AllocError>
+    ensures { IfOk result (λ root. tree_of root ≡ roots_of_form form.now) }
 {
-    let mut bytes = Bytes::new(alloc);
-    encode_instance(instance, &mut bytes)?;
-    Ok(contract_id(salt, bytes.as_slice()))
+    Ok(ActionNode {
+        seed: form.root_seed,
+        action: Action::Create {
+            id: form.id,
+            instance: copy_instance(&form.instance)?,
+        },
+        children: ActionNodeList::new(alloc),
+    })
 }
 
-fn opened(alloc: Global, form: PlainForm) -> Result<OpenedForm, AllocError>
+fn nobody(alloc: Global) -> Roles
+    ensures { result ≡ nobody }
+{
+    Roles {
+        signatories: PartySet::new(alloc),
+        observers: PartySet::new(alloc),
+        actors: PartySet::new(alloc),
+        informees: PartySet::new(alloc),
+        confirmers: PartySet::new(alloc),
+    }
+}
+
+fn roles_or_nobody(alloc: Global, built_in: &BuiltIn, action: &Action) -> Result<Roles, AllocError>
+    ensures { IfOk result (λ r. r ≡ roles_or_nobody action.now) }
+{
+    match roles(alloc, built_in.checked(), action) {
+        Ok(roles) => Ok(roles),
+        Err(RoleFault::NoRoles) => Ok(nobody(alloc)),
+        Err(RoleFault::Memory) => Err(AllocError),
+    }
+}
+
+#[tactic(auto, using(crate::proofs::NoteRoles::of_create, crate::proofs::Conforming::same_answer))]
+fn opened(alloc: Global, built_in: &BuiltIn, form: PlainForm) -> Result<OpenedForm, AllocError>
     requires { IsSpellableInstance form.instance }
     ensures { IfOk result (λ opened. opened.form ≡ form) }
 {
-    let id = id_of_contract(alloc, &form.root_seed, &form.instance)?;
+    let id = contract_id(alloc, &form.root_seed, &form.instance)?;
     let authentic = form.id == id;
-    Ok(OpenedForm { form, authentic })
+    let root = root_node(alloc, &form)?;
+    let conformant = reexecute(alloc, built_in.checked(), &root)?;
+    let roles = roles_or_nobody(alloc, built_in, &root.action)?;
+    Ok(OpenedForm {
+        form,
+        authentic,
+        conformant,
+        roles,
+    })
 }
 
 /// Opens an envelope: the plain form that its bytes are, where they are one.
-pub fn open_envelope(alloc: Global, bytes: &[u8]) -> Result<Option<OpenedForm>, AllocError>
+pub fn open_envelope(
+    alloc: Global,
+    built_in: &BuiltIn,
+    bytes: &[u8],
+) -> Result<Option<OpenedForm>, AllocError>
     ensures { IfOk result (λ opened. option_map (λ o. o.form) opened ≡ plain_of bytes.now) }
 {
     match decode_plain(alloc, bytes)? {
-        Some(form) => Ok(Some(opened(alloc, form)?)),
+        Some(form) => Ok(Some(opened(alloc, built_in, form)?)),
         None => Ok(None),
     }
 }

@@ -1,11 +1,11 @@
 -- The words of the faults. Want of memory has none, since no result of a run holds it.
 use Rattle.std.specs.Prelude.{ℕ, List, [], codes}
-use Rattle.report_text.specs.declared.eval_fault.EvalFault.{EvalFault}
-use Rattle.report_text.specs.declared.eval_fault.EvalFault.TheVariants.{Overflow, Assert, Ensure, NoSignatory, TooLarge, Memory as EvalMemory}
-use Rattle.report_text.specs.declared.command_fault.CommandFault.{CommandFault}
-use Rattle.report_text.specs.declared.command_fault.CommandFault.TheVariants.{UnknownTemplate, UnknownChoice, BadArgs, ContractUnknown, Eval, TooDeep, TooMany, Unauthorised, TooBig, Memory as CommandMemory}
-use Rattle.report_text.specs.declared.split_fault.SplitFault.{SplitFault}
-use Rattle.report_text.specs.declared.split_fault.SplitFault.TheVariants.{NoRoles, Memory as SplitMemory}
+use Rattle.lang_eval.specs.declared.eval_fault.EvalFault.{EvalFault}
+use Rattle.lang_eval.specs.declared.eval_fault.EvalFault.TheVariants.{Overflow, Assert, Ensure, NoSignatory, TooLarge, Memory as EvalMemory}
+use Rattle.interpret.specs.declared.command_fault.CommandFault.{CommandFault}
+use Rattle.interpret.specs.declared.command_fault.CommandFault.TheVariants.{UnknownTemplate, UnknownChoice, BadArgs, ContractUnknown, Eval, TooDeep, TooMany, Unauthorised, TooBig, Memory as CommandMemory}
+use Rattle.view_split.specs.declared.split_fault.SplitFault.{SplitFault}
+use Rattle.view_split.specs.declared.split_fault.SplitFault.TheVariants.{NoRoles, Memory as SplitMemory}
 
 abbrev pub eval_fault_name : EvalFault → List ℕ
 eval_fault_name Overflow = codes "Overflow"

@@ -4,6 +4,7 @@ ghost use Rattle.std.specs.List.{flat_map, zip};
 ghost use Rattle.report_text.specs.Results.{fault_text, answer_text, result_line, result_lines, submitted_in};
 
 use crate::entries::put_host;
+use crate::fault_names::{command_fault_name, split_fault_name};
 use crate::round_submissions::RoundSubmissionList;
 use crate::submit_fault::SubmitFault;
 use crate::submit_result::{SubmitResult, SubmitResultList};
@@ -20,8 +21,8 @@ fn put_fault(out: &mut String, fault: &SubmitFault) -> Result<(), AllocError>
             out.push_str("NotHosted ")?;
             out.push_str(party.as_str())
         }
-        SubmitFault::Command { fault } => out.push_str(fault.name()),
-        SubmitFault::Split { fault } => out.push_str(fault.name()),
+        SubmitFault::Command { fault } => out.push_str(command_fault_name(fault)),
+        SubmitFault::Split { fault } => out.push_str(split_fault_name(fault)),
         SubmitFault::Duplicate { place } => {
             out.push_str("Duplicate ")?;
             put_number(out, *place)

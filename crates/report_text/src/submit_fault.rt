@@ -1,7 +1,7 @@
 //! Why a submission isn't sent.
-use crate::command_fault::CommandFault;
-use crate::split_fault::SplitFault;
+use interpret::CommandFault;
 use ledger_terms::Name;
+use view_split::SplitFault;
 
 /// Why a submission isn't sent.
 #[derive(Drop)]

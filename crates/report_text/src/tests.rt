@@ -1,6 +1,8 @@
 mod parts;
 
 use crate::*;
+use interpret::CommandFault;
+use lang_eval::EvalFault;
 use ledger_model::{CommitList, Decision, EntryList, LocalVerdict, Message, Reason, Response};
 use ledger_terms::{
     ActiveRowList, Hash, ParticipantId, ParticipantIdList, Path, Text, Value, ValueList,
@@ -11,6 +13,7 @@ use parts::{
 };
 use std::alloc::{AllocError, Global};
 use std::test::Fail;
+use view_split::SplitFault;
 
 #[test]
 fn prints_each_kind_of_value(rt: HostRuntime) -> Result<(), Fail> {

@@ -1,5 +1,6 @@
-use Rattle.proto_model.proofs.NoteConforms.{from_test, to_test}
+use Rattle.proto_model.specs.BuiltIn.{built_in}
+use Rattle.proto_model.proofs.Conforming.{decides}
 use Rattle.proto_model.proofs.laws.plain_reading_is_reading.Goals as goal
 
 pub returns : goal.returns
-returns c hosts = record { confirms_hosted = λ p name h. h; conforms_is = λ roots. (from_test roots, to_test roots) }
+returns c hosts = record { confirms_hosted = λ p name h. h; conforms_is = λ roots. decides built_in roots }

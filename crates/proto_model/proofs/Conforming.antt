@@ -1,0 +1,28 @@
+-- The test of conformance decides it.
+use Rattle.std.proofs.Common.{◌≡◌, Bool, refl}
+use Rattle.std.specs.Bool.{Decides, one_answer}
+use Rattle.ledger_terms.specs.Deciding.{both, both_true}
+use Rattle.ledger_model.specs.Terms.{Act}
+use Rattle.ledger_model.specs.Forest.{Forest, NoRoots, Root}
+use Rattle.ledger_model.specs.Conformance.{Conforms}
+use Rattle.lang_eval.specs.Found.{Packages}
+use Rattle.interpret.specs.Language.{the_language}
+use Rattle.interpret.specs.Tries.{is_tree_possible}
+use Rattle.interpret.proofs.Tried.{tree_decides}
+use Rattle.proto_model.specs.BuiltIn.{built_in, built_in_language, conforms}
+use Rattle.proto_model.specs.PlainReading.{roots_of_form}
+use Rattle.proto_model.specs.declared.plain_form.PlainForm.{PlainForm}
+
+pub decides : (packages : Packages) (roots : Forest Act) → Decides (conforms packages roots) (Conforms (the_language packages) roots)
+decides packages NoRoots = (λ h. tt, λ h. refl)
+decides packages (Root act consequences others) = (
+  λ h.
+      let p = both (is_tree_possible packages act.action consequences) (conforms packages others) h in
+      let t = (tree_decides packages act.action consequences act.seed).0 p.0 in
+      (t.0, t.1, (decides packages others).0 p.1),
+  λ h. both_true _ _ ((tree_decides packages act.action consequences act.seed).1 (h.0, h.1, tt)) ((decides packages others).1 h.2),
+)
+
+-- whoever decides whether the root conforms says what the test says
+pub same_answer : (form : PlainForm) (b : Bool) → Decides b (Conforms built_in_language (roots_of_form form)) → b ≡ conforms built_in (roots_of_form form)
+same_answer form b d = one_answer _ _ d (decides built_in (roots_of_form form))

@@ -1,0 +1,48 @@
+//! The words of faults. Want of memory has none, since no result of a run holds it.
+ghost use Rattle.std.specs.Prelude.{◌≡◌};
+ghost use Rattle.report_text.specs.FaultNames.{eval_fault_name, command_fault_name, split_fault_name};
+
+use interpret::CommandFault;
+use lang_eval::EvalFault;
+use view_split::SplitFault;
+
+fn eval_fault_name(fault: &EvalFault) -> &'static str
+    ensures { result.now ≡ eval_fault_name fault.now }
+{
+    match fault {
+        EvalFault::Overflow => "Overflow",
+        EvalFault::Assert => "Assert",
+        EvalFault::Ensure => "Ensure",
+        EvalFault::NoSignatory => "NoSignatory",
+        EvalFault::TooLarge => "TooLarge",
+        EvalFault::Memory => "",
+    }
+}
+
+/// The word of a fault of commands; that of an evaluation has the evaluation's word.
+pub fn command_fault_name(fault: &CommandFault) -> &'static str
+    ensures { result.now ≡ command_fault_name fault.now }
+{
+    match fault {
+        CommandFault::UnknownTemplate { .. } => "UnknownTemplate",
+        CommandFault::UnknownChoice { .. } => "UnknownChoice",
+        CommandFault::BadArgs { .. } => "BadArgs",
+        CommandFault::ContractUnknown { .. } => "ContractUnknown",
+        CommandFault::Eval { fault, .. } => eval_fault_name(fault),
+        CommandFault::TooDeep { .. } => "TooDeep",
+        CommandFault::TooMany { .. } => "TooMany",
+        CommandFault::Unauthorised { .. } => "Unauthorised",
+        CommandFault::TooBig { .. } => "TooBig",
+        CommandFault::Memory => "",
+    }
+}
+
+/// The word of a fault of splitting.
+pub fn split_fault_name(fault: &SplitFault) -> &'static str
+    ensures { result.now ≡ split_fault_name fault.now }
+{
+    match fault {
+        SplitFault::NoRoles { .. } => "NoRoles",
+        SplitFault::Memory => "",
+    }
+}
