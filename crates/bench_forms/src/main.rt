@@ -1,15 +1,23 @@
 //! Work to take the time of. `hash N` makes N hashes of strings of 200 bytes, each from the one before, and writes the last.
 //! `wire N` encodes N actions into one buffer and decodes them again, and writes how many bytes they took and how many came
-//! back equal.
+//! back equal. `blind N` makes and verifies the four trees of a transfer N times, and writes how many hashes were made and
+//! how many trees were verified. `script 1` reads standard input as a script, and writes how many bytes it has and how many
+//! submissions, or its fault.
 #![tactic(auto)]
 
 mod actions;
 mod hashes;
+mod scripts;
+mod transfer;
+mod trees;
 mod work;
 
 use crate::actions::round_trip;
 use crate::hashes::last_of;
+use crate::scripts::{Found, read_source};
+use crate::trees::make_and_verify;
 use crate::work::Work;
+use cn_io::ReadSource;
 use std::alloc::Global;
 use std::io::Print;
 use std::{env, io};
@@ -21,7 +29,10 @@ fn main(rt: HostRuntime) -> io::Result<()> {
             None => Work::named(word.as_str()),
             Some(work) => {
                 let count = word.as_str().parse::<u32>().unwrap_or(0);
-                run(&rt, rt.alloc(), work, count)?;
+                match work {
+                    Work::Script => run_script(&rt)?,
+                    _ => run(&rt, rt.alloc(), work, count)?,
+                }
                 None
             }
         };
@@ -41,5 +52,19 @@ fn run(rt: &impl Print, alloc: Global, work: Work, count: u32) -> io::Result<()>
             let trip = round_trip(alloc, count)?;
             println!(rt; "{} bytes, {} same", trip.bytes, trip.same)
         }
+        Work::Blind => {
+            let made = make_and_verify(alloc, count)?;
+            println!(rt; "{} hashes, {} verified", made.hashes, made.verified)
+        }
+        Work::Script => Ok(()),
+    }
+}
+
+fn run_script(rt: &HostRuntime) -> io::Result<()> {
+    let mut source = ReadSource::new(rt.stdin());
+    let read = read_source(rt.alloc(), &mut source)?;
+    match read.found {
+        Found::Submissions(count) => { println!(rt; "{} bytes, {} submissions", read.bytes, count) }
+        Found::Fault(name) => println!(rt; "{} bytes, {}", read.bytes, name),
     }
 }

@@ -5,6 +5,8 @@
 pub(crate) enum Work {
     Hash,
     Wire,
+    Blind,
+    Script,
 }
 
 impl Work {
@@ -13,6 +15,8 @@ impl Work {
         match name {
             "hash" => Some(Work::Hash),
             "wire" => Some(Work::Wire),
+            "blind" => Some(Work::Blind),
+            "script" => Some(Work::Script),
             _ => None,
         }
     }
