@@ -14,7 +14,7 @@ use crate::prepare::prepare;
 use crate::script::Script;
 use ledger_terms::{ParticipantId, Submission};
 use node_core::{FinishFault, Node};
-use proto_model::{Entry, EntryList, Message, Request, Response, Setup, Verdict};
+use proto_model::{BuiltIn, Entry, EntryList, Message, Request, Response, Setup, Verdict};
 use report_text::{NodeView, NodeViewList, RoundSubmissionList, SubmitResult, SubmitResultList};
 use std::alloc::{AllocError, Global};
 
@@ -118,7 +118,8 @@ fn view_of(alloc: Global, node: &Node<'_>) -> Result<NodeView, AllocError>
 fn nothing(alloc: Global, setup: &Setup) -> Result<Played, AllocError>
     ensures { IfOk result (λ played. (played.log ≡ []) × (played.results ≡ []) × (played.views ≡ view_in (begun setup.now.topology.hosts setup.now.topology.params 0) ∷ [])) }
 {
-    let node = Node::new(alloc, setup, ParticipantId(0))?;
+    let built_in = BuiltIn::new(alloc)?;
+    let node = Node::new(alloc, setup, &built_in, ParticipantId(0));
     let mut views = NodeViewList::new(alloc);
     views.push(view_of(alloc, &node)?)?;
     Ok(Played {
@@ -134,7 +135,8 @@ fn one_request(alloc: Global, setup: &Setup, request: Request) -> Result<Played,
     ensures results { IfOk result (λ played. played.results ≡ Sent 0 0 ∷ []) }
     ensures views { IfOk result (λ played. played.views ≡ view_at (plain_reading setup.now.topology.hosts) setup.now.topology.params played.log 0 ∷ []) }
 {
-    let mut node = Node::new(alloc, setup, ParticipantId(0))?;
+    let built_in = BuiltIn::new(alloc)?;
+    let mut node = Node::new(alloc, setup, &built_in, ParticipantId(0));
     let mut log = EntryList::new(alloc);
     settle(alloc, &mut node, &mut log, request)?;
     let mut results = SubmitResultList::new(alloc);

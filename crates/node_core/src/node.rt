@@ -25,7 +25,7 @@ use std::marker::Model;
 #[derive(Drop)]
 pub struct Node<'s> {
     setup: &'s Setup,
-    built_in: BuiltIn,
+    built_in: &'s BuiltIn,
     me: ParticipantId,
     items: Vec<Item>,
     claimed: Vec<u64>,
@@ -49,18 +49,23 @@ impl<'s> Model for Node<'s> {
 }
 
 impl<'s> Node<'s> {
-    /// A participant that has read nothing.
-    pub fn new(alloc: Global, setup: &'s Setup, me: ParticipantId) -> Result<Node<'s>, AllocError>
-        ensures { IfOk result (λ node. node ≡ begun setup.now.topology.hosts setup.now.topology.params me) }
+    /// A participant that has read nothing. `built_in` is the language that it tries contracts by.
+    pub fn new(
+        alloc: Global,
+        setup: &'s Setup,
+        built_in: &'s BuiltIn,
+        me: ParticipantId,
+    ) -> Node<'s>
+        ensures { result ≡ begun setup.now.topology.hosts setup.now.topology.params me }
     {
-        Ok(Node {
+        Node {
             setup,
-            built_in: BuiltIn::new(alloc)?,
+            built_in,
             me,
             items: Vec::new(alloc),
             claimed: Vec::new(alloc),
             outbox: Vec::new(alloc),
-        })
+        }
     }
 
     /// How many entries it has read.
@@ -77,7 +82,7 @@ impl<'s> Node<'s> {
         ensures inbox { OnOk result ((before : List EntryValue) → self.old.items ≡ inbox (reading_of self.old) self.old.me before → self.new.items ≡ inbox (reading_of self.old) self.old.me (before ++ entry.now ∷ [])) }
         ensures err { OnErr result (self.new ≡ self.old) }
     {
-        let item = item_of(alloc, &self.built_in, self.me, self.items.as_slice(), entry)?;
+        let item = item_of(alloc, self.built_in, self.me, self.items.as_slice(), entry)?;
         self.items.push(item)?;
         Ok(())
     }

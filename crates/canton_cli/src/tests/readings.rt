@@ -97,7 +97,7 @@ fn looked(alloc: Global, amount: Value, told: i64) -> Result<ActionNode, AllocEr
 }
 
 #[test]
-fn what_is_fetched_is_tried_before_the_body_has_it(rt: HostRuntime) -> Result<(), Fail> {
+fn what_is_fetched_has_the_kinds_of_its_template(rt: HostRuntime) -> Result<(), Fail> {
     let alloc = rt.alloc();
     let checked = debts(alloc).expect(&rt, "the package");
     for (amount, told, want) in [
