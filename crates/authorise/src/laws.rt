@@ -1,15 +1,13 @@
 //! What authority is over whole trees, as the clauses of functions that do nothing.
-ghost use Rattle.std.specs.Prelude.{◌≡◌, ℕ, ◌&&◌};
+ghost use Rattle.std.specs.Prelude.{◌≡◌, ◌&&◌};
 ghost use Rattle.std.specs.List.{list_all};
 ghost use Rattle.ledger_terms.specs.declared.action.Action.{Action};
 ghost use Rattle.ledger_terms.specs.Trees.{Act};
 ghost use Rattle.ledger_model.specs.Terms.{PartySet};
-ghost use Rattle.ledger_terms.specs.Forest.{Forest, roots_of, below_at};
+ghost use Rattle.ledger_terms.specs.Forest.{Forest, roots_of};
 ghost use Rattle.ledger_model.specs.Forest.{trees_of};
 ghost use Rattle.ledger_model.specs.declared.roles.Roles.{Roles};
 ghost use Rattle.ledger_model.specs.Authority.{is_authorised, is_forest_authorised};
-ghost use Rattle.ledger_model.specs.Checks.{authorises_children};
-ghost use Rattle.ledger_model.specs.Reading.{Shown};
 ghost use Rattle.authorise.specs.Below.{are_authorised_below};
 
 /// A transaction is authorised by parties exactly where each root is, and the direct consequences of each action are by
@@ -19,10 +17,4 @@ pub fn authority_is_local()
         → is_forest_authorised roles by roots
         ≡ (list_all (λ (root : Act). is_authorised roles by root.action) (roots_of roots)
         && list_all (λ (tree : Act × Forest Act). are_authorised_below roles (tree.0).action tree.1) (trees_of roots)) }
-{}
-
-/// It is what a participant checks of an action that is opened to it.
-pub fn authority_is_checked()
-    ensures { (roles : Action → Roles) (shown : Shown) (a : ℕ × Act)
-        → authorises_children roles shown a ≡ are_authorised_below roles (a.1).action (below_at a.0 shown.roots) }
 {}

@@ -7,6 +7,3 @@ pub mod laws;
 mod parties;
 
 pub use authority::{authorised, children_authorised};
-
-#[cfg(test)]
-mod tests;

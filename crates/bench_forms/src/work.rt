@@ -1,7 +1,7 @@
 //! What there is to do.
 
 /// What there is to do.
-#[derive(Clone, Copy, Debug, PartialEq, Eq)]
+#[derive(Clone, Copy, PartialEq, Eq)]
 pub(crate) enum Work {
     Hash,
     Wire,

@@ -2,7 +2,7 @@
 use view_split::CoreNode;
 
 /// A core with the number of its holes.
-#[derive(Debug, Drop)]
+#[derive(Drop)]
 pub struct FoundCore {
     pub core: CoreNode,
     pub holes: usize,

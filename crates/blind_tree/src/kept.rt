@@ -8,7 +8,7 @@ use std::alloc::{AllocError, Global};
 use std::marker::Model;
 
 /// What is hashed in a leaf, with its hash.
-#[derive(Debug, Drop)]
+#[derive(Drop)]
 pub struct KeptLeaf {
     pub salt: Hash,
     pub bytes: Bytes,
@@ -17,7 +17,7 @@ pub struct KeptLeaf {
 
 /// A view's informees, its leaves and its hash.
 #[cycle(kept)]
-#[derive(Debug, Drop)]
+#[derive(Drop)]
 pub struct KeptView {
     pub informees: PartySet,
     pub roles: KeptLeaf,
@@ -28,7 +28,7 @@ pub struct KeptView {
 
 /// Views with their hashes, which contracts see as a forest.
 #[cycle(kept)]
-#[derive(Debug, Drop)]
+#[derive(Drop)]
 pub struct KeptList {
     views: Vec<KeptView>,
 }
@@ -81,7 +81,7 @@ impl KeptList {
 }
 
 /// The leaves of a transaction and its views, with their hashes.
-#[derive(Debug, Drop)]
+#[derive(Drop)]
 pub struct KeptTree {
     pub common: KeptLeaf,
     pub requesters: KeptLeaf,

@@ -7,7 +7,7 @@ use hash_id::leaf_hash;
 use ledger_terms::{Bytes, Hash};
 
 /// A leaf shows its hash alone, or the salt and the bytes that are hashed.
-#[derive(Debug, Drop)]
+#[derive(Drop)]
 pub enum Leaf {
     Blind(Hash),
     Plain { salt: Hash, bytes: Bytes },

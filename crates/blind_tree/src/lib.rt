@@ -38,6 +38,3 @@ pub use tree::{Tree, TreeList};
 pub use vertex::{Vertex, VertexList};
 pub use view_roles::{ViewRoles, ViewRolesList};
 pub use view_split::{OpenedTree, PlacedView, PlacedViewList};
-
-#[cfg(test)]
-mod tests;

@@ -5,7 +5,7 @@ ghost use Rattle.blind_tree.specs.Marks.{arity, hole_number};
 use ledger_terms::{Action, Hash};
 
 /// An action of a core, with its seed and the number of its children.
-#[derive(Debug, Drop)]
+#[derive(Drop)]
 pub struct Head {
     pub seed: Hash,
     pub action: Action,
@@ -13,7 +13,7 @@ pub struct Head {
 }
 
 /// What comes next in a core in pre-order: an action or a hole.
-#[derive(Debug, Drop)]
+#[derive(Drop)]
 pub enum Mark {
     Hole,
     Begins(Head),

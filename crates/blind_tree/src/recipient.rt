@@ -2,7 +2,7 @@
 use ledger_terms::{ListOf, ParticipantId};
 
 /// Whom a tree is for.
-#[derive(Clone, Copy, Debug, PartialEq, Eq)]
+#[derive(Clone, Copy, PartialEq, Eq)]
 pub enum Recipient {
     Participant(ParticipantId),
     Mediator,

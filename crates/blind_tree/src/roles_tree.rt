@@ -4,7 +4,7 @@ use ledger_terms::Name;
 
 /// What the mediator reads in a transaction's tree (Canton protocol: informee tree): the sender, and the informees and
 /// confirmers of every view, each view before those below it.
-#[derive(Debug, Drop)]
+#[derive(Drop)]
 pub struct RolesTree {
     pub sender: Name,
     pub views: ViewRolesList,

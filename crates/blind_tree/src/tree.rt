@@ -5,7 +5,7 @@ use ledger_terms::ListOf;
 
 /// The Merkle tree of a transaction as one recipient gets it (Canton protocol: transaction trees). `common` has sender and
 /// ledger time, `requesters` who requests, and `views` a vertex for each root view.
-#[derive(Debug, Drop)]
+#[derive(Drop)]
 pub struct Tree {
     pub common: Leaf,
     pub requesters: Leaf,

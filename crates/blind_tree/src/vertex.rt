@@ -11,7 +11,7 @@ use std::marker::Model;
 /// A vertex stands for a view. It shows its hash alone, or the leaves with the view's informees and contents and the
 /// vertices of the views below it.
 #[cycle(tree)]
-#[derive(Debug, Drop)]
+#[derive(Drop)]
 pub enum Vertex {
     Blind(Hash),
     Inner {
@@ -23,7 +23,7 @@ pub enum Vertex {
 
 /// Vertices side by side, which contracts see with all that stands below them.
 #[cycle(tree)]
-#[derive(Debug, Drop)]
+#[derive(Drop)]
 pub struct VertexList {
     vertices: Vec<Vertex>,
 }

@@ -2,7 +2,7 @@
 use ledger_terms::{ListOf, PartySet, Path};
 
 /// What the mediator reads of the view at a path.
-#[derive(Debug, Drop)]
+#[derive(Drop)]
 pub struct ViewRoles {
     pub path: Path,
     pub informees: PartySet,

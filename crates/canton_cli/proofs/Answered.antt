@@ -3,10 +3,10 @@ use Rattle.std.proofs.Common.{◌≡◌, ℕ, ◌+◌, ◌≤◌, true, false, L
 use Rattle.std.proofs.lemmas.Bool.Decides.{nat_tests}
 use Rattle.ledger_terms.specs.declared.host.Host.{Host}
 use Rattle.ledger_terms.specs.declared.params.Params.{Params}
-use Rattle.ledger_model.specs.declared.check.ViewVerdict.{ViewVerdict}
-use Rattle.ledger_model.specs.Reading.{Shown, OpenedView}
-use Rattle.ledger_model.specs.Inbox.{Received, received}
-use Rattle.ledger_model.specs.Checks.{is_confirmed_by, verdicts_owed}
+use Rattle.canton_model.specs.declared.check.ViewVerdict.{ViewVerdict}
+use Rattle.ledger_model.specs.Opening.{Shown, OpenedView}
+use Rattle.canton_model.specs.Inbox.{Received, received}
+use Rattle.canton_model.specs.Checks.{is_confirmed_by, verdicts_owed}
 use Rattle.node_core.specs.NodeState.{NodeState}
 use Rattle.node_core.specs.Jobs.{is_due, is_decided_now, due_job}
 use Rattle.proto_model.specs.PlainReading.{plain_reading}

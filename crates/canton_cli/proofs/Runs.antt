@@ -4,20 +4,20 @@ use Rattle.std.proofs.lemmas.Bool.Decides.{nat_tests}
 use Rattle.std.proofs.lemmas.Option.{same_Some, none-some}
 use Rattle.ledger_terms.specs.declared.host.Host.{Host}
 use Rattle.ledger_terms.specs.declared.params.Params.{Params}
-use Rattle.ledger_model.specs.declared.message.Entry.{Entry}
-use Rattle.ledger_model.specs.declared.message.Request.{Request}
-use Rattle.ledger_model.specs.Log.{request_at, decision_time_of}
-use Rattle.ledger_model.specs.Timeline.{timeline_of, outcome_of}
-use Rattle.ledger_model.specs.Genuine.{Genuine, IsReading, NoCollision}
-use Rattle.ledger_model.specs.Reading.{Reading}
+use Rattle.canton_model.specs.declared.message.Entry.{Entry}
+use Rattle.canton_model.specs.declared.message.Request.{Request}
+use Rattle.canton_model.specs.Log.{request_at, decision_time_of}
+use Rattle.canton_model.specs.Timeline.{timeline_of, outcome_of}
+use Rattle.canton_model.specs.Genuine.{Genuine, IsReading, NoCollision}
+use Rattle.canton_model.specs.Reading.{Reading}
 use Rattle.ledger_model.proofs.Lists.{in_from_Contains}
-use Rattle.ledger_model.proofs.FromGenuine.{consistent_of_log}
-use Rattle.ledger_model.proofs.Approved.{sound}
-use Rattle.ledger_model.proofs.InboxGrows.{node_log_of_inbox}
-use Rattle.ledger_model.proofs.ActiveSets.{active_sets}
-use Rattle.ledger_model.proofs.Outcomes.{cause_holds}
-use Rattle.ledger_model.proofs.Lawful.{informs}
-use Rattle.ledger_model.proofs.Fits.{sealed_of, opens_of}
+use Rattle.canton_model.proofs.FromGenuine.{consistent_of_log}
+use Rattle.canton_model.proofs.Approved.{sound}
+use Rattle.canton_model.proofs.InboxGrows.{node_log_of_inbox}
+use Rattle.canton_model.proofs.ActiveSets.{active_sets}
+use Rattle.canton_model.proofs.Outcomes.{cause_holds}
+use Rattle.canton_model.proofs.Lawful.{informs}
+use Rattle.canton_model.proofs.Fits.{sealed_of, opens_of}
 use Rattle.proto_model.specs.PlainReading.{plain_reading}
 use Rattle.proto_model.specs.NoteForm.{request_to_self}
 use Rattle.proto_model.specs.NoteLog.{note_log, LeavesTime}

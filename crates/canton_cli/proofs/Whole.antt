@@ -5,14 +5,14 @@ use Rattle.std.proofs.lemmas.Bool.Decides.{nat_tests}
 use Rattle.ledger_terms.specs.declared.host.Host.{Host}
 use Rattle.ledger_terms.specs.declared.params.Params.{Params}
 use Rattle.ledger_terms.specs.declared.submission.Submission.{Submission}
-use Rattle.ledger_model.specs.declared.message.Entry.{Entry}
-use Rattle.ledger_model.specs.declared.message.Request.{Request}
-use Rattle.ledger_model.specs.declared.message.Response.{Response}
-use Rattle.ledger_model.specs.declared.message.Message.TheVariants.{Request as RequestMessage}
-use Rattle.ledger_model.specs.Genuine.{Genuine, NoCollision}
-use Rattle.ledger_model.specs.Reading.{Shown}
-use Rattle.ledger_model.specs.Checks.{verdicts_owed}
-use Rattle.ledger_model.specs.Inbox.{received}
+use Rattle.canton_model.specs.declared.message.Entry.{Entry}
+use Rattle.canton_model.specs.declared.message.Request.{Request}
+use Rattle.canton_model.specs.declared.message.Response.{Response}
+use Rattle.canton_model.specs.declared.message.Message.TheVariants.{Request as RequestMessage}
+use Rattle.canton_model.specs.Genuine.{Genuine, NoCollision}
+use Rattle.ledger_model.specs.Opening.{Shown}
+use Rattle.canton_model.specs.Checks.{verdicts_owed}
+use Rattle.canton_model.specs.Inbox.{received}
 use Rattle.proto_model.specs.Note.{note_name}
 use Rattle.proto_model.specs.NoteForm.{note_form, note_request}
 use Rattle.proto_model.specs.NoteLog.{approval, note_log, sole_host, LeavesTime}

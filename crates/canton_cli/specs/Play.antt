@@ -11,16 +11,16 @@ use Rattle.ledger_terms.specs.declared.command.Command.TheVariants.{Create}
 use Rattle.ledger_terms.specs.declared.what.What.{What}
 use Rattle.ledger_terms.specs.declared.what.What.TheVariants.{Commands}
 use Rattle.ledger_terms.specs.declared.submission.Submission.{Submission}
-use Rattle.ledger_model.specs.declared.message.Entry.{Entry}
-use Rattle.ledger_model.specs.declared.message.Message.{Message}
-use Rattle.ledger_model.specs.declared.message.Message.TheVariants.{Request as RequestMessage, Response as ResponseMessage, Verdict as VerdictMessage}
-use Rattle.ledger_model.specs.declared.message.Request.{Request}
-use Rattle.ledger_model.specs.declared.message.Response.{Response}
-use Rattle.ledger_model.specs.declared.message.Decision.{Decision}
-use Rattle.ledger_model.specs.declared.message.Decision.TheVariants.{Approved}
-use Rattle.ledger_model.specs.Mediation.{first_rejection}
-use Rattle.ledger_model.specs.Inbox.{inbox, clean, clean_time, node_log, node_active}
-use Rattle.ledger_model.specs.Reading.{Reading}
+use Rattle.canton_model.specs.declared.message.Entry.{Entry}
+use Rattle.canton_model.specs.declared.message.Message.{Message}
+use Rattle.canton_model.specs.declared.message.Message.TheVariants.{Request as RequestMessage, Response as ResponseMessage, Verdict as VerdictMessage}
+use Rattle.canton_model.specs.declared.message.Request.{Request}
+use Rattle.canton_model.specs.declared.message.Response.{Response}
+use Rattle.canton_model.specs.declared.message.Decision.{Decision}
+use Rattle.canton_model.specs.declared.message.Decision.TheVariants.{Approved}
+use Rattle.canton_model.specs.Mediation.{first_rejection}
+use Rattle.canton_model.specs.Inbox.{inbox, clean, clean_time, node_log, node_active}
+use Rattle.canton_model.specs.Reading.{Reading}
 use Rattle.report_text.specs.declared.node_view.NodeView.{NodeView}
 use Rattle.report_text.specs.declared.submit_result.SubmitResult.TheVariants.{Sent}
 use Rattle.canton_cli.specs.declared.played.Played.{Played}

@@ -2,22 +2,22 @@
 use Rattle.std.specs.Prelude.{◌≡◌, ℕ, ◌≤◌, true, List, [], ◌∷◌, ◌++◌, Option, Some, None, length, take}
 use Rattle.ledger_terms.specs.declared.host.Host.{Host}
 use Rattle.ledger_terms.specs.declared.params.Params.{Params}
-use Rattle.ledger_model.specs.declared.message.Entry.{Entry}
-use Rattle.ledger_model.specs.declared.message.Request.{Request}
-use Rattle.ledger_model.specs.declared.message.Decision.TheVariants.{Approved}
-use Rattle.ledger_model.specs.Log.{request_of, request_at, decision_time_of}
-use Rattle.ledger_model.specs.Timeline.{Decided, timeline_of, outcome_of, is_approved_in}
-use Rattle.ledger_model.specs.Mediation.{missing_of}
+use Rattle.canton_model.specs.declared.message.Entry.{Entry}
+use Rattle.canton_model.specs.declared.message.Request.{Request}
+use Rattle.canton_model.specs.declared.message.Decision.TheVariants.{Approved}
+use Rattle.canton_model.specs.Log.{request_of, request_at, decision_time_of}
+use Rattle.canton_model.specs.Timeline.{Decided, timeline_of, outcome_of, is_approved_in}
+use Rattle.canton_model.specs.Mediation.{missing_of}
 use Rattle.ledger_model.specs.Forest.{Commit, ledger_acts}
 use Rattle.ledger_model.specs.Consistency.{Consistent}
 use Rattle.ledger_model.specs.Conformance.{Conforms}
 use Rattle.ledger_model.specs.Authority.{is_commit_authorised}
 use Rattle.ledger_model.specs.Language.{roles_of}
-use Rattle.ledger_model.specs.Inbox.{inbox, is_informed, clean, node_log, node_active, active_of, project_ledger}
-use Rattle.ledger_model.specs.Ledger.{ledger, commits_below, whole_at}
-use Rattle.ledger_model.specs.Causes.{CauseOf}
-use Rattle.ledger_model.specs.Genuine.{Genuine}
-use Rattle.ledger_model.specs.Reading.{Reading}
+use Rattle.canton_model.specs.Inbox.{inbox, is_informed, clean, node_log, node_active, active_of, project_ledger}
+use Rattle.canton_model.specs.Ledger.{ledger, commits_below, whole_at}
+use Rattle.canton_model.specs.Causes.{CauseOf}
+use Rattle.canton_model.specs.Genuine.{Genuine}
+use Rattle.canton_model.specs.Reading.{Reading}
 use Rattle.proto_model.specs.BuiltIn.{built_in_language}
 use Rattle.proto_model.specs.PlainReading.{plain_reading}
 use Rattle.report_text.specs.declared.submit_result.SubmitResult.{SubmitResult}

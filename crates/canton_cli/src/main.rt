@@ -8,8 +8,6 @@ mod play;
 mod played;
 mod prepare;
 mod script;
-#[cfg(test)]
-mod tests;
 mod top_call;
 mod words;
 

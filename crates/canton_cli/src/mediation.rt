@@ -1,6 +1,6 @@
 //! The mediator of a request that one participant confirms.
 ghost use Rattle.std.specs.Prelude.{◌≡◌, IfOk};
-ghost use Rattle.ledger_model.specs.Mediation.{first_rejection};
+ghost use Rattle.canton_model.specs.Mediation.{first_rejection};
 ghost use Rattle.canton_cli.specs.Play.{decided_by};
 
 use ledger_terms::{ParticipantId, Path};

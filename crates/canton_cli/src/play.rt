@@ -1,6 +1,6 @@
 //! Playing a script of the form that is run today.
 ghost use Rattle.std.specs.Prelude.{◌≡◌, ◌≤◌, [], ◌∷◌, IfOk, OnOk, Some, length, take, option_copied};
-ghost use Rattle.ledger_model.specs.Inbox.{inbox};
+ghost use Rattle.canton_model.specs.Inbox.{inbox};
 ghost use Rattle.proto_model.specs.PlainReading.{plain_reading};
 ghost use Rattle.report_text.specs.declared.submit_result.SubmitResult.TheVariants.{Sent};
 ghost use Rattle.node_core.specs.NodeState.{begun, reading_of};

@@ -22,6 +22,3 @@ pub use sure_sink::SureSink;
 pub use sure_source::SureSource;
 pub use whole::{ReadFault, read_all, write_all};
 pub use write_sink::WriteSink;
-
-#[cfg(test)]
-mod tests;

@@ -11,8 +11,7 @@ use Rattle.ledger_terms.specs.contracts.instance.InstancePartialEq.TheImpl as in
 use Rattle.ledger_model.specs.Terms.{id_of, instance_of, is_create, is_on, creates, consumes}
 use Rattle.ledger_model.specs.Status.{shows_unordered}
 use Rattle.ledger_model.specs.Consistency.{Consistent, SameContract}
-use Rattle.ledger_model.proofs.Lists.{in_any, from_any, at_in_take, in_take_at, in_from_Contains, contains_from_In}
-use Rattle.ledger_model.proofs.Gathered.{on_from, from_on}
+use Rattle.ledger_model.proofs.Lists.{in_any, from_any, at_in_take, in_take_at, in_from_Contains, contains_from_In, on_from, from_on}
 use Rattle.consist.specs.First.{NoneShows}
 use Rattle.consist.specs.Rules.{IsUnordered}
 use Rattle.consist.specs.Breaks.{Breaks, NotCreated, CreatedLate, AfterConsumption, OtherInstance, differs, breaks}

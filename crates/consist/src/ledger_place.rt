@@ -2,7 +2,7 @@
 use ledger_terms::Path;
 
 /// The place in the log of an action's commit, and the action's path there.
-#[derive(Debug, Drop)]
+#[derive(Drop)]
 pub struct LedgerPlace {
     pub commit: u64,
     pub path: Path,

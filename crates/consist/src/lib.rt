@@ -13,6 +13,3 @@ pub use ledger::inconsistent;
 pub use ledger_model::{Commit, CommitList};
 pub use ledger_place::LedgerPlace;
 pub use order::unordered;
-
-#[cfg(test)]
-mod tests;

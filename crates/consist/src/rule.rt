@@ -10,7 +10,7 @@ use crate::earlier::{
 use ledger_terms::{Action, ActionNode};
 
 /// What each action has to keep after those before it.
-#[derive(Clone, Copy, Debug)]
+#[derive(Clone, Copy)]
 pub enum Rule {
     /// The order inside a transaction.
     Ordered,

@@ -5,8 +5,6 @@
 pub mod identity;
 pub mod merkle;
 pub mod tag;
-#[cfg(test)]
-mod tests;
 
 pub use identity::{child_seed, contract_id, root_seed};
 pub use merkle::{leaf_hash, leaf_salt, tree_hash, view_hash};

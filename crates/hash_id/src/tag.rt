@@ -6,7 +6,7 @@ ghost use Rattle.hash_id.specs.Tags.{tag_byte};
 use sha2::{Digest, Sha256};
 
 /// What a hash is of. Each string that is hashed begins with the byte of its tag.
-#[derive(Clone, Copy, Debug, PartialEq, Eq)]
+#[derive(Clone, Copy, PartialEq, Eq)]
 pub enum Tag {
     ContractId,
     ChildSeed,

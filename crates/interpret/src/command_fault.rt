@@ -8,7 +8,7 @@ use std::alloc::AllocError;
 
 /// Why commands or drafts give no transaction. `root` counts commands from 0, and `path` leads to the action that would
 /// have been the next.
-#[derive(Debug, Drop)]
+#[derive(Drop)]
 pub enum CommandFault {
     /// The command's template isn't there.
     UnknownTemplate { root: u32 },

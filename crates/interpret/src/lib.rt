@@ -24,6 +24,3 @@ pub use interpretation::interpret;
 pub use progress::{HashList, Progress};
 pub use replay::reexecute;
 pub use sizes::{are_small_args, is_small_instance, is_small_result};
-
-#[cfg(test)]
-mod tests;

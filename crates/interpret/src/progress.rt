@@ -14,7 +14,7 @@ use std::alloc::{AllocError, Global};
 pub type HashList = ListOf<Hash>;
 
 /// What a transaction created and consumed so far, and how many actions it has.
-#[derive(Debug, Drop)]
+#[derive(Drop)]
 pub struct Progress {
     pub created: KnownList,
     pub spent: HashList,

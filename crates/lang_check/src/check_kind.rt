@@ -3,7 +3,7 @@ ghost use Rattle.std.specs.Prelude.{◌≡◌};
 ghost use Rattle.lang_check.specs.KindNames.{kind_name};
 
 /// The kind of a fault, or want of memory, which has no place in the packages.
-#[derive(Clone, Copy, Debug, PartialEq, Eq)]
+#[derive(Clone, Copy, PartialEq, Eq)]
 pub enum CheckKind {
     DuplicateName,
     UnknownName,

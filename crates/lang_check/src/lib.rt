@@ -18,6 +18,3 @@ mod stop;
 pub use check_fault::CheckFault;
 pub use check_kind::CheckKind;
 pub use packages::check;
-
-#[cfg(test)]
-mod tests;

@@ -8,7 +8,7 @@ use std::alloc::{AllocError, Global};
 use std::marker::Model;
 
 /// The names that an expression may use, with their kinds, which contracts see as a list of pairs. It keeps its allocator.
-#[derive(Debug, Drop)]
+#[derive(Drop)]
 pub(crate) struct Scope {
     names: Vec<(Text, Kind)>,
 }

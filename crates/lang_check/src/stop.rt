@@ -6,7 +6,7 @@ use crate::check_fault::CheckFault;
 use std::alloc::{AllocError, AllocFailed};
 
 /// Where a walk stops: at a fault, or for want of memory.
-#[derive(Debug, Drop)]
+#[derive(Drop)]
 pub(crate) enum Stop {
     Fault(CheckFault),
     Memory,

@@ -2,6 +2,5 @@ pub mod Values
 pub mod KindLists
 pub mod Runs
 pub mod RoleLaws
-pub mod IouTyped
 pub mod NamesEnd
 pub mod Informed

@@ -10,4 +10,3 @@ pub mod Typed
 pub mod Checking
 pub mod Language
 pub mod RoleSets
-pub mod Iou

@@ -2,7 +2,7 @@
 use ledger_terms::{Text, Value};
 
 /// A name as a variable writes it, as `this.owner`, with its value.
-#[derive(Debug, Drop)]
+#[derive(Drop)]
 pub struct Binding {
     pub name: Text,
     pub value: Value,

@@ -8,7 +8,7 @@ use std::alloc::{AllocError, Global};
 use std::marker::Model;
 
 /// The names that an expression may use, with their values, which contracts see as a list. It keeps its allocator.
-#[derive(Debug, Drop)]
+#[derive(Drop)]
 pub struct Bindings {
     bindings: Vec<Binding>,
 }

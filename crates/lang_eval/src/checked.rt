@@ -16,7 +16,7 @@ use std::alloc::{AllocError, Global};
 use std::marker::Model;
 
 /// Packages that are well typed, Note first, in which each template has the choice Archive.
-#[derive(Debug, Drop)]
+#[derive(Drop)]
 pub struct Checked {
     packages: PackageList,
 }

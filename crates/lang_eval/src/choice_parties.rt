@@ -2,7 +2,7 @@
 use ledger_terms::PartySet;
 
 /// The controllers and the observers of a call of a choice.
-#[derive(Debug, Drop)]
+#[derive(Drop)]
 pub struct ChoiceParties {
     pub controllers: PartySet,
     pub observers: PartySet,

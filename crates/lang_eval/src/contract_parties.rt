@@ -2,7 +2,7 @@
 use ledger_terms::PartySet;
 
 /// The signatories and the observers of a contract.
-#[derive(Debug, Drop)]
+#[derive(Drop)]
 pub struct ContractParties {
     pub signatories: PartySet,
     pub observers: PartySet,

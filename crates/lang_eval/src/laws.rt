@@ -3,7 +3,6 @@ ghost use Rattle.std.specs.Prelude.{◌≡◌, ℕ, Bool, List, true, Ok};
 ghost use Rattle.ledger_terms.specs.Syntax.{ExprForm, StmtForms, When, NoStmts};
 ghost use Rattle.ledger_terms.specs.Packages.{TemplateForm, ChoiceForm};
 ghost use Rattle.ledger_terms.specs.Parties.{has_party};
-ghost use Rattle.ledger_terms.specs.SamePackages.{same_choice};
 ghost use Rattle.ledger_terms.specs.declared.instance.Instance.{Instance};
 ghost use Rattle.ledger_terms.specs.declared.value.Value.{Value};
 ghost use Rattle.ledger_terms.specs.declared.value.Value.TheVariants.{Unit as UnitValue};
@@ -47,11 +46,4 @@ pub fn confirmers_are_informed()
 pub fn roles_hang_on_no_size()
     ensures { (packages : Packages) (is_creatable : Instance → Bool) (is_exercisable : ChoiceCall → PartyNames → Bool → Value → Bool) (action : Action)
         → roles_of (language_of packages is_creatable is_exercisable) action ≡ roles_in packages action }
-{}
-
-/// Choices that test as equal run alike, whatever asks them.
-pub fn equal_choices_run_alike()
-    ensures { (t : TemplateForm) (c d : ChoiceForm) (packages : Packages) (call : ChoiceCall) (seen : List Seen)
-        → same_choice c d ≡ true
-        → next_of t c packages call seen ≡ next_of t d packages call seen }
 {}

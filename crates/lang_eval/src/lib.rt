@@ -10,7 +10,6 @@ pub mod contract_parties;
 pub mod eval_fault;
 pub mod evaluate;
 mod forms;
-pub mod iou;
 pub mod kinds;
 pub mod laws;
 pub mod note;
@@ -37,6 +36,3 @@ pub use parties::{
 };
 pub use role_fault::RoleFault;
 pub use role_sets::roles;
-
-#[cfg(test)]
-mod tests;

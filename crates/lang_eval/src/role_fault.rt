@@ -5,7 +5,7 @@ use crate::eval_fault::EvalFault;
 use std::alloc::AllocError;
 
 /// Why the roles of an action aren't given.
-#[derive(Clone, Copy, Debug, PartialEq, Eq)]
+#[derive(Clone, Copy, PartialEq, Eq)]
 pub enum RoleFault {
     /// The action has none.
     NoRoles,

@@ -31,6 +31,3 @@ pub use scalar::{read_integer, read_name, read_truth, shape};
 pub use script_fault::ScriptFault;
 pub use simple_stmt::read_two;
 pub use texts::{parts_round, read_kind, read_template_name, read_text, template_in};
-
-#[cfg(test)]
-mod tests;

@@ -12,7 +12,7 @@ use serde_json::Value;
 
 /// What a list that is an expression begins with. `Var` stands before the text of a bound name, the others before
 /// expressions.
-#[derive(Clone, Copy, Debug, PartialEq, Eq)]
+#[derive(Clone, Copy, PartialEq, Eq)]
 pub enum Operator {
     Var,
     Two(Binary),

@@ -11,7 +11,7 @@ use std::alloc::{AllocError, AllocFailed};
 /// root. `which` is the number of the limit that is broken and `found` the count or number that breaks it, 0 for a negative
 /// one. Package is the first fault that the check of the packages finds, which has its own place in the list of packages;
 /// want of memory in that check is Memory. NotBuilt is a script without a fault of a form that is not run yet.
-#[derive(Debug, Drop)]
+#[derive(Drop)]
 pub enum ScriptFault {
     NotJson,
     Shape {

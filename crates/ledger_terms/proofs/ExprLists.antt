@@ -5,7 +5,6 @@ use Rattle.std.proofs.lemmas.List.{drop_more}
 use Rattle.std.proofs.Math.ListN.{drop_of_length-le}
 use Rattle.ledger_terms.specs.Syntax.{ExprForm, ExprForms, NoExprs, MoreExprs}
 use Rattle.ledger_terms.specs.SyntaxLists.{exprs_count, exprs_join, one_expr}
-use Rattle.ledger_terms.specs.SameSyntax.{same_expr, same_exprs}
 use Rattle.ledger_terms.specs.ExprForms.{expr_form, exprs_of}
 use Rattle.ledger_terms.specs.declared.expr.Expr.{Expr}
 
@@ -36,20 +35,3 @@ taken_step all copy new es i e f within at grown same before =
 -- At its end nothing is left.
 pub taken_end : (all copy : ExprForms) (es : List Expr) (i : ℕ) → length es ≤ i → exprs_join copy (exprs_of (drop i es)) ≡ all → copy ≡ all
 taken_end all copy es i past before = sym (exprs_join-none copy) ∙ (rw (drop_of_length-le es past) at before)
-
--- Two lists side by side: the same where the next are the same and the rest is.
-pub same_next : (xs ys : List Expr) (n : ℕ) (x y : Expr) → n < length xs → n < length ys → x ≡ get_or xs n x → y ≡ get_or ys n y → same_exprs (exprs_of (drop n xs)) (exprs_of (drop n ys)) ≡ (same_expr (expr_form x) (expr_form y) && same_exprs (exprs_of (drop (n + 1) xs)) (exprs_of (drop (n + 1) ys)))
-same_next xs ys n x y p q e f = rw (drop_more xs n x p, drop_more ys n y q, ← e, ← f) refl
-
-right_false : (a b : Bool) → b ≡ false → (a && b) ≡ false
-right_false true b h = h
-right_false false b h = refl
-
-pub other_lengths : (xs ys : List Expr) → (length xs ≡ length ys → ⊥) → same_exprs (exprs_of xs) (exprs_of ys) ≡ false
-other_lengths [] [] h = absurd (h refl)
-other_lengths [] (y ∷ ys) h = refl
-other_lengths (x ∷ xs) [] h = refl
-other_lengths (x ∷ xs) (y ∷ ys) h = right_false (same_expr (expr_form x) (expr_form y)) _ (other_lengths xs ys (λ e. h (ap suc e)))
-
-pub same_end : (xs ys : List Expr) (n : ℕ) → length xs ≡ length ys → length xs ≤ n → same_exprs (exprs_of (drop n xs)) (exprs_of (drop n ys)) ≡ true
-same_end xs ys n e h = let past : length ys ≤ n = omega arith in rw (drop_of_length-le xs h, drop_of_length-le ys past) refl

@@ -1,6 +1,5 @@
 //! What a transaction does to contracts.
 ghost use Rattle.std.specs.Prelude.{◌≡◌, IfOk};
-ghost use Rattle.std.specs.Bool.{Decides};
 
 use crate::hash::Hash;
 use crate::instance::Instance;
@@ -11,7 +10,7 @@ use std::alloc::AllocError;
 
 /// One action of a transaction (Ledger Model: actions). `id` names the contract. An Exercise and a Fetch carry
 /// the salt and the instance of the contract that they use, so that whoever sees them can try the id.
-#[derive(Clone, Debug, Drop, PartialEq)]
+#[derive(Clone, Drop)]
 pub enum Action {
     Create {
         id: Hash,
@@ -41,11 +40,4 @@ pub fn copy_action(action: &Action) -> Result<Action, AllocError>
     ensures { IfOk result (λ a. a ≡ action.now) }
 {
     action.clone()
-}
-
-/// Whether two actions are equal.
-pub fn same_action(a: &Action, b: &Action) -> bool
-    ensures { Decides result (a.now ≡ b.now) }
-{
-    *a == *b
 }

@@ -1,10 +1,8 @@
 //! Trees of actions.
-ghost use Rattle.std.specs.Prelude.{◌≡◌, ◌∷◌, [], IfOk, OnOk, OnErr, option_map, option_copied, slice_get};
-ghost use Rattle.std.specs.Bool.{Decides};
-ghost use Rattle.ledger_terms.specs.Forest.{NoRoots, Root, join};
+ghost use Rattle.std.specs.Prelude.{◌≡◌, OnOk, OnErr, option_map, option_copied, slice_get};
+ghost use Rattle.ledger_terms.specs.Forest.{NoRoots, join};
 ghost use Rattle.ledger_terms.specs.Grown.{forest_of, tree_of};
 ghost use Rattle.ledger_terms.specs.Roots.{tree_at, trees_count};
-ghost use Rattle.ledger_terms.specs.SameTrees.{same_actions};
 
 use crate::action::{Action, copy_action};
 use crate::hash::Hash;
@@ -13,7 +11,7 @@ use std::marker::Model;
 
 /// An action with its seed and its consequences.
 #[cycle(tree)]
-#[derive(Debug, Drop)]
+#[derive(Drop)]
 pub struct ActionNode {
     pub seed: Hash,
     pub action: Action,
@@ -22,7 +20,7 @@ pub struct ActionNode {
 
 /// Trees of actions, which contracts see as a forest.
 #[cycle(tree)]
-#[derive(Debug, Drop)]
+#[derive(Drop)]
 pub struct ActionNodeList {
     nodes: Vec<ActionNode>,
 }
@@ -136,29 +134,6 @@ impl Clone for ActionNodeList {
     }
 }
 
-#[cycle(same)]
-fn same_node(a: &ActionNode, b: &ActionNode) -> bool
-    ensures { result ≡ same_actions (tree_of a.now) (tree_of b.now) }
-{
-    a.seed == b.seed && a.action == b.action && same_list(&a.children, &b.children)
-}
-
-#[cycle(same)]
-fn same_list(a: &ActionNodeList, b: &ActionNodeList) -> bool
-    ensures { result ≡ same_actions a.now b.now }
-{
-    let (a, b) = (a.as_slice(), b.as_slice());
-    if a.len() != b.len() {
-        return false;
-    }
-    for at in 0..a.len() {
-        if !same_node(&a[at], &b[at]) {
-            return false;
-        }
-    }
-    true
-}
-
 impl Clone for ActionNode {
     ghost is_clone = { λ a b. b ≡ a };
 
@@ -169,38 +144,4 @@ impl Clone for ActionNode {
             children: self.children.clone()?,
         })
     }
-}
-
-impl PartialEq for ActionNode {
-    ghost use Rattle.ledger_terms.specs.Grown.{tree_of};
-    ghost use Rattle.ledger_terms.specs.SameTrees.{same_actions, actions_decide};
-    ghost use Rattle.ledger_terms.specs.Deciding.{per_on};
-
-    ghost eq = { λ a b. same_actions (tree_of a) (tree_of b) };
-
-    ghost laws = { per_on tree_of actions_decide };
-
-    fn eq(&self, other: &ActionNode) -> bool {
-        same_node(self, other)
-    }
-}
-
-impl PartialEq for ActionNodeList {
-    ghost use Rattle.ledger_terms.specs.SameTrees.{same_actions, actions_decide};
-    ghost use Rattle.ledger_terms.specs.Deciding.{per};
-
-    ghost eq = { same_actions };
-
-    ghost laws = { per actions_decide };
-
-    fn eq(&self, other: &ActionNodeList) -> bool {
-        same_list(self, other)
-    }
-}
-
-/// Whether two lists of trees are equal.
-pub fn same_trees(a: &ActionNodeList, b: &ActionNodeList) -> bool
-    ensures { Decides result (a.now ≡ b.now) }
-{
-    *a == *b
 }

@@ -2,7 +2,6 @@
 ghost use Rattle.std.specs.Prelude.{◌≡◌, ◌==◌, OnOk, OnErr, IfOk, option_copied, slice_get};
 ghost use Rattle.ledger_terms.specs.Syntax.{NoExprs};
 ghost use Rattle.ledger_terms.specs.SyntaxLists.{exprs_count, exprs_join, one_expr};
-ghost use Rattle.ledger_terms.specs.SameSyntax.{same_expr, same_exprs};
 ghost use Rattle.ledger_terms.specs.ExprForms.{expr_form, exprs_in, list_form};
 
 use crate::text::Text;
@@ -12,7 +11,7 @@ use std::boxed::Box;
 
 /// An expression.
 #[cycle(expr)]
-#[derive(Debug, Drop)]
+#[derive(Drop)]
 pub enum Expr {
     Literal(Value),
     Var(Text),
@@ -34,7 +33,7 @@ pub enum Expr {
 
 /// Expressions in order.
 #[cycle(expr)]
-#[derive(Debug, Drop)]
+#[derive(Drop)]
 pub struct ExprList {
     items: Vec<Expr>,
 }
@@ -138,50 +137,6 @@ fn copy_expr(expr: &Expr) -> Result<Expr, AllocError>
     }
 }
 
-#[cycle(same)]
-fn same_list(a: &ExprList, b: &ExprList) -> bool
-    ensures { result ≡ same_exprs (list_form a.now) (list_form b.now) }
-{
-    let (a, b) = (a.as_slice(), b.as_slice());
-    if a.len() != b.len() {
-        return false;
-    }
-    for at in 0..a.len() {
-        if !same_expr(&a[at], &b[at]) {
-            return false;
-        }
-    }
-    true
-}
-
-#[cycle(same)]
-#[tactic(auto, using(crate::proofs::ExprRows::form_SetOf))]
-fn same_expr(a: &Expr, b: &Expr) -> bool
-    ensures { result ≡ same_expr (expr_form a.now) (expr_form b.now) }
-{
-    match (a, b) {
-        (Expr::Literal(a), Expr::Literal(b)) => *a == *b,
-        (Expr::Var(a), Expr::Var(b)) => *a == *b,
-        (Expr::Add(a, c), Expr::Add(b, d)) => same_expr(a, b) && same_expr(c, d),
-        (Expr::Sub(a, c), Expr::Sub(b, d)) => same_expr(a, b) && same_expr(c, d),
-        (Expr::Mul(a, c), Expr::Mul(b, d)) => same_expr(a, b) && same_expr(c, d),
-        (Expr::Less(a, c), Expr::Less(b, d)) => same_expr(a, b) && same_expr(c, d),
-        (Expr::LessEq(a, c), Expr::LessEq(b, d)) => same_expr(a, b) && same_expr(c, d),
-        (Expr::Equal(a, c), Expr::Equal(b, d)) => same_expr(a, b) && same_expr(c, d),
-        (Expr::Both(a, c), Expr::Both(b, d)) => same_expr(a, b) && same_expr(c, d),
-        (Expr::Either(a, c), Expr::Either(b, d)) => same_expr(a, b) && same_expr(c, d),
-        (Expr::Negate(a), Expr::Negate(b)) => same_expr(a, b),
-        (Expr::Cond(a, c, e), Expr::Cond(b, d, f)) => {
-            same_expr(a, b) && same_expr(c, d) && same_expr(e, f)
-        }
-        (Expr::Cat(a, c), Expr::Cat(b, d)) => same_expr(a, b) && same_expr(c, d),
-        (Expr::SetOf(a), Expr::SetOf(b)) => same_list(a, b),
-        (Expr::Union(a, c), Expr::Union(b, d)) => same_expr(a, b) && same_expr(c, d),
-        (Expr::Has(a, c), Expr::Has(b, d)) => same_expr(a, b) && same_expr(c, d),
-        _ => false,
-    }
-}
-
 impl Clone for Expr {
     ghost use Rattle.ledger_terms.specs.ExprForms.{expr_form};
 
@@ -199,35 +154,5 @@ impl Clone for ExprList {
 
     fn clone(&self) -> Result<ExprList, AllocError> {
         copy_list(self)
-    }
-}
-
-impl PartialEq for Expr {
-    ghost use Rattle.ledger_terms.specs.ExprForms.{expr_form};
-    ghost use Rattle.ledger_terms.specs.SameSyntax.{same_expr};
-    ghost use Rattle.ledger_terms.specs.Deciding.{per_on};
-    ghost use Rattle.ledger_terms.specs.SameExprs.{same_expr_decides};
-
-    ghost eq = { λ e f. same_expr (expr_form e) (expr_form f) };
-
-    ghost laws = { per_on expr_form same_expr_decides };
-
-    fn eq(&self, other: &Expr) -> bool {
-        same_expr(self, other)
-    }
-}
-
-impl PartialEq for ExprList {
-    ghost use Rattle.ledger_terms.specs.ExprForms.{list_form};
-    ghost use Rattle.ledger_terms.specs.SameSyntax.{same_exprs};
-    ghost use Rattle.ledger_terms.specs.Deciding.{per_on};
-    ghost use Rattle.ledger_terms.specs.SameExprs.{same_exprs_decides};
-
-    ghost eq = { λ e f. same_exprs (list_form e) (list_form f) };
-
-    ghost laws = { per_on list_form same_exprs_decides };
-
-    fn eq(&self, other: &ExprList) -> bool {
-        same_list(self, other)
     }
 }

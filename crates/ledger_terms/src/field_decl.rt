@@ -4,7 +4,7 @@ use crate::list::ListOf;
 use crate::name::Name;
 
 /// A field of a template, or a parameter of a choice, with its kind.
-#[derive(Clone, Copy, Debug, PartialEq)]
+#[derive(Clone, Copy, PartialEq)]
 pub struct FieldDecl {
     pub name: Name,
     pub kind: Kind,

@@ -4,7 +4,7 @@ use crate::name::{Name, NameList};
 use crate::party_set::PartySet;
 
 /// A participant with the parties that it hosts and the packages that it has vetted.
-#[derive(Debug, Drop)]
+#[derive(Drop)]
 pub struct Host {
     pub name: Name,
     pub parties: PartySet,

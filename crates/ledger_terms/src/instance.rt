@@ -1,13 +1,12 @@
 //! What a contract says.
 ghost use Rattle.std.specs.Prelude.{◌≡◌, IfOk};
-ghost use Rattle.std.specs.Bool.{Decides};
 
 use crate::template_name::TemplateName;
 use crate::value::{ValueList, copy_values};
 use std::alloc::AllocError;
 
 /// A contract's template and the values of its fields, in the order in which the template declares them.
-#[derive(Clone, Debug, Drop, PartialEq)]
+#[derive(Clone, Drop, PartialEq)]
 pub struct Instance {
     pub template: TemplateName,
     pub fields: ValueList,
@@ -21,11 +20,4 @@ pub fn copy_instance(instance: &Instance) -> Result<Instance, AllocError>
         template: instance.template,
         fields: copy_values(&instance.fields)?,
     })
-}
-
-/// Whether two instances are equal.
-pub fn same_instance(a: &Instance, b: &Instance) -> bool
-    ensures { Decides result (a.now ≡ b.now) }
-{
-    *a == *b
 }

@@ -1,7 +1,7 @@
 //! The kinds of values.
 
 /// The kind of a value of the contract language.
-#[derive(Clone, Copy, Debug, PartialEq, Eq)]
+#[derive(Clone, Copy, PartialEq, Eq)]
 pub enum Kind {
     Unit,
     Int,

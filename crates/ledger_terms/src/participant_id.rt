@@ -3,7 +3,7 @@ use crate::list::ListOf;
 use std::marker::Model;
 
 /// A participant's index in the topology, which contracts see as that number.
-#[derive(Clone, Copy, Debug, PartialEq, Eq, PartialOrd, Ord, Hash)]
+#[derive(Clone, Copy, PartialEq, Eq, PartialOrd, Ord, Hash)]
 pub struct ParticipantId(pub u8);
 
 impl Model for ParticipantId {

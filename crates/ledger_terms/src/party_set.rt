@@ -7,7 +7,7 @@ use std::alloc::{AllocError, Global};
 use std::marker::Model;
 
 /// A set of parties, which contracts see as its names in strictly rising order of their bytes.
-#[derive(Debug, Drop)]
+#[derive(Drop)]
 pub struct PartySet {
     names: Vec<Name>,
 }

@@ -8,7 +8,7 @@ use std::alloc::{AllocError, Global};
 use std::marker::Model;
 
 /// A place in a JSON value (RFC 6901), which contracts see as the bytes of its text. The whole value is the empty text.
-#[derive(Debug, Drop)]
+#[derive(Drop)]
 pub struct Pointer {
     text: Text,
 }

@@ -2,7 +2,7 @@
 use crate::name::Name;
 
 /// A template's name, which is written `Package.Template`.
-#[derive(Clone, Copy, Debug, PartialEq)]
+#[derive(Clone, Copy, PartialEq)]
 pub struct TemplateName {
     pub package: Name,
     pub name: Name,

@@ -8,7 +8,7 @@ use crate::params::Params;
 use crate::participant_id::ParticipantId;
 
 /// The participants, in order, and the times.
-#[derive(Debug, Drop)]
+#[derive(Drop)]
 pub struct Topology {
     pub hosts: HostList,
     pub params: Params,

@@ -6,10 +6,10 @@ use Rattle.ledger_terms.specs.declared.host.Host.{Host}
 use Rattle.ledger_terms.specs.declared.active_row.ActiveRow.{ActiveRow}
 use Rattle.ledger_model.specs.Terms.{Act, id_of, is_create, consumes}
 use Rattle.ledger_model.specs.Forest.{acts}
-use Rattle.ledger_model.specs.Log.{ParticipantId}
-use Rattle.ledger_model.specs.Reading.{Reading}
-use Rattle.ledger_model.specs.Timeline.{is_approved_in}
-use Rattle.ledger_model.specs.Inbox.{Item, moments, opened_at, active_row, has_hosted_stakeholder, is_active_create, created_at_place, created_below, authentic_below, node_active}
+use Rattle.ledger_model.specs.Terms.{ParticipantId}
+use Rattle.canton_model.specs.Reading.{Reading}
+use Rattle.canton_model.specs.Timeline.{is_approved_in}
+use Rattle.canton_model.specs.Inbox.{Item, moments, opened_at, active_row, has_hosted_stakeholder, is_active_create, created_at_place, created_below, authentic_below, node_active}
 use Rattle.proto_model.specs.PlainReading.{plain_reading}
 use Rattle.node_core.specs.declared.item.Item.{Item as OwnItem}
 use Rattle.node_core.specs.Seen.{seen}

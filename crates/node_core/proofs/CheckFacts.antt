@@ -5,14 +5,15 @@ use Rattle.std.specs.List.{list_any}
 use Rattle.std.proofs.lemmas.List.Folds.{list_any-append}
 use Rattle.ledger_terms.specs.declared.host.Host.{Host}
 use Rattle.ledger_terms.specs.Parties.{is_subset}
-use Rattle.ledger_model.specs.declared.check.LocalVerdict.{LocalVerdict}
-use Rattle.ledger_model.specs.declared.check.LocalVerdict.TheVariants.{Approve, Reject}
-use Rattle.ledger_model.specs.declared.check.Reason.{Reason}
-use Rattle.ledger_model.specs.declared.check.Reason.TheVariants.{IdMismatch, NotVetted, TimeSkew, Locked, Inactive, NotFresh, Unordered, NotConformant, NotAuthorised}
-use Rattle.ledger_model.specs.Log.{ParticipantId, Params}
+use Rattle.canton_model.specs.declared.check.LocalVerdict.{LocalVerdict}
+use Rattle.canton_model.specs.declared.check.LocalVerdict.TheVariants.{Approve, Reject}
+use Rattle.canton_model.specs.declared.check.Reason.{Reason}
+use Rattle.canton_model.specs.declared.check.Reason.TheVariants.{IdMismatch, NotVetted, TimeSkew, Locked, Inactive, NotFresh, Unordered, NotConformant, NotAuthorised}
+use Rattle.ledger_model.specs.Terms.{ParticipantId}
+use Rattle.canton_model.specs.Log.{Params}
 use Rattle.ledger_model.specs.Status.{is_unknown}
-use Rattle.ledger_model.specs.Inbox.{Item, item_time, has_hosted_stakeholder, is_locked_in_inbox, status_in_inbox}
-use Rattle.ledger_model.specs.Checks.{is_within, verdict_on_view}
+use Rattle.canton_model.specs.Inbox.{Item, item_time, has_hosted_stakeholder, is_locked_in_inbox, status_in_inbox}
+use Rattle.canton_model.specs.Checks.{is_within, verdict_on_view}
 use Rattle.proto_model.specs.declared.plain_form.PlainForm.{PlainForm}
 use Rattle.proto_model.specs.BuiltIn.{built_in, built_in_language, conforms}
 use Rattle.proto_model.specs.PlainReading.{plain_reading, is_authentic, root_of, roots_of_form, vets, shown_of_form, view_of_form}

@@ -2,15 +2,17 @@
 use Rattle.std.proofs.Common.{◌≡◌, ℕ, zero, suc, Bool, false, List, [], ◌∷◌, ◌++◌, Option, Some, None, refl, sym, ap, ◌∙◌, inl, inr}
 use Rattle.std.specs.Prelude.{is_some, if◌then◌else◌}
 use Rattle.std.proofs.lemmas.Bool.{cases_Bool}
-use Rattle.ledger_model.specs.declared.message.Request.{Request}
-use Rattle.ledger_model.specs.declared.message.Verdict.{Verdict}
-use Rattle.ledger_model.specs.declared.message.Message.{Message}
-use Rattle.ledger_model.specs.declared.message.Message.TheVariants.{Request as RequestMessage, Response as ResponseMessage, Verdict as VerdictMessage, Tick}
-use Rattle.ledger_model.specs.declared.message.Entry.{Entry}
-use Rattle.ledger_model.specs.Log.{ParticipantId, request_of, request_at}
-use Rattle.ledger_model.specs.Reading.{Reading, Shown, is_recipient}
-use Rattle.ledger_model.specs.Inbox.{Content, Told, Nothing, Item, received, told, content_of, item_after, items_after, inbox, shown_by, shown_at}
-use Rattle.ledger_model.proofs.InboxGrows.{items_push}
+use Rattle.canton_model.specs.declared.message.Request.{Request}
+use Rattle.canton_model.specs.declared.message.Verdict.{Verdict}
+use Rattle.canton_model.specs.declared.message.Message.{Message}
+use Rattle.canton_model.specs.declared.message.Message.TheVariants.{Request as RequestMessage, Response as ResponseMessage, Verdict as VerdictMessage, Tick}
+use Rattle.canton_model.specs.declared.message.Entry.{Entry}
+use Rattle.ledger_model.specs.Terms.{ParticipantId}
+use Rattle.canton_model.specs.Log.{request_of, request_at}
+use Rattle.ledger_model.specs.Opening.{Shown}
+use Rattle.canton_model.specs.Reading.{Reading, is_recipient}
+use Rattle.canton_model.specs.Inbox.{Content, Told, Nothing, Item, received, told, content_of, item_after, items_after, inbox, shown_by, shown_at}
+use Rattle.canton_model.proofs.InboxGrows.{items_push}
 use Rattle.node_core.specs.Entries.{content_from, item_from}
 
 module _ (reading : Reading) (p : ParticipantId) where

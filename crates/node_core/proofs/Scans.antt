@@ -8,10 +8,10 @@ use Rattle.std.specs.Str.{bytes_eq}
 use Rattle.ledger_terms.specs.declared.host.Host.{Host}
 use Rattle.ledger_model.specs.Terms.{Act, Create, Instance, consumes}
 use Rattle.ledger_model.specs.Forest.{acts}
-use Rattle.ledger_model.specs.Reading.{roots_in}
-use Rattle.ledger_model.specs.Evidence.{gather}
-use Rattle.ledger_model.specs.Timeline.{is_approved_in}
-use Rattle.ledger_model.specs.Inbox.{moments, past_in, shown_by}
+use Rattle.ledger_model.specs.Opening.{roots_in}
+use Rattle.canton_model.specs.Evidence.{gather}
+use Rattle.canton_model.specs.Timeline.{is_approved_in}
+use Rattle.canton_model.specs.Inbox.{moments, past_in, shown_by}
 use Rattle.proto_model.specs.PlainReading.{plain_reading, is_authentic, root_of}
 use Rattle.node_core.specs.declared.content.Content.{Content as OwnContent}
 use Rattle.node_core.specs.declared.content.Content.TheVariants.{Received as OwnReceived, Told as OwnTold, Nothing as OwnNothing}

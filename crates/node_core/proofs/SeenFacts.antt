@@ -1,8 +1,8 @@
 -- Moments of the first items.
 use Rattle.std.proofs.Common.{◌≡◌, ℕ, suc, ◌<◌, ◌-◌, List, [], ◌∷◌, length, get_or, take, refl, sym, ap, ◌∙◌, ◌+◌, add-one, arith}
 use Rattle.std.proofs.lemmas.List.{take-map, length-map}
-use Rattle.ledger_model.specs.Timeline.{Moment}
-use Rattle.ledger_model.specs.Inbox.{Item, moments, verdict_in, last_time}
+use Rattle.canton_model.specs.Timeline.{Moment}
+use Rattle.canton_model.specs.Inbox.{Item, moments, verdict_in, last_time}
 use Rattle.node_core.specs.declared.item.Item.{Item as OwnItem}
 use Rattle.node_core.specs.Seen.{seen, seen_item}
 

@@ -1,13 +1,14 @@
 -- What an entry is to a participant, from its own inbox alone.
 use Rattle.std.specs.Prelude.{List, Option, is_some, if◌then◌else◌}
-use Rattle.ledger_model.specs.declared.message.Request.{Request}
-use Rattle.ledger_model.specs.declared.message.Verdict.{Verdict}
-use Rattle.ledger_model.specs.declared.message.Message.{Message}
-use Rattle.ledger_model.specs.declared.message.Message.TheVariants.{Request as RequestMessage, Response as ResponseMessage, Verdict as VerdictMessage, Tick}
-use Rattle.ledger_model.specs.declared.message.Entry.{Entry}
-use Rattle.ledger_model.specs.Log.{ParticipantId}
-use Rattle.ledger_model.specs.Reading.{Reading, Shown}
-use Rattle.ledger_model.specs.Inbox.{Content, Told, Nothing, Item, received, shown_at}
+use Rattle.canton_model.specs.declared.message.Request.{Request}
+use Rattle.canton_model.specs.declared.message.Verdict.{Verdict}
+use Rattle.canton_model.specs.declared.message.Message.{Message}
+use Rattle.canton_model.specs.declared.message.Message.TheVariants.{Request as RequestMessage, Response as ResponseMessage, Verdict as VerdictMessage, Tick}
+use Rattle.canton_model.specs.declared.message.Entry.{Entry}
+use Rattle.ledger_model.specs.Terms.{ParticipantId}
+use Rattle.ledger_model.specs.Opening.{Shown}
+use Rattle.canton_model.specs.Reading.{Reading}
+use Rattle.canton_model.specs.Inbox.{Content, Told, Nothing, Item, received, shown_at}
 
 -- a verdict is told exactly where its request was received
 abbrev pub told_if_received : List Item → Verdict → Content

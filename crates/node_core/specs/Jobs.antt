@@ -1,12 +1,13 @@
 -- Which requests a participant has to check, and what comes of it.
 use Rattle.std.specs.Prelude.{ℕ, suc, Bool, not, ◌&&◌, List, [], ◌∷◌, ◌++◌, Option, Result, Ok, Err, length, take, nat_eq, unwrap_or, if◌then◌else◌}
 use Rattle.std.specs.List.{list_any}
-use Rattle.ledger_model.specs.declared.check.ViewVerdict.{ViewVerdict}
-use Rattle.ledger_model.specs.declared.message.Response.{Response}
-use Rattle.ledger_model.specs.Log.{ParticipantId}
-use Rattle.ledger_model.specs.Reading.{Reading, Shown, views_in}
-use Rattle.ledger_model.specs.Inbox.{shown_at, is_decided_in}
-use Rattle.ledger_model.specs.Checks.{is_confirmed_by, verdicts_owed}
+use Rattle.canton_model.specs.declared.check.ViewVerdict.{ViewVerdict}
+use Rattle.canton_model.specs.declared.message.Response.{Response}
+use Rattle.ledger_model.specs.Terms.{ParticipantId}
+use Rattle.ledger_model.specs.Opening.{Shown, views_in}
+use Rattle.canton_model.specs.Reading.{Reading}
+use Rattle.canton_model.specs.Inbox.{shown_at, is_decided_in}
+use Rattle.canton_model.specs.Checks.{is_confirmed_by, verdicts_owed}
 use Rattle.node_core.specs.declared.finish_fault.FinishFault.{FinishFault}
 use Rattle.node_core.specs.declared.finish_fault.FinishFault.TheVariants.{Cancelled}
 use Rattle.node_core.specs.declared.finished.Finished.{Finished}

@@ -1,10 +1,11 @@
 -- What contracts see of a participant.
 use Rattle.std.specs.Prelude.{ℕ, List, [], ◌∷◌, ◌++◌, Option, Some, None}
 use Rattle.ledger_terms.specs.declared.host.Host.{Host}
-use Rattle.ledger_model.specs.Log.{ParticipantId, Params}
-use Rattle.ledger_model.specs.Reading.{Reading}
-use Rattle.ledger_model.specs.Inbox.{Item}
-use Rattle.ledger_model.specs.declared.message.Response.{Response}
+use Rattle.ledger_model.specs.Terms.{ParticipantId}
+use Rattle.canton_model.specs.Log.{Params}
+use Rattle.canton_model.specs.Reading.{Reading}
+use Rattle.canton_model.specs.Inbox.{Item}
+use Rattle.canton_model.specs.declared.message.Response.{Response}
 use Rattle.proto_model.specs.PlainReading.{plain_reading}
 
 -- The participants and times of the synchroniser, which of them it is, its inbox, the places of the requests that it has

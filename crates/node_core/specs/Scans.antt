@@ -3,7 +3,7 @@ use Rattle.std.specs.Prelude.{ℕ, Bool, ◌||◌, List, filter}
 use Rattle.std.specs.List.{list_any}
 use Rattle.ledger_model.specs.Terms.{Act, creates, consumes}
 use Rattle.ledger_model.specs.Forest.{acts}
-use Rattle.ledger_model.specs.Inbox.{Item, opened_at}
+use Rattle.canton_model.specs.Inbox.{Item, opened_at}
 use Rattle.proto_model.specs.PlainReading.{is_authentic}
 
 -- the authentic actions that are opened of it

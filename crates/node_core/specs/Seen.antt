@@ -1,6 +1,6 @@
 -- The items of a participant, as the definitions of the ledger model see them.
 use Rattle.std.specs.Prelude.{List, map}
-use Rattle.ledger_model.specs.Inbox.{Content, Item, Received, Told, Nothing}
+use Rattle.canton_model.specs.Inbox.{Content, Item, Received, Told, Nothing}
 use Rattle.proto_model.specs.PlainReading.{shown_of_form}
 use Rattle.node_core.specs.declared.content.Content.{Content as OwnContent}
 use Rattle.node_core.specs.declared.content.Content.TheVariants.{Received as OwnReceived, Told as OwnTold, Nothing as OwnNothing}

@@ -3,7 +3,7 @@ use std::alloc::AllocError;
 
 /// Why a check that is done brings no response: the request at `place` was decided meanwhile, first at `decided_at`, or
 /// there is no memory.
-#[derive(Debug, Drop)]
+#[derive(Drop)]
 pub enum FinishFault {
     Cancelled { place: u64, decided_at: u64 },
     Memory,

@@ -2,8 +2,8 @@
 ghost use Rattle.std.specs.Prelude.{◌≡◌, ◌+◌, ◌&&◌, ◌||◌, [], take, option_map, option_copied, is_some, nat_lt, slice_get, length};
 ghost use Rattle.std.specs.List.{list_any};
 ghost use Rattle.ledger_model.specs.Terms.{creates, consumes};
-ghost use Rattle.ledger_model.specs.Timeline.{decision_on, verdict_on, is_past, is_approval, is_approved_in};
-ghost use Rattle.ledger_model.specs.Inbox.{shown_by, shown_at, verdict_in, moments, item_time, is_received, is_decided_in, past_in, pending_in, status_in_inbox, is_locked_in_inbox, clean, last_time};
+ghost use Rattle.canton_model.specs.Timeline.{decision_on, verdict_on, is_past, is_approval, is_approved_in};
+ghost use Rattle.canton_model.specs.Inbox.{shown_by, shown_at, verdict_in, moments, item_time, is_received, is_decided_in, past_in, pending_in, status_in_inbox, is_locked_in_inbox, clean, last_time};
 ghost use Rattle.proto_model.specs.PlainReading.{plain_reading, shown_of_form};
 ghost use Rattle.node_core.specs.Seen.{seen, seen_item, seen_content};
 ghost use Rattle.node_core.specs.Scans.{creates_at, changes_at};

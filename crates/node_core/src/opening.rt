@@ -1,6 +1,6 @@
 //! What an entry is to a participant.
 ghost use Rattle.std.specs.Prelude.{◌≡◌, IfOk, option_map, option_copied, is_some};
-ghost use Rattle.ledger_model.specs.Inbox.{received, shown_at};
+ghost use Rattle.canton_model.specs.Inbox.{received, shown_at};
 ghost use Rattle.proto_model.specs.PlainReading.{plain_to, shown_of_form, envelope_to};
 ghost use Rattle.node_core.specs.Seen.{seen, seen_content, seen_item};
 ghost use Rattle.node_core.specs.Entries.{content_from, told_if_received};

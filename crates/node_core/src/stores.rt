@@ -1,7 +1,7 @@
 //! What a participant's approved requests made.
 ghost use Rattle.std.specs.Prelude.{◌≡◌, ◌++◌, [], IfOk, OnOk, if◌then◌else◌};
-ghost use Rattle.ledger_model.specs.Timeline.{is_approved_in};
-ghost use Rattle.ledger_model.specs.Inbox.{moments, opened_at, part_if, parts_below, created_at_place, active_row, node_active};
+ghost use Rattle.canton_model.specs.Timeline.{is_approved_in};
+ghost use Rattle.canton_model.specs.Inbox.{moments, opened_at, part_if, parts_below, created_at_place, active_row, node_active};
 ghost use Rattle.proto_model.specs.PlainReading.{plain_reading, root_of, roots_of_form};
 ghost use Rattle.node_core.specs.Seen.{seen};
 ghost use Rattle.node_core.specs.Scans.{authentic_at};

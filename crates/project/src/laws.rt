@@ -1,8 +1,7 @@
 //! What projections are to the ledger model, as the clauses of functions that do nothing.
 ghost use Rattle.std.specs.Prelude.{◌≡◌, Bool};
 ghost use Rattle.ledger_terms.specs.Parties.{has_party};
-ghost use Rattle.ledger_terms.specs.Trees.{Act, Actions};
-ghost use Rattle.ledger_terms.specs.Forest.{project};
+ghost use Rattle.ledger_terms.specs.Trees.{Actions};
 ghost use Rattle.ledger_terms.specs.declared.instance.Instance.{Instance};
 ghost use Rattle.ledger_terms.specs.declared.value.Value.{Value};
 ghost use Rattle.ledger_model.specs.declared.step.ChoiceCall.{ChoiceCall};

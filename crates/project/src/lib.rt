@@ -5,6 +5,3 @@ pub mod laws;
 pub mod projection;
 
 pub use projection::project;
-
-#[cfg(test)]
-mod tests;

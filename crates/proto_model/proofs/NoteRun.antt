@@ -7,12 +7,13 @@ use Rattle.ledger_terms.specs.Hosting.{hosts_at}
 use Rattle.ledger_terms.specs.Names.{is_name, is_spelled}
 use Rattle.ledger_terms.specs.declared.params.Params.{Params}
 use Rattle.ledger_terms.specs.declared.value.Value.TheVariants.{Unit as UnitValue}
-use Rattle.ledger_model.specs.declared.check.LocalVerdict.TheVariants.{Approve}
+use Rattle.canton_model.specs.declared.check.LocalVerdict.TheVariants.{Approve}
 use Rattle.ledger_model.specs.Language.{roles_of}
-use Rattle.ledger_model.specs.Reading.{Reading, Shown}
-use Rattle.ledger_model.specs.Genuine.{IsSealed, Genuine, NoCollision}
-use Rattle.ledger_model.specs.Checks.{verdicts_owed, verdicts_on, verdict_on_view, is_confirmed_by, authorises_children, is_requested, is_within}
-use Rattle.ledger_model.specs.Inbox.{Received, inbox, received, shown_in}
+use Rattle.ledger_model.specs.Opening.{Shown}
+use Rattle.canton_model.specs.Reading.{Reading}
+use Rattle.canton_model.specs.Genuine.{IsSealed, Genuine, NoCollision}
+use Rattle.canton_model.specs.Checks.{verdicts_owed, verdicts_on, verdict_on_view, is_confirmed_by, authorises_children, is_requested, is_within}
+use Rattle.canton_model.specs.Inbox.{Received, inbox, received, shown_in}
 use Rattle.proto_model.specs.NoteForm.{root_seed_of, note_of, note_form, note_request, request_to_self}
 use Rattle.proto_model.specs.BuiltIn.{built_in, built_in_language, conforms}
 use Rattle.proto_model.specs.NoteLog.{approval, request_entry, note_log, sole_host, LeavesTime}

@@ -3,13 +3,14 @@ use Rattle.std.proofs.Common.{◌≡◌, ℕ, Bool, true, false, List, [], ◌�
 use Rattle.std.specs.Prelude.{not, ◌||◌, ◌&&◌}
 use Rattle.std.specs.List.{list_any}
 use Rattle.ledger_terms.specs.declared.params.Params.{Params}
-use Rattle.ledger_model.specs.declared.check.LocalVerdict.TheVariants.{Approve}
+use Rattle.canton_model.specs.declared.check.LocalVerdict.TheVariants.{Approve}
 use Rattle.ledger_model.specs.Terms.{Act, is_create}
 use Rattle.ledger_model.specs.Status.{shows_locked, shows_inactive, shows_not_fresh, shows_unordered}
 use Rattle.ledger_model.specs.Language.{roles_of}
-use Rattle.ledger_model.specs.Reading.{Reading, Shown, OpenedView}
-use Rattle.ledger_model.specs.Inbox.{has_hosted_stakeholder}
-use Rattle.ledger_model.specs.Checks.{Check, checks, first_shown, first_tree, has_vetted, is_within, authorises_children, is_requested}
+use Rattle.ledger_model.specs.Opening.{Shown, OpenedView}
+use Rattle.canton_model.specs.Reading.{Reading}
+use Rattle.canton_model.specs.Inbox.{has_hosted_stakeholder}
+use Rattle.canton_model.specs.Checks.{Check, checks, first_shown, first_tree, has_vetted, is_within, authorises_children, is_requested}
 
 -- no check is shown by an action of the core
 abbrev NoneShown : List Check → List (ℕ × Act) → Type 0

@@ -4,18 +4,19 @@ use Rattle.std.specs.Prelude.{slice_get}
 use Rattle.std.proofs.lemmas.Bool.Decides.{nat_tests}
 use Rattle.std.proofs.lemmas.Option.{same_Some, none-some}
 use Rattle.ledger_terms.specs.declared.params.Params.{Params}
-use Rattle.ledger_model.specs.declared.message.Entry.{Entry}
-use Rattle.ledger_model.specs.declared.message.Decision.TheVariants.{Approved}
-use Rattle.ledger_model.specs.declared.check.LocalVerdict.TheVariants.{Approve}
+use Rattle.canton_model.specs.declared.message.Entry.{Entry}
+use Rattle.canton_model.specs.declared.message.Decision.TheVariants.{Approved}
+use Rattle.canton_model.specs.declared.check.LocalVerdict.TheVariants.{Approve}
 use Rattle.ledger_model.specs.Terms.{Act, instance_of}
 use Rattle.ledger_model.specs.Forest.{acts}
-use Rattle.ledger_model.specs.Mediation.{scan}
-use Rattle.ledger_model.specs.Reading.{Reading, Transaction, OpenedView}
-use Rattle.ledger_model.specs.Inbox.{Item, inbox}
-use Rattle.ledger_model.specs.Checks.{verdicts_owed, verdicts_on, verdict_on_view, is_confirmed_by}
-use Rattle.ledger_model.specs.Ledger.{FitsIfVerdict, whole_at, commit_of}
-use Rattle.ledger_model.specs.Evidence.{acts_of}
-use Rattle.ledger_model.specs.Genuine.{IsSealed, FitsIfRequest, FitsIfResponse, Genuine, NoCollision}
+use Rattle.canton_model.specs.Mediation.{scan}
+use Rattle.ledger_model.specs.Opening.{Transaction, OpenedView}
+use Rattle.canton_model.specs.Reading.{Reading}
+use Rattle.canton_model.specs.Inbox.{Item, inbox}
+use Rattle.canton_model.specs.Checks.{verdicts_owed, verdicts_on, verdict_on_view, is_confirmed_by}
+use Rattle.canton_model.specs.Ledger.{FitsIfVerdict, whole_at, commit_of}
+use Rattle.canton_model.specs.Evidence.{acts_of}
+use Rattle.canton_model.specs.Genuine.{IsSealed, FitsIfRequest, FitsIfResponse, Genuine, NoCollision}
 use Rattle.ledger_model.proofs.Lists.{In, in_from_Contains}
 use Rattle.proto_model.specs.NoteForm.{request_to_self}
 use Rattle.proto_model.specs.NoteLog.{approval, request_entry, response_entry, note_log, LeavesTime}

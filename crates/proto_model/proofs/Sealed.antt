@@ -12,13 +12,13 @@ use Rattle.std.proofs.lemmas.Option.{same_Some, none-some}
 use Rattle.ledger_terms.specs.Hosting.{hosts_at}
 use Rattle.ledger_terms.specs.Parties.{name_below, same_name, set_of}
 use Rattle.ledger_terms.specs.declared.host.Host.{Host}
-use Rattle.ledger_model.specs.declared.message.Request.{Request}
+use Rattle.canton_model.specs.declared.message.Request.{Request}
 use Rattle.ledger_model.specs.Terms.{Act, instance_of}
 use Rattle.ledger_model.specs.Forest.{Forest, NoRoots, acts, project, trees_of, root_trees}
-use Rattle.ledger_model.specs.Reading.{OpenedView, Shown, roots_in}
-use Rattle.ledger_model.specs.Inbox.{is_informed}
-use Rattle.ledger_model.specs.Checks.{is_confirmed_by}
-use Rattle.ledger_model.specs.Genuine.{IsCovered, IsRootCovered, IsSealed}
+use Rattle.ledger_model.specs.Opening.{OpenedView, Shown, roots_in}
+use Rattle.canton_model.specs.Inbox.{is_informed}
+use Rattle.canton_model.specs.Checks.{is_confirmed_by}
+use Rattle.canton_model.specs.Genuine.{IsCovered, IsRootCovered, IsSealed}
 use Rattle.ledger_model.proofs.Lists.{In, in_from_Contains}
 use Rattle.proto_model.specs.BuiltIn.{built_in_language}
 use Rattle.proto_model.specs.NoteRequest.{IsNoteRequest}

@@ -8,7 +8,7 @@ use std::alloc::{AllocError, Global};
 use std::marker::Model;
 
 /// The checked packages while scripts have none of their own: the built-in one alone.
-#[derive(Debug, Drop)]
+#[derive(Drop)]
 pub struct BuiltIn {
     checked: Checked,
 }

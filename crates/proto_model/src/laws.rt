@@ -1,11 +1,11 @@
 //! Laws of the plain form's reading, each the contract of a function with nothing to do.
 ghost use Rattle.std.specs.Prelude.{◌≡◌, ◌∷◌, [], List, ℕ};
 ghost use Rattle.ledger_terms.specs.declared.host.Host.{Host};
-ghost use Rattle.ledger_model.specs.declared.message.Request.{Request};
+ghost use Rattle.canton_model.specs.declared.message.Request.{Request};
 ghost use Rattle.ledger_terms.specs.declared.params.Params.{Params};
-ghost use Rattle.ledger_model.specs.Checks.{verdicts_owed};
-ghost use Rattle.ledger_model.specs.Genuine.{Genuine, IsReading, IsSealed, NoCollision};
-ghost use Rattle.ledger_model.specs.Inbox.{inbox};
+ghost use Rattle.canton_model.specs.Checks.{verdicts_owed};
+ghost use Rattle.canton_model.specs.Genuine.{Genuine, IsReading, IsSealed, NoCollision};
+ghost use Rattle.canton_model.specs.Inbox.{inbox};
 ghost use Rattle.proto_model.specs.NoteForm.{note_form, note_request};
 ghost use Rattle.proto_model.specs.NoteLog.{approval, request_entry, note_log, sole_host, LeavesTime};
 ghost use Rattle.proto_model.specs.Plain.{IsPlain};

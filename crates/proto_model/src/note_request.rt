@@ -7,7 +7,7 @@ use crate::plain_form::{PlainForm, encode_plain};
 use hash_id::{child_seed, root_seed};
 use interpret::contract_id;
 use lang_eval::note_template;
-use ledger_model::{Envelope, EnvelopeList, Request};
+use canton_model::{Envelope, EnvelopeList, Request};
 use ledger_terms::{
     Bytes, Hash, Instance, Name, ParticipantId, ParticipantIdList, PartySet, Text, Value, ValueList,
 };

@@ -10,7 +10,7 @@ use wire_form::{Reader, Stop, encode_hash, encode_instance, encode_parties, enco
 
 /// What an envelope of the plain form says: who requests a transaction and at what ledger time (in microseconds), the seeds
 /// of the transaction and of its one root, and that root, the Create of a contract.
-#[derive(Debug, Drop)]
+#[derive(Drop)]
 pub struct PlainForm {
     pub requesters: PartySet,
     pub ledger_time: u64,

@@ -2,7 +2,7 @@
 use ledger_terms::Topology;
 
 /// The participants that a synchroniser is made for, and its times.
-#[derive(Debug, Drop)]
+#[derive(Drop)]
 pub struct Setup {
     pub topology: Topology,
 }

@@ -2,17 +2,17 @@
 use Rattle.std.specs.Prelude.{ℕ, ◌+◌, ◌||◌, nat_eq, Bool, if◌then◌else◌, List, [], ◌∷◌, ◌++◌, codes, decimal, slice_get, Option, Some, None}
 use Rattle.std.specs.List.{flat_map, list_any}
 use Rattle.ledger_terms.specs.declared.host.Host.{Host}
-use Rattle.ledger_model.specs.declared.message.Envelope.{Envelope}
-use Rattle.ledger_model.specs.declared.message.Request.{Request}
-use Rattle.ledger_model.specs.declared.check.LocalVerdict.{LocalVerdict}
-use Rattle.ledger_model.specs.declared.check.LocalVerdict.TheVariants.{Approve, Reject}
-use Rattle.ledger_model.specs.declared.check.ViewVerdict.{ViewVerdict}
-use Rattle.ledger_model.specs.declared.message.Decision.{Decision}
-use Rattle.ledger_model.specs.declared.message.Decision.TheVariants.{Approved, Rejected, TimedOut}
-use Rattle.ledger_model.specs.declared.message.Message.{Message}
-use Rattle.ledger_model.specs.declared.message.Message.TheVariants.{Request as RequestMessage, Response as ResponseMessage, Verdict as VerdictMessage, Tick}
-use Rattle.ledger_model.specs.declared.message.Entry.{Entry}
-use Rattle.ledger_model.specs.ReasonNames.{reason_name}
+use Rattle.canton_model.specs.declared.message.Envelope.{Envelope}
+use Rattle.canton_model.specs.declared.message.Request.{Request}
+use Rattle.canton_model.specs.declared.check.LocalVerdict.{LocalVerdict}
+use Rattle.canton_model.specs.declared.check.LocalVerdict.TheVariants.{Approve, Reject}
+use Rattle.canton_model.specs.declared.check.ViewVerdict.{ViewVerdict}
+use Rattle.canton_model.specs.declared.message.Decision.{Decision}
+use Rattle.canton_model.specs.declared.message.Decision.TheVariants.{Approved, Rejected, TimedOut}
+use Rattle.canton_model.specs.declared.message.Message.{Message}
+use Rattle.canton_model.specs.declared.message.Message.TheVariants.{Request as RequestMessage, Response as ResponseMessage, Verdict as VerdictMessage, Tick}
+use Rattle.canton_model.specs.declared.message.Entry.{Entry}
+use Rattle.canton_model.specs.ReasonNames.{reason_name}
 use Rattle.report_text.specs.Values.{between}
 
 abbrev pub host_name : Option Host → List ℕ

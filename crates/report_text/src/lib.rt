@@ -21,6 +21,3 @@ pub use submit_fault::SubmitFault;
 pub use submit_result::{SubmitResult, SubmitResultList};
 pub use totals::summary;
 pub use whole::report;
-
-#[cfg(test)]
-mod tests;

@@ -1,12 +1,12 @@
 //! What became of the requests of a whole log.
 ghost use Rattle.std.specs.Prelude.{◌≡◌, ◌++◌, ◌+◌, OnOk, string_bytes, option_copied, slice_get, nat_lt, is_some};
-ghost use Rattle.ledger_model.specs.Log.{verdict_of, request_of, time_of, decision_time_of};
-ghost use Rattle.ledger_model.specs.Timeline.{decision_on, verdict_on, is_past, timeline_of, outcome_of};
+ghost use Rattle.canton_model.specs.Log.{verdict_of, request_of, time_of, decision_time_of};
+ghost use Rattle.canton_model.specs.Timeline.{decision_on, verdict_on, is_past, timeline_of, outcome_of};
 ghost use Rattle.report_text.specs.Outcomes.{outcome_text, outcome_line, outcome_lines};
 
 use crate::entries::put_decision;
 use crate::values::put_number;
-use ledger_model::{Decision, Entry, EntryList, Message};
+use canton_model::{Decision, Entry, EntryList, Message};
 use ledger_terms::{Params, Topology};
 use std::alloc::AllocError;
 

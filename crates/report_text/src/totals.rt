@@ -7,7 +7,7 @@ use crate::node_view::{NodeView, NodeViewList};
 use crate::outcomes::{has_passed, is_request, verdict_in};
 use crate::submit_result::{SubmitResult, SubmitResultList};
 use crate::values::put_number;
-use ledger_model::{Decision, EntryList, Outcome};
+use canton_model::{Decision, EntryList, Outcome};
 use ledger_terms::{
     ActiveRow, Host, HostList, Instance, ListOf, TemplateName, Text, Topology, Value,
 };

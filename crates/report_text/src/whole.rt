@@ -10,7 +10,7 @@ use crate::results::put_results;
 use crate::round_submissions::RoundSubmissionList;
 use crate::submit_result::SubmitResultList;
 use crate::values::put_number;
-use ledger_model::EntryList;
+use canton_model::EntryList;
 use ledger_terms::{Text, Topology};
 use std::alloc::{AllocError, Global};
 

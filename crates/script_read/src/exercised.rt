@@ -2,7 +2,7 @@
 use ledger_terms::{Arg, ArgList, Input, Name, PartySet};
 
 /// What an exercise says beside its children.
-#[derive(Debug, Drop)]
+#[derive(Drop)]
 pub struct Exercised {
     pub contract: Input,
     pub choice: Name,

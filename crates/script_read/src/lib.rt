@@ -22,6 +22,3 @@ pub mod what;
 pub use read::read_script;
 pub use round::{Round, RoundList};
 pub use script::Script;
-
-#[cfg(test)]
-mod tests;

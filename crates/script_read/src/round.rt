@@ -3,7 +3,7 @@ use ledger_terms::{ListOf, ParticipantIdList, SubmissionList};
 
 /// A round of a script: how far the time is moved first, in microseconds, which participants are paused, whether the
 /// mediator holds its verdicts back, and what is submitted, in order.
-#[derive(Debug, Drop)]
+#[derive(Drop)]
 pub struct Round {
     pub advance: u64,
     pub paused: ParticipantIdList,

@@ -4,7 +4,7 @@ use lang_eval::Checked;
 use ledger_terms::Topology;
 
 /// A script that was read: who takes part, the packages with what is built in, and the rounds in order.
-#[derive(Debug, Drop)]
+#[derive(Drop)]
 pub struct Script {
     pub topology: Topology,
     pub checked: Checked,

@@ -7,14 +7,13 @@ use Rattle.ledger_terms.specs.Trees.{Act}
 use Rattle.ledger_terms.specs.Forest.{Forest, project, preorder, paths_from, number_from}
 use Rattle.ledger_terms.specs.declared.action.Action.{Action}
 use Rattle.ledger_terms.specs.declared.action.Action.TheVariants.{Create, Exercise, Fetch}
-use Rattle.ledger_model.specs.Terms.{Name, PartySet, instance_of}
+use Rattle.ledger_model.specs.Terms.{Name, PartySet, instance_of, Path}
 use Rattle.ledger_model.specs.Forest.{acts}
-use Rattle.ledger_model.specs.Log.{Path}
 use Rattle.ledger_model.specs.Language.{Language, roles_of, actors_of, informees_of, stakeholders}
 use Rattle.ledger_model.specs.Views.{View, its_informees, confirmers_of, views}
 use Rattle.ledger_model.proofs.Lists.{In, in_append_left, in_append_right, in_any, from_any, in_map, in_filter, from_filter, contains_from_In}
 use Rattle.ledger_model.proofs.Projected.{filter_project, stands}
-use Rattle.ledger_model.proofs.Lawful.{in_set_of, front_of_set}
+use Rattle.ledger_model.proofs.Sets.{in_set_of, front_of_set}
 use Rattle.view_split.specs.SplitView.{SplitView}
 use Rattle.view_split.specs.Split.{split}
 use Rattle.view_split.specs.Numbered.{seen_as}

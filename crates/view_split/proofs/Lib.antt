@@ -12,8 +12,6 @@ pub mod Shown
 pub mod Confirming
 pub mod TreesKept
 pub mod Roots
-pub mod Sealed
 pub mod Tops
 pub mod Signed
-pub mod Within
 pub mod Holes

@@ -6,9 +6,8 @@ use Rattle.ledger_terms.specs.Roots.{trees_count}
 use Rattle.ledger_terms.specs.Trees.{Act}
 use Rattle.ledger_terms.specs.Forest.{Forest, NoRoots, Root, join, project, preorder, size, below_at, number_from, paths_from}
 use Rattle.ledger_terms.specs.declared.action.Action.{Action}
-use Rattle.ledger_model.specs.Terms.{Name, PartySet}
+use Rattle.ledger_model.specs.Terms.{Name, PartySet, Path}
 use Rattle.ledger_model.specs.Forest.{root_trees}
-use Rattle.ledger_model.specs.Log.{Path}
 use Rattle.ledger_model.specs.declared.roles.Roles.{Roles}
 use Rattle.ledger_model.specs.Views.{its_informees}
 use Rattle.ledger_model.proofs.Lists.{In, in_append_right}

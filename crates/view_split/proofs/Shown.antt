@@ -6,8 +6,7 @@ use Rattle.std.proofs.lemmas.Bool.{cases_Bool, both_ways}
 use Rattle.ledger_terms.specs.Trees.{Act}
 use Rattle.ledger_terms.specs.Forest.{Forest, NoRoots, Root, project, preorder, paths_from, number_from}
 use Rattle.ledger_terms.specs.declared.action.Action.{Action}
-use Rattle.ledger_model.specs.Terms.{Name, PartySet}
-use Rattle.ledger_model.specs.Log.{Path}
+use Rattle.ledger_model.specs.Terms.{Name, PartySet, Path}
 use Rattle.ledger_model.specs.declared.roles.Roles.{Roles}
 use Rattle.ledger_model.specs.Language.{Language, roles_of}
 use Rattle.ledger_model.specs.Opening.{seen_paths, with_paths, opened_of, opened_views_of}

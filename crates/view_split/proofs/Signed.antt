@@ -1,6 +1,6 @@
 -- An action that has roles has a signatory, who is an informee of it.
 use Rattle.std.proofs.Common.{◌≡◌, ℕ, Bool, true, false, List, [], ◌∷◌, refl, inl}
-use Rattle.std.specs.Prelude.{cond, Result, Ok, Err, Contains}
+use Rattle.std.specs.Prelude.{cond, Result, Ok, Err, Contains, Option, Some, None}
 use Rattle.std.proofs.lemmas.Bool.{and_parts}
 use Rattle.ledger_terms.specs.Parties.{same_name, has_party}
 use Rattle.ledger_terms.specs.Deciding.{bytes_decide}
@@ -15,7 +15,6 @@ use Rattle.lang_eval.specs.declared.role_fault.RoleFault.TheVariants.{NoRoles}
 use Rattle.lang_eval.specs.declared.contract_parties.ContractParties.{ContractParties}
 use Rattle.lang_eval.specs.Found.{Packages, template_in}
 use Rattle.ledger_terms.specs.Packages.{TemplateForm}
-use Rattle.std.specs.Prelude.{Option, Some, None}
 use Rattle.lang_eval.specs.Kinds.{has_kinds}
 use Rattle.lang_eval.specs.Value.{with_value}
 use Rattle.lang_eval.specs.Parts.{PartyNames, some_parties, parties_of, this_names, contract_parties_of, on_template, parties_of_contract}

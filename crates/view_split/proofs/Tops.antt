@@ -4,11 +4,9 @@ use Rattle.std.specs.Prelude.{ℕ, suc, ◌||◌, if◌then◌else◌}
 use Rattle.std.specs.List.{list_any}
 use Rattle.std.proofs.lemmas.Bool.{cases_Bool}
 use Rattle.ledger_terms.specs.Forest.{Forest, NoRoots, Root, join, project, paths_from}
-use Rattle.ledger_model.specs.Terms.{Name}
-use Rattle.ledger_model.specs.Log.{Path}
+use Rattle.ledger_model.specs.Terms.{Name, Path}
 use Rattle.ledger_model.specs.Language.{Language, roles_of}
-use Rattle.ledger_model.specs.Reading.{Transaction}
-use Rattle.ledger_model.specs.Opening.{seen_paths, opened_of, opened_views_of, is_root_path}
+use Rattle.ledger_model.specs.Opening.{Transaction, seen_paths, opened_of, opened_views_of, is_root_path}
 use Rattle.view_split.specs.SplitView.{SplitView}
 use Rattle.view_split.specs.Split.{split}
 use Rattle.view_split.specs.Numbered.{map_forest}

@@ -9,7 +9,5 @@ pub mod Filled
 pub mod Numbered
 pub mod Seen
 pub mod Placed
-pub mod Rules
-pub mod Within
 pub mod Faults
 pub mod Walked

@@ -1,8 +1,8 @@
 -- Lists of views with their paths, as they are opened.
 use Rattle.std.specs.Prelude.{List, [], ◌∷◌}
 use Rattle.ledger_terms.specs.Forest.{Forest, NoRoots, Root, paths_from}
-use Rattle.ledger_model.specs.Log.{Path}
-use Rattle.ledger_model.specs.Reading.{Shown}
+use Rattle.ledger_model.specs.Terms.{Path}
+use Rattle.ledger_model.specs.Opening.{Shown}
 use Rattle.view_split.specs.SplitView.{SplitView}
 use Rattle.view_split.specs.ViewLists.{part_of}
 use Rattle.view_split.specs.Numbered.{map_forest}

@@ -3,9 +3,8 @@ use Rattle.std.specs.Prelude.{◌≡◌, ℕ, Bool, true, List, [], map, Contain
 use Rattle.std.specs.List.{list_any}
 use Rattle.ledger_terms.specs.Trees.{Act}
 use Rattle.ledger_terms.specs.Forest.{Forest, preorder, project, paths_from, number_from}
-use Rattle.ledger_model.specs.Terms.{Name}
-use Rattle.ledger_model.specs.Log.{Path}
-use Rattle.ledger_model.specs.Reading.{OpenedView}
+use Rattle.ledger_model.specs.Terms.{Name, Path}
+use Rattle.ledger_model.specs.Opening.{OpenedView}
 use Rattle.view_split.specs.SplitView.{SplitView}
 use Rattle.ledger_terms.specs.declared.action.Action.{Action}
 use Rattle.ledger_model.specs.declared.roles.Roles.{Roles}

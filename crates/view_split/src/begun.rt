@@ -3,7 +3,7 @@ use crate::view::ViewList;
 use ledger_terms::PartySet;
 
 /// A view whose core is being walked: the confirmers and the views below so far.
-#[derive(Debug, Drop)]
+#[derive(Drop)]
 pub struct Begun {
     pub informees: PartySet,
     pub confirmers: PartySet,

@@ -9,7 +9,7 @@ use std::marker::Model;
 
 /// An action of a core, with its seed and what stands below it in the core.
 #[cycle(core)]
-#[derive(Debug, Drop)]
+#[derive(Drop)]
 pub struct CoreNode {
     pub seed: Hash,
     pub action: Action,
@@ -18,7 +18,7 @@ pub struct CoreNode {
 
 /// A consequence of a core's action: an action of the same core, or a hole where a view below starts.
 #[cycle(core)]
-#[derive(Debug, Drop)]
+#[derive(Drop)]
 pub enum CoreChild {
     Inner(CoreNode),
     Hole,
@@ -26,7 +26,7 @@ pub enum CoreChild {
 
 /// The consequences of a core's action in order, which contracts see as a forest with holes.
 #[cycle(core)]
-#[derive(Debug, Drop)]
+#[derive(Drop)]
 pub struct CoreChildList {
     children: Vec<CoreChild>,
 }

@@ -7,17 +7,10 @@ ghost use Rattle.ledger_terms.specs.Roots.{tree_at};
 ghost use Rattle.ledger_terms.specs.declared.action.Action.{Action};
 ghost use Rattle.ledger_model.specs.Terms.{Name, instance_of};
 ghost use Rattle.ledger_model.specs.Language.{Language, roles_of};
-ghost use Rattle.ledger_model.specs.Opening.{is_root_path, opened_of, opened_views_of, seen_paths, shown_if, shown_of};
+ghost use Rattle.ledger_model.specs.Opening.{is_root_path, opened_of, opened_views_of, seen_paths, shown_if, shown_of, Transaction};
 ghost use Rattle.ledger_model.specs.Forest.{acts};
 ghost use Rattle.ledger_model.specs.declared.roles.Roles.{Roles};
 ghost use Rattle.ledger_model.specs.Views.{View, its_informees, views, confirmers_of};
-ghost use Rattle.ledger_model.specs.Log.{ParticipantId};
-ghost use Rattle.ledger_model.specs.declared.message.Request.{Request};
-ghost use Rattle.ledger_model.specs.Reading.{Reading, Transaction};
-ghost use Rattle.ledger_model.specs.Genuine.{IsReading, IsSealed};
-ghost use Rattle.view_split.specs.Rules.{KeepsRules};
-ghost use Rattle.view_split.specs.Within.{IsWithin, KeepsRulesWithin};
-ghost use Rattle.ledger_terms.specs.declared.topology.Topology.{Topology};
 ghost use Rattle.view_split.specs.Placed.{placed_forest, shown_by, tops};
 ghost use Rattle.view_split.specs.declared.opened_tree.OpenedTree.{OpenedTree};
 ghost use Rattle.lang_eval.specs.Found.{Packages};
@@ -110,21 +103,4 @@ pub fn each_action_stands_in_one_core()
         → Contains view.core (i, a)
         → Contains other.core (i, b)
         → j ≡ k }
-{}
-
-/// A request whose sender keeps the rules on views is sealed.
-pub fn rules_are_sealed()
-    ensures { (reading : Reading) (participants : List ParticipantId) (request : Request) (transaction : Transaction)
-        → IsReading reading
-        → KeepsRules reading participants request transaction
-        → IsSealed reading request }
-{}
-
-/// Within a topology it is enough that each signatory is a party of it: then somebody confirms each action.
-pub fn rules_within_a_topology_are_sealed()
-    ensures { (topology : Topology) (packages : Packages) (reading : Reading) (request : Request) (transaction : Transaction)
-        → IsReading reading
-        → IsWithin topology packages reading
-        → KeepsRulesWithin topology reading request transaction
-        → IsSealed reading request }
 {}

@@ -21,6 +21,3 @@ pub use split_fault::SplitFault;
 pub use splitting::split;
 pub use view::{View, ViewList};
 pub use views::Views;
-
-#[cfg(test)]
-mod tests;

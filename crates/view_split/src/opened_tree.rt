@@ -4,7 +4,7 @@ use ledger_terms::{Name, PartySet};
 
 /// What a participant reads in a transaction's tree: the sender, the ledger time in microseconds, who requested it where that
 /// is told, and the topmost views that it sees, in order of path.
-#[derive(Debug, Drop)]
+#[derive(Drop)]
 pub struct OpenedTree {
     pub sender: Name,
     pub ledger_time: u64,

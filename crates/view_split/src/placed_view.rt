@@ -3,7 +3,7 @@ use crate::view::View;
 use ledger_terms::{ListOf, Path};
 
 /// A view with its path in the tree of all views of its transaction.
-#[derive(Debug, Drop)]
+#[derive(Drop)]
 pub struct PlacedView {
     pub path: Path,
     pub view: View,

@@ -5,7 +5,7 @@ use ledger_terms::Path;
 use std::alloc::AllocError;
 
 /// Why a transaction isn't split into views.
-#[derive(Debug, Drop)]
+#[derive(Drop)]
 pub enum SplitFault {
     /// The action at this path has no roles.
     NoRoles { path: Path },

@@ -13,7 +13,7 @@ use std::marker::Model;
 /// first action of `core`, `confirmers` the signatories and actors over the core, and `subviews` fill the core's holes in
 /// pre-order.
 #[cycle(view)]
-#[derive(Debug, Drop)]
+#[derive(Drop)]
 pub struct View {
     pub informees: PartySet,
     pub confirmers: PartySet,
@@ -23,7 +23,7 @@ pub struct View {
 
 /// Views, which contracts see as a forest.
 #[cycle(view)]
-#[derive(Debug, Drop)]
+#[derive(Drop)]
 pub struct ViewList {
     views: Vec<View>,
 }

@@ -10,8 +10,6 @@ pub mod length;
 pub mod reader;
 pub mod spellable;
 pub mod stop;
-#[cfg(test)]
-mod tests;
 pub mod wire_fault;
 
 pub use decode::{

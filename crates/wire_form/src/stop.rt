@@ -5,7 +5,7 @@ ghost use Rattle.wire_form.specs.declared.stop.Stop.TheVariants.{Memory};
 use std::alloc::AllocError;
 
 /// Where reading stops: with so many bytes left at the field that can't be read, or for want of memory.
-#[derive(Clone, Copy, Debug, PartialEq, Eq)]
+#[derive(Clone, Copy, PartialEq, Eq)]
 pub enum Stop {
     Left(usize),
     Memory,

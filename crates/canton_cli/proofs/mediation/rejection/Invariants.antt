@@ -1,5 +1,5 @@
 use Rattle.std.proofs.Common.{◌≡◌, drop}
-use Rattle.ledger_model.specs.Mediation.{first_rejection}
+use Rattle.canton_model.specs.Mediation.{first_rejection}
 use Rattle.canton_cli.proofs.mediation.rejection.Given as goal
 
 abbrev pub invariant-verdicts : goal.invariant-verdicts

@@ -1,5 +1,5 @@
 use Rattle.std.proofs.Common.{◌≡◌, ◌+◌, drop}
-use Rattle.ledger_model.specs.Inbox.{clean_from, clean}
+use Rattle.canton_model.specs.Inbox.{clean_from, clean}
 use Rattle.node_core.specs.Seen.{seen}
 use Rattle.node_core.proofs.inbox.clean.Given as goal
 

@@ -1,9 +1,9 @@
 use Rattle.std.proofs.Common.{◌≡◌, take}
 use Rattle.std.specs.List.{list_any}
 use Rattle.ledger_model.specs.Terms.{creates}
-use Rattle.ledger_model.specs.Evidence.{gather}
-use Rattle.ledger_model.specs.Timeline.{is_approved_in}
-use Rattle.ledger_model.specs.Inbox.{moments}
+use Rattle.canton_model.specs.Evidence.{gather}
+use Rattle.canton_model.specs.Timeline.{is_approved_in}
+use Rattle.canton_model.specs.Inbox.{moments}
 use Rattle.node_core.specs.Seen.{seen}
 use Rattle.node_core.specs.Scans.{authentic_at}
 use Rattle.node_core.proofs.inbox.is_created.Given as goal

@@ -1,6 +1,6 @@
 use Rattle.std.proofs.Common.{◌≡◌, ◌+◌, drop}
-use Rattle.ledger_model.specs.Timeline.{is_past}
-use Rattle.ledger_model.specs.Inbox.{moments}
+use Rattle.canton_model.specs.Timeline.{is_past}
+use Rattle.canton_model.specs.Inbox.{moments}
 use Rattle.node_core.specs.Seen.{seen}
 use Rattle.node_core.proofs.inbox.is_later_among.Given as goal
 

@@ -2,8 +2,8 @@ use Rattle.std.proofs.Common.{◌≡◌, not}
 use Rattle.std.specs.Prelude.{◌||◌}
 use Rattle.std.specs.List.{list_any}
 use Rattle.ledger_model.specs.Terms.{creates, consumes}
-use Rattle.ledger_model.specs.Evidence.{gather}
-use Rattle.ledger_model.specs.Inbox.{is_decided_in}
+use Rattle.canton_model.specs.Evidence.{gather}
+use Rattle.canton_model.specs.Inbox.{is_decided_in}
 use Rattle.node_core.specs.Seen.{seen}
 use Rattle.node_core.specs.Scans.{authentic_at}
 use Rattle.node_core.proofs.inbox.is_locked.Given as goal

@@ -1,5 +1,5 @@
 use Rattle.std.proofs.Common.{◌≡◌}
-use Rattle.ledger_model.specs.Inbox.{parts_below}
+use Rattle.canton_model.specs.Inbox.{parts_below}
 use Rattle.node_core.specs.Seen.{seen}
 use Rattle.node_core.proofs.stores.commits_below.Given as goal
 

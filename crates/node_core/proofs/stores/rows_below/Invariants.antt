@@ -1,5 +1,5 @@
 use Rattle.std.proofs.Common.{◌≡◌, []}
-use Rattle.ledger_model.specs.Inbox.{created_below}
+use Rattle.canton_model.specs.Inbox.{created_below}
 use Rattle.proto_model.specs.PlainReading.{plain_reading}
 use Rattle.node_core.specs.Seen.{seen}
 use Rattle.node_core.proofs.stores.rows_below.Given as goal

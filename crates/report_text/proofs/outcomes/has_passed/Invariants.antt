@@ -1,6 +1,6 @@
 use Rattle.std.proofs.Common.{◌≡◌, drop}
-use Rattle.ledger_model.specs.Log.{decision_time_of}
-use Rattle.ledger_model.specs.Timeline.{is_past, timeline_of}
+use Rattle.canton_model.specs.Log.{decision_time_of}
+use Rattle.canton_model.specs.Timeline.{is_past, timeline_of}
 use Rattle.report_text.proofs.outcomes.has_passed.Given as goal
 
 abbrev pub invariant-entries : goal.invariant-entries

@@ -1,5 +1,5 @@
 use Rattle.std.proofs.Common.{◌≡◌, drop}
-use Rattle.ledger_model.specs.Timeline.{verdict_on, timeline_of}
+use Rattle.canton_model.specs.Timeline.{verdict_on, timeline_of}
 use Rattle.report_text.proofs.outcomes.verdict_in.Given as goal
 
 abbrev pub invariant-entries : goal.invariant-entries

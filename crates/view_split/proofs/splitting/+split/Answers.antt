@@ -1,7 +1,7 @@
 use Rattle.std.proofs.Common.{◌<◌, ◌+◌, ◌*◌, refl, arith}
 use Rattle.std.proofs.lemmas.Result.{err_from_is_err_and}
 use Rattle.ledger_terms.specs.Grown.{tree_of, node_count}
-use Rattle.ledger_terms.proofs.SameNodes.{tree_within}
+use Rattle.ledger_terms.proofs.Grow.{tree_within}
 use Rattle.lang_eval.specs.Language.{roles_in}
 use Rattle.view_split.proofs.Walks.{walked_none, walked_more, walked_inner, walked_hole, started}
 use Rattle.view_split.proofs.FaultFacts.{found_here, none_so_far}

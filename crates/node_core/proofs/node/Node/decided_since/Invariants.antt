@@ -1,5 +1,5 @@
 use Rattle.std.proofs.Common.{◌≡◌, ◌-◌, length}
-use Rattle.ledger_model.specs.Inbox.{is_decided_in}
+use Rattle.canton_model.specs.Inbox.{is_decided_in}
 use Rattle.node_core.specs.Places.{first_from}
 use Rattle.node_core.proofs.node.Node.decided_since.Given as goal
 

@@ -1,0 +1,199 @@
+-- Opened and Checked hold of a genuine log whose requests are sealed.
+use Rattle.std.proofs.Common.{◌≡◌, ℕ, ◌<◌, Bool, true, false, List, take, length, Option, Some, None, filter, refl, sym, ap, ◌∙◌, subst, inl, inr}
+use Rattle.std.specs.Prelude.{slice_get, ◌&&◌}
+use Rattle.std.specs.List.{list_any}
+use Rattle.std.proofs.lemmas.Bool.{and_from, and_parts, and_cases, or_left, both_ways, not-false}
+use Rattle.std.proofs.lemmas.Option.{same_Some, none-some}
+use Rattle.std.proofs.lemmas.List.Folds.{list_any-append}
+use Rattle.ledger_model.specs.Terms.{Hash, Act, id_of, instance_of, is_on, ParticipantId}
+use Rattle.ledger_model.specs.Forest.{acts, project, ledger_acts}
+use Rattle.ledger_model.specs.Consistency.{Consistent, SameContract}
+use Rattle.canton_model.specs.Evidence.{Requests, acts_of, gather, authentic_on, Opened, Passes, Checked}
+use Rattle.canton_model.specs.Log.{Params, Entry, Request, request_at}
+use Rattle.canton_model.specs.Timeline.{timeline_of, is_approved_in}
+use Rattle.ledger_model.specs.Opening.{Transaction, OpenedView, Shown, roots_in}
+use Rattle.canton_model.specs.Reading.{Reading}
+use Rattle.canton_model.specs.Ledger.{commit_of, read_by, whole_at, opened_to, requests_of, ledger}
+use Rattle.canton_model.specs.Inbox.{has_hosted_stakeholder, is_informed, project_whole, OpensProjection}
+use Rattle.canton_model.specs.Checks.{Check}
+use Rattle.canton_model.specs.Genuine.{Genuine, IsSealed, NoCollision}
+use Rattle.canton_model.proofs.Lawful.{Informs}
+use Rattle.ledger_model.proofs.Lists.{In, in_from_Contains, contains_from_In, in_filter, from_filter, in_any, from_any, in_at, at_in, on_from, from_on}
+use Rattle.canton_model.proofs.Gathered.{in_gather, gather_in, ledger_gathered}
+use Rattle.ledger_model.proofs.Projected.{filter_project, in_project}
+use Rattle.canton_model.proofs.Decided.{final_of_log}
+use Rattle.canton_model.proofs.InboxGrows.{same_counted, same_pending}
+use Rattle.canton_model.proofs.OneLedger.{one_ledger}
+use Rattle.canton_model.proofs.Approved.{its_checks, unshown}
+
+-- the request and the transaction behind an action of a whole
+record Behind (reading : Reading) (log : List Entry) (k : ℕ) (a : Act) : Type 0 where
+  request : Request
+  there : request_at log k ≡ Some request
+  transaction : Transaction
+  is_whole : reading.whole request ≡ Some transaction
+  in_it : In a (acts transaction.roots)
+
+behind_whole : (reading : Reading) (log : List Entry) (k : ℕ) (a : Act) (q : Request) → request_at log k ≡ Some q → (w : Option Transaction) → reading.whole q ≡ w → In a (acts_of (commit_of k w)) → Behind reading log k a
+behind_whole reading log k a q e None is h = absurd h
+behind_whole reading log k a q e (Some t) is h = record { request = q; there = e; transaction = t; is_whole = is; in_it = h }
+
+behind_request : (reading : Reading) (log : List Entry) (k : ℕ) (a : Act) (o : Option Request) → request_at log k ≡ o → In a (acts_of (commit_of k (read_by reading.whole o))) → Behind reading log k a
+behind_request reading log k a None e h = absurd h
+behind_request reading log k a (Some q) e h = behind_whole reading log k a q e (reading.whole q) refl h
+
+behind : (reading : Reading) (log : List Entry) (k : ℕ) (a : Act) → In a (acts_of (whole_at reading log k)) → Behind reading log k a
+behind reading log k a h = behind_request reading log k a (request_at log k) refl h
+
+opened_request : (reading : Reading) (p : ParticipantId) (o : Option Request) (i : ℕ) (a : Act) → slice_get (acts (opened_to reading p o)) i ≡ Some a → (q : Request) × (o ≡ Some q) × (slice_get (acts (roots_in (reading.shown p q))) i ≡ Some a)
+opened_request reading p None i a h = absurd (none-some a h)
+opened_request reading p (Some q) i a h = (q, refl, h)
+
+-- what is opened is shown
+pub some_shown : (o : Option Shown) (i : ℕ) (a : Act) → slice_get (acts (roots_in o)) i ≡ Some a → (s : Shown) × (o ≡ Some s) × (slice_get (acts s.roots) i ≡ Some a)
+some_shown None i a h = absurd (none-some a h)
+some_shown (Some s) i a h = (s, refl, h)
+
+module _ (reading : Reading) (params : Params) (log : List Entry) (lawful : Informs reading) (distinct : NoCollision reading log) (genuine : Genuine reading params log) (sealed : (k : ℕ) (request : Request) → request_at log k ≡ Some request → IsSealed reading request) (opens : (p : ParticipantId) → OpensProjection reading p log) where
+  -- p confirms a signatory of the instance that the ledger's actions on the contract carry
+  abbrev pub guards : ParticipantId → Hash → Bool
+  guards p c = list_any (λ (a : Act). is_on c a && list_any (reading.confirms p) ((reading.language).signatories (instance_of a.action))) (ledger_acts (ledger reading log))
+
+  abbrev pub r : Requests
+  r = requests_of reading params log guards
+
+  abbrev whole_acts : ℕ → List Act
+  whole_acts k = acts_of (whole_at reading log k)
+
+  -- an action of an approved request, opened to one that confirms a signatory of it: each reason fails of it
+  record Seen (k i : ℕ) (p : ParticipantId) (s : Shown) (a : Act) : Type 0 where
+    view : OpenedView
+    fails : (c : Check) → In c (its_checks reading params log genuine sealed opens k p s view) → c.is_shown_by (i, a) ≡ false
+
+  seen : (k i : ℕ) (q : Request) (p : ParticipantId) (s : Shown) (a : Act) → is_approved_in k (timeline_of log) ≡ true → request_at log k ≡ Some q → reading.shown p q ≡ Some s → slice_get (acts s.roots) i ≡ Some a → list_any (reading.confirms p) ((reading.language).signatories (instance_of a.action)) ≡ true → Seen k i p s a
+  seen k i q p s a ok at is there signs =
+      let v = (sealed k q at).viewed p s i a is there signs in
+      record {
+        view = v.0;
+        fails = λ c listed. unshown reading params log genuine sealed opens k i q p s v.0 a c ok at is (in_from_Contains s.views v.0 v.1) v.3 (in_from_Contains (v.0).core (i, a) v.2) listed;
+      }
+
+  -- what is opened of a sealed request is its projection
+  pub opened_is : (k : ℕ) (q : Request) (p : ParticipantId) (t : Transaction) → request_at log k ≡ Some q → reading.whole q ≡ Some t → roots_in (reading.shown p q) ≡ project (is_informed reading p) t.roots
+  opened_is k q p t at is = (opens p).projected k q at ∙ ap (project_whole reading p) is
+
+  in_opened : (k : ℕ) (q : Request) (p : ParticipantId) (t : Transaction) (a : Act) → request_at log k ≡ Some q → reading.whole q ≡ Some t → In a (acts t.roots) → is_informed reading p a ≡ true → In a (acts (roots_in (reading.shown p q)))
+  in_opened k q p t a at is h told =
+      let same = filter_project (is_informed reading p) (is_informed reading p) t.roots (λ b i e. e) in
+      let kept : In a (filter (is_informed reading p) (acts (project (is_informed reading p) t.roots))) = rw same (in_filter (is_informed reading p) (acts t.roots) a h told) in
+      rw (opened_is k q p t at is) (from_filter (is_informed reading p) (acts (project (is_informed reading p) t.roots)) a kept).0
+
+  pub authentic : (k : ℕ) (a : Act) → is_approved_in k (timeline_of log) ≡ true → In a (whole_acts k) → reading.is_authentic a ≡ true
+  authentic k a ok h =
+      let b = behind reading log k a h in
+      let s = sealed k b.request b.there in
+      let same_t : s.transaction ≡ b.transaction = same_Some _ _ (sym s.is_whole ∙ b.is_whole) in
+      let in_s : In a (acts (s.transaction).roots) = rw same_t b.in_it in
+      let g = s.guarded a (contains_from_In (acts (s.transaction).roots) a in_s) in
+      let told = lawful.signatories_informed g.0 a g.1 in
+      let place = in_at (acts (roots_in (reading.shown g.0 b.request))) a (in_opened k b.request g.0 b.transaction a b.there b.is_whole b.in_it told) in
+      let s' = some_shown (reading.shown g.0 b.request) place.0 a place.1 in
+      not-false _ ((seen k place.0 b.request g.0 s'.0 a ok b.there s'.1 s'.2 g.1).fails _ (inl refl))
+
+  -- all actions of the ledger on one contract carry one instance
+  pub one_instance : (k m : ℕ) (a b : Act) → is_approved_in k (timeline_of log) ≡ true → is_approved_in m (timeline_of log) ≡ true → In a (whole_acts k) → In b (whole_acts m) → SameContract a b → instance_of a.action ≡ instance_of b.action
+  one_instance k m a b ok ok' ha hb same = distinct k m a b (contains_from_In (whole_acts k) a ha) (contains_from_In (whole_acts m) b hb) (authentic k a ok ha) (authentic m b ok' hb) same
+
+  in_ledger : (k : ℕ) (a : Act) → k < length log → is_approved_in k (timeline_of log) ≡ true → In a (whole_acts k) → In a (ledger_acts (ledger reading log))
+  in_ledger k a lt ok h =
+      rw (ledger_gathered (λ n. is_approved_in n (timeline_of log)) (whole_at reading log) (length log))
+      (gather_in (λ n. is_approved_in n (timeline_of log)) (λ n. acts_of (whole_at reading log n)) (length log) k a lt ok h)
+
+  -- who guards a contract confirms a signatory of each of the ledger's actions on it
+  signs : (k p : ℕ) (c : Hash) (a : Act) → is_approved_in k (timeline_of log) ≡ true → In a (whole_acts k) → id_of a.action ≡ c → guards p c ≡ true → list_any (reading.confirms p) ((reading.language).signatories (instance_of a.action)) ≡ true
+  signs k p c a ok h same g =
+      let w = from_any (λ (b : Act). is_on c b && list_any (reading.confirms p) ((reading.language).signatories (instance_of b.action))) (ledger_acts (ledger reading log)) g in
+      let parts = and_parts _ _ w.2 in
+      let there : In w.0 (gather (λ n. is_approved_in n (timeline_of log)) (λ n. acts_of (whole_at reading log n)) (length log)) =
+      subst (λ (xs : List Act). In w.0 xs) (ledger_gathered (λ n. is_approved_in n (timeline_of log)) (whole_at reading log) (length log)) w.1 in
+      let m = in_gather (λ n. is_approved_in n (timeline_of log)) (λ n. acts_of (whole_at reading log n)) (length log) w.0 there in
+      let on : SameContract a w.0 = same ∙ sym (from_on c w.0 parts.0) in
+      rw (one_instance k m.0 a w.0 ok m.2 h m.3 on) parts.1
+
+  pub shown_in_whole : (k p : ℕ) (q : Request) (a : Act) → request_at log k ≡ Some q → In a (acts (roots_in (reading.shown p q))) → In a (whole_acts k)
+  shown_in_whole k p q a at h =
+      let s = sealed k q at in
+      let h' : In a (acts (project (is_informed reading p) (s.transaction).roots)) = rw (opened_is k q p s.transaction at s.is_whole) at h in
+      let whole : whole_at reading log k ≡ commit_of k (Some s.transaction) = ap (λ (o : Option Request). commit_of k (read_by reading.whole o)) at ∙ ap (commit_of k) s.is_whole in
+      rw whole (in_project (is_informed reading p) (s.transaction).roots a h')
+
+  opened_by_request : (k p : ℕ) (q : Request) → request_at log k ≡ Some q → acts (opened_to reading p (request_at log k)) ≡ acts (roots_in (reading.shown p q))
+  opened_by_request k p q at = ap (λ (o : Option Request). acts (opened_to reading p o)) at
+
+  guarded_place : (k p : ℕ) (c : Hash) (o : Option Request) → request_at log k ≡ o → is_approved_in k (timeline_of log) ≡ true → guards p c ≡ true → filter (authentic_on r c) (acts (opened_to reading p o)) ≡ filter (authentic_on r c) (acts_of (commit_of k (read_by reading.whole o)))
+  guarded_place k p c None e ok g = refl
+  guarded_place k p c (Some q) e ok g =
+      let s = sealed k q e in
+      let whole : whole_at reading log k ≡ commit_of k (Some s.transaction) = ap (λ (o : Option Request). commit_of k (read_by reading.whole o)) e ∙ ap (commit_of k) s.is_whole in
+      rw (opened_is k q p s.transaction e s.is_whole, s.is_whole)
+      (filter_project (is_informed reading p) (authentic_on r c) (s.transaction).roots (λ a i t.
+      let inside : In a (whole_acts k) = rw whole i in
+      lawful.signatories_informed p a (signs k p c a ok inside (from_on c a (and_parts _ _ t).0) g)))
+
+  pub opened_of_log : Opened r (length log)
+  opened_of_log =
+      record {
+        part = λ p k a lt ok h.
+            let there = in_from_Contains (acts (opened_to reading p (request_at log k))) a h in
+            let place = in_at (acts (opened_to reading p (request_at log k))) a there in
+            let q = opened_request reading p (request_at log k) place.0 a place.1 in
+            contains_from_In (whole_acts k) a (shown_in_whole k p q.0 a q.1 (at_in (acts (roots_in (reading.shown p q.0))) place.0 a q.2));
+        guarded = λ p k c lt ok g. guarded_place k p c (request_at log k) refl ok g;
+        guard = λ k a lt ok h.
+            let there = in_from_Contains (whole_acts k) a h in
+            let b = behind reading log k a there in
+            let s = sealed k b.request b.there in
+            let same_t : s.transaction ≡ b.transaction = same_Some _ _ (sym s.is_whole ∙ b.is_whole) in
+            let in_s : In a (acts (s.transaction).roots) = rw same_t b.in_it in
+            let g = s.guarded a (contains_from_In (acts (s.transaction).roots) a in_s) in
+            (g.0, in_any (λ (x : Act). is_on (id_of a.action) x && list_any (reading.confirms g.0) ((reading.language).signatories (instance_of x.action))) (ledger_acts (ledger reading log)) a (in_ledger k a lt ok there) (and_from _ _ (on_from (id_of a.action) a refl) g.1));
+      }
+
+  pub hosted : (p : ParticipantId) (a : Act) → list_any (reading.confirms p) ((reading.language).signatories (instance_of a.action)) ≡ true → has_hosted_stakeholder reading p a ≡ true
+  hosted p a h =
+      list_any-append (reading.hosts p) ((reading.language).signatories (instance_of a.action)) ((reading.language).observers (instance_of a.action))
+      ∙ or_left _ _ (lawful.confirms_hosted p ((reading.language).signatories (instance_of a.action)) h)
+
+  -- a test that fails of a hosted action
+  pub second : (x y : Bool) → x ≡ true → (x && y) ≡ false → y ≡ false
+  second x y h e = elim (and_cases x y e) [ inl no' ↦ absurd (both_ways x no' h) | inr out ↦ out ]
+
+  passes : (p k i : ℕ) (q : Request) (a : Act) → is_approved_in k (timeline_of log) ≡ true → request_at log k ≡ Some q → slice_get (acts (roots_in (reading.shown p q))) i ≡ Some a → guards p (id_of a.action) ≡ true → Passes r p k (take i (acts (opened_to reading p (request_at log k)))) a
+  passes p k i q a ok at there g =
+      let inside = shown_in_whole k p q a at (at_in (acts (roots_in (reading.shown p q))) i a there) in
+      let w = some_shown (reading.shown p q) i a there in
+      let s = signs k p (id_of a.action) a ok inside refl g in
+      let h = hosted p a s in
+      let f = (seen k i q p w.0 a ok at w.1 w.2 s).fails in
+      let past = same_counted reading params log p genuine.timely (opens p) k guards in
+      let pending = same_pending reading params log p genuine.timely (opens p) k guards in
+      let same_opened : acts (opened_to reading p (request_at log k)) ≡ acts (w.0).roots = opened_by_request k p q at ∙ ap (λ (o : Option Shown). acts (roots_in o)) w.1 in
+      record {
+        not_locked = rw (← pending) (second _ _ h (f _ (inr (inr (inr (inl refl))))));
+        not_inactive = rw (← past, same_opened) (second _ _ h (f _ (inr (inr (inr (inr (inl refl)))))));
+        fresh = rw (← past) (second _ _ h (f _ (inr (inr (inr (inr (inr (inl refl))))))));
+        ordered = rw same_opened (second _ _ h (f _ (inr (inr (inr (inr (inr (inr (inl refl)))))))));
+      }
+
+  pub checked_of_log : Checked r (length log)
+  checked_of_log =
+      record {
+        authentic = λ k a lt ok h. authentic k a ok (in_from_Contains (whole_acts k) a h);
+        one_instance = λ k m a b lt lt' ok ok' ha hb same. one_instance k m a b ok ok' (in_from_Contains (whole_acts k) a ha) (in_from_Contains (whole_acts m) b hb) same;
+        passed = λ p k i a lt ok e g.
+            let q = opened_request reading p (request_at log k) i a e in
+            passes p k i q.0 a ok q.1 q.2 g;
+      }
+
+  pub consistent_of_log : Consistent (ledger_acts (ledger reading log))
+  consistent_of_log = one_ledger r (length log) opened_of_log (final_of_log params log genuine.timely reading guards) checked_of_log

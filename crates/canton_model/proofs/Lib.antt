@@ -1,0 +1,14 @@
+pub mod Gathered
+pub mod OneLedger
+pub mod Decided
+pub mod HostStatus
+pub mod InboxFacts
+pub mod InboxGrows
+pub mod Lawful
+pub mod Fits
+pub mod Mediated
+pub mod Approved
+pub mod FromGenuine
+pub mod ActiveSets
+pub mod Rejections
+pub mod Outcomes

@@ -1,0 +1,109 @@
+-- When a log is what the parts of a synchroniser make, over a reading of its requests.
+use Rattle.std.specs.Prelude.{◌↔◌, ◌≡◌, ℕ, suc, ◌≤◌, ◌<◌, Bool, true, false, take, ◌&&◌, nat_eq, List, Some, slice_get, Contains}
+use Rattle.std.specs.List.{list_any}
+use Rattle.std.specs.Str.{bytes_eq}
+use Rattle.ledger_model.specs.Terms.{Name, PartySet, Act, id_of, instance_of, ParticipantId}
+use Rattle.ledger_model.specs.Forest.{Forest, NoRoots, Root, acts, project, below_at, trees_of, root_trees}
+use Rattle.canton_model.specs.Log.{Params, Entry, Message, RequestMessage, ResponseMessage, VerdictMessage, Tick, Request, Response, request_at, decision_time_of}
+use Rattle.canton_model.specs.Mediation.{has_responded}
+use Rattle.ledger_model.specs.Conformance.{Conforms}
+use Rattle.ledger_model.specs.Opening.{OpenedView, Shown, Transaction, roots_in}
+use Rattle.canton_model.specs.Reading.{Reading}
+use Rattle.canton_model.specs.Inbox.{inbox, is_informed}
+use Rattle.canton_model.specs.Checks.{verdicts_owed, is_confirmed_by, is_first, is_root_view, first_tree}
+use Rattle.canton_model.specs.Ledger.{Timely, whole_at}
+use Rattle.canton_model.specs.Evidence.{acts_of}
+
+-- A response fits the log before it: its request stands there and names its sender as confirming, it is the first of that
+-- sender, it holds the verdicts owed, and it isn't too late.
+pub record ResponseFits (reading : Reading) (params : Params) (log : List Entry) (k time : ℕ) (response : Response) : Type 0 where
+  pub request : Request
+  pub earlier : response.request < k
+  pub there : request_at log response.request ≡ Some request
+  pub confirming : Contains request.confirming response.from
+  pub first : has_responded response.request (take k log) response.from ≡ false
+  pub owed : response.verdicts ≡ verdicts_owed reading params response.from (inbox reading response.from (take (suc response.request) log)) response.request
+  pub in_time : time ≤ decision_time_of params log response.request
+
+abbrev pub FitsIfResponse : Reading → Params → List Entry → (k time : ℕ) → Message → Type 0
+FitsIfResponse reading params log k time (ResponseMessage response) = ResponseFits reading params log k time response
+FitsIfResponse reading params log k time (RequestMessage request) = Unit {0}
+FitsIfResponse reading params log k time (VerdictMessage verdict) = Unit {0}
+FitsIfResponse reading params log k time Tick = Unit {0}
+
+-- somebody confirms a view that holds the action, and is shown all that is below it
+pub record IsCovered (reading : Reading) (request : Request) (tree : Act × Forest Act) : Type 0 where
+  pub participant : ParticipantId
+  pub shown : Shown
+  pub is_shown : reading.shown participant request ≡ Some shown
+  pub view : OpenedView
+  pub is_opened : Contains shown.views view
+  pub is_confirmed : is_confirmed_by reading participant view ≡ true
+  pub number : ℕ
+  pub in_core : Contains view.core (number, tree.0)
+  pub below : below_at number shown.roots ≡ tree.1
+
+-- the same of a root and its own view, to who knows the requesters
+pub record IsRootCovered (reading : Reading) (request : Request) (requesters : PartySet) (tree : Act × Forest Act) : Type 0 where
+  pub covered : IsCovered reading request tree
+  pub is_first : is_first (covered.view).core covered.number ≡ true
+  pub first : first_tree covered.shown (covered.view).core ≡ Root tree.0 tree.1 NoRoots
+  pub is_root : is_root_view covered.view ≡ true
+  pub known : (covered.shown).requesters ≡ Some requesters
+
+-- What a sealed request has of a reading.
+pub record IsSealed (reading : Reading) (request : Request) : Type 0 where
+  pub transaction : Transaction
+  pub is_whole : reading.whole request ≡ Some transaction
+  pub has_roles : (a : Act) → Contains (acts transaction.roots) a → (reading.language).has_roles a.action ≡ true
+  -- what is opened to a participant is the projection to its hosted parties
+  pub opens : (p : ParticipantId) → roots_in (reading.shown p request) ≡ project (is_informed reading p) transaction.roots
+  -- somebody confirms a signatory of each action
+  pub guarded : (a : Act) → Contains (acts transaction.roots) a → (p : ParticipantId) × (list_any (reading.confirms p) ((reading.language).signatories (instance_of a.action)) ≡ true)
+  -- Who confirms a signatory of an action that is opened to it confirms a view in whose core the action stands.
+  pub viewed : (p : ParticipantId) (shown : Shown) (i : ℕ) (a : Act) → reading.shown p request ≡ Some shown → slice_get (acts shown.roots) i ≡ Some a → list_any (reading.confirms p) ((reading.language).signatories (instance_of a.action)) ≡ true → (view : OpenedView) × Contains shown.views view × Contains view.core (i, a) × (is_confirmed_by reading p view ≡ true)
+  -- a core's actions have their numbers among what is opened
+  pub numbered : (p : ParticipantId) (shown : Shown) (view : OpenedView) (i : ℕ) (a : Act) → reading.shown p request ≡ Some shown → Contains shown.views view → Contains view.core (i, a) → slice_get (acts shown.roots) i ≡ Some a
+  -- who confirms a view is asked
+  pub asked : (p : ParticipantId) (shown : Shown) (view : OpenedView) → reading.shown p request ≡ Some shown → Contains shown.views view → is_confirmed_by reading p view ≡ true → Contains request.confirming p
+  -- each action and each root is covered
+  pub covers : (tree : Act × Forest Act) → Contains (trees_of transaction.roots) tree → IsCovered reading request tree
+  pub roots : (tree : Act × Forest Act) → Contains (root_trees transaction.roots) tree → IsRootCovered reading request transaction.requesters tree
+
+-- a request with this sender and command
+abbrev pub is_request_of : ParticipantId → Name → Message → Bool
+is_request_of p command (RequestMessage request) = nat_eq request.sender p && bytes_eq request.command command
+is_request_of p command (ResponseMessage response) = false
+is_request_of p command (VerdictMessage verdict) = false
+is_request_of p command Tick = false
+
+-- A request fits the log before it: it is sealed, and the first with its sender and command.
+pub record RequestFits (reading : Reading) (log : List Entry) (k : ℕ) (request : Request) : Type 0 where
+  pub sealed : IsSealed reading request
+  pub first : list_any (λ (entry : Entry). is_request_of request.sender request.command entry.message) (take k log) ≡ false
+
+abbrev pub FitsIfRequest : Reading → List Entry → (k : ℕ) → Message → Type 0
+FitsIfRequest reading log k (RequestMessage request) = RequestFits reading log k request
+FitsIfRequest reading log k (ResponseMessage response) = Unit {0}
+FitsIfRequest reading log k (VerdictMessage verdict) = Unit {0}
+FitsIfRequest reading log k Tick = Unit {0}
+
+pub record Genuine (reading : Reading) (params : Params) (log : List Entry) : Type 0 where
+  pub timely : Timely params log
+  pub requests : (k : ℕ) (entry : Entry) → slice_get log k ≡ Some entry → FitsIfRequest reading log k entry.message
+  pub responses : (k : ℕ) (entry : Entry) → slice_get log k ≡ Some entry → FitsIfResponse reading params log k entry.time entry.message
+
+-- what holds of every reading
+pub record IsReading (reading : Reading) : Type 0 where
+  pub confirms_hosted : (p : ParticipantId) (name : Name) → reading.confirms p name ≡ true → reading.hosts p name ≡ true
+  pub conforms_is : (roots : Forest Act) → (reading.conforms roots ≡ true) ↔ Conforms reading.language roots
+
+-- No two authentic actions of the requests of this log are on one contract and carry different instances. (Of all actions
+-- that there could be this is false, whatever the hash.)
+abbrev pub NoCollision : Reading → List Entry → Type 0
+NoCollision reading log =
+    (k m : ℕ) (a b : Act)
+    → Contains (acts_of (whole_at reading log k)) a → Contains (acts_of (whole_at reading log m)) b
+    → reading.is_authentic a ≡ true → reading.is_authentic b ≡ true
+    → id_of a.action ≡ id_of b.action
+    → instance_of a.action ≡ instance_of b.action

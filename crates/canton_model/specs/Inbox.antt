@@ -1,0 +1,199 @@
+-- What one participant learns of a log, and what it concludes from that.
+use Rattle.std.specs.Prelude.{◌≡◌, ℕ, zero, suc, ◌+◌, ◌<◌, ◌≤◌, Bool, true, false, List, [], ◌∷◌, ◌++◌, Option, Some, None, length, map, filter, take, slice_get, not, if◌then◌else◌, ◌&&◌}
+use Rattle.std.specs.List.{list_any}
+use Rattle.ledger_model.specs.Terms.{Hash, Act, ActiveRow, id_of, instance_of, is_create, consumes, ParticipantId}
+use Rattle.ledger_model.specs.Forest.{Forest, NoRoots, Root, Commit, acts, project}
+use Rattle.ledger_model.specs.Status.{Status, status_after, is_locked_by}
+use Rattle.canton_model.specs.Evidence.{gather}
+use Rattle.canton_model.specs.Log.{Params, Entry, Message, RequestMessage, ResponseMessage, VerdictMessage, Tick, Request, Verdict, request_at}
+use Rattle.canton_model.specs.Timeline.{Moment, is_decided_at, is_approved_in}
+use Rattle.ledger_model.specs.Opening.{Transaction, Shown, roots_in}
+use Rattle.canton_model.specs.Reading.{Reading, is_recipient}
+use Rattle.ledger_model.specs.Language.{informees_of}
+pub use Rattle.ledger_model.specs.declared.commit.Commit.{Commit as Part}
+
+-- a request of which the participant is a recipient, as it is shown; a verdict on such a request; or nothing
+pub data Content : Type 0 where
+  Received : Shown → Content
+  Told : Verdict → Content
+  Nothing : Content
+
+pub record Item : Type 0 where
+  pub time : ℕ
+  pub content : Content
+
+abbrev pub received : Option Shown → Content
+received None = Nothing
+received (Some shown) = Received shown
+
+abbrev pub told : Reading → ParticipantId → Verdict → Option Request → Content
+told reading p verdict None = Nothing
+told reading p verdict (Some request) = if is_recipient reading p request then Told verdict else Nothing
+
+abbrev pub content_of : Reading → ParticipantId → List Entry → Message → Content
+content_of reading p log (RequestMessage request) = received (reading.shown p request)
+content_of reading p log (VerdictMessage verdict) = told reading p verdict (request_at log verdict.request)
+content_of reading p log (ResponseMessage response) = Nothing
+content_of reading p log Tick = Nothing
+
+-- what an entry is to the participant after the entries before it
+abbrev pub item_after : Reading → ParticipantId → (before : List Entry) → Entry → Item
+item_after reading p before entry = record { time = entry.time; content = content_of reading p before entry.message }
+
+abbrev pub items_after : Reading → ParticipantId → (before : List Entry) → List Entry → List Item
+items_after reading p before [] = []
+items_after reading p before (entry ∷ rest) = item_after reading p before entry ∷ items_after reading p (before ++ entry ∷ []) rest
+
+-- one item for each entry
+abbrev pub inbox : Reading → ParticipantId → List Entry → List Item
+inbox reading p log = items_after reading p [] log
+
+abbrev pub verdict_in : Content → Option Verdict
+verdict_in (Received shown) = None
+verdict_in (Told verdict) = Some verdict
+verdict_in Nothing = None
+
+abbrev pub moments : List Item → List Moment
+moments items = map (λ (item : Item). record { time = item.time; verdict = verdict_in item.content }) items
+
+abbrev pub shown_by : Content → Option Shown
+shown_by (Received shown) = Some shown
+shown_by (Told verdict) = None
+shown_by Nothing = None
+
+abbrev pub shown_in : Option Item → Option Shown
+shown_in None = None
+shown_in (Some item) = shown_by item.content
+
+abbrev pub item_time : Option Item → ℕ
+item_time None = 0
+item_time (Some item) = item.time
+
+-- the time of the last item
+abbrev pub last_time : List Item → ℕ
+last_time [] = 0
+last_time (item ∷ []) = item.time
+last_time (item ∷ next ∷ rest) = last_time (next ∷ rest)
+
+-- what is shown of the request at a place
+abbrev pub shown_at : List Item → ℕ → Option Shown
+shown_at items m = shown_in (slice_get items m)
+
+-- what is opened of it
+abbrev pub opened_at : List Item → ℕ → Forest Act
+opened_at items m = roots_in (shown_at items m)
+
+abbrev pub is_decided_in : Params → List Item → (request place : ℕ) → Bool
+is_decided_in params items m k = is_decided_at (moments items) m (item_time (slice_get items m) + params.response_timeout + params.reaction_timeout) k
+
+-- what counts for the status of contracts at a place
+abbrev pub past_in : Reading → List Item → ℕ → List Act
+past_in reading items k =
+    gather (λ m. is_approved_in m (take k (moments items))) (λ m. filter reading.is_authentic (acts (opened_at items m))) k
+
+-- what counts as locked at a place
+abbrev pub pending_in : Reading → Params → List Item → ℕ → List Act
+pending_in reading params items k =
+    gather (λ m. not (is_decided_in params items m k)) (λ m. filter reading.is_authentic (acts (opened_at items m))) k
+
+abbrev pub status_in_inbox : Reading → List Item → ℕ → Hash → Status
+status_in_inbox reading items k c = status_after (past_in reading items k) c
+
+abbrev pub is_locked_in_inbox : Reading → Params → List Item → ℕ → Hash → Bool
+is_locked_in_inbox reading params items k c = is_locked_by (pending_in reading params items k) c
+
+abbrev pub is_received : Content → Bool
+is_received (Received shown) = true
+is_received (Told verdict) = false
+is_received Nothing = false
+
+-- the number of items in front of the first request that isn't decided over the whole inbox
+abbrev pub clean_from : Params → List Item → ℕ → List Item → ℕ
+clean_from params items k [] = 0
+clean_from params items k (item ∷ rest) =
+    if is_received item.content && not (is_decided_in params items k (length items))
+    then 0
+    else suc (clean_from params items (suc k) rest)
+
+-- The clean place: the greatest at most the number of items such that every request received below it is decided over all
+-- of them (law `clean_is_greatest`).
+abbrev pub clean : Params → List Item → ℕ
+clean params items = clean_from params items 0 items
+
+abbrev pub part_if : Bool → ℕ → Forest Act → List Part
+part_if false place roots = []
+part_if true place NoRoots = []
+part_if true place (Root act consequences others) = record { place = place; roots = Root act consequences others } ∷ []
+
+-- the approved requests below a place, as opened, without those of which nothing is
+abbrev pub parts_below : List Item → ℕ → List Part
+parts_below items zero = []
+parts_below items (suc k) = parts_below items k ++ part_if (is_approved_in k (moments items)) k (opened_at items k)
+
+-- at most the number of items, and every request received below is decided over all of them
+pub record IsClean (params : Params) (items : List Item) (n : ℕ) : Type 0 where
+  pub within : n ≤ length items
+  pub decided : (m : ℕ) (item : Item) → m < n → slice_get items m ≡ Some item → is_received item.content ≡ true → is_decided_in params items m (length items) ≡ true
+
+-- the time of the item before the clean place
+abbrev pub clean_time : Params → List Item → ℕ
+clean_time params items = last_time (take (clean params items) items)
+
+-- a participant's log
+abbrev pub node_log : Params → List Item → List Part
+node_log params items = parts_below items (clean params items)
+
+-- the contract that a Create makes at a place
+abbrev pub active_row : ℕ → Act → ActiveRow
+active_row place act =
+    record { created_at = place; known = record { id = id_of act.action; salt = act.seed; instance = instance_of act.action } }
+
+abbrev pub authentic_below : Reading → List Item → ℕ → List Act
+authentic_below reading items n =
+    gather (λ m. is_approved_in m (moments items)) (λ m. filter reading.is_authentic (acts (opened_at items m))) n
+
+abbrev pub has_hosted_stakeholder : Reading → ParticipantId → Act → Bool
+has_hosted_stakeholder reading p act =
+    list_any (reading.hosts p) ((reading.language).signatories (instance_of act.action) ++ (reading.language).observers (instance_of act.action))
+
+-- a Create of a contract with a hosted stakeholder that none of these actions consumes
+abbrev pub is_active_create : Reading → ParticipantId → (all : List Act) → Act → Bool
+is_active_create reading p all act =
+    is_create act.action && (has_hosted_stakeholder reading p act && not (list_any (consumes (id_of act.action)) all))
+
+-- such contracts among the actions of the request at a place
+abbrev pub created_at_place : Reading → ParticipantId → (all : List Act) → (place : ℕ) → List Act → List ActiveRow
+created_at_place reading p all place creators =
+    map (active_row place) (filter (is_active_create reading p all) creators)
+
+abbrev pub created_below : Reading → ParticipantId → List Item → (all : List Act) → ℕ → List ActiveRow
+created_below reading p items all zero = []
+created_below reading p items all (suc k) =
+    created_below reading p items all k
+    ++ created_at_place reading p all k (if is_approved_in k (moments items) then filter reading.is_authentic (acts (opened_at items k)) else [])
+
+-- the contracts with a hosted stakeholder that approved requests below n create and none consumes, in order of creation
+abbrev pub node_active : Reading → ParticipantId → List Item → ℕ → List ActiveRow
+node_active reading p items n = created_below reading p items (authentic_below reading items n) n
+
+-- the same of commits, taken whole
+abbrev pub active_of : Reading → ParticipantId → (all : List Act) → List Commit → List ActiveRow
+active_of reading p all [] = []
+active_of reading p all (commit ∷ rest) = created_at_place reading p all commit.place (acts commit.roots) ++ active_of reading p all rest
+
+-- an action with an informee that the participant hosts
+abbrev pub is_informed : Reading → ParticipantId → Act → Bool
+is_informed reading p act = list_any (reading.hosts p) (informees_of reading.language act.action)
+
+abbrev pub project_whole : Reading → ParticipantId → Option Transaction → Forest Act
+project_whole reading p None = NoRoots
+project_whole reading p (Some transaction) = project (is_informed reading p) transaction.roots
+
+-- What is opened of a request to a participant is its projection to the hosted parties.
+pub record OpensProjection (reading : Reading) (p : ParticipantId) (log : List Entry) : Type 0 where
+  pub projected : (k : ℕ) (request : Request) → request_at log k ≡ Some request → roots_in (reading.shown p request) ≡ project_whole reading p (reading.whole request)
+
+-- the projected commits, without the empty ones
+abbrev pub project_ledger : (Act → Bool) → List Commit → List Part
+project_ledger keeps [] = []
+project_ledger keeps (commit ∷ rest) = part_if true commit.place (project keeps commit.roots) ++ project_ledger keeps rest

@@ -1,0 +1,58 @@
+-- The sequencer's log: its messages and their times.
+use Rattle.std.specs.Prelude.{◌≡◌, ℕ, ◌+◌, ◌<◌, List, [], ◌∷◌, Option, Some, None, slice_get}
+pub use Rattle.ledger_terms.specs.declared.params.Params.{Params}
+pub use Rattle.canton_model.specs.declared.message.Envelope.{Envelope}
+pub use Rattle.canton_model.specs.declared.message.Request.{Request}
+pub use Rattle.canton_model.specs.declared.check.Reason.{Reason}
+pub use Rattle.canton_model.specs.declared.check.Reason.TheVariants.{IdMismatch, NotVetted, TimeSkew, Locked, Inactive, NotFresh, Unordered, NotConformant, NotAuthorised}
+pub use Rattle.canton_model.specs.declared.check.LocalVerdict.{LocalVerdict}
+pub use Rattle.canton_model.specs.declared.check.LocalVerdict.TheVariants.{Approve, Reject}
+pub use Rattle.canton_model.specs.declared.check.ViewVerdict.{ViewVerdict}
+pub use Rattle.canton_model.specs.declared.message.Response.{Response}
+pub use Rattle.canton_model.specs.declared.message.Decision.{Decision}
+pub use Rattle.canton_model.specs.declared.message.Decision.TheVariants.{Approved, Rejected, TimedOut}
+pub use Rattle.canton_model.specs.declared.message.Verdict.{Verdict}
+pub use Rattle.canton_model.specs.declared.message.Message.{Message}
+pub use Rattle.canton_model.specs.declared.message.Message.TheVariants.{Request as RequestMessage, Response as ResponseMessage, Verdict as VerdictMessage, Tick}
+pub use Rattle.canton_model.specs.declared.message.Entry.{Entry}
+
+abbrev pub request_of : Message → Option Request
+request_of (RequestMessage request) = Some request
+request_of (ResponseMessage response) = None
+request_of (VerdictMessage verdict) = None
+request_of Tick = None
+
+abbrev pub verdict_of : Message → Option Verdict
+verdict_of (RequestMessage request) = None
+verdict_of (ResponseMessage response) = None
+verdict_of (VerdictMessage verdict) = Some verdict
+verdict_of Tick = None
+
+abbrev pub time_of : Option Entry → ℕ
+time_of None = 0
+time_of (Some entry) = entry.time
+
+abbrev pub request_in : Option Entry → Option Request
+request_in None = None
+request_in (Some entry) = request_of entry.message
+
+abbrev pub request_at : List Entry → ℕ → Option Request
+request_at log k = request_in (slice_get log k)
+
+-- a Tick comes later than the entry before it, and any other message one microsecond after it
+abbrev pub FollowsTime : Message → (before time : ℕ) → Type 0
+FollowsTime Tick before time = before < time
+FollowsTime (RequestMessage request) before time = time ≡ before + 1
+FollowsTime (ResponseMessage response) before time = time ≡ before + 1
+FollowsTime (VerdictMessage verdict) before time = time ≡ before + 1
+
+-- the times of a log whose entry before the first has this time
+abbrev pub TimesFrom : ℕ → List Entry → Type 0
+TimesFrom before [] = Unit {0}
+TimesFrom before (entry ∷ rest) = FollowsTime entry.message before entry.time × TimesFrom entry.time rest
+
+abbrev pub deadline_of : Params → List Entry → ℕ → ℕ
+deadline_of params log j = time_of (slice_get log j) + params.response_timeout
+
+abbrev pub decision_time_of : Params → List Entry → ℕ → ℕ
+decision_time_of params log j = deadline_of params log j + params.reaction_timeout

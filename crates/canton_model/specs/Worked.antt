@@ -1,0 +1,206 @@
+-- Worked examples, over three participants that host Bank, Alice and Carol, and contracts whose id is 9 and the salt.
+use Rattle.std.specs.Prelude.{ℕ, Bool, true, List, [], ◌∷◌, Some, None, nat_eq, if◌then◌else◌, ◌+◌, ◌&&◌, ◌||◌}
+use Rattle.std.specs.Str.{bytes_eq}
+use Rattle.ledger_terms.specs.declared.value.Value.TheVariants.{Party as PartyValue, Unit as UnitValue}
+use Rattle.ledger_model.specs.Terms.{Name, PartySet, Value, Instance, Action, Act, Create, Exercise, Fetch, Hash, id_of}
+use Rattle.ledger_model.specs.Forest.{Forest, NoRoots, Root}
+use Rattle.ledger_model.specs.Language.{Language}
+use Rattle.canton_model.specs.Log.{Params, Entry, ViewVerdict, LocalVerdict, Approve, Reject, Locked, Decision, Approved, Rejected, TimedOut, RequestMessage, ResponseMessage, VerdictMessage, Tick}
+use Rattle.ledger_model.specs.Opening.{Transaction, shown_of, confirming_of}
+use Rattle.canton_model.specs.Reading.{Reading}
+
+abbrev pub alice : Name
+alice = 65 ∷ []
+
+abbrev pub bank : Name
+bank = 66 ∷ []
+
+abbrev pub carol : Name
+carol = 67 ∷ []
+
+abbrev pub hosts : ℕ → Name → Bool
+hosts p name =
+    (nat_eq p 0 && bytes_eq name bank) || ((nat_eq p 1 && bytes_eq name alice) || (nat_eq p 2 && bytes_eq name carol))
+
+-- issuer and owner
+abbrev pub contract : Name → Name → Instance
+contract issuer owner = record { template = record { «package» = []; name = [] }; fields = PartyValue issuer ∷ PartyValue owner ∷ [] }
+
+abbrev pub party_in : Value → PartySet
+party_in (PartyValue name) = name ∷ []
+party_in _ = []
+
+abbrev pub first_field : List Value → PartySet
+first_field [] = []
+first_field (v ∷ vs) = party_in v
+
+abbrev pub second_field : List Value → PartySet
+second_field [] = []
+second_field (v ∷ vs) = first_field vs
+
+abbrev pub language : Language
+language =
+    record {
+      signatories = λ i. first_field i.fields;
+      observers = λ i. second_field i.fields;
+      choice_observers = λ call. [];
+      has_roles = λ a. true;
+      has_kinds = λ i. true;
+      is_creatable = λ i. true;
+      is_exercisable = λ call actors consuming result. true;
+      next = λ call seen. None;
+    }
+
+abbrev pub create : (seed : ℕ) → Instance → Act
+create seed instance = record { seed = seed ∷ []; action = Create (9 ∷ seed ∷ []) instance }
+
+-- the transfer of the contract of seed 1, with the seed of what it creates
+abbrev pub transfer : (seed : ℕ) → Forest Act → Forest Act
+transfer seed others =
+    Root (record { seed = (100 + seed) ∷ []; action = Exercise (9 ∷ 1 ∷ []) (1 ∷ []) (contract bank alice) (84 ∷ []) (PartyValue carol ∷ []) (alice ∷ []) true UnitValue })
+    (Root (create seed (contract bank carol)) NoRoots NoRoots) others
+
+abbrev pub fetch : (id salt : Hash) → Act
+fetch id salt = record { seed = 50 ∷ []; action = Fetch id salt (contract bank alice) (alice ∷ []) }
+
+abbrev pub of_alice : Forest Act → Transaction
+of_alice roots = record { requesters = alice ∷ []; ledger_time = 0; roots = roots }
+
+-- the transactions by their command: 1 the issue, 2 and 3 two transfers, 4 a fetch, 5 a create of Alice's own, 6 a
+-- forged and 7 an invented fetch, 8 a transfer and a fetch, 9 a create that Bank didn't ask for, 10 two creates
+abbrev pub transaction_of : ℕ → Transaction
+transaction_of n =
+    if nat_eq n 1 then record { requesters = bank ∷ []; ledger_time = 0; roots = Root (create 1 (contract bank alice)) NoRoots NoRoots }
+    else if nat_eq n 2 then of_alice (transfer 2 NoRoots)
+    else if nat_eq n 3 then of_alice (transfer 3 NoRoots)
+    else if nat_eq n 4 then of_alice (Root (fetch (9 ∷ 1 ∷ []) (1 ∷ [])) NoRoots NoRoots)
+    else if nat_eq n 5 then of_alice (Root (create 5 (contract alice alice)) NoRoots NoRoots)
+    else if nat_eq n 6 then of_alice (Root (fetch (9 ∷ 1 ∷ []) (0 ∷ [])) NoRoots NoRoots)
+    else if nat_eq n 7 then of_alice (Root (fetch (9 ∷ 0 ∷ []) (0 ∷ [])) NoRoots NoRoots)
+    else if nat_eq n 8 then of_alice (transfer 8 (Root (fetch (9 ∷ 1 ∷ []) (1 ∷ [])) NoRoots NoRoots))
+    else if nat_eq n 9 then of_alice (Root (create 9 (contract bank alice)) NoRoots NoRoots)
+    else of_alice (Root (create 10 (contract alice alice)) NoRoots (Root (create 11 (contract bank alice)) NoRoots NoRoots))
+
+abbrev pub number_of : Name → ℕ
+number_of [] = 0
+number_of (n ∷ ns) = n
+
+abbrev pub salt_in : Hash → Action → Hash
+salt_in seed (Create id instance) = seed
+salt_in seed (Exercise id salt instance choice args actors consuming result) = salt
+salt_in seed (Fetch id salt instance actors) = salt
+
+abbrev pub salt_of : Act → Hash
+salt_of act = salt_in act.seed act.action
+
+abbrev pub reading : Reading
+reading =
+    record {
+      whole = λ q. Some (transaction_of (number_of q.command));
+      shown = λ p q. shown_of language (hosts p) (nat_eq p q.sender) (transaction_of (number_of q.command));
+      is_authentic = λ a. bytes_eq (id_of a.action) (9 ∷ salt_of a);
+      language = language;
+      conforms = λ roots. true;
+      hosts = hosts;
+      confirms = hosts;
+      has_vetted = λ p name. true;
+    }
+
+abbrev pub params : Params
+params = record { response_timeout = 30000000; reaction_timeout = 30000000; skew = 60000000 }
+
+-- entries
+abbrev pub request : (time sender n : ℕ) → Entry
+request time sender n =
+    record { time = time; message = RequestMessage (record { sender = sender; command = n ∷ []; confirming = confirming_of language hosts (0 ∷ 1 ∷ 2 ∷ []) (transaction_of n).roots; mediator = []; envelopes = [] }) }
+
+abbrev pub response : (time from k : ℕ) → List ViewVerdict → Entry
+response time from k verdicts = record { time = time; message = ResponseMessage (record { from = from; request = k; verdicts = verdicts }) }
+
+abbrev pub verdict : (time k : ℕ) → Decision → Entry
+verdict time k decision = record { time = time; message = VerdictMessage (record { request = k; decision = decision }) }
+
+abbrev pub tick : ℕ → Entry
+tick time = record { time = time; message = Tick }
+
+abbrev pub on : List ℕ → LocalVerdict → ViewVerdict
+on path v = record { view = path; verdict = v }
+
+-- 0, 0.0 and 1
+abbrev pub v0 : LocalVerdict → ViewVerdict
+v0 v = on (0 ∷ []) v
+
+abbrev pub v00 : LocalVerdict → ViewVerdict
+v00 v = on (0 ∷ 0 ∷ []) v
+
+abbrev pub v1 : LocalVerdict → ViewVerdict
+v1 v = on (1 ∷ []) v
+
+-- the issue of a contract, and what follows it
+abbrev pub after_b : List Entry → List Entry
+after_b rest =
+    request 1 0 1
+    ∷ response 2 0 0 (v0 Approve ∷ [])
+    ∷ verdict 3 0 Approved
+    ∷ rest
+
+-- two spends
+abbrev pub two_spends : List Entry
+two_spends =
+    after_b (
+    request 4 1 2
+    ∷ request 5 1 3
+    ∷ response 6 0 3 (v0 Approve ∷ v00 Approve ∷ [])
+    ∷ response 7 0 4 (v0 (Reject Locked 0) ∷ v00 Approve ∷ [])
+    ∷ response 8 1 3 (v0 Approve ∷ [])
+    ∷ response 9 1 4 (v0 (Reject Locked 0) ∷ [])
+    ∷ verdict 10 3 Approved
+    ∷ verdict 11 4 (Rejected 0 (0 ∷ []) Locked)
+    ∷ []
+    )
+
+-- a fetch of a locked contract
+abbrev pub fetch_of_locked : List Entry
+fetch_of_locked = after_b (request 4 1 2 ∷ request 5 1 4 ∷ [])
+
+-- a timeout
+abbrev pub timeout : List Entry
+timeout =
+    after_b (
+    request 4 1 2
+    ∷ response 5 1 3 (v0 Approve ∷ [])
+    ∷ tick 30000005
+    ∷ verdict 30000006 3 (TimedOut (0 ∷ []))
+    ∷ request 30000007 1 3
+    ∷ response 30000008 0 7 (v0 Approve ∷ v00 Approve ∷ [])
+    ∷ response 30000009 1 7 (v0 Approve ∷ [])
+    ∷ verdict 30000010 7 Approved
+    ∷ []
+    )
+
+-- the same with a tick on the deadline
+abbrev pub early_tick : List Entry
+early_tick = after_b (request 4 1 2 ∷ response 5 1 3 (v0 Approve ∷ []) ∷ tick 30000004 ∷ [])
+
+-- a request without a verdict and later ticks
+abbrev pub past_decision_time : List Entry
+past_decision_time = request 1 1 5 ∷ response 2 1 0 (v0 Approve ∷ []) ∷ tick 60000001 ∷ tick 60000002 ∷ []
+
+-- a clean place behind
+abbrev pub clean_behind : List Entry
+clean_behind =
+    after_b (
+    request 4 1 2
+    ∷ request 5 1 5
+    ∷ response 6 1 3 (v0 Approve ∷ [])
+    ∷ response 7 1 4 (v0 Approve ∷ [])
+    ∷ verdict 8 4 Approved
+    ∷ []
+    )
+
+-- a request after the issue, or alone
+abbrev pub asked : ℕ → List Entry
+asked n = after_b (request 4 1 n ∷ [])
+
+abbrev pub alone : ℕ → List Entry
+alone n = request 1 1 n ∷ []

@@ -1,0 +1,173 @@
+//! The laws of the protocol's definitions, as the clauses of functions that do nothing.
+ghost use Rattle.std.specs.Prelude.{◌≡◌, ◌++◌, ◌∷◌, [], Some, ◌<◌, ◌≤◌, take, ℕ, Bool, List, true, false, length, None};
+ghost use Rattle.ledger_model.specs.Terms.{Hash, ParticipantId};
+ghost use Rattle.canton_model.specs.Example;
+ghost use Rattle.canton_model.specs.Worked;
+ghost use Rattle.canton_model.specs.Worked.{v0, v00, v1, two_spends, fetch_of_locked, timeout, early_tick, past_decision_time, clean_behind, asked, alone};
+ghost use Rattle.canton_model.specs.Mediation.{scan};
+ghost use Rattle.canton_model.specs.Checks.{verdicts_owed};
+ghost use Rattle.canton_model.specs.Log.{Approve, Reject, Approved, TimedOut, Locked, Inactive, Unordered, IdMismatch, NotAuthorised, Rejected, Params, Entry, decision_time_of};
+ghost use Rattle.ledger_model.specs.Language.{roles_of};
+ghost use Rattle.canton_model.specs.Reading.{Reading};
+ghost use Rattle.ledger_model.specs.Authority.{is_commit_authorised};
+ghost use Rattle.ledger_model.specs.Conformance.{Conforms};
+ghost use Rattle.canton_model.specs.Inbox;
+ghost use Rattle.canton_model.specs.Inbox.{Item, IsClean, item_after, active_of, active_row, clean, inbox, is_informed, node_active, node_log, project_ledger};
+ghost use Rattle.canton_model.specs.Ledger.{whole_at, commits_below, Timely, requests_of, ledger};
+ghost use Rattle.canton_model.specs.Genuine.{Genuine, IsReading, NoCollision};
+ghost use Rattle.canton_model.specs.Causes.{CauseOf};
+ghost use Rattle.canton_model.specs.Timeline.{is_approved_in, timeline_of, outcome_of};
+ghost use Rattle.ledger_model.specs.Consistency.{Consistent};
+ghost use Rattle.ledger_model.specs.Forest.{Commit, ledger_acts};
+ghost use Rattle.ledger_model.specs.Status.{is_locked_by, status_after};
+ghost use Rattle.canton_model.specs.Evidence.{IsShownApprovedChanges, IsShownChanges, is_locked_at, past_at, pending_at, status_at, Requests, Opened, Final, Checked, ledger_below};
+
+/// The approved requests of a log, in order, are a consistent ledger, whatever requests are.
+pub fn one_ledger()
+    ensures consistent { (r : Requests) (end : ℕ) → Opened r end → Final r end → Checked r end → Consistent (ledger_acts (ledger_below r.is_approved r.whole end)) }
+{}
+
+/// In a log with its times and verdicts in order, a request that is decided stays as it is.
+pub fn decided_is_final()
+    ensures { (reading : Reading) (params : Params) (log : List Entry) (guards : ParticipantId → Hash → Bool)
+        → Timely params log
+        → Final (requests_of reading params log guards) (length log) }
+{}
+
+/// The same of one log.
+pub fn one_ledger_of_log()
+    ensures { (reading : Reading) (params : Params) (log : List Entry) (guards : ParticipantId → Hash → Bool)
+        → Timely params log
+        → Opened (requests_of reading params log guards) (length log)
+        → Checked (requests_of reading params log guards) (length log)
+        → Consistent (ledger_acts (ledger reading log)) }
+{}
+
+/// A participant that is shown every change of a contract counts it as locked exactly where it is.
+pub fn locks_are_shared()
+    ensures { (r : Requests) (end p k : ℕ) (c : Hash)
+        → k < end
+        → IsShownChanges r end p c
+        → is_locked_by (pending_at r p k) c ≡ is_locked_at r k c }
+{}
+
+/// Where it doesn't count it as locked it gives it the ledger's status, and for that the changes of approved requests
+/// below the place are enough.
+pub fn status_is_shared()
+    ensures { (r : Requests) (end p k : ℕ) (c : Hash)
+        → k < end
+        → IsShownApprovedChanges r k p c
+        → Final r end
+        → Checked r end
+        → is_locked_by (pending_at r p k) c ≡ false
+        → status_after (past_at r p k) c ≡ status_at r k c }
+{}
+
+/// A participant's log up to its clean place is the ledger's projection to its hosted parties.
+pub fn node_log_is_projection()
+    ensures { (reading : Reading) (params : Params) (log : List Entry) (p : ParticipantId) (n : ℕ)
+        → Genuine reading params log
+        → n ≤ length log
+        → node_log params (inbox reading p (take n log))
+        ≡ project_ledger (is_informed reading p) (commits_below reading log (clean params (inbox reading p (take n log)))) }
+{}
+
+/// The approved requests of a genuine log without collisions are a consistent ledger.
+pub fn one_ledger_of_genuine_log()
+    ensures { (reading : Reading) (params : Params) (log : List Entry)
+        → IsReading reading
+        → NoCollision reading log
+        → Genuine reading params log
+        → Consistent (ledger_acts (ledger reading log)) }
+{}
+
+/// Approved requests conform and are authorised, whether hashes collide or not.
+pub fn approved_conform_and_are_authorised()
+    ensures conform { (reading : Reading) (params : Params) (log : List Entry) (k : ℕ) (commit : Commit)
+        → IsReading reading
+        → Genuine reading params log
+        → is_approved_in k (timeline_of log) ≡ true
+        → whole_at reading log k ≡ Some commit
+        → Conforms reading.language commit.roots }
+    ensures authorised { (reading : Reading) (params : Params) (log : List Entry) (k : ℕ) (commit : Commit)
+        → IsReading reading
+        → Genuine reading params log
+        → is_approved_in k (timeline_of log) ≡ true
+        → whole_at reading log k ≡ Some commit
+        → is_commit_authorised (roles_of reading.language) commit ≡ true }
+{}
+
+/// A participant's active contracts at its clean place are those with a hosted stakeholder that the ledger's commits below
+/// that place, taken whole, create and don't consume.
+pub fn active_sets_are_exact()
+    ensures { (reading : Reading) (params : Params) (log : List Entry) (p : ParticipantId) (n : ℕ)
+        → IsReading reading
+        → NoCollision reading log
+        → Genuine reading params log
+        → n ≤ length log
+        → node_active reading p (inbox reading p (take n log)) (clean params (inbox reading p (take n log)))
+        ≡ active_of reading p (ledger_acts (commits_below reading log (clean params (inbox reading p (take n log))))) (commits_below reading log (clean params (inbox reading p (take n log)))) }
+{}
+
+/// The premises of `one_ledger_of_genuine_log` can be met, and the definitions compute.
+pub fn example()
+    ensures reading { IsReading Example.reading }
+    ensures distinct { NoCollision Example.reading Example.log }
+    ensures genuine { Genuine Example.reading Example.params Example.log }
+    ensures ledger { ledger_acts (ledger Example.reading Example.log) ≡ Example.note ∷ [] }
+    ensures clean { clean Example.params (inbox Example.reading 0 Example.log) ≡ 3 }
+    ensures active { node_active Example.reading 0 (inbox Example.reading 0 Example.log) 3 ≡ active_row 0 Example.note ∷ [] }
+    ensures unsettled { clean Example.params (inbox Example.reading 0 (take 2 Example.log)) ≡ 0 }
+{}
+
+/// What a rejection, a timeout or an expiry says is so.
+pub fn each_outcome_has_its_cause()
+    ensures { (reading : Reading) (params : Params) (log : List Entry) (j : ℕ)
+        → IsReading reading
+        → NoCollision reading log
+        → Genuine reading params log
+        → CauseOf reading params log j (outcome_of (timeline_of log) j (decision_time_of params log j)) }
+{}
+
+/// The clean place is the greatest below which every request is decided.
+pub fn clean_is_greatest()
+    ensures clean { (params : Params) (items : List Item) → IsClean params items (Inbox.clean params items) }
+    ensures greatest { (params : Params) (items : List Item) (n : ℕ) → IsClean params items n → n ≤ Inbox.clean params items }
+{}
+
+/// An inbox grows by one item with each entry.
+pub fn inbox_grows()
+    ensures { (reading : Reading) (p : ParticipantId) (log : List Entry) (entry : Entry)
+        → inbox reading p (log ++ entry ∷ []) ≡ inbox reading p log ++ item_after reading p log entry ∷ [] }
+{}
+
+/// The decisions and clean places of worked examples.
+pub fn worked_decisions()
+    ensures first_spend { scan Worked.params two_spends 3 ≡ Some Approved }
+    ensures second_spend { scan Worked.params two_spends 4 ≡ Some (Rejected 0 (0 ∷ []) Locked) }
+    ensures timeout { scan Worked.params timeout 3 ≡ Some (TimedOut (0 ∷ [])) }
+    ensures after_timeout { scan Worked.params timeout 7 ≡ Some Approved }
+    ensures early_tick { scan Worked.params early_tick 3 ≡ None }
+    ensures past_decision_time { clean Worked.params (inbox Worked.reading 1 (take 3 past_decision_time)) ≡ 0 }
+    ensures expired_later { clean Worked.params (inbox Worked.reading 1 past_decision_time) ≡ 4 }
+    ensures clean_behind { clean Worked.params (inbox Worked.reading 1 clean_behind) ≡ 3 }
+    ensures clean_behind_ledger { length (node_log Worked.params (inbox Worked.reading 1 clean_behind)) ≡ 1 }
+{}
+
+/// The responses of worked examples.
+pub fn worked_checks()
+    ensures transfer_bank { verdicts_owed Worked.reading Worked.params 0 (inbox Worked.reading 0 (take 4 two_spends)) 3 ≡ v0 Approve ∷ v00 Approve ∷ [] }
+    ensures transfer_alice { verdicts_owed Worked.reading Worked.params 1 (inbox Worked.reading 1 (take 4 two_spends)) 3 ≡ v0 Approve ∷ [] }
+    ensures transfer_carol { verdicts_owed Worked.reading Worked.params 2 (inbox Worked.reading 2 (take 4 two_spends)) 3 ≡ [] }
+    ensures second_spend_bank { verdicts_owed Worked.reading Worked.params 0 (inbox Worked.reading 0 (take 5 two_spends)) 4 ≡ v0 (Reject Locked 0) ∷ v00 Approve ∷ [] }
+    ensures second_spend_alice { verdicts_owed Worked.reading Worked.params 1 (inbox Worked.reading 1 (take 5 two_spends)) 4 ≡ v0 (Reject Locked 0) ∷ [] }
+    ensures fetch_of_locked_bank { verdicts_owed Worked.reading Worked.params 0 (inbox Worked.reading 0 fetch_of_locked) 4 ≡ v0 (Reject Locked 0) ∷ [] }
+    ensures after_timeout_bank { verdicts_owed Worked.reading Worked.params 0 (inbox Worked.reading 0 (take 8 timeout)) 7 ≡ v0 Approve ∷ v00 Approve ∷ [] }
+    ensures forged_input { verdicts_owed Worked.reading Worked.params 0 (inbox Worked.reading 0 (asked 6)) 3 ≡ v0 (Reject IdMismatch 0) ∷ [] }
+    ensures invented_input { verdicts_owed Worked.reading Worked.params 0 (inbox Worked.reading 0 (asked 7)) 3 ≡ v0 (Reject Inactive 0) ∷ [] }
+    ensures used_after_bank { verdicts_owed Worked.reading Worked.params 0 (inbox Worked.reading 0 (asked 8)) 3 ≡ v0 Approve ∷ v00 Approve ∷ v1 (Reject Unordered 0) ∷ [] }
+    ensures used_after_alice { verdicts_owed Worked.reading Worked.params 1 (inbox Worked.reading 1 (asked 8)) 3 ≡ v0 Approve ∷ v1 (Reject Unordered 0) ∷ [] }
+    ensures no_authority { verdicts_owed Worked.reading Worked.params 0 (inbox Worked.reading 0 (alone 9)) 0 ≡ v0 (Reject NotAuthorised 0) ∷ [] }
+    ensures foreign_root_bank { verdicts_owed Worked.reading Worked.params 0 (inbox Worked.reading 0 (alone 10)) 0 ≡ v1 (Reject NotAuthorised 0) ∷ [] }
+    ensures foreign_root_alice { verdicts_owed Worked.reading Worked.params 1 (inbox Worked.reading 1 (alone 10)) 0 ≡ v0 Approve ∷ [] }
+{}

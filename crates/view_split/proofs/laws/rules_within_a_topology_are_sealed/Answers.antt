@@ -1,5 +1,0 @@
-use Rattle.view_split.proofs.Within.{sealed_within}
-use Rattle.view_split.proofs.laws.rules_within_a_topology_are_sealed.Goals as goal
-
-pub returns : goal.returns
-returns c = λ topology packages reading request transaction lawful within keeps. sealed_within topology packages reading request transaction within keeps lawful
