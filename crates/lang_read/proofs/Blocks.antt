@@ -1,7 +1,6 @@
 -- Statements below a `when`: members looked up one by one, and how deep they stand.
-use Rattle.std.proofs.Common.{◌≡◌, ◌≢◌, ℕ, ◌+◌, List, [], ◌∷◌, length, get_or, Option, Some, None, Result, Ok, Err, ok_or, refl, ap, ◌∙◌, arith}
+use Rattle.std.proofs.Common.{◌≡◌, ◌≢◌, ℕ, ◌+◌, List, [], ◌∷◌, length, get_or, Option, Some, None, Result, Ok, Err, ok_or, refl, ap, ◌∙◌, arith, Ordering, Less, Equal, Greater}
 use Rattle.std.specs.Prelude.{codes, nat_le, if◌then◌else◌}
-use Rattle.std.proofs.Common.{Ordering, Less, Equal, Greater}
 use Rattle.std.specs.Ordering.{nat_cmp, match_ordering}
 use Rattle.std.specs.Cmp.Lexicographic.{slice_cmp}
 use Rattle.serde_json.specs.Data.{Data, null, boolean, number, string, array, object, Members, no_members, member}
@@ -11,26 +10,14 @@ use Rattle.serde_json.specs.declared.value.Value.{Value}
 use Rattle.ledger_terms.specs.Pointers.{at_member}
 use Rattle.ledger_terms.specs.Syntax.{StmtForms, NoStmts, When}
 use Rattle.ledger_terms.specs.declared.host.Host.{Host}
-use Rattle.lang_read.specs.Walk.{◌>>=◌, check, Place, has_members, member_of}
+use Rattle.ledger_terms.specs.Answers.{◌>>=◌, check}
+use Rattle.json_walk.specs.Walk.{Place, within_limit, has_members, member_of}
+use Rattle.json_walk.specs.declared.limits.TheConstants.{STATEMENTS}
 use Rattle.lang_read.specs.Exprs.{expr_in}
-use Rattle.lang_read.specs.Stmts.{two_of, is_only, simple_of, has_when_members, stmt_of, when_member, when_of, block_member, block_of, block_if, else_of, stmts_from}
-use Rattle.lang_read.specs.declared.script_fault.ScriptFault.{ScriptFault}
-use Rattle.lang_read.specs.declared.script_fault.ScriptFault.TheVariants.{Shape, Limit}
-use Rattle.lang_read.proofs.Items.{item_count_view}
-
--- ---- lists of two
-
-pub two_items : (at : Place) (vs : List Value) (a b : Value) → length vs ≡ 2 → two_of at (items_view vs) ≡ Ok (view (get_or vs 0 a), view (get_or vs 1 b))
-two_items at [] a b h = absurd (omega arith)
-two_items at (x ∷ []) a b h = absurd (omega arith)
-two_items at (x ∷ y ∷ []) a b h = refl
-two_items at (x ∷ y ∷ z ∷ vs) a b h = absurd (omega arith)
-
-pub two_other : (at : Place) (vs : List Value) → length vs ≢ 2 → two_of at (items_view vs) ≡ Err (Shape at)
-two_other at [] h = refl
-two_other at (x ∷ []) h = refl
-two_other at (x ∷ y ∷ []) h = absurd (h refl)
-two_other at (x ∷ y ∷ z ∷ vs) h = refl
+use Rattle.lang_read.specs.Stmts.{is_only, simple_of, has_when_members, stmt_of, when_member, when_of, block_member, block_of, block_if, else_of, stmts_from}
+use Rattle.json_walk.specs.declared.walk_fault.WalkFault.{WalkFault}
+use Rattle.json_walk.specs.declared.walk_fault.WalkFault.TheVariants.{Shape}
+use Rattle.json_walk.proofs.Items.{item_count_view}
 
 -- ---- members, looked up in order
 
@@ -39,7 +26,7 @@ by_order Less a b x y f p q = p
 by_order Equal a b x y f p q = q
 by_order Greater a b x y f p q = p
 
-bind_same : {A B : Type 0} (r : Result A ScriptFault) (f g : A → Result B ScriptFault) → ((a : A) → f a ≡ g a) → (r >>= f) ≡ (r >>= g)
+bind_same : {A B : Type 0} (r : Result A WalkFault) (f g : A → Result B WalkFault) → ((a : A) → f a ≡ g a) → (r >>= f) ≡ (r >>= g)
 bind_same (Ok a) f g h = h a
 bind_same (Err e) f g h = refl
 
@@ -49,7 +36,7 @@ module _ (hosts : List Host) (at : Place) where
   when_member-get n (member k d ms) =
       by_order (slice_cmp nat_cmp (codes "when") k) (get_member (codes "when") ms) (Some d) (when_member hosts at n ms) (when_of hosts (at_member at (codes "when")) n d) (λ o. ok_or o (Shape at) >>= when_of hosts (at_member at (codes "when")) n) (when_member-get n ms) refl
 
-  block_member-get : (n : ℕ) (k : List ℕ) (absent : Result (StmtForms × ℕ) ScriptFault) (ms : Members) → block_member hosts at n k absent ms ≡ block_if hosts (at_member at k) n absent (get_member k ms)
+  block_member-get : (n : ℕ) (k : List ℕ) (absent : Result (StmtForms × ℕ) WalkFault) (ms : Members) → block_member hosts at n k absent ms ≡ block_if hosts (at_member at k) n absent (get_member k ms)
   block_member-get n k absent no_members = refl
   block_member-get n k absent (member l d ms) =
       by_order (slice_cmp nat_cmp k l) (get_member k ms) (Some d) (block_member hosts at n k absent ms) (block_of hosts (at_member at k) n d) (block_if hosts (at_member at k) n absent) (block_member-get n k absent ms) refl
@@ -86,5 +73,5 @@ module _ (hosts : List Host) (at : Place) where
       ∙ bind_same (member_of at (codes "then") (object ms) >>= block_of hosts (at_member at (codes "then")) n) _ _ (λ yes. ap (λ r. r >>= (λ no. Ok (When test yes.0 no.0, no.1))) (block_member-get yes.1 (codes "else") (Ok (NoStmts, yes.1)) ms))))
 
   -- a list of statements by its length
-  pub block_of-is : (n : ℕ) (vs : List Value) (d : Data) → d ≡ array (items_view vs) → block_of hosts at n d ≡ (check (nat_le (n + length vs) 64) (Limit at 9 (n + length vs)) >>= (λ _. stmts_from hosts at 0 (NoStmts, n + length vs) (items_view vs)))
+  pub block_of-is : (n : ℕ) (vs : List Value) (d : Data) → d ≡ array (items_view vs) → block_of hosts at n d ≡ (within_limit at STATEMENTS (n + length vs) >>= (λ _. stmts_from hosts at 0 (NoStmts, n + length vs) (items_view vs)))
   block_of-is n vs d is = rw (is, item_count_view vs) refl

@@ -4,13 +4,14 @@ use Rattle.serde_json.specs.Data.{no_items, item}
 use Rattle.serde_json.specs.View.{view, items_view}
 use Rattle.serde_json.specs.declared.value.Value.{Value}
 use Rattle.ledger_terms.specs.declared.host.Host.{Host}
-use Rattle.lang_read.specs.Walk.{◌>>=◌, Place}
+use Rattle.ledger_terms.specs.Answers.{◌>>=◌}
+use Rattle.json_walk.specs.Walk.{Place}
 use Rattle.lang_read.specs.Literals.{within_depth}
 use Rattle.lang_read.specs.Operators.{operator_of}
 use Rattle.lang_read.specs.Exprs.{name_after, call_of, applied_of, negated_of, pair_of, cond_of}
 use Rattle.lang_read.specs.declared.binary.Binary.{Binary}
-use Rattle.lang_read.specs.declared.script_fault.ScriptFault.TheVariants.{Shape}
-use Rattle.lang_read.proofs.Items.{item_count_view}
+use Rattle.json_walk.specs.declared.walk_fault.WalkFault.TheVariants.{Shape}
+use Rattle.json_walk.proofs.Items.{item_count_view}
 
 -- the items from the second on, of lists of two, three and four
 pub behind_one : (vs : List Value) (a : Value) → length vs ≡ 2 → items_view (drop 1 vs) ≡ item (view (get_or vs 1 a)) no_items

@@ -6,28 +6,29 @@ use Rattle.ledger_terms.specs.Pointers.{at_item, at_member}
 use Rattle.ledger_terms.specs.Syntax.{ExprForm, ExprForms, NoExprs, Literal, Var, Negate, Cond, SetOf}
 use Rattle.ledger_terms.specs.SyntaxLists.{exprs_join, one_expr}
 use Rattle.ledger_terms.specs.declared.host.Host.{Host}
-use Rattle.lang_read.specs.Walk.{◌>>=◌, Place, items_of, walk_items, item_count, member_of}
+use Rattle.ledger_terms.specs.Answers.{◌>>=◌}
+use Rattle.json_walk.specs.Walk.{Place, items_of, walk_items, item_count, member_of}
 use Rattle.lang_read.specs.Literals.{literal_of, within_depth}
 use Rattle.lang_read.specs.Operators.{operator_of, binary_form}
 use Rattle.lang_read.specs.declared.binary.Binary.{Binary}
 use Rattle.lang_read.specs.declared.operator.Operator.{Operator}
 use Rattle.lang_read.specs.declared.operator.Operator.TheVariants as op
-use Rattle.lang_read.specs.declared.script_fault.ScriptFault.{ScriptFault}
-use Rattle.lang_read.specs.declared.script_fault.ScriptFault.TheVariants.{Shape}
+use Rattle.json_walk.specs.declared.walk_fault.WalkFault.{WalkFault}
+use Rattle.json_walk.specs.declared.walk_fault.WalkFault.TheVariants.{Shape}
 
-unfoldable pub value_of : List Host → Place → ℕ → Data → Result ExprForm ScriptFault
+unfoldable pub value_of : List Host → Place → ℕ → Data → Result ExprForm WalkFault
 value_of hosts at depth d = do
   v ← literal_of hosts at depth d
   Ok (Literal v)
 
 -- the text of a bound name, which is no value and has no limit
-unfoldable pub bound_name : Place → Data → Result ExprForm ScriptFault
+unfoldable pub bound_name : Place → Data → Result ExprForm WalkFault
 bound_name at d = do
   s ← ok_or (as_str d) (Shape at)
   Ok (Var s)
 
 -- the one item behind `var`
-abbrev pub name_after : Place → Items → Result ExprForm ScriptFault
+abbrev pub name_after : Place → Items → Result ExprForm WalkFault
 name_after at (item d no_items) = bound_name (at_item at 1) d
 name_after at no_items = Err (Shape at)
 name_after at (item d (item e ds)) = Err (Shape at)
@@ -42,7 +43,7 @@ by_operator op.SetOf name pair one three all = all
 
 abbrev mutual
   -- the expression at a place, which stands at a depth
-  pub expr_of : List Host → Place → ℕ → Data → Result ExprForm ScriptFault
+  pub expr_of : List Host → Place → ℕ → Data → Result ExprForm WalkFault
   expr_of hosts at depth null = value_of hosts at depth null
   expr_of hosts at depth (boolean b) = value_of hosts at depth (boolean b)
   expr_of hosts at depth (number n) = value_of hosts at depth (number n)
@@ -50,19 +51,19 @@ abbrev mutual
   expr_of hosts at depth (array ds) = call_of hosts at depth ds
   expr_of hosts at depth (object ms) = value_of hosts at depth (object ms)
 
-  pub call_of : List Host → Place → ℕ → Items → Result ExprForm ScriptFault
+  pub call_of : List Host → Place → ℕ → Items → Result ExprForm WalkFault
   call_of hosts at depth no_items = Err (Shape at)
   call_of hosts at depth (item d ds) =
       operator_of at (item_count ds) d
       >>= (λ o. within_depth at depth
       >>= (λ _. by_operator o (name_after at ds) (λ b. pair_of hosts at depth b ds) (negated_of hosts at depth ds) (cond_of hosts at depth ds) (operands_from hosts at depth 1 NoExprs ds >>= (λ es. Ok (SetOf es)))))
 
-  pub negated_of : List Host → Place → ℕ → Items → Result ExprForm ScriptFault
+  pub negated_of : List Host → Place → ℕ → Items → Result ExprForm WalkFault
   negated_of hosts at depth no_items = Err (Shape at)
   negated_of hosts at depth (item a no_items) = expr_of hosts (at_item at 1) (depth + 1) a >>= (λ x. Ok (Negate x))
   negated_of hosts at depth (item a (item b ds)) = Err (Shape at)
 
-  pub pair_of : List Host → Place → ℕ → Binary → Items → Result ExprForm ScriptFault
+  pub pair_of : List Host → Place → ℕ → Binary → Items → Result ExprForm WalkFault
   pair_of hosts at depth o no_items = Err (Shape at)
   pair_of hosts at depth o (item a no_items) = Err (Shape at)
   pair_of hosts at depth o (item a (item b no_items)) =
@@ -71,7 +72,7 @@ abbrev mutual
       >>= (λ y. Ok (binary_form o x y)))
   pair_of hosts at depth o (item a (item b (item c ds))) = Err (Shape at)
 
-  pub cond_of : List Host → Place → ℕ → Items → Result ExprForm ScriptFault
+  pub cond_of : List Host → Place → ℕ → Items → Result ExprForm WalkFault
   cond_of hosts at depth no_items = Err (Shape at)
   cond_of hosts at depth (item a no_items) = Err (Shape at)
   cond_of hosts at depth (item a (item b no_items)) = Err (Shape at)
@@ -83,39 +84,39 @@ abbrev mutual
   cond_of hosts at depth (item a (item b (item c (item d ds)))) = Err (Shape at)
 
   -- the operands from the i-th item on, behind those before
-  pub operands_from : List Host → Place → ℕ → ℕ → ExprForms → Items → Result ExprForms ScriptFault
+  pub operands_from : List Host → Place → ℕ → ℕ → ExprForms → Items → Result ExprForms WalkFault
   operands_from hosts at depth i before no_items = Ok before
   operands_from hosts at depth i before (item d ds) =
       expr_of hosts (at_item at i) (depth + 1) d >>= (λ e. operands_from hosts at depth (i + 1) (exprs_join before (one_expr e)) ds)
 
 -- an operator with the items behind it
-abbrev pub applied_of : List Host → Place → ℕ → Operator → Items → Result ExprForm ScriptFault
+abbrev pub applied_of : List Host → Place → ℕ → Operator → Items → Result ExprForm WalkFault
 applied_of hosts at depth o ds =
     by_operator o (name_after at ds) (λ b. pair_of hosts at depth b ds) (negated_of hosts at depth ds) (cond_of hosts at depth ds) (operands_from hosts at depth 1 NoExprs ds >>= (λ es. Ok (SetOf es)))
 
 -- ---- where expressions stand
 
-unfoldable pub expr_in : List Host → Place → List ℕ → Data → Result ExprForm ScriptFault
+unfoldable pub expr_in : List Host → Place → List ℕ → Data → Result ExprForm WalkFault
 expr_in hosts at k d = do
   m ← member_of at k d
   expr_of hosts (at_member at k) 1 m
 
 -- a member that may be absent
-abbrev pub expr_if : List Host → Place → ExprForm → Option Data → Result ExprForm ScriptFault
+abbrev pub expr_if : List Host → Place → ExprForm → Option Data → Result ExprForm WalkFault
 expr_if hosts at default None = Ok default
 expr_if hosts at default (Some d) = expr_of hosts at 1 d
 
-unfoldable pub expr_or : List Host → Place → List ℕ → ExprForm → Data → Result ExprForm ScriptFault
+unfoldable pub expr_or : List Host → Place → List ℕ → ExprForm → Data → Result ExprForm WalkFault
 expr_or hosts at k default d = expr_if hosts (at_member at k) default (get k d)
 
 -- one more expression of a list
-unfoldable pub expr_step : List Host → Place → ℕ → ExprForms → Data → Result ExprForms ScriptFault
+unfoldable pub expr_step : List Host → Place → ℕ → ExprForms → Data → Result ExprForms WalkFault
 expr_step hosts at i before d = do
   e ← expr_of hosts (at_item at i) 1 d
   Ok (exprs_join before (one_expr e))
 
 -- a list of expressions, of any length
-unfoldable pub exprs_in : List Host → Place → List ℕ → Data → Result ExprForms ScriptFault
+unfoldable pub exprs_in : List Host → Place → List ℕ → Data → Result ExprForms WalkFault
 exprs_in hosts at k d = do
   m ← member_of at k d
   items ← items_of (at_member at k) m

@@ -1,7 +1,4 @@
-pub mod Listed
-pub mod Walk
-pub mod Faults
-pub mod Texts
+pub mod Kinds
 pub mod Parties
 pub mod Literals
 pub mod Operators

@@ -5,13 +5,14 @@ use Rattle.serde_json.specs.Data.{Data}
 use Rattle.serde_json.specs.Find.{as_str}
 use Rattle.ledger_terms.specs.Syntax.{ExprForm}
 use Rattle.ledger_terms.specs.Syntax as form
-use Rattle.lang_read.specs.Walk.{◌>>=◌, check, Place}
+use Rattle.ledger_terms.specs.Answers.{◌>>=◌, check}
+use Rattle.json_walk.specs.Walk.{Place}
 use Rattle.lang_read.specs.declared.binary.Binary.{Binary}
 use Rattle.lang_read.specs.declared.binary.Binary.TheVariants as binary
 use Rattle.lang_read.specs.declared.operator.Operator.{Operator}
 use Rattle.lang_read.specs.declared.operator.Operator.TheVariants as op
-use Rattle.lang_read.specs.declared.script_fault.ScriptFault.{ScriptFault}
-use Rattle.lang_read.specs.declared.script_fault.ScriptFault.TheVariants.{Shape}
+use Rattle.json_walk.specs.declared.walk_fault.WalkFault.{WalkFault}
+use Rattle.json_walk.specs.declared.walk_fault.WalkFault.TheVariants.{Shape}
 
 -- the operator of two operands that a word names
 unfoldable pub binary_named : List ℕ → Option Binary
@@ -45,7 +46,7 @@ takes op.Cond n = n == 3
 takes op.SetOf n = nat_le n 16
 
 -- the operator that stands before n operands
-unfoldable pub operator_of : Place → ℕ → Data → Result Operator ScriptFault
+unfoldable pub operator_of : Place → ℕ → Data → Result Operator WalkFault
 operator_of at n d = do
   s ← ok_or (as_str d) (Shape at)
   o ← ok_or (operator_named s) (Shape at)

@@ -1,5 +1,5 @@
--- Statements of a choice's body. At most 64 stand in one body, those below a `when` counted.
-use Rattle.std.specs.Prelude.{ℕ, ◌+◌, Bool, List, [], ◌∷◌, nat_le, if◌then◌else◌, Option, Some, None, Result, Ok, Err, codes}
+-- Statements of a choice's body, which are counted with those below a `when`.
+use Rattle.std.specs.Prelude.{ℕ, ◌+◌, Bool, List, [], ◌∷◌, if◌then◌else◌, Option, Some, None, Result, Ok, Err, codes}
 use Rattle.std.specs.Ordering.{nat_cmp, match_ordering}
 use Rattle.std.specs.Cmp.Lexicographic.{slice_cmp}
 use Rattle.serde_json.specs.Data.{Data, null, boolean, number, string, array, object, Items, no_items, item, Members, no_members, member}
@@ -8,20 +8,15 @@ use Rattle.ledger_terms.specs.Pointers.{at_item, at_member}
 use Rattle.ledger_terms.specs.Syntax.{StmtForm, StmtForms, NoStmts, Bind, Assert, Create, Exercise, Fetch, When}
 use Rattle.ledger_terms.specs.SyntaxLists.{stmts_join, one_stmt}
 use Rattle.ledger_terms.specs.declared.host.Host.{Host}
-use Rattle.lang_read.specs.Walk.{◌>>=◌, check, Place, name_of, name_in, has_members, items_of, item_count, member_of}
-use Rattle.lang_read.specs.Texts.{template_in}
+use Rattle.ledger_terms.specs.Answers.{◌>>=◌, check}
+use Rattle.json_walk.specs.declared.limits.TheConstants.{STATEMENTS}
+use Rattle.json_walk.specs.Walk.{within_limit, two_of, Place, name_of, name_in, has_members, items_of, item_count, member_of}
+use Rattle.json_walk.specs.Texts.{template_in}
 use Rattle.lang_read.specs.Exprs.{expr_of, expr_in, exprs_in}
-use Rattle.lang_read.specs.declared.script_fault.ScriptFault.{ScriptFault}
-use Rattle.lang_read.specs.declared.script_fault.ScriptFault.TheVariants.{Shape, Limit}
+use Rattle.json_walk.specs.declared.walk_fault.WalkFault.{WalkFault}
+use Rattle.json_walk.specs.declared.walk_fault.WalkFault.TheVariants.{Shape}
 
--- the two items of a list
-abbrev pub two_of : Place → Items → Result (Data × Data) ScriptFault
-two_of at (item a (item b no_items)) = Ok (a, b)
-two_of at no_items = Err (Shape at)
-two_of at (item a no_items) = Err (Shape at)
-two_of at (item a (item b (item c ds))) = Err (Shape at)
-
-unfoldable pub bind_of : List Host → Place → Data → Result StmtForm ScriptFault
+unfoldable pub bind_of : List Host → Place → Data → Result StmtForm WalkFault
 bind_of hosts at d = do
   items ← items_of at d
   two ← two_of at items
@@ -29,12 +24,12 @@ bind_of hosts at d = do
   value ← expr_of hosts (at_item at 1) 1 two.1
   Ok (Bind name value)
 
-unfoldable pub assert_of : List Host → Place → Data → Result StmtForm ScriptFault
+unfoldable pub assert_of : List Host → Place → Data → Result StmtForm WalkFault
 assert_of hosts at d = do
   test ← expr_of hosts at 1 d
   Ok (Assert test)
 
-unfoldable pub create_of : List Host → Place → Data → Result StmtForm ScriptFault
+unfoldable pub create_of : List Host → Place → Data → Result StmtForm WalkFault
 create_of hosts at d = do
   _ ← check (has_members (codes "bind" ∷ codes "template" ∷ codes "fields" ∷ []) [] d) (Shape at)
   bind ← name_in at (codes "bind") d
@@ -45,7 +40,7 @@ create_of hosts at d = do
 unfoldable pub has_exercise_members : Data → Bool
 has_exercise_members d = has_members (codes "bind" ∷ codes "template" ∷ codes "contract" ∷ codes "choice" ∷ codes "args" ∷ []) [] d
 
-unfoldable pub exercise_of : List Host → Place → Data → Result StmtForm ScriptFault
+unfoldable pub exercise_of : List Host → Place → Data → Result StmtForm WalkFault
 exercise_of hosts at d = do
   _ ← check (has_exercise_members d) (Shape at)
   bind ← name_in at (codes "bind") d
@@ -55,7 +50,7 @@ exercise_of hosts at d = do
   args ← exprs_in hosts at (codes "args") d
   Ok (Exercise bind template contract choice args)
 
-unfoldable pub fetch_of : List Host → Place → Data → Result StmtForm ScriptFault
+unfoldable pub fetch_of : List Host → Place → Data → Result StmtForm WalkFault
 fetch_of hosts at d = do
   _ ← check (has_members (codes "bind" ∷ codes "template" ∷ codes "contract" ∷ []) [] d) (Shape at)
   bind ← name_in at (codes "bind") d
@@ -68,11 +63,11 @@ abbrev pub is_only : List ℕ → Data → Bool
 is_only k d = has_members (k ∷ []) [] d
 
 -- what stands in the one member
-abbrev pub inside : (Place → Data → Result StmtForm ScriptFault) → Place → List ℕ → Data → Result StmtForm ScriptFault
+abbrev pub inside : (Place → Data → Result StmtForm WalkFault) → Place → List ℕ → Data → Result StmtForm WalkFault
 inside reading at k d = member_of at k d >>= reading (at_member at k)
 
 -- a statement other than a `when`: an object with one member
-unfoldable pub simple_of : List Host → Place → Data → Result StmtForm ScriptFault
+unfoldable pub simple_of : List Host → Place → Data → Result StmtForm WalkFault
 simple_of hosts at d =
     if is_only (codes "let") d then inside (bind_of hosts) at (codes "let") d else (
     if is_only (codes "assert") d then inside (assert_of hosts) at (codes "assert") d else (
@@ -85,7 +80,7 @@ has_when_members d = has_members (codes "if" ∷ codes "then" ∷ []) (codes "el
 
 -- Each reading takes the number of statements in the lists so far, and gives that number after it.
 abbrev mutual
-  pub stmt_of : List Host → Place → ℕ → Data → Result (StmtForm × ℕ) ScriptFault
+  pub stmt_of : List Host → Place → ℕ → Data → Result (StmtForm × ℕ) WalkFault
   stmt_of hosts at n (object ms) =
       if is_only (codes "when") (object ms)
       then when_member hosts at n ms
@@ -97,12 +92,12 @@ abbrev mutual
   stmt_of hosts at n (array ds) = Err (Shape at)
 
   -- the member `when`, looked up as `get` does
-  pub when_member : List Host → Place → ℕ → Members → Result (StmtForm × ℕ) ScriptFault
+  pub when_member : List Host → Place → ℕ → Members → Result (StmtForm × ℕ) WalkFault
   when_member hosts at n no_members = Err (Shape at)
   when_member hosts at n (member k d ms) =
       match_ordering (slice_cmp nat_cmp (codes "when") k) (when_member hosts at n ms) (when_of hosts (at_member at (codes "when")) n d) (when_member hosts at n ms)
 
-  pub when_of : List Host → Place → ℕ → Data → Result (StmtForm × ℕ) ScriptFault
+  pub when_of : List Host → Place → ℕ → Data → Result (StmtForm × ℕ) WalkFault
   when_of hosts at n (object ms) =
       check (has_when_members (object ms)) (Shape at)
       >>= (λ _. expr_in hosts at (codes "if") (object ms)
@@ -116,14 +111,14 @@ abbrev mutual
   when_of hosts at n (array ds) = Err (Shape at)
 
   -- the statements of a member, looked up as `get` does, or what stands for them where it is absent
-  pub block_member : List Host → Place → ℕ → List ℕ → Result (StmtForms × ℕ) ScriptFault → Members → Result (StmtForms × ℕ) ScriptFault
+  pub block_member : List Host → Place → ℕ → List ℕ → Result (StmtForms × ℕ) WalkFault → Members → Result (StmtForms × ℕ) WalkFault
   block_member hosts at n k absent no_members = absent
   block_member hosts at n k absent (member l d ms) =
       match_ordering (slice_cmp nat_cmp k l) (block_member hosts at n k absent ms) (block_of hosts (at_member at k) n d) (block_member hosts at n k absent ms)
 
-  pub block_of : List Host → Place → ℕ → Data → Result (StmtForms × ℕ) ScriptFault
+  pub block_of : List Host → Place → ℕ → Data → Result (StmtForms × ℕ) WalkFault
   block_of hosts at n (array ds) =
-      check (nat_le (n + item_count ds) 64) (Limit at 9 (n + item_count ds))
+      within_limit at STATEMENTS (n + item_count ds)
       >>= (λ _. stmts_from hosts at 0 (NoStmts, n + item_count ds) ds)
   block_of hosts at n null = Err (Shape at)
   block_of hosts at n (boolean b) = Err (Shape at)
@@ -132,24 +127,24 @@ abbrev mutual
   block_of hosts at n (object ms) = Err (Shape at)
 
   -- the statements from the i-th item on, behind those before
-  pub stmts_from : List Host → Place → ℕ → StmtForms × ℕ → Items → Result (StmtForms × ℕ) ScriptFault
+  pub stmts_from : List Host → Place → ℕ → StmtForms × ℕ → Items → Result (StmtForms × ℕ) WalkFault
   stmts_from hosts at i before no_items = Ok before
   stmts_from hosts at i before (item d ds) =
       stmt_of hosts (at_item at i) before.1 d
       >>= (λ s. stmts_from hosts at (i + 1) (stmts_join before.0 (one_stmt s.0), s.1) ds)
 
-abbrev pub block_if : List Host → Place → ℕ → Result (StmtForms × ℕ) ScriptFault → Option Data → Result (StmtForms × ℕ) ScriptFault
+abbrev pub block_if : List Host → Place → ℕ → Result (StmtForms × ℕ) WalkFault → Option Data → Result (StmtForms × ℕ) WalkFault
 block_if hosts at n absent None = absent
 block_if hosts at n absent (Some d) = block_of hosts at n d
 
 -- the member `else`, which may be absent
-abbrev pub else_of : List Host → Place → ℕ → Data → Result (StmtForms × ℕ) ScriptFault
+abbrev pub else_of : List Host → Place → ℕ → Data → Result (StmtForms × ℕ) WalkFault
 else_of hosts at n d = block_if hosts (at_member at (codes "else")) n (Ok (NoStmts, n)) (get (codes "else") d)
 
 -- a body, which may be absent
-abbrev pub body_if : List Host → Place → Option Data → Result StmtForms ScriptFault
+abbrev pub body_if : List Host → Place → Option Data → Result StmtForms WalkFault
 body_if hosts at None = Ok NoStmts
 body_if hosts at (Some d) = block_of hosts at 0 d >>= (λ b. Ok b.0)
 
-unfoldable pub body_in : List Host → Place → Data → Result StmtForms ScriptFault
+unfoldable pub body_in : List Host → Place → Data → Result StmtForms WalkFault
 body_in hosts at d = body_if hosts (at_member at (codes "body")) (get (codes "body") d)

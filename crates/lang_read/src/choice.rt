@@ -1,22 +1,17 @@
 //! Choices of a template.
-ghost use Rattle.std.specs.Prelude.{◌≡◌, []};
-ghost use Rattle.serde_json.specs.View.{view, items_view};
-ghost use Rattle.ledger_terms.specs.Answers.{Follows, FollowsOn};
+ghost use Rattle.std.specs.Prelude.{◌≡◌};
+ghost use Rattle.serde_json.specs.View.{view};
+ghost use Rattle.ledger_terms.specs.Answers.{Follows, FollowsAs};
 ghost use Rattle.ledger_terms.specs.ExprForms.{expr_form};
 ghost use Rattle.ledger_terms.specs.StmtForms.{stmt_list_form};
-ghost use Rattle.lang_read.specs.Walk.{FollowsAs, walk_items};
-ghost use Rattle.lang_read.specs.Packages.{nobody, nothing, returns_in, has_choice_members, controllers_in, choice_parties_of, outcome_of, choice_of, choice_step, choices_of, choices_in};
+ghost use Rattle.lang_read.specs.Packages.{nobody, returns_in, has_choice_members, controllers_in, choice_parties_of, outcome_of, choice_of, choices_in};
 
 use crate::expr_members::{expr_in, expr_or};
-use crate::field_decls::{params_in, read_few_items};
-use crate::members::{fits, name_in, truth_in};
-use crate::scalar::shape;
-use crate::script_fault::ScriptFault;
+use crate::field_decls::params_in;
+use crate::kinds::read_kind;
 use crate::stmt::body_in;
-use crate::texts::read_kind;
-use ledger_terms::{
-    Choice, ChoiceList, Expr, ExprList, Kind, Pointer, StmtList, Topology, Value as Term,
-};
+use json_walk::{CHOICES, Place, WalkFault, fits, name_in, read_few, shape, truth_in};
+use ledger_terms::{Choice, ChoiceList, Expr, ExprList, Kind, StmtList, Topology, Value as Term};
 use serde_json::Value;
 use std::alloc::Global;
 
@@ -29,11 +24,11 @@ pub fn nobody(alloc: Global) -> Expr
 }
 
 #[tactic(auto, unfolding(crate::specs::Packages::returns_in))]
-fn returns_in(value: &Value, at: &Pointer) -> Result<Kind, ScriptFault>
-    ensures { Follows ScriptFault.Memory result (returns_in at.now (view value.now)) }
+fn returns_in(value: &Value, at: &Place) -> Result<Kind, WalkFault>
+    ensures { Follows WalkFault.Memory result (returns_in at.now (view value.now)) }
 {
     match value.get("returns") {
-        Some(found) => read_kind(found, &at.member("returns")?),
+        Some(found) => read_kind(found, &at.member("returns")),
         None => Ok(Kind::Unit),
     }
 }
@@ -53,10 +48,10 @@ fn has_choice_members(value: &Value) -> bool
 fn controllers_in(
     alloc: Global,
     value: &Value,
-    at: &Pointer,
+    at: &Place,
     topology: &Topology,
-) -> Result<Expr, ScriptFault>
-    ensures { FollowsAs expr_form result (controllers_in topology.now.hosts at.now (view value.now)) }
+) -> Result<Expr, WalkFault>
+    ensures { FollowsAs WalkFault.Memory expr_form result (controllers_in topology.now.hosts at.now (view value.now)) }
 {
     expr_in(alloc, value, at, "controllers", topology)
 }
@@ -65,10 +60,10 @@ fn controllers_in(
 fn read_parties(
     alloc: Global,
     value: &Value,
-    at: &Pointer,
+    at: &Place,
     topology: &Topology,
-) -> Result<(Expr, Expr), ScriptFault>
-    ensures { FollowsAs (λ p. (expr_form p.0, expr_form p.1)) result (choice_parties_of topology.now.hosts at.now (view value.now)) }
+) -> Result<(Expr, Expr), WalkFault>
+    ensures { FollowsAs WalkFault.Memory (λ p. (expr_form p.0, expr_form p.1)) result (choice_parties_of topology.now.hosts at.now (view value.now)) }
 {
     let controllers = controllers_in(alloc, value, at, topology)?;
     let observers = expr_or(alloc, value, at, "observers", nobody(alloc), topology)?;
@@ -79,10 +74,10 @@ fn read_parties(
 fn read_outcome(
     alloc: Global,
     value: &Value,
-    at: &Pointer,
+    at: &Place,
     topology: &Topology,
-) -> Result<(Kind, StmtList, Expr), ScriptFault>
-    ensures { FollowsAs (λ o. (o.0, stmt_list_form o.1, expr_form o.2)) result (outcome_of topology.now.hosts at.now (view value.now)) }
+) -> Result<(Kind, StmtList, Expr), WalkFault>
+    ensures { FollowsAs WalkFault.Memory (λ o. (o.0, stmt_list_form o.1, expr_form o.2)) result (outcome_of topology.now.hosts at.now (view value.now)) }
 {
     let returns = returns_in(value, at)?;
     let body = body_in(alloc, value, at, topology)?;
@@ -95,10 +90,10 @@ fn read_outcome(
 fn read_choice(
     alloc: Global,
     value: &Value,
-    at: &Pointer,
+    at: &Place,
     topology: &Topology,
-) -> Result<Choice, ScriptFault>
-    ensures { Follows ScriptFault.Memory result (choice_of topology.now.hosts at.now (view value.now)) }
+) -> Result<Choice, WalkFault>
+    ensures { Follows WalkFault.Memory result (choice_of topology.now.hosts at.now (view value.now)) }
 {
     if !has_choice_members(value) {
         return shape(at);
@@ -120,64 +115,24 @@ fn read_choice(
     })
 }
 
-#[tactic(auto, unfolding(crate::specs::Packages::choice_step))]
-fn push_choice(
-    alloc: Global,
-    value: &Value,
-    at: &Pointer,
-    index: usize,
-    topology: &Topology,
-    choices: &mut ChoiceList,
-) -> Result<(), ScriptFault>
-    ensures { FollowsOn ScriptFault.Memory choices.new result
-        (choice_step topology.now.hosts at.now index choices.old (view value.now)) }
-{
-    let here = at.item(index)?;
-    let choice = read_choice(alloc, value, &here, topology)?;
-    choices.push(choice)?;
-    Ok(())
-}
-
-fn read_choice_items(
-    alloc: Global,
-    items: &[Value],
-    at: &Pointer,
-    topology: &Topology,
-) -> Result<ChoiceList, ScriptFault>
-    ensures { Follows ScriptFault.Memory result (walk_items (choice_step topology.now.hosts at.now) 0 [] (items_view items.now)) }
-{
-    let mut choices = ChoiceList::new(alloc);
-    'items: for (i, item) in items.iter().enumerate() {
-        push_choice(alloc, item, at, i, topology, &mut choices)?;
-    }
-    Ok(choices)
-}
-
-#[tactic(auto, unfolding(crate::specs::Packages::choices_of))]
-fn read_choices(
-    alloc: Global,
-    value: &Value,
-    at: &Pointer,
-    topology: &Topology,
-) -> Result<ChoiceList, ScriptFault>
-    ensures { Follows ScriptFault.Memory result (choices_of topology.now.hosts at.now (view value.now)) }
-{
-    let items = read_few_items(value, at, 7, 16)?;
-    read_choice_items(alloc, items, at, topology)
-}
-
 /// The choices of a template, of which there are none where the member is absent.
 #[tactic(auto, unfolding(crate::specs::Packages::choices_in))]
 pub fn choices_in(
     alloc: Global,
     value: &Value,
-    at: &Pointer,
+    at: &Place,
     topology: &Topology,
-) -> Result<ChoiceList, ScriptFault>
-    ensures { Follows ScriptFault.Memory result (choices_in topology.now.hosts at.now (view value.now)) }
+) -> Result<ChoiceList, WalkFault>
+    ensures { Follows WalkFault.Memory result (choices_in topology.now.hosts at.now (view value.now)) }
 {
     match value.get("choices") {
-        Some(found) => read_choices(alloc, found, &at.member("choices")?, topology),
+        Some(found) => read_few(
+            alloc,
+            found,
+            &at.member("choices"),
+            CHOICES,
+            |item, here| read_choice(alloc, item, here, topology),
+        ),
         None => Ok(ChoiceList::new(alloc)),
     }
 }

@@ -1,17 +1,16 @@
 //! Expressions of a package.
-ghost use Rattle.std.specs.Prelude.{◌≡◌, ◌≤◌, ◌<◌, drop, vec_len};
+ghost use Rattle.std.specs.Prelude.{◌≡◌, ◌≤◌, ◌<◌, ◌+◌, drop, vec_len};
 ghost use Rattle.serde_json.specs.View.{view, items_view};
 ghost use Rattle.ledger_terms.specs.Syntax.{NoExprs};
 ghost use Rattle.ledger_terms.specs.ExprForms.{expr_form, list_form};
-ghost use Rattle.lang_read.specs.Walk.{FollowsAs};
+ghost use Rattle.ledger_terms.specs.Answers.{FollowsAs};
 ghost use Rattle.lang_read.specs.Exprs.{value_of, bound_name, name_after, expr_of, call_of, applied_of, negated_of, pair_of, cond_of, operands_from};
 
 use crate::binary::{Binary, binary_expr};
-use crate::literal::{check_depth, read_literal};
+use crate::literal::read_literal;
 use crate::operator::{Operator, read_operator};
-use crate::scalar::shape;
-use crate::script_fault::ScriptFault;
-use ledger_terms::{Expr, ExprList, Pointer, Text, Topology};
+use json_walk::{EXPRESSION_DEPTH, Place, WalkFault, check_limit, shape};
+use ledger_terms::{Expr, ExprList, Text, Topology};
 use serde_json::Value;
 use std::alloc::Global;
 use std::boxed::Box;
@@ -20,19 +19,19 @@ use std::boxed::Box;
 fn read_value(
     alloc: Global,
     value: &Value,
-    at: &Pointer,
-    depth: usize,
+    at: &Place,
+    depth: u64,
     topology: &Topology,
-) -> Result<Expr, ScriptFault>
-    ensures { FollowsAs expr_form result (value_of topology.now.hosts at.now depth (view value.now)) }
+) -> Result<Expr, WalkFault>
+    ensures { FollowsAs WalkFault.Memory expr_form result (value_of topology.now.hosts at.now depth (view value.now)) }
 {
     let literal = read_literal(alloc, value, at, depth, topology)?;
     Ok(Expr::Literal(literal))
 }
 
 #[tactic(auto, unfolding(crate::specs::Exprs::bound_name))]
-fn read_bound_name(alloc: Global, value: &Value, at: &Pointer) -> Result<Expr, ScriptFault>
-    ensures { FollowsAs expr_form result (bound_name at.now (view value.now)) }
+fn read_bound_name(alloc: Global, value: &Value, at: &Place) -> Result<Expr, WalkFault>
+    ensures { FollowsAs WalkFault.Memory expr_form result (bound_name at.now (view value.now)) }
 {
     let Some(name) = value.as_str() else {
         return shape(at);
@@ -40,13 +39,13 @@ fn read_bound_name(alloc: Global, value: &Value, at: &Pointer) -> Result<Expr, S
     Ok(Expr::Var(Text::of(alloc, name)?))
 }
 
-fn read_name_after(alloc: Global, items: &Vec<Value>, at: &Pointer) -> Result<Expr, ScriptFault>
-    ensures { FollowsAs expr_form result (name_after at.now (items_view (drop 1 items.now.items))) }
+fn read_name_after(alloc: Global, items: &Vec<Value>, at: &Place) -> Result<Expr, WalkFault>
+    ensures { FollowsAs WalkFault.Memory expr_form result (name_after at.now (items_view (drop 1 items.now.items))) }
 {
     if items.len() != 2 {
         return shape(at);
     }
-    read_bound_name(alloc, &items[1], &at.item(1)?)
+    read_bound_name(alloc, &items[1], &at.item(1))
 }
 
 /// The expression that a value spells, where `depth` is 1 for a whole expression.
@@ -54,12 +53,12 @@ fn read_name_after(alloc: Global, items: &Vec<Value>, at: &Pointer) -> Result<Ex
 pub fn read_expr(
     alloc: Global,
     value: &Value,
-    at: &Pointer,
-    depth: usize,
+    at: &Place,
+    depth: u64,
     topology: &Topology,
-) -> Result<Expr, ScriptFault>
-    requires { depth ≤ 17 }
-    ensures { FollowsAs expr_form result (expr_of topology.now.hosts at.now depth (view value.now)) }
+) -> Result<Expr, WalkFault>
+    requires { depth ≤ EXPRESSION_DEPTH.most + 1 }
+    ensures { FollowsAs WalkFault.Memory expr_form result (expr_of topology.now.hosts at.now depth (view value.now)) }
 {
     match value {
         Value::Null => read_value(alloc, value, at, depth, topology),
@@ -75,18 +74,18 @@ pub fn read_expr(
 fn read_call(
     alloc: Global,
     items: &Vec<Value>,
-    at: &Pointer,
-    depth: usize,
+    at: &Place,
+    depth: u64,
     topology: &Topology,
-) -> Result<Expr, ScriptFault>
-    requires { depth ≤ 17 }
-    ensures { FollowsAs expr_form result (call_of topology.now.hosts at.now depth (items_view items.now.items)) }
+) -> Result<Expr, WalkFault>
+    requires { depth ≤ EXPRESSION_DEPTH.most + 1 }
+    ensures { FollowsAs WalkFault.Memory expr_form result (call_of topology.now.hosts at.now depth (items_view items.now.items)) }
 {
     if items.is_empty() {
         return shape(at);
     }
     let operator = read_operator(&items[0], at, items.len() - 1)?;
-    check_depth(at, depth)?;
+    check_limit(at, EXPRESSION_DEPTH, depth)?;
     read_applied(alloc, operator, items, at, depth, topology)
 }
 
@@ -96,13 +95,13 @@ fn read_applied(
     alloc: Global,
     operator: Operator,
     items: &Vec<Value>,
-    at: &Pointer,
-    depth: usize,
+    at: &Place,
+    depth: u64,
     topology: &Topology,
-) -> Result<Expr, ScriptFault>
-    requires room { depth ≤ 16 }
+) -> Result<Expr, WalkFault>
+    requires room { depth ≤ EXPRESSION_DEPTH.most }
     requires begun { 0 < vec_len items.now }
-    ensures { FollowsAs expr_form result (applied_of topology.now.hosts at.now depth operator (items_view (drop 1 items.now.items))) }
+    ensures { FollowsAs WalkFault.Memory expr_form result (applied_of topology.now.hosts at.now depth operator (items_view (drop 1 items.now.items))) }
 {
     match operator {
         Operator::Var => read_name_after(alloc, items, at),
@@ -120,17 +119,17 @@ fn read_applied(
 fn read_negated(
     alloc: Global,
     items: &Vec<Value>,
-    at: &Pointer,
-    depth: usize,
+    at: &Place,
+    depth: u64,
     topology: &Topology,
-) -> Result<Expr, ScriptFault>
-    requires { depth ≤ 16 }
-    ensures { FollowsAs expr_form result (negated_of topology.now.hosts at.now depth (items_view (drop 1 items.now.items))) }
+) -> Result<Expr, WalkFault>
+    requires { depth ≤ EXPRESSION_DEPTH.most }
+    ensures { FollowsAs WalkFault.Memory expr_form result (negated_of topology.now.hosts at.now depth (items_view (drop 1 items.now.items))) }
 {
     if items.len() != 2 {
         return shape(at);
     }
-    let operand = read_expr(alloc, &items[1], &at.item(1)?, depth + 1, topology)?;
+    let operand = read_expr(alloc, &items[1], &at.item(1), depth + 1, topology)?;
     Ok(Expr::Negate(Box::new(alloc, operand)?))
 }
 
@@ -139,23 +138,23 @@ fn read_pair(
     alloc: Global,
     operator: Binary,
     items: &Vec<Value>,
-    at: &Pointer,
-    depth: usize,
+    at: &Place,
+    depth: u64,
     topology: &Topology,
-) -> Result<Expr, ScriptFault>
-    requires { depth ≤ 16 }
-    ensures { FollowsAs expr_form result (pair_of topology.now.hosts at.now depth operator (items_view (drop 1 items.now.items))) }
+) -> Result<Expr, WalkFault>
+    requires { depth ≤ EXPRESSION_DEPTH.most }
+    ensures { FollowsAs WalkFault.Memory expr_form result (pair_of topology.now.hosts at.now depth operator (items_view (drop 1 items.now.items))) }
 {
     if items.len() != 3 {
         return shape(at);
     }
     let first = Box::new(
         alloc,
-        read_expr(alloc, &items[1], &at.item(1)?, depth + 1, topology)?,
+        read_expr(alloc, &items[1], &at.item(1), depth + 1, topology)?,
     )?;
     let second = Box::new(
         alloc,
-        read_expr(alloc, &items[2], &at.item(2)?, depth + 1, topology)?,
+        read_expr(alloc, &items[2], &at.item(2), depth + 1, topology)?,
     )?;
     Ok(binary_expr(operator, first, second))
 }
@@ -164,27 +163,27 @@ fn read_pair(
 fn read_cond(
     alloc: Global,
     items: &Vec<Value>,
-    at: &Pointer,
-    depth: usize,
+    at: &Place,
+    depth: u64,
     topology: &Topology,
-) -> Result<Expr, ScriptFault>
-    requires { depth ≤ 16 }
-    ensures { FollowsAs expr_form result (cond_of topology.now.hosts at.now depth (items_view (drop 1 items.now.items))) }
+) -> Result<Expr, WalkFault>
+    requires { depth ≤ EXPRESSION_DEPTH.most }
+    ensures { FollowsAs WalkFault.Memory expr_form result (cond_of topology.now.hosts at.now depth (items_view (drop 1 items.now.items))) }
 {
     if items.len() != 4 {
         return shape(at);
     }
     let test = Box::new(
         alloc,
-        read_expr(alloc, &items[1], &at.item(1)?, depth + 1, topology)?,
+        read_expr(alloc, &items[1], &at.item(1), depth + 1, topology)?,
     )?;
     let first = Box::new(
         alloc,
-        read_expr(alloc, &items[2], &at.item(2)?, depth + 1, topology)?,
+        read_expr(alloc, &items[2], &at.item(2), depth + 1, topology)?,
     )?;
     let second = Box::new(
         alloc,
-        read_expr(alloc, &items[3], &at.item(3)?, depth + 1, topology)?,
+        read_expr(alloc, &items[3], &at.item(3), depth + 1, topology)?,
     )?;
     Ok(Expr::Cond(test, first, second))
 }
@@ -193,17 +192,17 @@ fn read_cond(
 fn read_operands(
     alloc: Global,
     items: &Vec<Value>,
-    at: &Pointer,
-    depth: usize,
+    at: &Place,
+    depth: u64,
     topology: &Topology,
-) -> Result<ExprList, ScriptFault>
-    requires room { depth ≤ 16 }
+) -> Result<ExprList, WalkFault>
+    requires room { depth ≤ EXPRESSION_DEPTH.most }
     requires begun { 0 < vec_len items.now }
-    ensures { FollowsAs list_form result (operands_from topology.now.hosts at.now depth 1 NoExprs (items_view (drop 1 items.now.items))) }
+    ensures { FollowsAs WalkFault.Memory list_form result (operands_from topology.now.hosts at.now depth 1 NoExprs (items_view (drop 1 items.now.items))) }
 {
     let mut operands = ExprList::new(alloc);
     'operands: for i in 1..items.len() {
-        let here = at.item(i)?;
+        let here = at.item(i);
         let operand = read_expr(alloc, &items[i], &here, depth + 1, topology)?;
         operands.push(operand)?;
     }

@@ -4,13 +4,13 @@ ghost use Rattle.serde_json.specs.View.{view, items_view};
 ghost use Rattle.serde_json.specs.Find.{get};
 ghost use Rattle.ledger_terms.specs.Syntax.{NoExprs};
 ghost use Rattle.ledger_terms.specs.ExprForms.{expr_form, list_form};
-ghost use Rattle.lang_read.specs.Walk.{FollowsAs, LeavesAs, walk_items};
+ghost use Rattle.ledger_terms.specs.Answers.{FollowsAs, FollowsOn};
+ghost use Rattle.json_walk.specs.Walk.{walk_items};
 ghost use Rattle.lang_read.specs.Exprs.{expr_in, expr_or, expr_step, exprs_in};
 
 use crate::expr::read_expr;
-use crate::members::{member, read_items};
-use crate::script_fault::ScriptFault;
-use ledger_terms::{Expr, ExprList, Pointer, Topology};
+use json_walk::{Place, WalkFault, member, read_items};
+use ledger_terms::{Expr, ExprList, Topology};
 use serde_json::Value;
 use std::alloc::Global;
 
@@ -19,14 +19,14 @@ use std::alloc::Global;
 pub fn expr_in(
     alloc: Global,
     value: &Value,
-    at: &Pointer,
+    at: &Place,
     name: &str,
     topology: &Topology,
-) -> Result<Expr, ScriptFault>
-    ensures { FollowsAs expr_form result (expr_in topology.now.hosts at.now name.now (view value.now)) }
+) -> Result<Expr, WalkFault>
+    ensures { FollowsAs WalkFault.Memory expr_form result (expr_in topology.now.hosts at.now name.now (view value.now)) }
 {
     let found = member(value, at, name)?;
-    read_expr(alloc, found, &at.member(name)?, 1, topology)
+    read_expr(alloc, found, &at.member(name), 1, topology)
 }
 
 /// The expression in a member, or `default` where there is no such member.
@@ -34,15 +34,15 @@ pub fn expr_in(
 pub fn expr_or(
     alloc: Global,
     value: &Value,
-    at: &Pointer,
+    at: &Place,
     name: &str,
     default: Expr,
     topology: &Topology,
-) -> Result<Expr, ScriptFault>
-    ensures { FollowsAs expr_form result (expr_or topology.now.hosts at.now name.now (expr_form default) (view value.now)) }
+) -> Result<Expr, WalkFault>
+    ensures { FollowsAs WalkFault.Memory expr_form result (expr_or topology.now.hosts at.now name.now (expr_form default) (view value.now)) }
 {
     match value.get(name) {
-        Some(found) => read_expr(alloc, found, &at.member(name)?, 1, topology),
+        Some(found) => read_expr(alloc, found, &at.member(name), 1, topology),
         None => Ok(default),
     }
 }
@@ -51,15 +51,15 @@ pub fn expr_or(
 fn push_expr(
     alloc: Global,
     value: &Value,
-    at: &Pointer,
+    at: &Place,
     index: usize,
     topology: &Topology,
     exprs: &mut ExprList,
-) -> Result<(), ScriptFault>
-    ensures { LeavesAs (list_form exprs.new) result
+) -> Result<(), WalkFault>
+    ensures { FollowsOn WalkFault.Memory (list_form exprs.new) result
         (expr_step topology.now.hosts at.now index (list_form exprs.old) (view value.now)) }
 {
-    let here = at.item(index)?;
+    let here = at.item(index);
     let expr = read_expr(alloc, value, &here, 1, topology)?;
     exprs.push(expr)?;
     Ok(())
@@ -68,10 +68,10 @@ fn push_expr(
 fn read_exprs(
     alloc: Global,
     items: &[Value],
-    at: &Pointer,
+    at: &Place,
     topology: &Topology,
-) -> Result<ExprList, ScriptFault>
-    ensures { FollowsAs list_form result (walk_items (expr_step topology.now.hosts at.now) 0 NoExprs (items_view items.now)) }
+) -> Result<ExprList, WalkFault>
+    ensures { FollowsAs WalkFault.Memory list_form result (walk_items (expr_step topology.now.hosts at.now) 0 NoExprs (items_view items.now)) }
 {
     let mut exprs = ExprList::new(alloc);
     'items: for (i, item) in items.iter().enumerate() {
@@ -85,14 +85,14 @@ fn read_exprs(
 pub fn exprs_in(
     alloc: Global,
     value: &Value,
-    at: &Pointer,
+    at: &Place,
     name: &str,
     topology: &Topology,
-) -> Result<ExprList, ScriptFault>
-    ensures { FollowsAs list_form result (exprs_in topology.now.hosts at.now name.now (view value.now)) }
+) -> Result<ExprList, WalkFault>
+    ensures { FollowsAs WalkFault.Memory list_form result (exprs_in topology.now.hosts at.now name.now (view value.now)) }
 {
     let found = member(value, at, name)?;
-    let here = at.member(name)?;
+    let here = at.member(name);
     let items = read_items(found, &here)?;
     read_exprs(alloc, items, &here, topology)
 }

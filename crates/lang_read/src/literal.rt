@@ -1,16 +1,13 @@
 //! Values as expressions of a package.
-ghost use Rattle.std.specs.Prelude.{◌≡◌, ◌≤◌, OnOk};
+ghost use Rattle.std.specs.Prelude.{◌≡◌};
 ghost use Rattle.serde_json.specs.Number.{num_of};
 ghost use Rattle.serde_json.specs.View.{view, number_view};
 ghost use Rattle.ledger_terms.specs.Answers.{Follows};
-ghost use Rattle.lang_read.specs.Literals.{is_party_form, is_parties_form, party_value_of, parties_value_of, within_depth, int_at, text_at, parties_at, plain_at, literal_of};
+ghost use Rattle.lang_read.specs.Literals.{is_party_form, is_parties_form, party_value_of, parties_value_of, int_at, text_at, parties_at, plain_at, literal_of};
 
-use crate::members::{fits, member};
 use crate::parties::{read_parties, read_party};
-use crate::scalar::shape;
-use crate::script_fault::ScriptFault;
-use crate::texts::read_text;
-use ledger_terms::{Pointer, Topology, Value as Term};
+use json_walk::{EXPRESSION_DEPTH, Place, WalkFault, check_limit, fits, member, read_text, shape};
+use ledger_terms::{Topology, Value as Term};
 use serde_json::{Number, Value};
 use std::alloc::Global;
 
@@ -35,13 +32,13 @@ pub fn is_parties_form(value: &Value) -> bool
 pub fn read_party_value(
     alloc: Global,
     value: &Value,
-    at: &Pointer,
+    at: &Place,
     topology: &Topology,
-) -> Result<Term, ScriptFault>
-    ensures { Follows ScriptFault.Memory result (party_value_of topology.now.hosts at.now (view value.now)) }
+) -> Result<Term, WalkFault>
+    ensures { Follows WalkFault.Memory result (party_value_of topology.now.hosts at.now (view value.now)) }
 {
     let found = member(value, at, "party")?;
-    let party = read_party(alloc, found, &at.member("party")?, topology)?;
+    let party = read_party(alloc, found, &at.member("party"), topology)?;
     Ok(Term::Party(party))
 }
 
@@ -50,53 +47,34 @@ pub fn read_party_value(
 pub fn read_parties_value(
     alloc: Global,
     value: &Value,
-    at: &Pointer,
+    at: &Place,
     topology: &Topology,
-) -> Result<Term, ScriptFault>
-    ensures { Follows ScriptFault.Memory result (parties_value_of topology.now.hosts at.now (view value.now)) }
+) -> Result<Term, WalkFault>
+    ensures { Follows WalkFault.Memory result (parties_value_of topology.now.hosts at.now (view value.now)) }
 {
     let found = member(value, at, "parties")?;
-    let parties = read_parties(alloc, found, &at.member("parties")?, topology)?;
+    let parties = read_parties(alloc, found, &at.member("parties"), topology)?;
     Ok(Term::Parties(parties))
 }
 
-/// The test that an expression stands at most 16 deep, the whole of one being 1 deep.
-#[tactic(auto, unfolding(crate::specs::Literals::within_depth))]
-pub fn check_depth(at: &Pointer, depth: usize) -> Result<(), ScriptFault>
-    ensures first { Follows ScriptFault.Memory result (within_depth at.now depth) }
-    ensures within { OnOk result (depth ≤ 16) }
-{
-    if depth > 16 {
-        return Err(ScriptFault::Limit {
-            path: at.clone()?,
-            which: 8,
-            found: 17,
-        });
-    }
-    Ok(())
-}
-
 #[tactic(auto, unfolding(crate::specs::Literals::int_at))]
-fn read_int(number: &Number, at: &Pointer, depth: usize) -> Result<Term, ScriptFault>
-    ensures { Follows ScriptFault.Memory result (int_at at.now depth (number_view number.now)) }
+fn read_int(number: &Number, at: &Place, depth: u64) -> Result<Term, WalkFault>
+    ensures { Follows WalkFault.Memory result (int_at at.now depth (number_view number.now)) }
 {
     let Some(int) = number.as_i64() else {
-        return Err(ScriptFault::NotInteger { path: at.clone()? });
+        return Err(WalkFault::NotInteger {
+            path: at.pointer()?,
+        });
     };
-    check_depth(at, depth)?;
+    check_limit(at, EXPRESSION_DEPTH, depth)?;
     Ok(Term::Int(int))
 }
 
 #[tactic(auto, unfolding(crate::specs::Literals::text_at))]
-fn read_text_value(
-    alloc: Global,
-    text: &str,
-    at: &Pointer,
-    depth: usize,
-) -> Result<Term, ScriptFault>
-    ensures { Follows ScriptFault.Memory result (text_at at.now depth text.now) }
+fn read_text_value(alloc: Global, text: &str, at: &Place, depth: u64) -> Result<Term, WalkFault>
+    ensures { Follows WalkFault.Memory result (text_at at.now depth text.now) }
 {
-    check_depth(at, depth)?;
+    check_limit(at, EXPRESSION_DEPTH, depth)?;
     let text = read_text(alloc, text, at)?;
     Ok(Term::Text(text))
 }
@@ -105,17 +83,17 @@ fn read_text_value(
 fn read_parties_at(
     alloc: Global,
     value: &Value,
-    at: &Pointer,
-    depth: usize,
+    at: &Place,
+    depth: u64,
     topology: &Topology,
-) -> Result<Term, ScriptFault>
-    ensures { Follows ScriptFault.Memory result (parties_at topology.now.hosts at.now depth (view value.now)) }
+) -> Result<Term, WalkFault>
+    ensures { Follows WalkFault.Memory result (parties_at topology.now.hosts at.now depth (view value.now)) }
 {
     let is_party = is_party_form(value);
     if !(is_party || is_parties_form(value)) {
         return shape(at);
     }
-    check_depth(at, depth)?;
+    check_limit(at, EXPRESSION_DEPTH, depth)?;
     if is_party {
         read_party_value(alloc, value, at, topology)
     } else {
@@ -124,10 +102,10 @@ fn read_parties_at(
 }
 
 #[tactic(auto, unfolding(crate::specs::Literals::plain_at))]
-fn plain(value: Term, at: &Pointer, depth: usize) -> Result<Term, ScriptFault>
-    ensures { Follows ScriptFault.Memory result (plain_at at.now depth value) }
+fn plain(value: Term, at: &Place, depth: u64) -> Result<Term, WalkFault>
+    ensures { Follows WalkFault.Memory result (plain_at at.now depth value) }
 {
-    check_depth(at, depth)?;
+    check_limit(at, EXPRESSION_DEPTH, depth)?;
     Ok(value)
 }
 
@@ -136,11 +114,11 @@ fn plain(value: Term, at: &Pointer, depth: usize) -> Result<Term, ScriptFault>
 pub fn read_literal(
     alloc: Global,
     value: &Value,
-    at: &Pointer,
-    depth: usize,
+    at: &Place,
+    depth: u64,
     topology: &Topology,
-) -> Result<Term, ScriptFault>
-    ensures { Follows ScriptFault.Memory result (literal_of topology.now.hosts at.now depth (view value.now)) }
+) -> Result<Term, WalkFault>
+    ensures { Follows WalkFault.Memory result (literal_of topology.now.hosts at.now depth (view value.now)) }
 {
     match value {
         Value::Null => plain(Term::Unit, at, depth),

@@ -5,9 +5,7 @@ ghost use Rattle.ledger_terms.specs.Answers.{Follows};
 ghost use Rattle.lang_read.specs.Operators.{operator_named, operator_of, takes};
 
 use crate::binary::{Binary, binary_named};
-use crate::scalar::shape;
-use crate::script_fault::ScriptFault;
-use ledger_terms::Pointer;
+use json_walk::{Place, WalkFault, shape};
 use serde_json::Value;
 
 /// What a list that is an expression begins with. `Var` stands before the text of a bound name, the others before
@@ -54,8 +52,8 @@ impl Operator {
 
 /// The operator that stands before so many items; `at` is the place of the list.
 #[tactic(auto, unfolding(crate::specs::Operators::operator_of))]
-pub fn read_operator(value: &Value, at: &Pointer, operands: usize) -> Result<Operator, ScriptFault>
-    ensures { Follows ScriptFault.Memory result (operator_of at.now operands (view value.now)) }
+pub fn read_operator(value: &Value, at: &Place, operands: usize) -> Result<Operator, WalkFault>
+    ensures { Follows WalkFault.Memory result (operator_of at.now operands (view value.now)) }
 {
     let Some(word) = value.as_str() else {
         return shape(at);

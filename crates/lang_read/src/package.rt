@@ -4,11 +4,9 @@ ghost use Rattle.serde_json.specs.View.{view};
 ghost use Rattle.ledger_terms.specs.Answers.{Follows};
 ghost use Rattle.lang_read.specs.Packages.{has_package_members, package_of};
 
-use crate::members::{fits, name_in};
-use crate::scalar::shape;
-use crate::script_fault::ScriptFault;
 use crate::template::templates_in;
-use ledger_terms::{Package, Pointer, Topology};
+use json_walk::{Place, TEMPLATES, WalkFault, fits, name_in, shape};
+use ledger_terms::{Package, Topology};
 use serde_json::Value;
 use std::alloc::Global;
 
@@ -26,13 +24,13 @@ fn has_package_members(value: &Value) -> bool
 pub fn read_package(
     alloc: Global,
     json: &Value,
-    at: &Pointer,
+    at: &Place,
     topology: &Topology,
     before: u64,
-) -> Result<Package, ScriptFault>
-    requires { before ≤ 64 }
-    ensures exact { Follows ScriptFault.Memory result (package_of topology.now.hosts before at.now (view json.now)) }
-    ensures few { IfOk result (λ p. before + length p.templates ≤ 64) }
+) -> Result<Package, WalkFault>
+    requires { before ≤ TEMPLATES.most }
+    ensures exact { Follows WalkFault.Memory result (package_of topology.now.hosts before at.now (view json.now)) }
+    ensures few { IfOk result (λ p. before + length p.templates ≤ TEMPLATES.most) }
 {
     if !has_package_members(json) {
         return shape(at);

@@ -1,44 +1,32 @@
 //! Statements without statements inside.
-ghost use Rattle.std.specs.Prelude.{◌≡◌, ◌≢◌, MatchResult, Ok, Err};
-ghost use Rattle.serde_json.specs.View.{view, items_view};
+ghost use Rattle.std.specs.Prelude.{◌≡◌};
+ghost use Rattle.serde_json.specs.View.{view};
 ghost use Rattle.ledger_terms.specs.StmtForms.{stmt_form};
-ghost use Rattle.lang_read.specs.Walk.{FollowsAs};
-ghost use Rattle.lang_read.specs.Stmts.{two_of, bind_of, assert_of, create_of, has_exercise_members, exercise_of, fetch_of, simple_of};
+ghost use Rattle.ledger_terms.specs.Answers.{FollowsAs};
+ghost use Rattle.lang_read.specs.Stmts.{bind_of, assert_of, create_of, has_exercise_members, exercise_of, fetch_of, simple_of};
 
 use crate::expr::read_expr;
 use crate::expr_members::{expr_in, exprs_in};
-use crate::members::{fits, member, name_in, read_items};
-use crate::scalar::{read_name, shape};
-use crate::script_fault::ScriptFault;
-use crate::texts::template_in;
-use ledger_terms::{Pointer, Stmt, Topology};
+use json_walk::{
+    Place, WalkFault, fits, member, name_in, read_items, read_name, read_two, shape, template_in,
+};
+use ledger_terms::{Stmt, Topology};
 use serde_json::Value;
 use std::alloc::Global;
-
-/// The two items of a list that has just two; `at` is the place of the list.
-pub fn read_two<'v>(items: &'v [Value], at: &Pointer) -> Result<(&'v Value, &'v Value), ScriptFault>
-    ensures { MatchResult result (λ p. two_of at.now (items_view items.now) ≡ Ok (view p.0.now, view p.1.now))
-        (λ e. e ≢ ScriptFault.Memory → two_of at.now (items_view items.now) ≡ Err e) }
-{
-    if items.len() != 2 {
-        return shape(at);
-    }
-    Ok((&items[0], &items[1]))
-}
 
 #[tactic(auto, unfolding(crate::specs::Stmts::bind_of))]
 fn read_bind(
     alloc: Global,
     value: &Value,
-    at: &Pointer,
+    at: &Place,
     topology: &Topology,
-) -> Result<Stmt, ScriptFault>
-    ensures { FollowsAs stmt_form result (bind_of topology.now.hosts at.now (view value.now)) }
+) -> Result<Stmt, WalkFault>
+    ensures { FollowsAs WalkFault.Memory stmt_form result (bind_of topology.now.hosts at.now (view value.now)) }
 {
     let items = read_items(value, at)?;
     let (name, value) = read_two(items, at)?;
-    let name = read_name(name, &at.item(0)?)?;
-    let value = read_expr(alloc, value, &at.item(1)?, 1, topology)?;
+    let name = read_name(name, &at.item(0))?;
+    let value = read_expr(alloc, value, &at.item(1), 1, topology)?;
     Ok(Stmt::Bind { name, value })
 }
 
@@ -46,10 +34,10 @@ fn read_bind(
 fn read_assert(
     alloc: Global,
     value: &Value,
-    at: &Pointer,
+    at: &Place,
     topology: &Topology,
-) -> Result<Stmt, ScriptFault>
-    ensures { FollowsAs stmt_form result (assert_of topology.now.hosts at.now (view value.now)) }
+) -> Result<Stmt, WalkFault>
+    ensures { FollowsAs WalkFault.Memory stmt_form result (assert_of topology.now.hosts at.now (view value.now)) }
 {
     let test = read_expr(alloc, value, at, 1, topology)?;
     Ok(Stmt::Assert(test))
@@ -59,10 +47,10 @@ fn read_assert(
 fn read_create(
     alloc: Global,
     value: &Value,
-    at: &Pointer,
+    at: &Place,
     topology: &Topology,
-) -> Result<Stmt, ScriptFault>
-    ensures { FollowsAs stmt_form result (create_of topology.now.hosts at.now (view value.now)) }
+) -> Result<Stmt, WalkFault>
+    ensures { FollowsAs WalkFault.Memory stmt_form result (create_of topology.now.hosts at.now (view value.now)) }
 {
     if !fits(value, &["bind", "template", "fields"], &[]) {
         return shape(at);
@@ -92,10 +80,10 @@ fn has_exercise_members(value: &Value) -> bool
 fn read_exercise(
     alloc: Global,
     value: &Value,
-    at: &Pointer,
+    at: &Place,
     topology: &Topology,
-) -> Result<Stmt, ScriptFault>
-    ensures { FollowsAs stmt_form result (exercise_of topology.now.hosts at.now (view value.now)) }
+) -> Result<Stmt, WalkFault>
+    ensures { FollowsAs WalkFault.Memory stmt_form result (exercise_of topology.now.hosts at.now (view value.now)) }
 {
     if !has_exercise_members(value) {
         return shape(at);
@@ -118,10 +106,10 @@ fn read_exercise(
 fn read_fetch(
     alloc: Global,
     value: &Value,
-    at: &Pointer,
+    at: &Place,
     topology: &Topology,
-) -> Result<Stmt, ScriptFault>
-    ensures { FollowsAs stmt_form result (fetch_of topology.now.hosts at.now (view value.now)) }
+) -> Result<Stmt, WalkFault>
+    ensures { FollowsAs WalkFault.Memory stmt_form result (fetch_of topology.now.hosts at.now (view value.now)) }
 {
     if !fits(value, &["bind", "template", "contract"], &[]) {
         return shape(at);
@@ -141,30 +129,30 @@ fn read_fetch(
 pub fn read_simple(
     alloc: Global,
     value: &Value,
-    at: &Pointer,
+    at: &Place,
     topology: &Topology,
-) -> Result<Stmt, ScriptFault>
-    ensures { FollowsAs stmt_form result (simple_of topology.now.hosts at.now (view value.now)) }
+) -> Result<Stmt, WalkFault>
+    ensures { FollowsAs WalkFault.Memory stmt_form result (simple_of topology.now.hosts at.now (view value.now)) }
 {
     if fits(value, &["let"], &[]) {
         let found = member(value, at, "let")?;
-        return read_bind(alloc, found, &at.member("let")?, topology);
+        return read_bind(alloc, found, &at.member("let"), topology);
     }
     if fits(value, &["assert"], &[]) {
         let found = member(value, at, "assert")?;
-        return read_assert(alloc, found, &at.member("assert")?, topology);
+        return read_assert(alloc, found, &at.member("assert"), topology);
     }
     if fits(value, &["create"], &[]) {
         let found = member(value, at, "create")?;
-        return read_create(alloc, found, &at.member("create")?, topology);
+        return read_create(alloc, found, &at.member("create"), topology);
     }
     if fits(value, &["exercise"], &[]) {
         let found = member(value, at, "exercise")?;
-        return read_exercise(alloc, found, &at.member("exercise")?, topology);
+        return read_exercise(alloc, found, &at.member("exercise"), topology);
     }
     if fits(value, &["fetch"], &[]) {
         let found = member(value, at, "fetch")?;
-        return read_fetch(alloc, found, &at.member("fetch")?, topology);
+        return read_fetch(alloc, found, &at.member("fetch"), topology);
     }
     shape(at)
 }

@@ -1,19 +1,16 @@
 //! Statements of a choice's body.
-ghost use Rattle.std.specs.Prelude.{◌≡◌, ◌≤◌, IfOk, OnOk, nat_le};
+ghost use Rattle.std.specs.Prelude.{◌≡◌, ◌≤◌, IfOk};
 ghost use Rattle.serde_json.specs.View.{view, items_view};
 ghost use Rattle.serde_json.specs.Find.{get};
 ghost use Rattle.ledger_terms.specs.Syntax.{NoStmts};
 ghost use Rattle.ledger_terms.specs.StmtForms.{stmt_form, stmt_list_form};
-ghost use Rattle.ledger_terms.specs.Answers.{Follows};
-ghost use Rattle.lang_read.specs.Walk.{FollowsAs, check};
+ghost use Rattle.ledger_terms.specs.Answers.{FollowsAs};
 ghost use Rattle.lang_read.specs.Stmts.{has_when_members, stmt_of, when_of, else_of, block_of, stmts_from, body_in};
 
 use crate::expr_members::expr_in;
-use crate::members::{fits, member};
-use crate::scalar::shape;
-use crate::script_fault::ScriptFault;
 use crate::simple_stmt::read_simple;
-use ledger_terms::{Pointer, Stmt, StmtList, Topology};
+use json_walk::{Place, STATEMENTS, WalkFault, check_limit, fits, member, shape};
+use ledger_terms::{Stmt, StmtList, Topology};
 use serde_json::Value;
 use std::alloc::Global;
 
@@ -24,59 +21,46 @@ fn has_when_members(value: &Value) -> bool
     fits(value, &["if", "then"], &["else"])
 }
 
-fn check_count(at: &Pointer, count: usize) -> Result<(), ScriptFault>
-    ensures first { Follows ScriptFault.Memory result (check (nat_le count 64) (ScriptFault.Limit at.now 9 count)) }
-    ensures within { OnOk result (count ≤ 64) }
-{
-    if count > 64 {
-        return Err(ScriptFault::Limit {
-            path: at.clone()?,
-            which: 9,
-            found: count as u64,
-        });
-    }
-    Ok(())
-}
-
-/// A statement, after so many in the lists up to it; gives that number after it too.
+/// A statement, and the number of statements after it. `before` is the number of those that were counted before: all items of
+/// each list that was begun, this statement among them, since a list is counted before its items are read.
 #[cycle(stmt)]
 fn read_stmt(
     alloc: Global,
     value: &Value,
-    at: &Pointer,
-    before: usize,
+    at: &Place,
+    before: u64,
     topology: &Topology,
-) -> Result<(Stmt, usize), ScriptFault>
-    requires { before ≤ 64 }
-    ensures first { FollowsAs (λ s. (stmt_form s.0, s.1)) result (stmt_of topology.now.hosts at.now before (view value.now)) }
-    ensures within { IfOk result (λ s. s.1 ≤ 64) }
+) -> Result<(Stmt, u64), WalkFault>
+    requires { before ≤ STATEMENTS.most }
+    ensures first { FollowsAs WalkFault.Memory (λ s. (stmt_form s.0, s.1)) result (stmt_of topology.now.hosts at.now before (view value.now)) }
+    ensures within { IfOk result (λ s. s.1 ≤ STATEMENTS.most) }
 {
     if !fits(value, &["when"], &[]) {
         let stmt = read_simple(alloc, value, at, topology)?;
         return Ok((stmt, before));
     }
     let found = member(value, at, "when")?;
-    read_when(alloc, found, &at.member("when")?, before, topology)
+    read_when(alloc, found, &at.member("when"), before, topology)
 }
 
 #[cycle(stmt)]
 fn read_when(
     alloc: Global,
     value: &Value,
-    at: &Pointer,
-    before: usize,
+    at: &Place,
+    before: u64,
     topology: &Topology,
-) -> Result<(Stmt, usize), ScriptFault>
-    requires { before ≤ 64 }
-    ensures first { FollowsAs (λ s. (stmt_form s.0, s.1)) result (when_of topology.now.hosts at.now before (view value.now)) }
-    ensures within { IfOk result (λ s. s.1 ≤ 64) }
+) -> Result<(Stmt, u64), WalkFault>
+    requires { before ≤ STATEMENTS.most }
+    ensures first { FollowsAs WalkFault.Memory (λ s. (stmt_form s.0, s.1)) result (when_of topology.now.hosts at.now before (view value.now)) }
+    ensures within { IfOk result (λ s. s.1 ≤ STATEMENTS.most) }
 {
     if !has_when_members(value) {
         return shape(at);
     }
     let test = expr_in(alloc, value, at, "if", topology)?;
     let found = member(value, at, "then")?;
-    let (yes, count) = read_block(alloc, found, &at.member("then")?, before, topology)?;
+    let (yes, count) = read_block(alloc, found, &at.member("then"), before, topology)?;
     let (no, count) = read_else(alloc, value, at, count, topology)?;
     Ok((Stmt::When { test, yes, no }, count))
 }
@@ -85,16 +69,16 @@ fn read_when(
 fn read_else(
     alloc: Global,
     value: &Value,
-    at: &Pointer,
-    before: usize,
+    at: &Place,
+    before: u64,
     topology: &Topology,
-) -> Result<(StmtList, usize), ScriptFault>
-    requires { before ≤ 64 }
-    ensures first { FollowsAs (λ s. (stmt_list_form s.0, s.1)) result (else_of topology.now.hosts at.now before (view value.now)) }
-    ensures within { IfOk result (λ s. s.1 ≤ 64) }
+) -> Result<(StmtList, u64), WalkFault>
+    requires { before ≤ STATEMENTS.most }
+    ensures first { FollowsAs WalkFault.Memory (λ s. (stmt_list_form s.0, s.1)) result (else_of topology.now.hosts at.now before (view value.now)) }
+    ensures within { IfOk result (λ s. s.1 ≤ STATEMENTS.most) }
 {
     match value.get("else") {
-        Some(found) => read_block(alloc, found, &at.member("else")?, before, topology),
+        Some(found) => read_block(alloc, found, &at.member("else"), before, topology),
         None => Ok((StmtList::new(alloc), before)),
     }
 }
@@ -103,18 +87,18 @@ fn read_else(
 fn read_block(
     alloc: Global,
     value: &Value,
-    at: &Pointer,
-    before: usize,
+    at: &Place,
+    before: u64,
     topology: &Topology,
-) -> Result<(StmtList, usize), ScriptFault>
-    requires { before ≤ 64 }
-    ensures first { FollowsAs (λ s. (stmt_list_form s.0, s.1)) result (block_of topology.now.hosts at.now before (view value.now)) }
-    ensures within { IfOk result (λ s. s.1 ≤ 64) }
+) -> Result<(StmtList, u64), WalkFault>
+    requires { before ≤ STATEMENTS.most }
+    ensures first { FollowsAs WalkFault.Memory (λ s. (stmt_list_form s.0, s.1)) result (block_of topology.now.hosts at.now before (view value.now)) }
+    ensures within { IfOk result (λ s. s.1 ≤ STATEMENTS.most) }
 {
     match value {
         Value::Array(items) => {
-            let count = before + items.len();
-            check_count(at, count)?;
+            let count = before + items.len() as u64;
+            check_limit(at, STATEMENTS, count)?;
             read_stmts(alloc, items, at, count, topology)
         }
         _ => shape(at),
@@ -125,18 +109,18 @@ fn read_block(
 fn read_stmts(
     alloc: Global,
     items: &Vec<Value>,
-    at: &Pointer,
-    before: usize,
+    at: &Place,
+    before: u64,
     topology: &Topology,
-) -> Result<(StmtList, usize), ScriptFault>
-    requires { before ≤ 64 }
-    ensures first { FollowsAs (λ s. (stmt_list_form s.0, s.1)) result (stmts_from topology.now.hosts at.now 0 (NoStmts, before) (items_view items.now.items)) }
-    ensures within { IfOk result (λ s. s.1 ≤ 64) }
+) -> Result<(StmtList, u64), WalkFault>
+    requires { before ≤ STATEMENTS.most }
+    ensures first { FollowsAs WalkFault.Memory (λ s. (stmt_list_form s.0, s.1)) result (stmts_from topology.now.hosts at.now 0 (NoStmts, before) (items_view items.now.items)) }
+    ensures within { IfOk result (λ s. s.1 ≤ STATEMENTS.most) }
 {
     let mut stmts = StmtList::new(alloc);
     let mut count = before;
     'stmts: for i in 0..items.len() {
-        let here = at.item(i)?;
+        let here = at.item(i);
         let (stmt, after) = read_stmt(alloc, &items[i], &here, count, topology)?;
         stmts.push(stmt)?;
         count = after;
@@ -149,14 +133,14 @@ fn read_stmts(
 pub fn body_in(
     alloc: Global,
     value: &Value,
-    at: &Pointer,
+    at: &Place,
     topology: &Topology,
-) -> Result<StmtList, ScriptFault>
-    ensures { FollowsAs stmt_list_form result (body_in topology.now.hosts at.now (view value.now)) }
+) -> Result<StmtList, WalkFault>
+    ensures { FollowsAs WalkFault.Memory stmt_list_form result (body_in topology.now.hosts at.now (view value.now)) }
 {
     match value.get("body") {
         Some(found) => {
-            let (stmts, _) = read_block(alloc, found, &at.member("body")?, 0, topology)?;
+            let (stmts, _) = read_block(alloc, found, &at.member("body"), 0, topology)?;
             Ok(stmts)
         }
         None => Ok(StmtList::new(alloc)),

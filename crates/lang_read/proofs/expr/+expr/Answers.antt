@@ -15,8 +15,8 @@ read_call-returns-in_err-operator t c =
     let many : length c.args.items.now.items ≡ length c.args.items.now.items - 1 + 1 = grind arith in
     rw (call_first c.args.topology.now.hosts c.args.at.now c.args.depth c.args.items.now.items c.index.result.now _ many) (search rules)
 
-pub read_call-returns-in_err-check_depth : goal.read_call-returns-in_err-check_depth
-read_call-returns-in_err-check_depth t c =
+pub read_call-returns-in_err-check_limit : goal.read_call-returns-in_err-check_limit
+read_call-returns-in_err-check_limit t c =
     let many : length c.args.items.now.items ≡ length c.args.items.now.items - 1 + 1 = grind arith in
     rw (call_first c.args.topology.now.hosts c.args.at.now c.args.depth c.args.items.now.items c.index.result.now _ many) (search rules)
 

@@ -2,7 +2,7 @@ use Rattle.std.proofs.Common.{◌≡◌, drop}
 use Rattle.serde_json.specs.View.{items_view}
 use Rattle.ledger_terms.specs.Syntax.{NoExprs}
 use Rattle.ledger_terms.specs.ExprForms.{list_form}
-use Rattle.lang_read.specs.Walk.{walk_items}
+use Rattle.json_walk.specs.Walk.{walk_items}
 use Rattle.lang_read.specs.Exprs.{expr_step}
 use Rattle.lang_read.proofs.expr_members.read_exprs.Given as goal
 

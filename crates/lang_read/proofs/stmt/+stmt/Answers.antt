@@ -9,9 +9,9 @@ use Rattle.ledger_terms.specs.ExprForms.{expr_form}
 use Rattle.ledger_terms.specs.StmtForms.{stmt_list_form}
 use Rattle.ledger_terms.proofs.StmtRows.{form_When}
 use Rattle.lang_read.specs.Stmts.{when_of}
-use Rattle.lang_read.specs.Walk.{member_of}
+use Rattle.json_walk.specs.Walk.{member_of}
 use Rattle.lang_read.proofs.Blocks.{stmt_of-is, when_of-is, block_of-is}
-use Rattle.lang_read.proofs.Nested.{get_below, member_below, item_below}
+use Rattle.json_walk.proofs.Nested.{get_below, member_below, item_below}
 use Rattle.lang_read.proofs.stmt.+stmt.Goals as goal
 
 -- ---- what is read next stands deeper
@@ -43,13 +43,13 @@ read_stmts-read_stmt-requires t c =
 
 -- ---- lists
 
-pub read_block-returns-in_err-check_count-in-Array-clause-first : goal.read_block-returns-in_err-check_count-in-Array-clause-first
-read_block-returns-in_err-check_count-in-Array-clause-first t c =
+pub read_block-returns-in_err-check_limit-in-Array-clause-first : goal.read_block-returns-in_err-check_limit-in-Array-clause-first
+read_block-returns-in_err-check_limit-in-Array-clause-first t c =
     let is : view c.args.value.now ≡ array (items_view c.in-Array.items.items) = search (rules, the_lemmas) in
     rw (block_of-is c.args.topology.now.hosts c.args.at.now c.args.before c.in-Array.items.items _ is) (search rules)
 
-pub read_block-returns-in_ok-check_count-in-Array-clause-first : goal.read_block-returns-in_ok-check_count-in-Array-clause-first
-read_block-returns-in_ok-check_count-in-Array-clause-first t c =
+pub read_block-returns-in_ok-check_limit-in-Array-clause-first : goal.read_block-returns-in_ok-check_limit-in-Array-clause-first
+read_block-returns-in_ok-check_limit-in-Array-clause-first t c =
     let is : view c.args.value.now ≡ array (items_view c.in-Array.items.items) = search (rules, the_lemmas) in
     rw (block_of-is c.args.topology.now.hosts c.args.at.now c.args.before c.in-Array.items.items _ is) (search rules)
 
