@@ -14,7 +14,7 @@ mod work;
 
 use crate::actions::round_trip;
 use crate::hashes::last_of;
-use crate::scripts::{Found, read_source};
+use crate::scripts::{Found, read_often, read_source};
 use crate::trees::make_and_verify;
 use crate::work::Work;
 use cn_io::ReadSource;
@@ -30,7 +30,7 @@ fn main(rt: HostRuntime) -> io::Result<()> {
             Some(work) => {
                 let count = word.as_str().parse::<u32>().unwrap_or(0);
                 match work {
-                    Work::Script => run_script(&rt)?,
+                    Work::Script | Work::Json => run_source(&rt, work, count)?,
                     _ => run(&rt, rt.alloc(), work, count)?,
                 }
                 None
@@ -56,15 +56,20 @@ fn run(rt: &impl Print, alloc: Global, work: Work, count: u32) -> io::Result<()>
             let made = make_and_verify(alloc, count)?;
             println!(rt; "{} hashes, {} verified", made.hashes, made.verified)
         }
-        Work::Script => Ok(()),
+        Work::Script | Work::Json => Ok(()),
     }
 }
 
-fn run_script(rt: &HostRuntime) -> io::Result<()> {
+fn run_source(rt: &HostRuntime, work: Work, count: u32) -> io::Result<()> {
     let mut source = ReadSource::new(rt.stdin());
-    let read = read_source(rt.alloc(), &mut source)?;
-    match read.found {
-        Found::Submissions(count) => { println!(rt; "{} bytes, {} submissions", read.bytes, count) }
-        Found::Fault(name) => println!(rt; "{} bytes, {}", read.bytes, name),
+    let bytes = read_source(rt.alloc(), &mut source)?;
+    let length = bytes.len();
+    match read_often(rt.alloc(), bytes.as_slice(), work, count) {
+        Found::Nothing => println!(rt; "{length} bytes, nothing"),
+        Found::Value => println!(rt; "{length} bytes, a value"),
+        Found::Submissions(submissions) => println!(rt;
+            "{length} bytes, {submissions} submissions"
+        ),
+        Found::Fault(name) => println!(rt; "{length} bytes, {name}"),
     }
 }

@@ -7,6 +7,7 @@ pub(crate) enum Work {
     Wire,
     Blind,
     Script,
+    Json,
 }
 
 impl Work {
@@ -17,6 +18,7 @@ impl Work {
             "wire" => Some(Work::Wire),
             "blind" => Some(Work::Blind),
             "script" => Some(Work::Script),
+            "json" => Some(Work::Json),
             _ => None,
         }
     }

@@ -10,8 +10,9 @@ use Rattle.ledger_terms.specs.declared.command.Command.{Command}
 use Rattle.ledger_terms.specs.declared.command.Command.TheVariants.{Create}
 use Rattle.ledger_terms.specs.declared.what.What.TheVariants.{Commands}
 use Rattle.ledger_terms.specs.declared.submission.Submission.{Submission}
-use Rattle.lang_read.specs.Walk.{◌>>=◌, check, has_members}
-use Rattle.lang_read.specs.declared.script_fault.ScriptFault.TheVariants.{NotBuilt}
+use Rattle.ledger_terms.specs.Answers.{◌>>=◌, check}
+use Rattle.json_walk.specs.Walk.{has_members}
+use Rattle.script_read.specs.declared.script_fault.ScriptFault.TheVariants.{NotBuilt}
 use Rattle.lang_eval.specs.Builtin.{note_template}
 use Rattle.proto_model.specs.Note.{note_name}
 use Rattle.canton_cli.specs.declared.script.Script.{Script}

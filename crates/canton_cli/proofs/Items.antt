@@ -3,7 +3,7 @@ use Rattle.std.proofs.Common.{◌≡◌, ◌≢◌, ℕ, ◌<◌, List, [], ◌�
 use Rattle.serde_json.specs.Data.{Data, Items, item}
 use Rattle.serde_json.specs.View.{view, items_view}
 use Rattle.serde_json.specs.declared.value.Value.{Value}
-use Rattle.lang_read.specs.declared.script_fault.ScriptFault.TheVariants.{NotBuilt}
+use Rattle.script_read.specs.declared.script_fault.ScriptFault.TheVariants.{NotBuilt}
 use Rattle.canton_cli.specs.FirstForm.{fields_in}
 
 -- the items of a list of two or more

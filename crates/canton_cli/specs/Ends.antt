@@ -2,7 +2,7 @@
 use Rattle.std.specs.Prelude.{◌≡◌, ◌≢◌, ◌↔◌, ℕ, ◌+◌, ◌≤◌, ◌<◌, true, List, [], length, Option, Some, Ok, Err}
 use Rattle.std.proofs.Common.{◌⊎◌}
 use Rattle.std.specs.Io.KnownBytes.{Consumes, Keeps, IsAtEnd}
-use Rattle.lang_read.specs.declared.script_fault.ScriptFault.{ScriptFault}
+use Rattle.script_read.specs.declared.script_fault.ScriptFault.{ScriptFault}
 use Rattle.report_text.specs.Report.{report_of}
 use Rattle.canton_cli.specs.declared.finish.Finish.{Finish}
 use Rattle.canton_cli.specs.declared.script.Script.{Script}

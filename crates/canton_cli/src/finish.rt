@@ -1,9 +1,9 @@
 //! How a run ended.
 ghost use Rattle.std.specs.Prelude.{◌≡◌, []};
 
-use lang_read::ScriptFault;
 use proto_model::EntryList;
 use report_text::SubmitResultList;
+use script_read::ScriptFault;
 use std::alloc::Global;
 
 /// How a run ended: its status, the script's fault at status 3, and the log and the answers to the submissions at statuses 0

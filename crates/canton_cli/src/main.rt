@@ -13,8 +13,8 @@ mod words;
 
 use cn_io::{ReadSource, WriteSink};
 use finish::Finish;
-use lang_read::ScriptFault;
 use ledger_terms::Text;
+use script_read::ScriptFault;
 use std::alloc::{AllocError, Global};
 use std::process::ExitCode;
 use std::{env, io};

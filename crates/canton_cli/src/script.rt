@@ -5,9 +5,10 @@ ghost use Rattle.ledger_terms.specs.Answers.{Follows};
 ghost use Rattle.canton_cli.specs.Script.{script_of};
 
 use crate::first_form::read_first_form;
-use lang_read::{ScriptFault, read_json};
+use json_walk::read_json;
 use proto_model::Setup;
 use report_text::RoundSubmissionList;
+use script_read::ScriptFault;
 use std::alloc::Global;
 
 /// What a synchroniser is made for, and what is submitted to it.

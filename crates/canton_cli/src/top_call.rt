@@ -14,8 +14,8 @@ use crate::play::play;
 use crate::script::{Script, read_script};
 use crate::words::{WordList, are_run};
 use cn_io::{ReadFault, Sink, Source, read_all, write_all};
-use lang_read::ScriptFault;
 use report_text::report;
+use script_read::ScriptFault;
 use std::alloc::Global;
 
 /// How many bytes a script may have.

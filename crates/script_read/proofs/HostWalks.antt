@@ -1,8 +1,7 @@
 -- The walk of the participants keeps them apart and few.
 use Rattle.std.proofs.Common.{◌≡◌, ℕ, ◌+◌, ◌≤◌, Bool, true, false, List, [], ◌∷◌, ◌++◌, length, Ok, refl, ap, subst, arith}
-use Rattle.std.specs.Prelude.{◌||◌, ◌&&◌, not, sum_by, nat_le, codes}
+use Rattle.std.specs.Prelude.{◌||◌, ◌&&◌, not, sum_by, codes}
 use Rattle.std.specs.List.{list_all, AllPairs}
-use Rattle.std.proofs.lemmas.Bool.Decides.{nat_tests}
 use Rattle.std.proofs.lemmas.List.{length_push}
 use Rattle.std.proofs.lemmas.List.Sums.{sum_by-append}
 use Rattle.std.proofs.lemmas.List.Quantifiers.{all_pairs_push}
@@ -11,11 +10,13 @@ use Rattle.ledger_terms.specs.Parties.{has_party, set_of}
 use Rattle.ledger_terms.specs.Pointers.{at_item, at_member}
 use Rattle.ledger_terms.specs.Topologies.{AreApart}
 use Rattle.ledger_terms.specs.declared.host.Host.{Host}
-use Rattle.lang_read.specs.Walk.{Place, name_of, name_in, items_of, walk_items, item_count, member_of, check}
+use Rattle.json_walk.specs.declared.limits.TheConstants.{PARTIES, PARTICIPANTS}
+use Rattle.json_walk.specs.Walk.{within_limit, few_items_of, Place, name_of, name_in, items_of, walk_items, item_count, member_of}
+use Rattle.ledger_terms.specs.Answers.{check}
 use Rattle.lang_read.specs.Parties.{is_hosted}
-use Rattle.lang_read.specs.declared.script_fault.ScriptFault.TheVariants.{Shape, Limit, Repeated}
-use Rattle.script_read.specs.Hosts.{is_participant, new_party_step, party_items_in, new_name_in, has_host_members, host_of, host_step, some_items_of, hosts_of}
-use Rattle.script_read.proofs.Walked.{after, passed, given, walk_keeps}
+use Rattle.json_walk.specs.declared.walk_fault.WalkFault.TheVariants.{Shape, Repeated}
+use Rattle.script_read.specs.Hosts.{is_participant, new_party_step, party_items_in, new_name_in, has_host_members, host_of, host_step, hosts_of}
+use Rattle.json_walk.proofs.Kept.{after, passed, given, walk_keeps, limit_kept}
 use Rattle.script_read.proofs.NewHosts.{either_false, not_false, set_length, new_apart}
 
 -- ---- parties
@@ -74,9 +75,9 @@ unfolding party_items_in
 few_items count at d items h =
     let s = after (member_of at (codes "parties") d) _ items h in
     let t = after (items_of (at_member at (codes "parties")) s.0) _ items s.2 in
-    let u = after (check (nat_le (count + item_count t.0) 128) (Limit (at_member at (codes "parties")) 2 (count + item_count t.0))) _ items t.2 in
-    let within : nat_le (count + item_count t.0) 128 ≡ true = passed _ _ u.0 u.1 in
-    rw (given t.0 items u.2) (grind (arith, nat_tests))
+    let u = after (within_limit (at_member at (codes "parties")) PARTIES (count + item_count t.0)) _ items t.2 in
+    let kept = limit_kept (at_member at (codes "parties")) PARTIES (count + item_count t.0) u.0 u.1 in
+    rw (given t.0 items u.2) kept.1
 
 host_kept : (at : Place) (i : ℕ) (s t : List Host × ℕ) (d : Data) → AreHosts i s → host_step at i s d ≡ Ok t → AreHosts (i + 1) t
 unfolding host_of
@@ -101,14 +102,14 @@ host_kept at i s t d p h =
 
 -- the participants of a list
 pub hosts_kept : (at : Place) (d : Data) (s : List Host × ℕ) → hosts_of at d ≡ Ok s → (items : Items) × (items_of at d ≡ Ok items) × (1 ≤ item_count items) × (item_count items ≤ 8) × AreHosts (item_count items) s
-unfolding hosts_of some_items_of
+unfolding hosts_of few_items_of
 hosts_kept at d s h =
-    let a = after (some_items_of at 1 8 d) _ s h in
+    let a = after (few_items_of at PARTICIPANTS d) _ s h in
     let b = after (items_of at d) _ a.0 a.1 in
-    let c = after (check (nat_le 1 (item_count b.0) && nat_le (item_count b.0) 8) (Limit at 1 (item_count b.0))) _ a.0 b.2 in
+    let c = after (within_limit at PARTICIPANTS (item_count b.0)) _ a.0 b.2 in
     let same = given b.0 a.0 c.2 in
-    let within : (nat_le 1 (item_count b.0) && nat_le (item_count b.0) 8) ≡ true = passed _ _ c.0 c.1 in
+    let within = limit_kept at PARTICIPANTS (item_count b.0) c.0 c.1 in
     let kept = walk_keeps (host_step at) AreHosts (host_kept at) 0 ([], 0) s a.0 (record { many = refl; counted = omega arith; few = omega arith; apart = λ i j d p q. absurd (omega arith) }) a.2 in
     let count : item_count a.0 ≡ item_count b.0 = ap item_count same in
     let whole : 0 + item_count a.0 ≡ item_count b.0 = omega (arith, count) in
-    (b.0, b.1, grind (arith, nat_tests), grind (arith, nat_tests), subst (λ n. AreHosts n s) whole kept)
+    (b.0, b.1, within.0, within.1, subst (λ n. AreHosts n s) whole kept)

@@ -1,3 +1,4 @@
+pub mod FromWalks
 pub mod HostWalks
 pub mod NewHosts
 pub mod RoundWalks
@@ -7,4 +8,3 @@ pub mod Topologies
 pub mod TreeSizes
 pub mod Trees
 pub mod VettedHosts
-pub mod Walked

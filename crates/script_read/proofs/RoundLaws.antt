@@ -1,6 +1,6 @@
 -- The rounds of a script that is read are within their limits, and name the participants and parties that there are.
 use Rattle.std.proofs.Common.{◌≡◌, ℕ, ◌+◌, ◌<◌, ◌≤◌, ◌^◌, Bool, true, List, [], ◌∷◌, ◌++◌, length, map, Option, Some, None, Ok, refl, ap, ◌∙◌, arith}
-use Rattle.std.specs.Prelude.{sum_by, nat_le, codes}
+use Rattle.std.specs.Prelude.{sum_by, codes}
 use Rattle.std.specs.List.{list_all, AllByRecursion}
 use Rattle.std.proofs.lemmas.Bool.Decides.{nat_tests}
 use Rattle.std.proofs.lemmas.List.{length_push}
@@ -10,34 +10,27 @@ use Rattle.serde_json.specs.Find.{get}
 use Rattle.ledger_terms.specs.Pointers.{at_item, at_member}
 use Rattle.ledger_terms.specs.declared.host.Host.{Host}
 use Rattle.ledger_terms.specs.declared.submission.Submission.{Submission}
-use Rattle.lang_read.specs.Walk.{Place, items_of, walk_items, item_count, member_of, check, json_of}
-use Rattle.lang_read.specs.Packages.{few_items_of}
+use Rattle.json_walk.specs.declared.limits.TheConstants.{ADVANCE, ROUNDS, SUBMISSIONS}
+use Rattle.json_walk.specs.Lists.{item_step, counted_step, counted_of}
+use Rattle.json_walk.specs.Walk.{Place, within_limit, items_of, few_items_of, walk_items, item_count, member_of, json_of}
+use Rattle.ledger_terms.specs.Answers.{check}
 use Rattle.lang_read.specs.Parties.{is_hosted}
-use Rattle.lang_read.specs.declared.script_fault.ScriptFault.TheVariants.{Shape, Limit}
+use Rattle.json_walk.specs.declared.walk_fault.WalkFault.TheVariants.{Shape}
+use Rattle.script_read.specs.declared.script_fault.ScriptFault.TheVariants as script
 use Rattle.script_read.specs.Hosts.{hosts_in, params_of, vetting_in}
-use Rattle.script_read.specs.Rounds.{participant_of, submission_of, submission_step, submits_of, submits_if, submits_in, advance_if, advance_in, paused_step, paused_of, paused_if, paused_in, hold_in, has_round_members, round_of, round_step, rounds_of, rounds_in}
+use Rattle.script_read.specs.Rounds.{participant_of, submission_of, submits_of, submits_if, submits_in, advance_if, advance_in, paused_if, paused_in, hold_in, has_round_members, round_of, rounds_in}
 use Rattle.script_read.specs.Script.{has_script_members, topology_in, checked_in, script_of, script_in}
 use Rattle.script_read.specs.Kept.{IsSubmission, IsRound, AreRounds}
 use Rattle.script_read.specs.declared.round.Round.{Round}
 use Rattle.script_read.specs.declared.script.Script.{Script}
-use Rattle.script_read.proofs.Walked.{after, passed, given, walk_keeps}
-use Rattle.script_read.proofs.RoundWalks.{all_push}
+use Rattle.json_walk.proofs.Kept.{after, given, walk_keeps, limit_kept, items_kept, list_kept, all_push}
+use Rattle.script_read.proofs.FromWalks.{after_walk}
+use Rattle.script_read.proofs.RoundWalks.{few_read}
 use Rattle.script_read.proofs.Submissions.{participant_within, submission_read}
 use Rattle.script_read.proofs.Topologies.{integer_range, hosts_read, vetted_keys}
 use Rattle.script_read.proofs.VettedHosts.{key, keys_length}
 
 -- ---- submissions
-
-record AreSubmits (hosts : List Host) (i : ℕ) (a : List Submission) : Type 0 where
-  many : length a ≡ i
-  each : AllByRecursion (IsSubmission hosts) a
-
-submission_kept : (hosts : List Host) (at : Place) (i : ℕ) (a b : List Submission) (d : Data) → AreSubmits hosts i a → submission_step hosts at i a d ≡ Ok b → AreSubmits hosts (i + 1) b
-unfolding submission_step
-submission_kept hosts at i a b d p h =
-    let s = after (submission_of hosts (at_item at i) d) _ b h in
-    let grown = length_push a s.0 in
-    rw (given (a ++ s.0 ∷ []) b s.2) (record { many = omega (arith, grown, p.many); each = all_push (IsSubmission hosts) a s.0 p.each (submission_read hosts (at_item at i) d s.0 s.1) })
 
 -- the submissions of a round, and how many there are with those before
 record AreGiven (hosts : List Host) (before : ℕ) (s : List Submission × ℕ) : Type 0 where
@@ -50,31 +43,21 @@ unfolding submits_of
 submits_read hosts before at None s p h = rw (given ([], before) s h) (record { counted = omega arith; few = p; each = tt })
 submits_read hosts before at (Some d) s p h =
     let i = after (items_of at d) _ s h in
-    let c = after (check (nat_le (before + item_count i.0) 2048) (Limit at 12 (before + item_count i.0))) _ s i.2 in
-    let within : nat_le (before + item_count i.0) 2048 ≡ true = passed _ _ c.0 c.1 in
-    let few : before + item_count i.0 ≤ 2048 = grind (arith, nat_tests) in
-    let w = after (walk_items (submission_step hosts at) 0 [] i.0) _ s c.2 in
-    let kept = walk_keeps (submission_step hosts at) (AreSubmits hosts) (submission_kept hosts at) 0 [] w.0 i.0 (record { many = refl; each = tt }) w.1 in
+    let c = after (within_limit at SUBMISSIONS (before + item_count i.0)) _ s i.2 in
+    let few : before + item_count i.0 ≤ 2048 = (limit_kept at SUBMISSIONS (before + item_count i.0) c.0 c.1).1 in
+    let w = after (walk_items (item_step (submission_of hosts) at) 0 [] i.0) _ s c.2 in
+    let kept = items_kept (submission_of hosts) (IsSubmission hosts) (submission_read hosts) at i.0 w.0 w.1 in
     rw (given (w.0, before + item_count i.0) s w.2) (record { counted = omega (arith, kept.many); few = few; each = kept.each })
 
 -- ---- rounds
 
 advance_read : (at : Place) (o : Option Data) (n : ℕ) → advance_if at o ≡ Ok n → n ≤ 10 ^ 12
 advance_read at None n h = let none : n ≡ 0 = given 0 n h in omega arith
-advance_read at (Some d) n h = let r = integer_range at 15 0 1000000000000 d n h in omega (arith, r.1)
-
-paused_kept : (hosts : List Host) (at : Place) (i : ℕ) (a b : List ℕ) (d : Data) → AllByRecursion (λ p. p < length hosts) a → paused_step hosts at i a d ≡ Ok b → AllByRecursion (λ p. p < length hosts) b
-unfolding paused_step
-paused_kept hosts at i a b d p h =
-    let s = after (participant_of hosts (at_item at i) d) _ b h in
-    rw (given (a ++ s.0 ∷ []) b s.2) (all_push (λ p. p < length hosts) a s.0 p (participant_within hosts (at_item at i) d s.0 s.1))
+advance_read at (Some d) n h = let r = integer_range at ADVANCE d n h in omega (arith, r.1)
 
 paused_read : (hosts : List Host) (at : Place) (o : Option Data) (a : List ℕ) → paused_if hosts at o ≡ Ok a → AllByRecursion (λ p. p < length hosts) a
-unfolding paused_of
 paused_read hosts at None a h = rw (given [] a h) tt
-paused_read hosts at (Some d) a h =
-    let i = after (items_of at d) _ a h in
-    walk_keeps (paused_step hosts at) (λ i a. AllByRecursion (λ p. p < length hosts) a) (paused_kept hosts at) 0 [] a i.0 tt i.2
+paused_read hosts at (Some d) a h = list_kept (participant_of hosts) (λ p. p < length hosts) (participant_within hosts) at d a h
 
 record AreSoFar (hosts : List Host) (i : ℕ) (a : List Round × ℕ) : Type 0 where
   many : length a.0 ≡ i
@@ -106,8 +89,7 @@ round_read hosts before at d r p h =
       few = given_.few;
     })
 
-round_kept : (hosts : List Host) (at : Place) (i : ℕ) (a b : List Round × ℕ) (d : Data) → AreSoFar hosts i a → round_step hosts at i a d ≡ Ok b → AreSoFar hosts (i + 1) b
-unfolding round_step
+round_kept : (hosts : List Host) (at : Place) (i : ℕ) (a b : List Round × ℕ) (d : Data) → AreSoFar hosts i a → counted_step (round_of hosts) at i a d ≡ Ok b → AreSoFar hosts (i + 1) b
 round_kept hosts at i a b d p h =
     let s = after (round_of hosts a.1 (at_item at i) d) _ b h in
     let r = round_read hosts a.1 (at_item at i) d s.0 p.few s.1 in
@@ -126,18 +108,14 @@ record AreWithin (hosts : List Host) (rounds : List Round) : Type 0 where
   each : AllByRecursion (IsRound hosts) rounds
 
 rounds_read : (hosts : List Host) (d : Data) (rounds : List Round) → rounds_in hosts d ≡ Ok rounds → AreWithin hosts rounds
-unfolding rounds_in rounds_of few_items_of
+unfolding rounds_in counted_of
 rounds_read hosts d rounds h =
     let m = after (member_of [] (codes "rounds") d) _ rounds h in
-    let r = after (rounds_of hosts (at_member [] (codes "rounds")) m.0) _ rounds m.2 in
-    let f = after (few_items_of (at_member [] (codes "rounds")) 11 2048 m.0) _ r.0 r.1 in
-    let i = after (items_of (at_member [] (codes "rounds")) m.0) _ f.0 f.1 in
-    let c = after (check (nat_le (item_count i.0) 2048) (Limit (at_member [] (codes "rounds")) 11 (item_count i.0))) _ f.0 i.2 in
-    let within : nat_le (item_count i.0) 2048 ≡ true = passed _ _ c.0 c.1 in
-    let few : item_count i.0 ≤ 2048 = grind (arith, nat_tests) in
-    let same = ap item_count (given i.0 f.0 c.2) in
-    let kept = walk_keeps (round_step hosts (at_member [] (codes "rounds"))) (AreSoFar hosts) (round_kept hosts (at_member [] (codes "rounds"))) 0 ([], 0) r.0 f.0 (record { many = refl; counted = refl; few = omega arith; each = tt }) f.2 in
-    rw (given r.0.0 rounds r.2) (record { few = omega (arith, kept.many, same, few); submits = omega (arith, kept.counted, kept.few); each = kept.each })
+    let r = after (counted_of (round_of hosts) (at_member [] (codes "rounds")) ROUNDS m.0) _ rounds m.2 in
+    let f = after (few_items_of (at_member [] (codes "rounds")) ROUNDS m.0) _ r.0 r.1 in
+    let few = few_read (at_member [] (codes "rounds")) ROUNDS m.0 f.0 f.1 in
+    let kept = walk_keeps (counted_step (round_of hosts) (at_member [] (codes "rounds"))) (AreSoFar hosts) (round_kept hosts (at_member [] (codes "rounds"))) 0 ([], 0) r.0 f.0 (record { many = refl; counted = refl; few = omega arith; each = tt }) f.2 in
+    rw (given r.0.0 rounds r.2) (record { few = omega (arith, kept.many, few.2); submits = omega (arith, kept.counted, kept.few); each = kept.each })
 
 -- ---- by names and parties
 
@@ -178,12 +156,12 @@ round_at a b r h p = record {
 pub script_rounds : (bytes : List ℕ) (s : Script) → script_in bytes ≡ Ok s → AreRounds s
 unfolding script_in script_of topology_in
 script_rounds bytes s h =
-    let v = after (json_of bytes) _ s h in
-    let a = after (check (has_script_members v.0) (Shape [])) _ s v.2 in
-    let known = after (topology_in v.0) _ s a.2 in
+    let v = after_walk (json_of bytes) _ s h in
+    let a = after (check (has_script_members v.0) (script.Shape [])) _ s v.2 in
+    let known = after_walk (topology_in v.0) _ s a.2 in
     let checked = after (checked_in known.0.hosts v.0) _ s known.2 in
-    let hosts = after (vetting_in checked.0 known.0.hosts v.0) _ s checked.2 in
-    let rounds = after (rounds_in known.0.hosts v.0) _ s hosts.2 in
+    let hosts = after_walk (vetting_in checked.0 known.0.hosts v.0) _ s checked.2 in
+    let rounds = after_walk (rounds_in known.0.hosts v.0) _ s hosts.2 in
     let x = after (hosts_in v.0) _ known.0 known.1 in
     let y = after (params_of v.0) _ known.0 x.2 in
     let own : known.0.hosts ≡ x.0 = ap (λ t. t.hosts) (given (record { hosts = x.0; params = y.0 }) known.0 y.2) in

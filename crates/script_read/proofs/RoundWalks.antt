@@ -8,17 +8,12 @@ use Rattle.serde_json.specs.Data.{Data, Items}
 use Rattle.ledger_terms.specs.Parties.{name_below, same_name, with_party, with_parties, set_of}
 use Rattle.ledger_terms.specs.Pointers.{at_item}
 use Rattle.ledger_terms.specs.declared.host.Host.{Host}
-use Rattle.lang_read.specs.Walk.{Place, name_of, items_of, item_count, check}
-use Rattle.lang_read.specs.Parties.{is_hosted, party_of, party_step}
-use Rattle.lang_read.specs.declared.script_fault.ScriptFault.TheVariants.{Limit, Unknown}
-use Rattle.script_read.specs.Hosts.{some_items_of}
-use Rattle.script_read.proofs.Walked.{after, passed, given}
-
--- ---- lists
-
-pub all_push : {X : Type 0} (P : X → Type 0) (xs : List X) (x : X) → AllByRecursion P xs → P x → AllByRecursion P (xs ++ x ∷ [])
-all_push P [] x h k = (k, tt)
-all_push P (y ∷ ys) x h k = (h.0, all_push P ys x h.1 k)
+use Rattle.json_walk.specs.Walk.{Place, name_of, items_of, item_count, within_limit, few_items_of}
+use Rattle.json_walk.specs.declared.limit.Limit.{Limit}
+use Rattle.ledger_terms.specs.Answers.{check}
+use Rattle.lang_read.specs.Parties.{is_hosted, party_of}
+use Rattle.json_walk.specs.declared.walk_fault.WalkFault.TheVariants.{Unknown}
+use Rattle.json_walk.proofs.Kept.{after, passed, given, limit_kept}
 
 first_true : (a b : Bool) → (a && b) ≡ true → a ≡ true
 first_true true b e = refl
@@ -30,10 +25,6 @@ second_true false b e = absurd (cc)
 
 both_true : (a b : Bool) → a ≡ true → b ≡ true → (a && b) ≡ true
 both_true a b e f = rw (e, f) refl
-
-tests_push : (p : List ℕ → Bool) (xs : List (List ℕ)) (x : List ℕ) → list_all p xs ≡ true → p x ≡ true → list_all p (xs ++ x ∷ []) ≡ true
-tests_push p [] x h k = rw k refl
-tests_push p (y ∷ ys) x h k = both_true (p y) _ (first_true (p y) _ h) (tests_push p ys x (second_true (p y) _ h) k)
 
 -- ---- sets
 
@@ -71,27 +62,24 @@ pub set_some : (names : List (List ℕ)) → 1 ≤ length names → 1 ≤ length
 set_some [] h = absurd (omega arith)
 set_some (a ∷ names) h = omega (arith, with_parties_some names (with_party a []), (with_party_some a []).0)
 
--- ---- parties and participants
+-- ---- parties
 
-pub record AreParties (hosts : List Host) (i : ℕ) (names : List (List ℕ)) : Type 0 where
-  pub many : length names ≡ i
-  pub hosted : list_all (is_hosted hosts) names ≡ true
+pub party_hosted : (hosts : List Host) (at : Place) (d : Data) (a : List ℕ) → party_of hosts at d ≡ Ok a → is_hosted hosts a ≡ true
+unfolding party_of
+party_hosted hosts at d a h =
+    let t = after (name_of at d) _ a h in
+    let u = after (check (is_hosted hosts t.0) (Unknown at t.0)) _ a t.2 in
+    subst (λ n. is_hosted hosts n ≡ true) (sym (given t.0 a u.2)) (passed _ _ u.0 u.1)
 
-pub party_kept : (hosts : List Host) (at : Place) (i : ℕ) (a b : List (List ℕ)) (d : Data) → AreParties hosts i a → party_step hosts at i a d ≡ Ok b → AreParties hosts (i + 1) b
-unfolding party_step party_of
-party_kept hosts at i a b d p h =
-    let s = after (party_of hosts (at_item at i) d) _ b h in
-    let t = after (name_of (at_item at i) d) _ s.0 s.1 in
-    let u = after (check (is_hosted hosts t.0) (Unknown (at_item at i) t.0)) _ s.0 t.2 in
-    let one : is_hosted hosts s.0 ≡ true = subst (λ n. is_hosted hosts n ≡ true) (sym (given t.0 s.0 u.2)) (passed _ _ u.0 u.1) in
-    let grown = length_push a s.0 in
-    rw (given (a ++ s.0 ∷ []) b s.2) (record { many = omega (arith, grown, p.many); hosted = tests_push (is_hosted hosts) a s.0 p.hosted one })
+pub tests_all : (p : List ℕ → Bool) (xs : List (List ℕ)) → AllByRecursion (λ x. p x ≡ true) xs → list_all p xs ≡ true
+tests_all p [] h = refl
+tests_all p (x ∷ xs) h = both_true (p x) _ h.0 (tests_all p xs h.1)
 
-pub some_read : (at : Place) (which most : ℕ) (d : Data) (items : Items) → some_items_of at which most d ≡ Ok items → (items_of at d ≡ Ok items) × (1 ≤ item_count items) × (item_count items ≤ most)
-unfolding some_items_of
-some_read at which most d items h =
+-- the items of a list that keeps a limit
+pub few_read : (at : Place) (limit : Limit) (d : Data) (items : Items) → few_items_of at limit d ≡ Ok items → (items_of at d ≡ Ok items) × (limit.least ≤ item_count items) × (item_count items ≤ limit.most)
+unfolding few_items_of
+few_read at limit d items h =
     let b = after (items_of at d) _ items h in
-    let c = after (check (nat_le 1 (item_count b.0) && nat_le (item_count b.0) most) (Limit at which (item_count b.0))) _ items b.2 in
-    let within : (nat_le 1 (item_count b.0) && nat_le (item_count b.0) most) ≡ true = passed _ _ c.0 c.1 in
-    let few : (1 ≤ item_count b.0) × (item_count b.0 ≤ most) = (grind (arith, nat_tests), grind (arith, nat_tests)) in
-    subst (λ (items : Items). (items_of at d ≡ Ok items) × (1 ≤ item_count items) × (item_count items ≤ most)) (sym (given b.0 items c.2)) (b.1, few.0, few.1)
+    let c = after (within_limit at limit (item_count b.0)) _ items b.2 in
+    let few = limit_kept at limit (item_count b.0) c.0 c.1 in
+    subst (λ (items : Items). (items_of at d ≡ Ok items) × (limit.least ≤ item_count items) × (item_count items ≤ limit.most)) (sym (given b.0 items c.2)) (b.1, few.0, few.1)

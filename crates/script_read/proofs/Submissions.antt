@@ -12,19 +12,21 @@ use Rattle.ledger_terms.specs.declared.what.What.{What}
 use Rattle.ledger_terms.specs.declared.what.What.TheVariants as what
 use Rattle.ledger_terms.specs.declared.command.Command.{Command}
 use Rattle.ledger_terms.specs.declared.submission.Submission.{Submission}
-use Rattle.lang_read.specs.Walk.{Place, name_of, name_in, integer_of, items_of, walk_items, member_of, check}
-use Rattle.lang_read.specs.Parties.{is_hosted, party_step}
-use Rattle.lang_read.specs.declared.script_fault.ScriptFault.{ScriptFault}
-use Rattle.lang_read.specs.declared.script_fault.ScriptFault.TheVariants.{Shape}
-use Rattle.script_read.specs.Hosts.{some_items_of}
-use Rattle.script_read.specs.Commands.{command_of, command_step}
+use Rattle.json_walk.specs.declared.limits.TheConstants.{ACT_AS, COMMANDS, LEDGER_TIME}
+use Rattle.json_walk.specs.Lists.{few_of}
+use Rattle.json_walk.specs.Walk.{Place, name_of, name_in, integer_of, items_of, few_items_of, member_of}
+use Rattle.ledger_terms.specs.Answers.{check}
+use Rattle.lang_read.specs.Parties.{is_hosted, party_of}
+use Rattle.json_walk.specs.declared.walk_fault.WalkFault.{WalkFault}
+use Rattle.json_walk.specs.declared.walk_fault.WalkFault.TheVariants.{Shape}
+use Rattle.script_read.specs.Commands.{command_of}
 use Rattle.script_read.specs.Drafts.{tree_of}
 use Rattle.script_read.specs.Rounds.{participant_named, participant_of, participant_member, participant_in, act_as_in, time_of, time_if, time_in, ledger_time_in, commands_in, seed_of_in, trees_in, prepared_in, are_commands, is_prepared, what_in, submission_of}
 use Rattle.script_read.specs.Kept.{IsFew, IsSubmission}
-use Rattle.script_read.proofs.Walked.{after, given, walk_keeps}
+use Rattle.json_walk.proofs.Kept.{after, given, few_kept}
 use Rattle.script_read.proofs.Topologies.{integer_range}
 use Rattle.script_read.proofs.TreeSizes.{by_test, trees_read}
-use Rattle.script_read.proofs.RoundWalks.{AreParties, party_kept, some_read, set_some, with_parties_tests}
+use Rattle.script_read.proofs.RoundWalks.{party_hosted, tests_all, few_read, set_some, with_parties_tests}
 use Rattle.script_read.proofs.NewHosts.{set_length}
 
 -- ---- who
@@ -38,7 +40,7 @@ named_within (x ∷ xs) name k h = here (same_name x.name name) (participant_nam
     here false None k f e = absurd (cc)
     here false (Some j) k f e = let next : k ≡ suc j = cc in omega (arith, f j refl)
 
-read_some : {A : Type 0} (o : Option A) (e : ScriptFault) (a : A) → ok_or o e ≡ Ok a → o ≡ Some a
+read_some : {A : Type 0} (o : Option A) (e : WalkFault) (a : A) → ok_or o e ≡ Ok a → o ≡ Some a
 read_some None e a h = absurd (cc)
 read_some (Some x) e a h = ap Some (sym (given x a h))
 
@@ -59,15 +61,12 @@ acting_read : (hosts : List Host) (at : Place) (d : Data) (set : List (List ℕ)
 unfolding act_as_in
 acting_read hosts at d set h =
     let m = after (member_of at (codes "act_as") d) _ set h in
-    let i = after (some_items_of (at_member at (codes "act_as")) 14 128 m.0) _ set m.2 in
-    let n = after (walk_items (party_step hosts (at_member at (codes "act_as"))) 0 [] i.0) _ set i.2 in
-    let few = some_read (at_member at (codes "act_as")) 14 128 m.0 i.0 i.1 in
-    let kept = walk_keeps (party_step hosts (at_member at (codes "act_as"))) (AreParties hosts) (party_kept hosts (at_member at (codes "act_as"))) 0 [] n.0 i.0 (record { many = refl; hosted = refl }) n.1 in
-    let some : 1 ≤ length n.0 = omega (arith, kept.many, few.1) in
+    let n = after (few_of (party_of hosts) (at_member at (codes "act_as")) ACT_AS m.0) _ set m.2 in
+    let kept = few_kept (party_of hosts) (λ a. is_hosted hosts a ≡ true) (party_hosted hosts) (at_member at (codes "act_as")) ACT_AS m.0 n.0 n.1 in
     rw (given (set_of n.0) set n.2) (record {
-      someone = set_some n.0 some;
-      few = omega (arith, set_length n.0, kept.many, few.2);
-      hosted = with_parties_tests (is_hosted hosts) n.0 [] kept.hosted refl;
+      someone = set_some n.0 kept.0;
+      few = omega (arith, set_length n.0, kept.1);
+      hosted = with_parties_tests (is_hosted hosts) n.0 [] (tests_all (is_hosted hosts) n.0 kept.2) refl;
     })
 
 -- ---- when
@@ -79,28 +78,19 @@ time_read : (at : Place) (o : Option Data) (t : Option ℕ) → time_if at o ≡
 unfolding time_of
 time_read at None t h = rw (given None t h) tt
 time_read at (Some d) t h =
-    let s = after (integer_of at 17 0 10000000000000000 d) _ t h in
-    let r = integer_range at 17 0 10000000000000000 d s.0 s.1 in
+    let s = after (integer_of at LEDGER_TIME d) _ t h in
+    let r = integer_range at LEDGER_TIME d s.0 s.1 in
     rw (given (Some s.0) t s.2) (omega (arith, r.1))
 
 -- ---- what
-
-command_kept : (hosts : List Host) (at : Place) (i : ℕ) (a b : List Command) (d : Data) → length a ≡ i → command_step hosts at i a d ≡ Ok b → length b ≡ i + 1
-unfolding command_step
-command_kept hosts at i a b d p h =
-    let s = after (command_of hosts (at_item at i) d) _ b h in
-    let grown = length_push a s.0 in
-    rw (given (a ++ s.0 ∷ []) b s.2) (omega (arith, grown, p))
 
 commands_read : (hosts : List Host) (at : Place) (d : Data) (w : What) → commands_in hosts at d ≡ Ok w → IsFew w
 unfolding commands_in
 commands_read hosts at d w h =
     let m = after (member_of at (codes "commands") d) _ w h in
-    let i = after (some_items_of (at_member at (codes "commands")) 13 16 m.0) _ w m.2 in
-    let c = after (walk_items (command_step hosts (at_member at (codes "commands"))) 0 [] i.0) _ w i.2 in
-    let few = some_read (at_member at (codes "commands")) 13 16 m.0 i.0 i.1 in
-    let many = walk_keeps (command_step hosts (at_member at (codes "commands"))) (λ i a. length a ≡ i) (command_kept hosts (at_member at (codes "commands"))) 0 [] c.0 i.0 refl c.1 in
-    rw (given (what.Commands c.0) w c.2) (omega (arith, many, few.1), omega (arith, many, few.2))
+    let c = after (few_of (command_of hosts) (at_member at (codes "commands")) COMMANDS m.0) _ w m.2 in
+    let kept = few_kept (command_of hosts) (λ _. Unit {0}) (λ at d a h. tt) (at_member at (codes "commands")) COMMANDS m.0 c.0 c.1 in
+    rw (given (what.Commands c.0) w c.2) (kept.0, kept.1)
 
 -- a list is read from an array
 list_read : (at : Place) (d : Data) (items : Items) → items_of at d ≡ Ok items → d ≡ array items
@@ -118,9 +108,9 @@ prepared_read hosts at d w h =
     let t = after (trees_in hosts at d) _ w h in
     let s = after (seed_of_in hosts at d) _ w t.2 in
     let m = after (member_of at (codes "prepared") d) _ t.0 t.1 in
-    let i = after (some_items_of (at_member at (codes "prepared")) 13 16 m.0) _ t.0 m.2 in
+    let i = after (few_items_of (at_member at (codes "prepared")) COMMANDS m.0) _ t.0 m.2 in
     let r = after (tree_of hosts (at_member at (codes "prepared")) 1 0 m.0) _ t.0 i.2 in
-    let few = some_read (at_member at (codes "prepared")) 13 16 m.0 i.0 i.1 in
+    let few = few_read (at_member at (codes "prepared")) COMMANDS m.0 i.0 i.1 in
     let is : tree_of hosts (at_member at (codes "prepared")) 1 0 (array i.0) ≡ Ok r.0 = subst (λ d. tree_of hosts (at_member at (codes "prepared")) 1 0 d ≡ Ok r.0) (list_read (at_member at (codes "prepared")) m.0 i.0 few.0) r.1 in
     let trees = trees_read hosts (at_member at (codes "prepared")) 1 0 i.0 r.0 (omega arith) is in
     rw (given (what.Prepared s.0 t.0) w s.2, given r.0.0 t.0 r.2) (omega (arith, trees.many, few.1), omega (arith, trees.many, few.2), omega (arith, trees.sized, trees.few), omega (arith, trees.low))

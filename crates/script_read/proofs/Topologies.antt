@@ -11,13 +11,19 @@ use Rattle.ledger_terms.specs.Topologies.{IsWait, IsValid}
 use Rattle.ledger_terms.specs.declared.host.Host.{Host}
 use Rattle.ledger_terms.specs.declared.params.Params.{Params}
 use Rattle.ledger_terms.specs.declared.topology.Topology.{Topology}
-use Rattle.lang_read.specs.Walk.{Place, integer_of, within, count_found, items_of, item_count, check, json_of}
-use Rattle.lang_read.specs.declared.script_fault.ScriptFault.TheVariants.{Shape, NotInteger, Limit}
+use Rattle.json_walk.specs.declared.limits.TheConstants.{TIMEOUT}
+use Rattle.json_walk.specs.Walk.{Place, integer_of, within, count_found, items_of, item_count, json_of}
+use Rattle.ledger_terms.specs.Answers.{check}
+use Rattle.json_walk.specs.declared.walk_fault.WalkFault.TheVariants.{Shape, NotInteger}
+use Rattle.json_walk.specs.declared.walk_fault.WalkFault.TheVariants as fault
+use Rattle.script_read.specs.declared.script_fault.ScriptFault.TheVariants as script
+use Rattle.json_walk.specs.declared.limit.Limit.{Limit}
 use Rattle.script_read.specs.Hosts.{participants_at, participants_of, hosts_of, hosts_in, wait_if, wait_in, response_in, reaction_in, skew_in, params_of, vetting_step, vetting_in}
 use Rattle.script_read.specs.Rounds.{rounds_in}
 use Rattle.script_read.specs.Script.{has_script_members, topology_in, checked_in, script_of, script_in}
 use Rattle.script_read.specs.declared.script.Script.{Script}
-use Rattle.script_read.proofs.Walked.{after, passed, given, walk_keeps}
+use Rattle.json_walk.proofs.Kept.{after, passed, given, walk_keeps}
+use Rattle.script_read.proofs.FromWalks.{after_walk}
 use Rattle.script_read.proofs.HostWalks.{AreHosts, hosts_kept}
 use Rattle.script_read.proofs.VettedHosts.{key, AreVetted, vetting_kept, keys_length, keys_apart, keys_sum}
 
@@ -27,18 +33,18 @@ in_range : (low high : ℕ) (z : ℤ) (n : ℕ) → within low high z ≡ true �
 in_range low high (pos m) n h e = (grind (arith, nat_tests), grind (arith, nat_tests))
 in_range low high (negsuc m) n h e = absurd (cc)
 
-pub integer_range : (at : Place) (which low high : ℕ) (d : Data) (n : ℕ) → integer_of at which low high d ≡ Ok n → (low ≤ n) × (n ≤ high)
+pub integer_range : (at : Place) (limit : Limit) (d : Data) (n : ℕ) → integer_of at limit d ≡ Ok n → (limit.least ≤ n) × (n ≤ limit.most)
 unfolding integer_of
-integer_range at which low high d n h =
+integer_range at limit d n h =
     let a = after (ok_or (as_number d) (Shape at)) _ n h in
     let b = after (ok_or (as_i64 a.0) (NotInteger at)) _ n a.2 in
-    let c = after (check (within low high b.0) (Limit at which (count_found b.0))) _ n b.2 in
-    in_range low high b.0 n (passed _ _ c.0 c.1) (given (count_found b.0) n c.2)
+    let c = after (check (within limit.least limit.most b.0) (fault.Limit at limit.number (count_found b.0))) _ n b.2 in
+    in_range limit.least limit.most b.0 n (passed _ _ c.0 c.1) (given (count_found b.0) n c.2)
 
 wait_range : (at : Place) (default : ℕ) (o : Option Data) (n : ℕ) → 100000 ≤ default → default ≤ 1000000000000 → wait_if at default o ≡ Ok n → IsWait n
 wait_range at default None n p q h = let same = given default n h in record { least = omega arith; most = omega arith }
 wait_range at default (Some d) n p q h =
-    let r = integer_range at 16 100000 1000000000000 d n h in record { least = omega (arith, r.0); most = omega (arith, r.1) }
+    let r = integer_range at TIMEOUT d n h in record { least = omega (arith, r.0); most = omega (arith, r.1) }
 
 -- three times in their ranges
 record AreTimes (params : Params) : Type 0 where
@@ -120,12 +126,12 @@ known_valid packages d known hosts params r t h =
 pub script_valid : (bytes : List ℕ) (s : Script) → script_in bytes ≡ Ok s → IsValid s.topology
 unfolding script_in script_of topology_in
 script_valid bytes s h =
-    let v = after (json_of bytes) _ s h in
-    let a = after (check (has_script_members v.0) (Shape [])) _ s v.2 in
-    let known = after (topology_in v.0) _ s a.2 in
+    let v = after_walk (json_of bytes) _ s h in
+    let a = after (check (has_script_members v.0) (script.Shape [])) _ s v.2 in
+    let known = after_walk (topology_in v.0) _ s a.2 in
     let checked = after (checked_in known.0.hosts v.0) _ s known.2 in
-    let hosts = after (vetting_in checked.0 known.0.hosts v.0) _ s checked.2 in
-    let rounds = after (rounds_in known.0.hosts v.0) _ s hosts.2 in
+    let hosts = after_walk (vetting_in checked.0 known.0.hosts v.0) _ s checked.2 in
+    let rounds = after_walk (rounds_in known.0.hosts v.0) _ s hosts.2 in
     let is = given (record { topology = record { hosts = hosts.0; params = known.0.params }; checked = checked.0; rounds = rounds.0 }) s rounds.2 in
     let x = after (hosts_in v.0) _ known.0 known.1 in
     let y = after (params_of v.0) _ known.0 x.2 in

@@ -1,23 +1,24 @@
 -- How many drafts stand in a tree that was read.
 use Rattle.std.proofs.Common.{◌≡◌, ℕ, max, ◌+◌, ◌-◌, ◌≤◌, Bool, true, false, cond, List, Result, Ok, Ordering, Less, Equal, Greater, refl, arith}
 use Rattle.std.specs.Bool.{⊤}
-use Rattle.std.specs.Prelude.{nat_le, codes}
+use Rattle.std.specs.Prelude.{codes}
 use Rattle.std.specs.Ordering.{nat_cmp, match_ordering}
 use Rattle.std.specs.Cmp.Lexicographic.{slice_cmp}
-use Rattle.std.proofs.lemmas.Bool.Decides.{nat_tests}
 use Rattle.serde_json.specs.Data.{Data, null, boolean, number, string, array, object, Items, no_items, item, Members, no_members, member}
 use Rattle.ledger_terms.specs.Forest.{Forest, NoRoots, Root, join, size}
 use Rattle.ledger_terms.specs.Roots.{trees_count}
 use Rattle.ledger_terms.specs.Drafts.{Drafts, DraftAction, DraftCreate, DraftFetch}
 use Rattle.ledger_terms.specs.Pointers.{at_item, at_member}
 use Rattle.ledger_terms.specs.declared.host.Host.{Host}
-use Rattle.lang_read.specs.Walk.{◌>>=◌, Place, check, item_count, member_of}
-use Rattle.lang_read.specs.declared.script_fault.ScriptFault.{ScriptFault}
-use Rattle.lang_read.specs.declared.script_fault.ScriptFault.TheVariants.{Shape, Limit}
+use Rattle.ledger_terms.specs.Answers.{◌>>=◌, check}
+use Rattle.json_walk.specs.declared.limits.TheConstants.{DRAFTS, DRAFT_DEPTH}
+use Rattle.json_walk.specs.Walk.{within_limit, Place, item_count, member_of}
+use Rattle.json_walk.specs.declared.walk_fault.WalkFault.{WalkFault}
+use Rattle.json_walk.specs.declared.walk_fault.WalkFault.TheVariants.{Shape}
 use Rattle.script_read.specs.Commands.{is_create, is_exercise}
 use Rattle.script_read.specs.Drafts.{alone, instance_of, has_fetch_members, input_in, actors_in, create_draft_of, create_draft_in, fetch_draft_of, fetch_draft_in, leaf_of, is_draft, within_tree, exercise_draft_of, draft_of, exercise_member, node_of, children_member, tree_of, drafts_from}
 use Rattle.script_read.specs.Kept.{height}
-use Rattle.script_read.proofs.Walked.{after, passed, given}
+use Rattle.json_walk.proofs.Kept.{after, given, limit_kept}
 
 -- ---- forests
 
@@ -36,11 +37,11 @@ height_join (Root a below others) g = omega (arith, height_join others g)
 -- ---- cases
 
 module _ {A P : Type 0} (r : A) where
-  pub by_test : (b : Bool) (x y : Result A ScriptFault) → (x ≡ Ok r → P) → (y ≡ Ok r → P) → cond b x y ≡ Ok r → P
+  pub by_test : (b : Bool) (x y : Result A WalkFault) → (x ≡ Ok r → P) → (y ≡ Ok r → P) → cond b x y ≡ Ok r → P
   by_test true x y f g h = f h
   by_test false x y f g h = g h
 
-  by_member : (o : Ordering) (x y : Result A ScriptFault) → (x ≡ Ok r → P) → (y ≡ Ok r → P) → match_ordering o x y x ≡ Ok r → P
+  by_member : (o : Ordering) (x y : Result A WalkFault) → (x ≡ Ok r → P) → (y ≡ Ok r → P) → match_ordering o x y x ≡ Ok r → P
   by_member Less x y f g h = f h
   by_member Equal x y f g h = g h
   by_member Greater x y f g h = f h
@@ -91,8 +92,7 @@ leaf_read hosts at depth n d r q p h =
     rw shape (record { sized = omega arith; one = refl; few = p; low = omega arith })
 
 shallow : (at : Place) (depth : ℕ) (u : ⊤) → within_tree at depth ≡ Ok u → depth ≤ 16
-unfolding within_tree
-shallow at depth u h = let within : nat_le depth 16 ≡ true = passed _ _ u h in grind (arith, nat_tests)
+shallow at depth u h = (limit_kept at DRAFT_DEPTH depth u h).1
 
 mutual
   tree_sized : (hosts : List Host) (at : Place) (depth n : ℕ) (d : Data) (r : Drafts × ℕ) → n ≤ 64 → draft_of hosts at depth n d ≡ Ok r → IsTree depth n r
@@ -145,9 +145,8 @@ mutual
   list_sized hosts at depth n (string s) r p h = absurd (cc)
   list_sized hosts at depth n (object ms) r p h = absurd (cc)
   list_sized hosts at depth n (array ds) r p h =
-      let a = after (check (nat_le (n + item_count ds) 64) (Limit at 18 (n + item_count ds))) _ r h in
-      let within : nat_le (n + item_count ds) 64 ≡ true = passed _ _ a.0 a.1 in
-      let few : n + item_count ds ≤ 64 = grind (arith, nat_tests) in
+      let a = after (within_limit at DRAFTS (n + item_count ds)) _ r h in
+      let few : n + item_count ds ≤ 64 = (limit_kept at DRAFTS (n + item_count ds) a.0 a.1).1 in
       let g = drafts_sized hosts at depth 0 (NoRoots, n + item_count ds) ds r few a.2 in
       (item_count ds, record { sized = omega (arith, g.sized); many = omega (arith, g.counted); few = g.few; low = g.low (omega arith) })
 
@@ -167,8 +166,7 @@ mutual
 -- the trees of a list, which are as many as its items
 pub trees_read : (hosts : List Host) (at : Place) (depth n : ℕ) (ds : Items) (r : Drafts × ℕ) → n ≤ 64 → tree_of hosts at depth n (array ds) ≡ Ok r → AreTrees depth n (item_count ds) r
 trees_read hosts at depth n ds r p h =
-    let a = after (check (nat_le (n + item_count ds) 64) (Limit at 18 (n + item_count ds))) _ r h in
-    let within : nat_le (n + item_count ds) 64 ≡ true = passed _ _ a.0 a.1 in
-    let few : n + item_count ds ≤ 64 = grind (arith, nat_tests) in
+    let a = after (within_limit at DRAFTS (n + item_count ds)) _ r h in
+    let few : n + item_count ds ≤ 64 = (limit_kept at DRAFTS (n + item_count ds) a.0 a.1).1 in
     let g = drafts_sized hosts at depth 0 (NoRoots, n + item_count ds) ds r few a.2 in
     record { sized = omega (arith, g.sized); many = omega (arith, g.counted); few = g.few; low = g.low (omega arith) }

@@ -10,9 +10,11 @@ use Rattle.serde_json.specs.declared.value.Value.{Value}
 use Rattle.ledger_terms.specs.Forest.{NoRoots, Root}
 use Rattle.ledger_terms.specs.Pointers.{at_member}
 use Rattle.ledger_terms.specs.declared.host.Host.{Host}
-use Rattle.lang_read.specs.Walk.{◌>>=◌, check, Place, has_members, member_of}
-use Rattle.lang_read.specs.declared.script_fault.ScriptFault.TheVariants.{Shape, Limit}
-use Rattle.lang_read.proofs.Items.{item_count_view}
+use Rattle.ledger_terms.specs.Answers.{◌>>=◌, check}
+use Rattle.json_walk.specs.declared.limits.TheConstants.{DRAFTS}
+use Rattle.json_walk.specs.Walk.{within_limit, Place, has_members, member_of}
+use Rattle.json_walk.specs.declared.walk_fault.WalkFault.TheVariants.{Shape}
+use Rattle.json_walk.proofs.Items.{item_count_view}
 use Rattle.script_read.specs.Commands.{is_create, is_exercise}
 use Rattle.script_read.specs.Drafts.{is_fetch, is_draft, within_tree, leaf_of, has_draft_members, exercise_draft_of, draft_of, exercise_member, node_of, children_member, tree_of, drafts_from}
 
@@ -57,5 +59,5 @@ module _ (hosts : List Host) (at : Place) (depth : ℕ) where
   node_of-is n (object ms) = rw (children_member-get n ms) refl
 
   -- a list of drafts by its length
-  pub tree_of-is : (n : ℕ) (vs : List Value) (d : Data) → d ≡ array (items_view vs) → tree_of hosts at depth n d ≡ (check (nat_le (n + length vs) 64) (Limit at 18 (n + length vs)) >>= (λ _. drafts_from hosts at depth 0 (NoRoots, n + length vs) (items_view vs)))
+  pub tree_of-is : (n : ℕ) (vs : List Value) (d : Data) → d ≡ array (items_view vs) → tree_of hosts at depth n d ≡ (within_limit at DRAFTS (n + length vs) >>= (λ _. drafts_from hosts at depth 0 (NoRoots, n + length vs) (items_view vs)))
   tree_of-is n vs d is = rw (is, item_count_view vs) refl

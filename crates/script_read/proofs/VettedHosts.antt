@@ -9,9 +9,9 @@ use Rattle.ledger_terms.specs.Packages.{PackageForm}
 use Rattle.ledger_terms.specs.Pointers.{at_item}
 use Rattle.ledger_terms.specs.Topologies.{AreApart}
 use Rattle.ledger_terms.specs.declared.host.Host.{Host}
-use Rattle.lang_read.specs.Walk.{Place}
+use Rattle.json_walk.specs.Walk.{Place}
 use Rattle.script_read.specs.Hosts.{vetted_in, with_vetted, vetting_step}
-use Rattle.script_read.proofs.Walked.{after, given}
+use Rattle.json_walk.proofs.Kept.{after, given}
 
 -- a participant but for what it has vetted
 abbrev pub key : Host → List ℕ × List (List ℕ)

@@ -1,48 +1,50 @@
 -- Values as clients hand them in.
-use Rattle.std.specs.Prelude.{ℕ, List, [], ◌∷◌, ◌++◌, if◌then◌else◌, Result, Ok, Err, ok_or, codes}
+use Rattle.std.specs.Prelude.{ℕ, List, [], ◌∷◌, if◌then◌else◌, Result, Ok, Err, ok_or, codes}
 use Rattle.serde_json.specs.Data.{Num, Data, null, boolean, number, string, array, object}
 use Rattle.serde_json.specs.Find.{as_i64}
-use Rattle.ledger_terms.specs.Pointers.{at_item, at_member}
+use Rattle.ledger_terms.specs.Pointers.{at_member}
 use Rattle.ledger_terms.specs.declared.host.Host.{Host}
 use Rattle.ledger_terms.specs.declared.arg.Arg.{Arg}
 use Rattle.ledger_terms.specs.declared.arg.Arg.TheVariants as arg
 use Rattle.ledger_terms.specs.declared.value.Value.{Value}
 use Rattle.ledger_terms.specs.declared.value.Value.TheVariants as value
-use Rattle.lang_read.specs.Walk.{◌>>=◌, check, Place, has_members, walk_items, member_of}
-use Rattle.lang_read.specs.Texts.{text_of}
+use Rattle.ledger_terms.specs.Answers.{◌>>=◌, check}
+use Rattle.json_walk.specs.Walk.{Place, has_members, walk_items, member_of, few_items_of}
+use Rattle.json_walk.specs.Texts.{text_of}
 use Rattle.lang_read.specs.Literals.{is_party_form, is_parties_form, party_value_of, parties_value_of}
-use Rattle.lang_read.specs.Packages.{few_items_of}
-use Rattle.lang_read.specs.declared.script_fault.ScriptFault.{ScriptFault}
-use Rattle.lang_read.specs.declared.script_fault.ScriptFault.TheVariants.{Shape, NotInteger}
+use Rattle.json_walk.specs.Lists.{few_of}
+use Rattle.json_walk.specs.declared.limit.Limit.{Limit}
+use Rattle.json_walk.specs.declared.walk_fault.WalkFault.{WalkFault}
+use Rattle.json_walk.specs.declared.walk_fault.WalkFault.TheVariants.{Shape, NotInteger}
 use Rattle.script_read.specs.Refs.{reference_of}
 
-unfoldable pub int_of : Place → Num → Result Arg ScriptFault
+unfoldable pub int_of : Place → Num → Result Arg WalkFault
 int_of at n = do
   z ← ok_or (as_i64 n) (NotInteger at)
   Ok (arg.Plain (value.Int z))
 
-unfoldable pub text_arg_of : Place → List ℕ → Result Arg ScriptFault
+unfoldable pub text_arg_of : Place → List ℕ → Result Arg WalkFault
 text_arg_of at s = do
   text ← text_of at s
   Ok (arg.Plain (value.Text text))
 
 -- `{"contract": ..}`
-unfoldable pub contract_of : List Host → Place → Data → Result Arg ScriptFault
+unfoldable pub contract_of : List Host → Place → Data → Result Arg WalkFault
 contract_of hosts at d = do
   _ ← check (has_members (codes "contract" ∷ []) [] d) (Shape at)
   m ← member_of at (codes "contract") d
   reference ← reference_of hosts (at_member at (codes "contract")) m
   Ok (arg.Contract reference)
 
-abbrev pub plain : Value → Result Arg ScriptFault
+abbrev pub plain : Value → Result Arg WalkFault
 plain v = Ok (arg.Plain v)
 
-unfoldable pub object_of : List Host → Place → Data → Result Arg ScriptFault
+unfoldable pub object_of : List Host → Place → Data → Result Arg WalkFault
 object_of hosts at d =
     if is_party_form d then (party_value_of hosts at d >>= plain) else (
     if is_parties_form d then (parties_value_of hosts at d >>= plain) else contract_of hosts at d)
 
-unfoldable pub arg_of : List Host → Place → Data → Result Arg ScriptFault
+unfoldable pub arg_of : List Host → Place → Data → Result Arg WalkFault
 arg_of hosts at null = plain value.Unit
 arg_of hosts at (boolean b) = plain (value.Bool b)
 arg_of hosts at (number n) = int_of at n
@@ -50,15 +52,8 @@ arg_of hosts at (string s) = text_arg_of at s
 arg_of hosts at (array ds) = Err (Shape at)
 arg_of hosts at (object ms) = object_of hosts at (object ms)
 
--- one more field or argument
-unfoldable pub arg_step : List Host → Place → ℕ → List Arg → Data → Result (List Arg) ScriptFault
-arg_step hosts at i before d = do
-  arg ← arg_of hosts (at_item at i) d
-  Ok (before ++ arg ∷ [])
-
--- at most 12 of them in a member; `which` is the number of the limit
-unfoldable pub args_in : List Host → Place → List ℕ → ℕ → Data → Result (List Arg) ScriptFault
-args_in hosts at k which d = do
+-- those in a member, within the limit
+unfoldable pub args_in : List Host → Place → List ℕ → Limit → Data → Result (List Arg) WalkFault
+args_in hosts at k limit d = do
   m ← member_of at k d
-  items ← few_items_of (at_member at k) which 12 m
-  walk_items (arg_step hosts (at_member at k)) 0 [] items
+  few_of (arg_of hosts) (at_member at k) limit m

@@ -1,19 +1,21 @@
 -- Commands.
-use Rattle.std.specs.Prelude.{ℕ, Bool, List, [], ◌∷◌, ◌++◌, if◌then◌else◌, Result, Ok, codes}
+use Rattle.std.specs.Prelude.{ℕ, Bool, List, [], ◌∷◌, if◌then◌else◌, Result, Ok, codes}
 use Rattle.serde_json.specs.Data.{Data}
-use Rattle.ledger_terms.specs.Pointers.{at_item, at_member}
+use Rattle.ledger_terms.specs.Pointers.{at_member}
 use Rattle.ledger_terms.specs.declared.host.Host.{Host}
 use Rattle.ledger_terms.specs.declared.contract_ref.ContractRef.{ContractRef}
 use Rattle.ledger_terms.specs.declared.command.Command.{Command}
 use Rattle.ledger_terms.specs.declared.command.Command.TheVariants as command
-use Rattle.lang_read.specs.Walk.{◌>>=◌, check, Place, name_in, has_members, member_of}
-use Rattle.lang_read.specs.Texts.{template_in}
-use Rattle.lang_read.specs.declared.script_fault.ScriptFault.{ScriptFault}
-use Rattle.lang_read.specs.declared.script_fault.ScriptFault.TheVariants.{Shape}
+use Rattle.ledger_terms.specs.Answers.{◌>>=◌, check}
+use Rattle.json_walk.specs.declared.limits.TheConstants.{FIELDS, PARAMETERS}
+use Rattle.json_walk.specs.Walk.{Place, name_in, has_members, member_of}
+use Rattle.json_walk.specs.Texts.{template_in}
+use Rattle.json_walk.specs.declared.walk_fault.WalkFault.{WalkFault}
+use Rattle.json_walk.specs.declared.walk_fault.WalkFault.TheVariants.{Shape}
 use Rattle.script_read.specs.Refs.{reference_of}
 use Rattle.script_read.specs.Args.{args_in}
 
-unfoldable pub reference_in : List Host → Place → List ℕ → Data → Result ContractRef ScriptFault
+unfoldable pub reference_in : List Host → Place → List ℕ → Data → Result ContractRef WalkFault
 reference_in hosts at k d = do
   m ← member_of at k d
   reference_of hosts (at_member at k) m
@@ -21,23 +23,23 @@ reference_in hosts at k d = do
 unfoldable pub has_create_members : Data → Bool
 has_create_members d = has_members (codes "template" ∷ codes "fields" ∷ []) [] d
 
-unfoldable pub create_of : List Host → Place → Data → Result Command ScriptFault
+unfoldable pub create_of : List Host → Place → Data → Result Command WalkFault
 create_of hosts at d = do
   _ ← check (has_create_members d) (Shape at)
   template ← template_in at d
-  fields ← args_in hosts at (codes "fields") 5 d
+  fields ← args_in hosts at (codes "fields") FIELDS d
   Ok (command.Create template fields)
 
 unfoldable pub has_exercise_members : Data → Bool
 has_exercise_members d = has_members (codes "template" ∷ codes "contract" ∷ codes "choice" ∷ codes "args" ∷ []) [] d
 
-unfoldable pub exercise_of : List Host → Place → Data → Result Command ScriptFault
+unfoldable pub exercise_of : List Host → Place → Data → Result Command WalkFault
 exercise_of hosts at d = do
   _ ← check (has_exercise_members d) (Shape at)
   template ← template_in at d
   contract ← reference_in hosts at (codes "contract") d
   choice ← name_in at (codes "choice") d
-  args ← args_in hosts at (codes "args") 6 d
+  args ← args_in hosts at (codes "args") PARAMETERS d
   Ok (command.Exercise template contract choice args)
 
 -- the object has this one member
@@ -47,21 +49,16 @@ is_create d = has_members (codes "create" ∷ []) [] d
 unfoldable pub is_exercise : Data → Bool
 is_exercise d = has_members (codes "exercise" ∷ []) [] d
 
-unfoldable pub create_in : List Host → Place → Data → Result Command ScriptFault
+unfoldable pub create_in : List Host → Place → Data → Result Command WalkFault
 create_in hosts at d = do
   m ← member_of at (codes "create") d
   create_of hosts (at_member at (codes "create")) m
 
-unfoldable pub exercise_in : List Host → Place → Data → Result Command ScriptFault
+unfoldable pub exercise_in : List Host → Place → Data → Result Command WalkFault
 exercise_in hosts at d = do
   _ ← check (is_exercise d) (Shape at)
   m ← member_of at (codes "exercise") d
   exercise_of hosts (at_member at (codes "exercise")) m
 
-unfoldable pub command_of : List Host → Place → Data → Result Command ScriptFault
+unfoldable pub command_of : List Host → Place → Data → Result Command WalkFault
 command_of hosts at d = if is_create d then create_in hosts at d else exercise_in hosts at d
-
-unfoldable pub command_step : List Host → Place → ℕ → List Command → Data → Result (List Command) ScriptFault
-command_step hosts at i before d = do
-  command ← command_of hosts (at_item at i) d
-  Ok (before ++ command ∷ [])

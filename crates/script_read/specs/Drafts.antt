@@ -1,5 +1,5 @@
--- Prepared trees: drafts of actions, each with its children. At most 64 stand in one tree, and at most 16 deep.
-use Rattle.std.specs.Prelude.{ℕ, ◌+◌, Bool, ◌||◌, List, [], ◌∷◌, nat_le, Option, Some, None, if◌then◌else◌, Result, Ok, Err, codes, ⊤}
+-- Prepared trees: drafts of actions, each with its children.
+use Rattle.std.specs.Prelude.{ℕ, ◌+◌, Bool, ◌||◌, List, [], ◌∷◌, Option, Some, None, if◌then◌else◌, Result, Ok, Err, codes, ⊤}
 use Rattle.std.specs.Ordering.{nat_cmp, match_ordering}
 use Rattle.std.specs.Cmp.Lexicographic.{slice_cmp}
 use Rattle.serde_json.specs.Data.{Data, null, boolean, number, string, array, object, Items, no_items, item, Members, no_members, member}
@@ -12,11 +12,13 @@ use Rattle.ledger_terms.specs.declared.contract_ref.ContractRef.{ContractRef}
 use Rattle.ledger_terms.specs.declared.input.Input.{Input}
 use Rattle.ledger_terms.specs.declared.input.Input.TheVariants as input
 use Rattle.ledger_terms.specs.declared.template_name.TemplateName.{TemplateName}
-use Rattle.lang_read.specs.Walk.{◌>>=◌, check, Place, name_in, truth_in, has_members, item_count, member_of}
-use Rattle.lang_read.specs.Texts.{template_in}
+use Rattle.ledger_terms.specs.Answers.{◌>>=◌, check}
+use Rattle.json_walk.specs.declared.limits.TheConstants.{FIELDS, PARAMETERS, DRAFTS, DRAFT_DEPTH}
+use Rattle.json_walk.specs.Walk.{within_limit, Place, name_in, truth_in, has_members, item_count, member_of}
+use Rattle.json_walk.specs.Texts.{template_in}
 use Rattle.lang_read.specs.Parties.{parties_of}
-use Rattle.lang_read.specs.declared.script_fault.ScriptFault.{ScriptFault}
-use Rattle.lang_read.specs.declared.script_fault.ScriptFault.TheVariants.{Shape, Limit}
+use Rattle.json_walk.specs.declared.walk_fault.WalkFault.{WalkFault}
+use Rattle.json_walk.specs.declared.walk_fault.WalkFault.TheVariants.{Shape}
 use Rattle.script_read.specs.Refs.{hash_of, reference_of}
 use Rattle.script_read.specs.Args.{arg_of, args_in}
 use Rattle.script_read.specs.Commands.{reference_in, has_create_members, is_create, is_exercise}
@@ -30,13 +32,13 @@ is_known d = has_members (codes "known" ∷ []) [] d
 unfoldable pub has_forged_members : Data → Bool
 has_forged_members d = has_members (codes "id" ∷ codes "salt" ∷ codes "instance" ∷ []) [] d
 
-unfoldable pub some_id_of : List Host → Place → Data → Result (Option ContractRef) ScriptFault
+unfoldable pub some_id_of : List Host → Place → Data → Result (Option ContractRef) WalkFault
 some_id_of hosts at d = do
   reference ← reference_of hosts at d
   Ok (Some reference)
 
 -- a reference, or null
-unfoldable pub id_of : List Host → Place → Data → Result (Option ContractRef) ScriptFault
+unfoldable pub id_of : List Host → Place → Data → Result (Option ContractRef) WalkFault
 id_of hosts at null = Ok None
 id_of hosts at (boolean b) = some_id_of hosts at (boolean b)
 id_of hosts at (number n) = some_id_of hosts at (number n)
@@ -44,29 +46,29 @@ id_of hosts at (string s) = some_id_of hosts at (string s)
 id_of hosts at (array ds) = some_id_of hosts at (array ds)
 id_of hosts at (object ms) = some_id_of hosts at (object ms)
 
-unfoldable pub id_in : List Host → Place → Data → Result (Option ContractRef) ScriptFault
+unfoldable pub id_in : List Host → Place → Data → Result (Option ContractRef) WalkFault
 id_in hosts at d = do
   m ← member_of at (codes "id") d
   id_of hosts (at_member at (codes "id")) m
 
-unfoldable pub salt_in : Place → Data → Result (List ℕ) ScriptFault
+unfoldable pub salt_in : Place → Data → Result (List ℕ) WalkFault
 salt_in at d = do
   m ← member_of at (codes "salt") d
   hash_of (at_member at (codes "salt")) m
 
-unfoldable pub instance_of : List Host → Place → Data → Result (TemplateName × List Arg) ScriptFault
+unfoldable pub instance_of : List Host → Place → Data → Result (TemplateName × List Arg) WalkFault
 instance_of hosts at d = do
   _ ← check (has_create_members d) (Shape at)
   template ← template_in at d
-  fields ← args_in hosts at (codes "fields") 5 d
+  fields ← args_in hosts at (codes "fields") FIELDS d
   Ok (template, fields)
 
-unfoldable pub instance_in : List Host → Place → Data → Result (TemplateName × List Arg) ScriptFault
+unfoldable pub instance_in : List Host → Place → Data → Result (TemplateName × List Arg) WalkFault
 instance_in hosts at d = do
   m ← member_of at (codes "instance") d
   instance_of hosts (at_member at (codes "instance")) m
 
-unfoldable pub forged_of : List Host → Place → Data → Result Input ScriptFault
+unfoldable pub forged_of : List Host → Place → Data → Result Input WalkFault
 forged_of hosts at d = do
   _ ← check (has_forged_members d) (Shape at)
   id ← id_in hosts at d
@@ -74,27 +76,27 @@ forged_of hosts at d = do
   parts ← instance_in hosts at d
   Ok (input.Forged id salt parts.0 parts.1)
 
-unfoldable pub known_of : List Host → Place → Data → Result Input ScriptFault
+unfoldable pub known_of : List Host → Place → Data → Result Input WalkFault
 known_of hosts at d = do
   reference ← reference_in hosts at (codes "known") d
   Ok (input.Known reference)
 
-unfoldable pub input_of : List Host → Place → Data → Result Input ScriptFault
+unfoldable pub input_of : List Host → Place → Data → Result Input WalkFault
 input_of hosts at d = if is_known d then known_of hosts at d else forged_of hosts at d
 
-unfoldable pub input_in : List Host → Place → Data → Result Input ScriptFault
+unfoldable pub input_in : List Host → Place → Data → Result Input WalkFault
 input_in hosts at d = do
   m ← member_of at (codes "contract") d
   input_of hosts (at_member at (codes "contract")) m
 
 -- ---- drafts without children
 
-unfoldable pub actors_in : List Host → Place → Data → Result (List (List ℕ)) ScriptFault
+unfoldable pub actors_in : List Host → Place → Data → Result (List (List ℕ)) WalkFault
 actors_in hosts at d = do
   m ← member_of at (codes "actors") d
   parties_of hosts (at_member at (codes "actors")) m
 
-unfoldable pub result_in : List Host → Place → Data → Result Arg ScriptFault
+unfoldable pub result_in : List Host → Place → Data → Result Arg WalkFault
 result_in hosts at d = do
   m ← member_of at (codes "result") d
   arg_of hosts (at_member at (codes "result")) m
@@ -103,7 +105,7 @@ result_in hosts at d = do
 abbrev pub alone : DraftAction → Drafts
 alone a = Root a NoRoots NoRoots
 
-unfoldable pub create_draft_of : List Host → Place → Data → Result Drafts ScriptFault
+unfoldable pub create_draft_of : List Host → Place → Data → Result Drafts WalkFault
 create_draft_of hosts at d = do
   parts ← instance_of hosts at d
   Ok (alone (DraftCreate parts.0 parts.1))
@@ -111,7 +113,7 @@ create_draft_of hosts at d = do
 unfoldable pub has_fetch_members : Data → Bool
 has_fetch_members d = has_members (codes "contract" ∷ codes "actors" ∷ []) [] d
 
-unfoldable pub fetch_draft_of : List Host → Place → Data → Result Drafts ScriptFault
+unfoldable pub fetch_draft_of : List Host → Place → Data → Result Drafts WalkFault
 fetch_draft_of hosts at d = do
   _ ← check (has_fetch_members d) (Shape at)
   contract ← input_in hosts at d
@@ -121,12 +123,12 @@ fetch_draft_of hosts at d = do
 unfoldable pub is_fetch : Data → Bool
 is_fetch d = has_members (codes "fetch" ∷ []) [] d
 
-unfoldable pub create_draft_in : List Host → Place → Data → Result Drafts ScriptFault
+unfoldable pub create_draft_in : List Host → Place → Data → Result Drafts WalkFault
 create_draft_in hosts at d = do
   m ← member_of at (codes "create") d
   create_draft_of hosts (at_member at (codes "create")) m
 
-unfoldable pub fetch_draft_in : List Host → Place → Data → Result Drafts ScriptFault
+unfoldable pub fetch_draft_in : List Host → Place → Data → Result Drafts WalkFault
 fetch_draft_in hosts at d = do
   m ← member_of at (codes "fetch") d
   fetch_draft_of hosts (at_member at (codes "fetch")) m
@@ -138,22 +140,22 @@ has_draft_members d =
     has_members (codes "contract" ∷ codes "choice" ∷ codes "args" ∷ codes "actors" ∷ codes "consuming" ∷ codes "result" ∷ codes "children" ∷ []) [] d
 
 -- the contract, the choice and its arguments
-unfoldable pub call_of : List Host → Place → Data → Result (Input × List ℕ × List Arg) ScriptFault
+unfoldable pub call_of : List Host → Place → Data → Result (Input × List ℕ × List Arg) WalkFault
 call_of hosts at d = do
   contract ← input_in hosts at d
   choice ← name_in at (codes "choice") d
-  args ← args_in hosts at (codes "args") 6 d
+  args ← args_in hosts at (codes "args") PARAMETERS d
   Ok (contract, choice, args)
 
 -- the actors, whether it consumes, and the result
-unfoldable pub effect_of : List Host → Place → Data → Result (List (List ℕ) × Bool × Arg) ScriptFault
+unfoldable pub effect_of : List Host → Place → Data → Result (List (List ℕ) × Bool × Arg) WalkFault
 effect_of hosts at d = do
   actors ← actors_in hosts at d
   consuming ← truth_in at (codes "consuming") d
   result ← result_in hosts at d
   Ok (actors, consuming, result)
 
-unfoldable pub exercise_draft_of : List Host → Place → Data → Result DraftAction ScriptFault
+unfoldable pub exercise_draft_of : List Host → Place → Data → Result DraftAction WalkFault
 exercise_draft_of hosts at d = do
   _ ← check (has_draft_members d) (Shape at)
   call ← call_of hosts at d
@@ -166,18 +168,18 @@ exercise_draft_of hosts at d = do
 unfoldable pub is_draft : Data → Bool
 is_draft d = is_create d || (is_exercise d || is_fetch d)
 
--- drafts stand at most 16 deep
-unfoldable pub within_tree : Place → ℕ → Result ⊤ ScriptFault
-within_tree at depth = check (nat_le depth 16) (Limit at 19 17)
+-- A draft keeps the limit on depth. The first that doesn't stands one deeper than the limit.
+abbrev pub within_tree : Place → ℕ → Result ⊤ WalkFault
+within_tree at depth = within_limit at DRAFT_DEPTH depth
 
 -- a draft without children
-unfoldable pub leaf_of : List Host → Place → Data → Result Drafts ScriptFault
+unfoldable pub leaf_of : List Host → Place → Data → Result Drafts WalkFault
 leaf_of hosts at d = if is_create d then create_draft_in hosts at d else fetch_draft_in hosts at d
 
 -- Each reading takes the number of drafts in the lists so far, and gives that number after it.
 abbrev mutual
   -- a draft at a depth
-  pub draft_of : List Host → Place → ℕ → ℕ → Data → Result (Drafts × ℕ) ScriptFault
+  pub draft_of : List Host → Place → ℕ → ℕ → Data → Result (Drafts × ℕ) WalkFault
   draft_of hosts at depth n (object ms) =
       check (is_draft (object ms)) (Shape at)
       >>= (λ _. within_tree at depth
@@ -191,13 +193,13 @@ abbrev mutual
   draft_of hosts at depth n (array ds) = Err (Shape at)
 
   -- the member `exercise`, looked up as `get` does
-  pub exercise_member : List Host → Place → ℕ → ℕ → Members → Result (Drafts × ℕ) ScriptFault
+  pub exercise_member : List Host → Place → ℕ → ℕ → Members → Result (Drafts × ℕ) WalkFault
   exercise_member hosts at depth n no_members = Err (Shape at)
   exercise_member hosts at depth n (member k d ms) =
       match_ordering (slice_cmp nat_cmp (codes "exercise") k) (exercise_member hosts at depth n ms) (node_of hosts (at_member at (codes "exercise")) depth n d) (exercise_member hosts at depth n ms)
 
   -- an exercise with its children
-  pub node_of : List Host → Place → ℕ → ℕ → Data → Result (Drafts × ℕ) ScriptFault
+  pub node_of : List Host → Place → ℕ → ℕ → Data → Result (Drafts × ℕ) WalkFault
   node_of hosts at depth n (object ms) =
       exercise_draft_of hosts at (object ms)
       >>= (λ a. children_member hosts at depth n ms
@@ -209,15 +211,15 @@ abbrev mutual
   node_of hosts at depth n (array ds) = Err (Shape at)
 
   -- the member `children`, looked up as `get` does
-  pub children_member : List Host → Place → ℕ → ℕ → Members → Result (Drafts × ℕ) ScriptFault
+  pub children_member : List Host → Place → ℕ → ℕ → Members → Result (Drafts × ℕ) WalkFault
   children_member hosts at depth n no_members = Err (Shape at)
   children_member hosts at depth n (member k d ms) =
       match_ordering (slice_cmp nat_cmp (codes "children") k) (children_member hosts at depth n ms) (tree_of hosts (at_member at (codes "children")) (depth + 1) n d) (children_member hosts at depth n ms)
 
   -- the drafts of a list, which stand at a depth
-  pub tree_of : List Host → Place → ℕ → ℕ → Data → Result (Drafts × ℕ) ScriptFault
+  pub tree_of : List Host → Place → ℕ → ℕ → Data → Result (Drafts × ℕ) WalkFault
   tree_of hosts at depth n (array ds) =
-      check (nat_le (n + item_count ds) 64) (Limit at 18 (n + item_count ds))
+      within_limit at DRAFTS (n + item_count ds)
       >>= (λ _. drafts_from hosts at depth 0 (NoRoots, n + item_count ds) ds)
   tree_of hosts at depth n null = Err (Shape at)
   tree_of hosts at depth n (boolean b) = Err (Shape at)
@@ -226,7 +228,7 @@ abbrev mutual
   tree_of hosts at depth n (object ms) = Err (Shape at)
 
   -- the drafts from the i-th item on, behind those before
-  pub drafts_from : List Host → Place → ℕ → ℕ → Drafts × ℕ → Items → Result (Drafts × ℕ) ScriptFault
+  pub drafts_from : List Host → Place → ℕ → ℕ → Drafts × ℕ → Items → Result (Drafts × ℕ) WalkFault
   drafts_from hosts at depth i before no_items = Ok before
   drafts_from hosts at depth i before (item d ds) =
       draft_of hosts (at_item at i) depth before.1 d

@@ -1,5 +1,5 @@
 -- The participants, the times, and what each participant has vetted.
-use Rattle.std.specs.Prelude.{ℕ, ◌+◌, Bool, ◌||◌, ◌&&◌, not, List, [], ◌∷◌, ◌++◌, nat_le, map, Option, Some, None, slice_get, Result, Ok, codes}
+use Rattle.std.specs.Prelude.{ℕ, ◌+◌, Bool, ◌||◌, not, List, [], ◌∷◌, ◌++◌, map, Option, Some, None, slice_get, Result, Ok, codes}
 use Rattle.std.specs.List.{list_any}
 use Rattle.serde_json.specs.Data.{Data, Items}
 use Rattle.serde_json.specs.Find.{get}
@@ -8,10 +8,13 @@ use Rattle.ledger_terms.specs.Pointers.{at_item, at_member}
 use Rattle.ledger_terms.specs.Packages.{PackageForm}
 use Rattle.ledger_terms.specs.declared.host.Host.{Host}
 use Rattle.ledger_terms.specs.declared.params.Params.{Params}
-use Rattle.lang_read.specs.Walk.{◌>>=◌, check, Place, name_of, name_in, integer_of, has_members, items_of, walk_items, item_count, member_of}
+use Rattle.ledger_terms.specs.Answers.{◌>>=◌, check}
+use Rattle.json_walk.specs.declared.limits.TheConstants.{PARTICIPANTS, PARTIES, TIMEOUT}
+use Rattle.json_walk.specs.Lists.{list_of}
+use Rattle.json_walk.specs.Walk.{within_limit, few_items_of, Place, name_of, name_in, integer_of, has_members, items_of, walk_items, item_count, member_of}
 use Rattle.lang_read.specs.Parties.{is_hosted}
-use Rattle.lang_read.specs.declared.script_fault.ScriptFault.{ScriptFault}
-use Rattle.lang_read.specs.declared.script_fault.ScriptFault.TheVariants.{Shape, Limit, Repeated, Unknown}
+use Rattle.json_walk.specs.declared.walk_fault.WalkFault.{WalkFault}
+use Rattle.json_walk.specs.declared.walk_fault.WalkFault.TheVariants.{Shape, Repeated, Unknown}
 
 -- ---- participants
 
@@ -20,22 +23,22 @@ abbrev pub is_participant : List Host → List ℕ → Bool
 is_participant hosts name = list_any (λ (h : Host). same_name h.name name) hosts
 
 -- one more party, which is hosted nowhere so far
-unfoldable pub new_party_step : List Host → Place → ℕ → List (List ℕ) → Data → Result (List (List ℕ)) ScriptFault
+unfoldable pub new_party_step : List Host → Place → ℕ → List (List ℕ) → Data → Result (List (List ℕ)) WalkFault
 new_party_step hosts at i before d = do
   name ← name_of (at_item at i) d
   _ ← check (not (is_hosted hosts name || has_party before name)) (Repeated (at_item at i))
   Ok (before ++ name ∷ [])
 
--- a list of parties, of which there are at most 128 with so many before
-unfoldable pub party_items_in : ℕ → Place → Data → Result Items ScriptFault
+-- a list of parties, which keeps the limit with so many before
+unfoldable pub party_items_in : ℕ → Place → Data → Result Items WalkFault
 party_items_in count at d = do
   m ← member_of at (codes "parties") d
   items ← items_of (at_member at (codes "parties")) m
-  _ ← check (nat_le (count + item_count items) 128) (Limit (at_member at (codes "parties")) 2 (count + item_count items))
+  _ ← within_limit (at_member at (codes "parties")) PARTIES (count + item_count items)
   Ok items
 
 -- the name of a participant, which none so far has
-unfoldable pub new_name_in : List Host → Place → Data → Result (List ℕ) ScriptFault
+unfoldable pub new_name_in : List Host → Place → Data → Result (List ℕ) WalkFault
 new_name_in hosts at d = do
   name ← name_in at (codes "name") d
   _ ← check (not (is_participant hosts name)) (Repeated (at_member at (codes "name")))
@@ -45,7 +48,7 @@ unfoldable pub has_host_members : Data → Bool
 has_host_members d = has_members (codes "name" ∷ codes "parties" ∷ []) (codes "vetted" ∷ []) d
 
 -- One more participant, but for what it has vetted. Beside the participants stands how many parties they host.
-unfoldable pub host_of : List Host × ℕ → Place → Data → Result (List Host × ℕ) ScriptFault
+unfoldable pub host_of : List Host × ℕ → Place → Data → Result (List Host × ℕ) WalkFault
 host_of before at d = do
   _ ← check (has_host_members d) (Shape at)
   name ← new_name_in before.0 at d
@@ -53,33 +56,26 @@ host_of before at d = do
   parties ← walk_items (new_party_step before.0 (at_member at (codes "parties"))) 0 [] items
   Ok (before.0 ++ record { name = name; parties = set_of parties; vetted = [] } ∷ [], before.1 + item_count items)
 
-abbrev pub host_step : Place → ℕ → List Host × ℕ → Data → Result (List Host × ℕ) ScriptFault
+abbrev pub host_step : Place → ℕ → List Host × ℕ → Data → Result (List Host × ℕ) WalkFault
 host_step at i before d = host_of before (at_item at i) d
 
--- a list of at least one and at most so many items
-unfoldable pub some_items_of : Place → ℕ → ℕ → Data → Result Items ScriptFault
-some_items_of at which most d = do
-  items ← items_of at d
-  _ ← check (nat_le 1 (item_count items) && nat_le (item_count items) most) (Limit at which (item_count items))
-  Ok items
-
--- 1 to 8 participants
-unfoldable pub hosts_of : Place → Data → Result (List Host × ℕ) ScriptFault
+-- the participants of a list
+unfoldable pub hosts_of : Place → Data → Result (List Host × ℕ) WalkFault
 hosts_of at d = do
-  items ← some_items_of at 1 8 d
+  items ← few_items_of at PARTICIPANTS d
   walk_items (host_step at) 0 ([], 0) items
 
 -- the place of the participants, and the member
-unfoldable pub participants_at : Place
+abbrev pub participants_at : Place
 participants_at = at_member [] (codes "participants")
 
-unfoldable pub root_member : List ℕ → Data → Result Data ScriptFault
+unfoldable pub root_member : List ℕ → Data → Result Data WalkFault
 root_member k d = member_of [] k d
 
-unfoldable pub participants_of : Data → Result Data ScriptFault
+unfoldable pub participants_of : Data → Result Data WalkFault
 participants_of d = root_member (codes "participants") d
 
-unfoldable pub hosts_in : Data → Result (List Host) ScriptFault
+unfoldable pub hosts_in : Data → Result (List Host) WalkFault
 hosts_in d = do
   m ← participants_of d
   hosts ← hosts_of participants_at m
@@ -87,23 +83,23 @@ hosts_in d = do
 
 -- ---- times, in microseconds
 
-abbrev pub wait_if : Place → ℕ → Option Data → Result ℕ ScriptFault
+abbrev pub wait_if : Place → ℕ → Option Data → Result ℕ WalkFault
 wait_if at default None = Ok default
-wait_if at default (Some d) = integer_of at 16 100000 1000000000000 d
+wait_if at default (Some d) = integer_of at TIMEOUT d
 
-unfoldable pub wait_in : List ℕ → ℕ → Data → Result ℕ ScriptFault
+unfoldable pub wait_in : List ℕ → ℕ → Data → Result ℕ WalkFault
 wait_in k default d = wait_if (at_member [] k) default (get k d)
 
-unfoldable pub response_in : Data → Result ℕ ScriptFault
+unfoldable pub response_in : Data → Result ℕ WalkFault
 response_in d = wait_in (codes "response_timeout") 30000000 d
 
-unfoldable pub reaction_in : Data → Result ℕ ScriptFault
+unfoldable pub reaction_in : Data → Result ℕ WalkFault
 reaction_in d = wait_in (codes "reaction_timeout") 30000000 d
 
-unfoldable pub skew_in : Data → Result ℕ ScriptFault
+unfoldable pub skew_in : Data → Result ℕ WalkFault
 skew_in d = wait_in (codes "skew") 60000000 d
 
-unfoldable pub params_of : Data → Result Params ScriptFault
+unfoldable pub params_of : Data → Result Params WalkFault
 params_of d = do
   response ← response_in d
   reaction ← reaction_in d
@@ -119,24 +115,19 @@ is_package packages name = list_any (λ (p : PackageForm). same_name p.name name
 abbrev pub package_names : List PackageForm → List (List ℕ)
 package_names packages = map (λ (p : PackageForm). p.name) packages
 
--- one more name of a package
-unfoldable pub vetted_step : List PackageForm → Place → ℕ → List (List ℕ) → Data → Result (List (List ℕ)) ScriptFault
-vetted_step packages at i before d = do
-  name ← name_of (at_item at i) d
-  _ ← check (is_package packages name) (Unknown (at_item at i) name)
-  Ok (before ++ name ∷ [])
-
-unfoldable pub vetted_of : List PackageForm → Place → Data → Result (List (List ℕ)) ScriptFault
-vetted_of packages at d = do
-  items ← items_of at d
-  walk_items (vetted_step packages at) 0 [] items
+-- the name of a package
+unfoldable pub package_name_of : List PackageForm → Place → Data → Result (List ℕ) WalkFault
+package_name_of packages at d = do
+  name ← name_of at d
+  _ ← check (is_package packages name) (Unknown at name)
+  Ok name
 
 -- all packages where the member is absent
-abbrev pub vetted_if : List PackageForm → Place → Option Data → Result (List (List ℕ)) ScriptFault
+abbrev pub vetted_if : List PackageForm → Place → Option Data → Result (List (List ℕ)) WalkFault
 vetted_if packages at None = Ok (package_names packages)
-vetted_if packages at (Some d) = vetted_of packages at d
+vetted_if packages at (Some d) = list_of (package_name_of packages) at d
 
-unfoldable pub vetted_in : List PackageForm → Place → Data → Result (List (List ℕ)) ScriptFault
+unfoldable pub vetted_in : List PackageForm → Place → Data → Result (List (List ℕ)) WalkFault
 vetted_in packages at d = vetted_if packages (at_member at (codes "vetted")) (get (codes "vetted") d)
 
 -- behind others, a participant with what it has vetted
@@ -145,13 +136,13 @@ with_vetted before None vetted = before
 with_vetted before (Some h) vetted = before ++ record { name = h.name; parties = h.parties; vetted = vetted } ∷ []
 
 -- the i-th participant with what it has vetted
-unfoldable pub vetting_step : List PackageForm → List Host → Place → ℕ → List Host → Data → Result (List Host) ScriptFault
+unfoldable pub vetting_step : List PackageForm → List Host → Place → ℕ → List Host → Data → Result (List Host) WalkFault
 vetting_step packages hosts at i before d = do
   vetted ← vetted_in packages (at_item at i) d
   Ok (with_vetted before (slice_get hosts i) vetted)
 
 -- the participants with what they have vetted, in a second walk
-unfoldable pub vetting_in : List PackageForm → List Host → Data → Result (List Host) ScriptFault
+unfoldable pub vetting_in : List PackageForm → List Host → Data → Result (List Host) WalkFault
 vetting_in packages hosts d = do
   m ← participants_of d
   items ← items_of participants_at m

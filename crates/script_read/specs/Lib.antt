@@ -1,3 +1,4 @@
+pub mod Faults
 pub mod Hosts
 pub mod Refs
 pub mod Args

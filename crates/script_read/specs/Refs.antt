@@ -10,10 +10,12 @@ use Rattle.ledger_terms.specs.declared.host.Host.{Host}
 use Rattle.ledger_terms.specs.declared.label.Label.{Label}
 use Rattle.ledger_terms.specs.declared.contract_ref.ContractRef.{ContractRef}
 use Rattle.ledger_terms.specs.declared.contract_ref.ContractRef.TheVariants as reference
-use Rattle.lang_read.specs.Walk.{◌>>=◌, check, Place}
-use Rattle.lang_read.specs.Texts.{parts_round}
-use Rattle.lang_read.specs.declared.script_fault.ScriptFault.{ScriptFault}
-use Rattle.lang_read.specs.declared.script_fault.ScriptFault.TheVariants.{Shape, Limit, Unknown}
+use Rattle.ledger_terms.specs.Answers.{◌>>=◌, check}
+use Rattle.json_walk.specs.declared.limits.TheConstants.{LABEL_STEPS}
+use Rattle.json_walk.specs.Walk.{within_limit, Place}
+use Rattle.json_walk.specs.Texts.{parts_round}
+use Rattle.json_walk.specs.declared.walk_fault.WalkFault.{WalkFault}
+use Rattle.json_walk.specs.declared.walk_fault.WalkFault.TheVariants.{Shape, Unknown}
 use Rattle.script_read.specs.Hosts.{is_participant}
 
 -- ---- ids
@@ -22,7 +24,7 @@ use Rattle.script_read.specs.Hosts.{is_participant}
 abbrev pub hash_named : List ℕ → Option (List ℕ)
 hash_named s = result_ok (decode_sized s 32)
 
-unfoldable pub hash_of : Place → Data → Result (List ℕ) ScriptFault
+unfoldable pub hash_of : Place → Data → Result (List ℕ) WalkFault
 hash_of at d = do
   s ← ok_or (as_str d) (Shape at)
   ok_or (hash_named s) (Shape at)
@@ -62,11 +64,11 @@ unfoldable pub label_named : List ℕ → Option Label
 label_named s =
     option_and_then (λ p. option_and_then (λ q. option_and_then (label_with p.0 q.0) (path_named q.1)) (parts_round 58 p.1)) (parts_round 58 s)
 
--- a label that is spelled so, of at most 16 steps and a participant that there is
-unfoldable pub label_of : List Host → Place → List ℕ → Result Label ScriptFault
+-- a label that is spelled so, of so few steps and a participant that there is
+unfoldable pub label_of : List Host → Place → List ℕ → Result Label WalkFault
 label_of hosts at s = do
   label ← ok_or (label_named s) (Shape at)
-  _ ← check (nat_le (length label.path) 16) (Limit at 20 (length label.path))
+  _ ← within_limit at LABEL_STEPS (length label.path)
   _ ← check (is_participant hosts label.participant) (Unknown at label.participant)
   Ok label
 
@@ -75,12 +77,12 @@ abbrev pub behind_mark : List ℕ → Option (List ℕ)
 behind_mark [] = None
 behind_mark (b ∷ bs) = if b == 35 then Some bs else None
 
-abbrev pub reference_by : List Host → Place → List ℕ → Option (List ℕ) → Result ContractRef ScriptFault
+abbrev pub reference_by : List Host → Place → List ℕ → Option (List ℕ) → Result ContractRef WalkFault
 reference_by hosts at s (Some label) = label_of hosts at label >>= (λ l. Ok (reference.Label l))
 reference_by hosts at s None = ok_or (hash_named s) (Shape at) >>= (λ h. Ok (reference.Id h))
 
 -- a label, or an id
-unfoldable pub reference_of : List Host → Place → Data → Result ContractRef ScriptFault
+unfoldable pub reference_of : List Host → Place → Data → Result ContractRef WalkFault
 reference_of hosts at d = do
   s ← ok_or (as_str d) (Shape at)
   reference_by hosts at s (behind_mark s)

@@ -1,40 +1,39 @@
 -- Scripts: the first fault of the walk, or the script.
-use Rattle.std.specs.Prelude.{ℕ, ◌+◌, Bool, List, [], ◌∷◌, ◌++◌, length, Option, Some, None, Result, Ok, Err, codes}
+use Rattle.std.specs.Prelude.{ℕ, ◌+◌, Bool, List, [], ◌∷◌, length, Option, Some, None, Result, Ok, Err, codes}
 use Rattle.serde_json.specs.Data.{Data}
 use Rattle.serde_json.specs.Find.{get}
-use Rattle.ledger_terms.specs.Pointers.{at_item, at_member}
+use Rattle.ledger_terms.specs.Pointers.{at_member}
 use Rattle.ledger_terms.specs.Packages.{PackageForm}
 use Rattle.ledger_terms.specs.declared.host.Host.{Host}
 use Rattle.ledger_terms.specs.declared.topology.Topology.{Topology}
 use Rattle.lang_check.specs.Packages.{checked_or_fault}
 use Rattle.lang_check.specs.declared.check_fault.CheckFault.{CheckFault}
-use Rattle.lang_read.specs.Walk.{◌>>=◌, check, Place, has_members, walk_items, json_of}
-use Rattle.lang_read.specs.Packages.{few_items_of, package_of}
-use Rattle.lang_read.specs.declared.script_fault.ScriptFault.{ScriptFault}
-use Rattle.lang_read.specs.declared.script_fault.ScriptFault.TheVariants.{Shape, Package}
+use Rattle.ledger_terms.specs.Answers.{◌>>=◌, check}
+use Rattle.json_walk.specs.declared.limits.TheConstants.{PACKAGES}
+use Rattle.json_walk.specs.Lists.{counted_of}
+use Rattle.json_walk.specs.Walk.{Place, has_members, json_of}
+use Rattle.lang_read.specs.Packages.{package_of}
+use Rattle.json_walk.specs.declared.walk_fault.WalkFault.{WalkFault}
+use Rattle.script_read.specs.declared.script_fault.ScriptFault.{ScriptFault}
+use Rattle.script_read.specs.declared.script_fault.ScriptFault.TheVariants.{Shape, Package}
+use Rattle.script_read.specs.Faults.{from_walk}
 use Rattle.script_read.specs.Hosts.{hosts_in, params_of, vetting_in}
 use Rattle.script_read.specs.Rounds.{rounds_in}
 use Rattle.script_read.specs.declared.script.Script.{Script}
 
 -- ---- packages
 
--- one more package; beside the packages stands how many templates they have
-unfoldable pub package_step : List Host → Place → ℕ → List PackageForm × ℕ → Data → Result (List PackageForm × ℕ) ScriptFault
-package_step hosts at i before d = do
-  one ← package_of hosts before.1 (at_item at i) d
-  Ok (before.0 ++ one ∷ [], before.1 + length one.templates)
+-- a package, and how many templates there are with its own
+unfoldable pub counted_package : List Host → ℕ → Place → Data → Result (PackageForm × ℕ) WalkFault
+counted_package hosts before at d = do
+  one ← package_of hosts before at d
+  Ok (one, before + length one.templates)
 
--- at most 8
-unfoldable pub packages_of : List Host → Place → Data → Result (List PackageForm × ℕ) ScriptFault
-packages_of hosts at d = do
-  items ← few_items_of at 3 8 d
-  walk_items (package_step hosts at) 0 ([], 0) items
-
-abbrev pub packages_if : List Host → Place → Option Data → Result (List PackageForm × ℕ) ScriptFault
+abbrev pub packages_if : List Host → Place → Option Data → Result (List PackageForm × ℕ) WalkFault
 packages_if hosts at None = Ok ([], 0)
-packages_if hosts at (Some d) = packages_of hosts at d
+packages_if hosts at (Some d) = counted_of (counted_package hosts) at PACKAGES d
 
-unfoldable pub packages_in : List Host → Data → Result (List PackageForm) ScriptFault
+unfoldable pub packages_in : List Host → Data → Result (List PackageForm) WalkFault
 packages_in hosts d = packages_if hosts (at_member [] (codes "packages")) (get (codes "packages") d) >>= (λ s. Ok s.0)
 
 -- a fault of the check, as a script's
@@ -48,7 +47,7 @@ checked_of packages = as_package (checked_or_fault packages)
 
 unfoldable pub checked_in : List Host → Data → Result (List PackageForm) ScriptFault
 checked_in hosts d = do
-  packages ← packages_in hosts d
+  packages ← from_walk (packages_in hosts d)
   checked_of packages
 
 -- ---- the whole
@@ -58,7 +57,7 @@ has_script_members d =
     has_members (codes "participants" ∷ codes "rounds" ∷ []) (codes "response_timeout" ∷ codes "reaction_timeout" ∷ codes "skew" ∷ codes "packages" ∷ []) d
 
 -- the participants, but for what they have vetted, and the times
-unfoldable pub topology_in : Data → Result Topology ScriptFault
+unfoldable pub topology_in : Data → Result Topology WalkFault
 topology_in d = do
   hosts ← hosts_in d
   params ← params_of d
@@ -68,14 +67,14 @@ topology_in d = do
 unfoldable pub script_of : Data → Result Script ScriptFault
 script_of d = do
   _ ← check (has_script_members d) (Shape [])
-  known ← topology_in d
+  known ← from_walk (topology_in d)
   checked ← checked_in known.hosts d
-  hosts ← vetting_in checked known.hosts d
-  rounds ← rounds_in known.hosts d
+  hosts ← from_walk (vetting_in checked known.hosts d)
+  rounds ← from_walk (rounds_in known.hosts d)
   Ok (record { topology = record { hosts = hosts; params = known.params }; checked = checked; rounds = rounds })
 
 -- the script that bytes are, or its first fault
 unfoldable pub script_in : List ℕ → Result Script ScriptFault
 script_in bytes = do
-  d ← json_of bytes
+  d ← from_walk (json_of bytes)
   script_of d

@@ -1,18 +1,18 @@
 //! Drafts of actions, but for their children.
 ghost use Rattle.std.specs.Prelude.{◌≡◌};
 ghost use Rattle.serde_json.specs.View.{view};
-ghost use Rattle.ledger_terms.specs.Answers.{Follows};
+ghost use Rattle.ledger_terms.specs.Answers.{Follows, FollowsAs};
 ghost use Rattle.ledger_terms.specs.Drafts.{DraftExercise};
 ghost use Rattle.ledger_terms.specs.DraftsGrown.{draft_tree};
-ghost use Rattle.lang_read.specs.Walk.{FollowsAs};
 ghost use Rattle.script_read.specs.Drafts.{actors_in, result_in, create_draft_of, has_fetch_members, fetch_draft_of, is_fetch, create_draft_in, fetch_draft_in, has_draft_members, call_of, effect_of, exercise_draft_of, leaf_of};
 
 use crate::arg::{args_in, read_arg};
 use crate::command::is_create;
 use crate::exercised::Exercised;
 use crate::input::{input_in, read_instance};
-use lang_read::{ScriptFault, fits, member, name_in, read_parties, shape, truth_in};
-use ledger_terms::{Arg, ArgList, Draft, Input, Name, PartySet, Pointer, Topology};
+use json_walk::{PARAMETERS, Place, WalkFault, fits, member, name_in, shape, truth_in};
+use lang_read::read_parties;
+use ledger_terms::{Arg, ArgList, Draft, Input, Name, PartySet, Topology};
 use serde_json::Value;
 use std::alloc::Global;
 
@@ -20,36 +20,36 @@ use std::alloc::Global;
 fn actors_in(
     alloc: Global,
     value: &Value,
-    at: &Pointer,
+    at: &Place,
     topology: &Topology,
-) -> Result<PartySet, ScriptFault>
-    ensures { Follows ScriptFault.Memory result (actors_in topology.now.hosts at.now (view value.now)) }
+) -> Result<PartySet, WalkFault>
+    ensures { Follows WalkFault.Memory result (actors_in topology.now.hosts at.now (view value.now)) }
 {
     let found = member(value, at, "actors")?;
-    read_parties(alloc, found, &at.member("actors")?, topology)
+    read_parties(alloc, found, &at.member("actors"), topology)
 }
 
 #[tactic(auto, unfolding(crate::specs::Drafts::result_in))]
 fn result_in(
     alloc: Global,
     value: &Value,
-    at: &Pointer,
+    at: &Place,
     topology: &Topology,
-) -> Result<Arg, ScriptFault>
-    ensures { Follows ScriptFault.Memory result (result_in topology.now.hosts at.now (view value.now)) }
+) -> Result<Arg, WalkFault>
+    ensures { Follows WalkFault.Memory result (result_in topology.now.hosts at.now (view value.now)) }
 {
     let found = member(value, at, "result")?;
-    read_arg(alloc, found, &at.member("result")?, topology)
+    read_arg(alloc, found, &at.member("result"), topology)
 }
 
 #[tactic(auto, unfolding(crate::specs::Drafts::create_draft_of))]
 fn read_create(
     alloc: Global,
     value: &Value,
-    at: &Pointer,
+    at: &Place,
     topology: &Topology,
-) -> Result<Draft, ScriptFault>
-    ensures { FollowsAs draft_tree result (create_draft_of topology.now.hosts at.now (view value.now)) }
+) -> Result<Draft, WalkFault>
+    ensures { FollowsAs WalkFault.Memory draft_tree result (create_draft_of topology.now.hosts at.now (view value.now)) }
 {
     let (template, fields) = read_instance(alloc, value, at, topology)?;
     Ok(Draft::Create { template, fields })
@@ -66,10 +66,10 @@ fn has_fetch_members(value: &Value) -> bool
 fn read_fetch(
     alloc: Global,
     value: &Value,
-    at: &Pointer,
+    at: &Place,
     topology: &Topology,
-) -> Result<Draft, ScriptFault>
-    ensures { FollowsAs draft_tree result (fetch_draft_of topology.now.hosts at.now (view value.now)) }
+) -> Result<Draft, WalkFault>
+    ensures { FollowsAs WalkFault.Memory draft_tree result (fetch_draft_of topology.now.hosts at.now (view value.now)) }
 {
     if !has_fetch_members(value) {
         return shape(at);
@@ -91,26 +91,26 @@ pub fn is_fetch(value: &Value) -> bool
 fn create_in(
     alloc: Global,
     value: &Value,
-    at: &Pointer,
+    at: &Place,
     topology: &Topology,
-) -> Result<Draft, ScriptFault>
-    ensures { FollowsAs draft_tree result (create_draft_in topology.now.hosts at.now (view value.now)) }
+) -> Result<Draft, WalkFault>
+    ensures { FollowsAs WalkFault.Memory draft_tree result (create_draft_in topology.now.hosts at.now (view value.now)) }
 {
     let found = member(value, at, "create")?;
-    read_create(alloc, found, &at.member("create")?, topology)
+    read_create(alloc, found, &at.member("create"), topology)
 }
 
 #[tactic(auto, unfolding(crate::specs::Drafts::fetch_draft_in))]
 fn fetch_in(
     alloc: Global,
     value: &Value,
-    at: &Pointer,
+    at: &Place,
     topology: &Topology,
-) -> Result<Draft, ScriptFault>
-    ensures { FollowsAs draft_tree result (fetch_draft_in topology.now.hosts at.now (view value.now)) }
+) -> Result<Draft, WalkFault>
+    ensures { FollowsAs WalkFault.Memory draft_tree result (fetch_draft_in topology.now.hosts at.now (view value.now)) }
 {
     let found = member(value, at, "fetch")?;
-    read_fetch(alloc, found, &at.member("fetch")?, topology)
+    read_fetch(alloc, found, &at.member("fetch"), topology)
 }
 
 /// A draft that has no children.
@@ -118,10 +118,10 @@ fn fetch_in(
 pub fn read_leaf(
     alloc: Global,
     value: &Value,
-    at: &Pointer,
+    at: &Place,
     topology: &Topology,
-) -> Result<Draft, ScriptFault>
-    ensures { FollowsAs draft_tree result (leaf_of topology.now.hosts at.now (view value.now)) }
+) -> Result<Draft, WalkFault>
+    ensures { FollowsAs WalkFault.Memory draft_tree result (leaf_of topology.now.hosts at.now (view value.now)) }
 {
     if is_create(value) {
         create_in(alloc, value, at, topology)
@@ -153,14 +153,14 @@ fn has_draft_members(value: &Value) -> bool
 fn read_call(
     alloc: Global,
     value: &Value,
-    at: &Pointer,
+    at: &Place,
     topology: &Topology,
-) -> Result<(Input, Name, ArgList), ScriptFault>
-    ensures { Follows ScriptFault.Memory result (call_of topology.now.hosts at.now (view value.now)) }
+) -> Result<(Input, Name, ArgList), WalkFault>
+    ensures { Follows WalkFault.Memory result (call_of topology.now.hosts at.now (view value.now)) }
 {
     let contract = input_in(alloc, value, at, topology)?;
     let choice = name_in(value, at, "choice")?;
-    let args = args_in(alloc, value, at, "args", 6, topology)?;
+    let args = args_in(alloc, value, at, "args", PARAMETERS, topology)?;
     Ok((contract, choice, args))
 }
 
@@ -168,10 +168,10 @@ fn read_call(
 fn read_effect(
     alloc: Global,
     value: &Value,
-    at: &Pointer,
+    at: &Place,
     topology: &Topology,
-) -> Result<(PartySet, bool, Arg), ScriptFault>
-    ensures { Follows ScriptFault.Memory result (effect_of topology.now.hosts at.now (view value.now)) }
+) -> Result<(PartySet, bool, Arg), WalkFault>
+    ensures { Follows WalkFault.Memory result (effect_of topology.now.hosts at.now (view value.now)) }
 {
     let actors = actors_in(alloc, value, at, topology)?;
     let consuming = truth_in(value, at, "consuming")?;
@@ -184,10 +184,10 @@ fn read_effect(
 pub fn read_exercised(
     alloc: Global,
     value: &Value,
-    at: &Pointer,
+    at: &Place,
     topology: &Topology,
-) -> Result<Exercised, ScriptFault>
-    ensures { FollowsAs (λ e. DraftExercise e.contract e.choice e.args e.actors e.consuming e.result) result (exercise_draft_of topology.now.hosts at.now (view value.now)) }
+) -> Result<Exercised, WalkFault>
+    ensures { FollowsAs WalkFault.Memory (λ e. DraftExercise e.contract e.choice e.args e.actors e.consuming e.result) result (exercise_draft_of topology.now.hosts at.now (view value.now)) }
 {
     if !has_draft_members(value) {
         return shape(at);

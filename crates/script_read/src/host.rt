@@ -1,13 +1,17 @@
 //! The participants of a script.
 ghost use Rattle.std.specs.Prelude.{◌≡◌, ◌≢◌, ◌≤◌, ◌+◌, MatchResult, IfOk, OnOk, Ok, Err, [], length};
 ghost use Rattle.serde_json.specs.View.{view, items_view};
-ghost use Rattle.ledger_terms.specs.Answers.{Follows, FollowsOn};
-ghost use Rattle.lang_read.specs.Walk.{LeavesAs, FollowsAs, walk_items};
+ghost use Rattle.ledger_terms.specs.Answers.{Follows, FollowsOn, FollowsAs};
+ghost use Rattle.json_walk.specs.Walk.{walk_items};
 ghost use Rattle.ledger_terms.specs.Parties.{has_party, set_of};
-ghost use Rattle.script_read.specs.Hosts.{is_participant, new_party_step, party_items_in, new_name_in, has_host_members, host_of, host_step, some_items_of, hosts_of, participants_at, root_member, participants_of, hosts_in};
+ghost use Rattle.script_read.specs.Hosts.{is_participant, new_party_step, party_items_in, new_name_in, has_host_members, host_of, host_step, hosts_of, root_member, participants_of, hosts_in};
 
-use lang_read::{ScriptFault, fits, is_hosted, member, name_in, read_items, read_name, shape};
-use ledger_terms::{Host, HostList, Name, NameList, PartySet, Pointer};
+use json_walk::{
+    PARTICIPANTS, PARTIES, Place, WalkFault, check_limit, fits, member, name_in, read_few_items,
+    read_items, read_name, shape,
+};
+use lang_read::is_hosted;
+use ledger_terms::{Host, HostList, Name, NameList, PartySet};
 use serde_json::Value;
 use std::alloc::{AllocError, Global};
 
@@ -27,18 +31,20 @@ fn has_name(names: &[Name], name: Name) -> bool
 #[tactic(auto, unfolding(crate::specs::Hosts::new_party_step))]
 fn push_new_party(
     value: &Value,
-    at: &Pointer,
+    at: &Place,
     index: usize,
     hosts: &[Host],
     parties: &mut NameList,
-) -> Result<(), ScriptFault>
-    ensures { FollowsOn ScriptFault.Memory parties.new result
+) -> Result<(), WalkFault>
+    ensures { FollowsOn WalkFault.Memory parties.new result
         (new_party_step hosts.now at.now index parties.old (view value.now)) }
 {
-    let here = at.item(index)?;
+    let here = at.item(index);
     let name = read_name(value, &here)?;
     if is_hosted(hosts, name) || has_name(parties.as_slice(), name) {
-        return Err(ScriptFault::Repeated { path: here });
+        return Err(WalkFault::Repeated {
+            path: here.pointer()?,
+        });
     }
     parties.push(name)?;
     Ok(())
@@ -47,10 +53,10 @@ fn push_new_party(
 fn read_new_parties(
     alloc: Global,
     items: &[Value],
-    at: &Pointer,
+    at: &Place,
     hosts: &[Host],
-) -> Result<NameList, ScriptFault>
-    ensures { Follows ScriptFault.Memory result (walk_items (new_party_step hosts.now at.now) 0 [] (items_view items.now)) }
+) -> Result<NameList, WalkFault>
+    ensures { Follows WalkFault.Memory result (walk_items (new_party_step hosts.now at.now) 0 [] (items_view items.now)) }
 {
     let mut parties = NameList::new(alloc);
     'items: for (i, item) in items.iter().enumerate() {
@@ -59,39 +65,28 @@ fn read_new_parties(
     Ok(parties)
 }
 
-#[tactic(auto, using(lang_read::proofs::Items::item_count_view), unfolding(crate::specs::Hosts::party_items_in))]
-fn party_items_in<'v>(
-    value: &'v Value,
-    at: &Pointer,
-    count: usize,
-) -> Result<&'v [Value], ScriptFault>
-    requires { count ≤ 128 }
+#[tactic(auto, using(json_walk::proofs::Items::item_count_view), unfolding(crate::specs::Hosts::party_items_in))]
+fn party_items_in<'v>(value: &'v Value, at: &Place, count: u64) -> Result<&'v [Value], WalkFault>
+    requires { count ≤ PARTIES.most }
     ensures first { MatchResult result (λ v. party_items_in count at.now (view value.now) ≡ Ok (items_view v.now))
-        (λ e. e ≢ ScriptFault.Memory → party_items_in count at.now (view value.now) ≡ Err e) }
-    ensures few { IfOk result (λ v. count + length v.now ≤ 128) }
+        (λ e. e ≢ WalkFault.Memory → party_items_in count at.now (view value.now) ≡ Err e) }
+    ensures few { IfOk result (λ v. count + length v.now ≤ PARTIES.most) }
 {
     let found = member(value, at, "parties")?;
-    let here = at.member("parties")?;
+    let here = at.member("parties");
     let items = read_items(found, &here)?;
-    let total = count + items.len();
-    if total > 128 {
-        return Err(ScriptFault::Limit {
-            path: here,
-            which: 2,
-            found: total as u64,
-        });
-    }
+    check_limit(&here, PARTIES, count + items.len() as u64)?;
     Ok(items)
 }
 
 #[tactic(auto, unfolding(crate::specs::Hosts::new_name_in))]
-fn new_name_in(value: &Value, at: &Pointer, hosts: &[Host]) -> Result<Name, ScriptFault>
-    ensures { Follows ScriptFault.Memory result (new_name_in hosts.now at.now (view value.now)) }
+fn new_name_in(value: &Value, at: &Place, hosts: &[Host]) -> Result<Name, WalkFault>
+    ensures { Follows WalkFault.Memory result (new_name_in hosts.now at.now (view value.now)) }
 {
     let name = name_in(value, at, "name")?;
     if is_participant(hosts, name) {
-        return Err(ScriptFault::Repeated {
-            path: at.member("name")?,
+        return Err(WalkFault::Repeated {
+            path: at.member("name").pointer()?,
         });
     }
     Ok(name)
@@ -115,17 +110,17 @@ fn new_host(alloc: Global, name: Name, parties: &NameList) -> Result<Host, Alloc
 }
 
 /// Puts a participant behind the others, where `count` is how many parties they host.
-#[tactic(auto, using(lang_read::proofs::Items::item_count_view), unfolding(crate::specs::Hosts::host_of))]
+#[tactic(auto, using(json_walk::proofs::Items::item_count_view), unfolding(crate::specs::Hosts::host_of))]
 fn push_host(
     alloc: Global,
     value: &Value,
-    at: &Pointer,
+    at: &Place,
     hosts: &mut HostList,
-    count: usize,
-) -> Result<usize, ScriptFault>
-    requires { count ≤ 128 }
-    ensures first { FollowsAs (λ n. (hosts.new, n)) result (host_of (hosts.old, count) at.now (view value.now)) }
-    ensures few { IfOk result (λ n. n ≤ 128) }
+    count: u64,
+) -> Result<u64, WalkFault>
+    requires { count ≤ PARTIES.most }
+    ensures first { FollowsAs WalkFault.Memory (λ n. (hosts.new, n)) result (host_of (hosts.old, count) at.now (view value.now)) }
+    ensures few { IfOk result (λ n. n ≤ PARTIES.most) }
     ensures one { OnOk result (length hosts.new ≡ length hosts.old + 1) }
 {
     if !has_host_members(value) {
@@ -133,93 +128,59 @@ fn push_host(
     }
     let name = new_name_in(value, at, hosts.as_slice())?;
     let items = party_items_in(value, at, count)?;
-    let parties = read_new_parties(alloc, items, &at.member("parties")?, hosts.as_slice())?;
+    let parties = read_new_parties(alloc, items, &at.member("parties"), hosts.as_slice())?;
     hosts.push(new_host(alloc, name, &parties)?)?;
-    Ok(count + items.len())
+    Ok(count + items.len() as u64)
 }
 
-fn read_host_items(
-    alloc: Global,
-    items: &[Value],
-    at: &Pointer,
-) -> Result<(HostList, usize), ScriptFault>
-    requires { length items.now ≤ 8 }
-    ensures first { Follows ScriptFault.Memory result (walk_items (host_step at.now) 0 ([], 0) (items_view items.now)) }
-    ensures few { IfOk result (λ s. length s.0 ≤ 8) }
+fn read_host_items(alloc: Global, items: &[Value], at: &Place) -> Result<(HostList, u64), WalkFault>
+    requires { length items.now ≤ PARTICIPANTS.most }
+    ensures first { Follows WalkFault.Memory result (walk_items (host_step at.now) 0 ([], 0) (items_view items.now)) }
+    ensures few { IfOk result (λ s. length s.0 ≤ PARTICIPANTS.most) }
 {
     let mut hosts = HostList::new(alloc);
     let mut count = 0;
     'items: for (i, item) in items.iter().enumerate() {
-        let here = at.item(i)?;
+        let here = at.item(i);
         count = push_host(alloc, item, &here, &mut hosts, count)?;
     }
     Ok((hosts, count))
 }
 
-/// The items of a list that has at least one and at most `most`; `which` is the number of the limit.
-#[tactic(auto, using(lang_read::proofs::Items::item_count_view), unfolding(crate::specs::Hosts::some_items_of))]
-pub fn read_some_items<'v>(
-    value: &'v Value,
-    at: &Pointer,
-    which: u8,
-    most: usize,
-) -> Result<&'v [Value], ScriptFault>
-    ensures first { MatchResult result (λ v. some_items_of at.now which most (view value.now) ≡ Ok (items_view v.now))
-        (λ e. e ≢ ScriptFault.Memory → some_items_of at.now which most (view value.now) ≡ Err e) }
-    ensures few { IfOk result (λ v. length v.now ≤ most) }
-{
-    let items = read_items(value, at)?;
-    if items.is_empty() || items.len() > most {
-        return Err(ScriptFault::Limit {
-            path: at.clone()?,
-            which,
-            found: items.len() as u64,
-        });
-    }
-    Ok(items)
-}
-
 #[tactic(auto, unfolding(crate::specs::Hosts::hosts_of))]
-fn read_hosts(alloc: Global, value: &Value, at: &Pointer) -> Result<(HostList, usize), ScriptFault>
-    ensures first { Follows ScriptFault.Memory result (hosts_of at.now (view value.now)) }
-    ensures few { IfOk result (λ s. length s.0 ≤ 8) }
+fn read_hosts(alloc: Global, value: &Value, at: &Place) -> Result<(HostList, u64), WalkFault>
+    ensures first { Follows WalkFault.Memory result (hosts_of at.now (view value.now)) }
+    ensures few { IfOk result (λ s. length s.0 ≤ PARTICIPANTS.most) }
 {
-    let items = read_some_items(value, at, 1, 8)?;
+    let items = read_few_items(value, at, PARTICIPANTS)?;
     read_host_items(alloc, items, at)
 }
 
-/// The place of the participants.
-#[tactic(auto, unfolding(crate::specs::Hosts::participants_at))]
-pub fn participants_at(alloc: Global) -> Result<Pointer, AllocError>
-    ensures { IfOk result (λ p. p ≡ participants_at) }
-{
-    Pointer::root(alloc).member("participants")
-}
-
 #[tactic(auto, unfolding(crate::specs::Hosts::root_member))]
-fn root_member<'v>(alloc: Global, value: &'v Value, name: &str) -> Result<&'v Value, ScriptFault>
+fn root_member<'v>(alloc: Global, value: &'v Value, name: &str) -> Result<&'v Value, WalkFault>
     ensures { MatchResult result (λ v. root_member name.now (view value.now) ≡ Ok (view v.now))
-        (λ e. e ≢ ScriptFault.Memory → root_member name.now (view value.now) ≡ Err e) }
+        (λ e. e ≢ WalkFault.Memory → root_member name.now (view value.now) ≡ Err e) }
 {
-    member(value, &Pointer::root(alloc), name)
+    member(value, &Place::root(alloc), name)
 }
 
 /// The member `participants` of a script.
 #[tactic(auto, unfolding(crate::specs::Hosts::participants_of))]
-pub fn participants_of(alloc: Global, value: &Value) -> Result<&Value, ScriptFault>
+pub fn participants_of(alloc: Global, value: &Value) -> Result<&Value, WalkFault>
     ensures { MatchResult result (λ v. participants_of (view value.now) ≡ Ok (view v.now))
-        (λ e. e ≢ ScriptFault.Memory → participants_of (view value.now) ≡ Err e) }
+        (λ e. e ≢ WalkFault.Memory → participants_of (view value.now) ≡ Err e) }
 {
     root_member(alloc, value, "participants")
 }
 
 /// The participants of a script, but for what they have vetted.
 #[tactic(auto, unfolding(crate::specs::Hosts::hosts_in))]
-pub fn hosts_in(alloc: Global, value: &Value) -> Result<HostList, ScriptFault>
-    ensures first { Follows ScriptFault.Memory result (hosts_in (view value.now)) }
-    ensures few { IfOk result (λ h. length h ≤ 8) }
+pub fn hosts_in(alloc: Global, value: &Value) -> Result<HostList, WalkFault>
+    ensures first { Follows WalkFault.Memory result (hosts_in (view value.now)) }
+    ensures few { IfOk result (λ h. length h ≤ PARTICIPANTS.most) }
 {
     let found = participants_of(alloc, value)?;
-    let (hosts, _) = read_hosts(alloc, found, &participants_at(alloc)?)?;
+    let root = Place::root(alloc);
+    let (hosts, _) = read_hosts(alloc, found, &root.member("participants"))?;
     Ok(hosts)
 }

@@ -7,8 +7,8 @@ ghost use Rattle.script_read.specs.Drafts.{is_known, has_forged_members, some_id
 use crate::arg::args_in;
 use crate::command::has_create_members;
 use crate::reference::{read_hash, read_reference, reference_in};
-use lang_read::{ScriptFault, fits, member, shape, template_in};
-use ledger_terms::{ArgList, ContractRef, Hash, Input, Pointer, TemplateName, Topology};
+use json_walk::{FIELDS, Place, WalkFault, fits, member, shape, template_in};
+use ledger_terms::{ArgList, ContractRef, Hash, Input, TemplateName, Topology};
 use serde_json::Value;
 use std::alloc::Global;
 
@@ -30,10 +30,10 @@ fn has_forged_members(value: &Value) -> bool
 fn read_some_id(
     alloc: Global,
     value: &Value,
-    at: &Pointer,
+    at: &Place,
     topology: &Topology,
-) -> Result<Option<ContractRef>, ScriptFault>
-    ensures { Follows ScriptFault.Memory result (some_id_of topology.now.hosts at.now (view value.now)) }
+) -> Result<Option<ContractRef>, WalkFault>
+    ensures { Follows WalkFault.Memory result (some_id_of topology.now.hosts at.now (view value.now)) }
 {
     let id = read_reference(alloc, value, at, topology)?;
     Ok(Some(id))
@@ -43,10 +43,10 @@ fn read_some_id(
 fn read_id(
     alloc: Global,
     value: &Value,
-    at: &Pointer,
+    at: &Place,
     topology: &Topology,
-) -> Result<Option<ContractRef>, ScriptFault>
-    ensures { Follows ScriptFault.Memory result (id_of topology.now.hosts at.now (view value.now)) }
+) -> Result<Option<ContractRef>, WalkFault>
+    ensures { Follows WalkFault.Memory result (id_of topology.now.hosts at.now (view value.now)) }
 {
     match value {
         Value::Null => Ok(None),
@@ -62,21 +62,21 @@ fn read_id(
 fn id_in(
     alloc: Global,
     value: &Value,
-    at: &Pointer,
+    at: &Place,
     topology: &Topology,
-) -> Result<Option<ContractRef>, ScriptFault>
-    ensures { Follows ScriptFault.Memory result (id_in topology.now.hosts at.now (view value.now)) }
+) -> Result<Option<ContractRef>, WalkFault>
+    ensures { Follows WalkFault.Memory result (id_in topology.now.hosts at.now (view value.now)) }
 {
     let found = member(value, at, "id")?;
-    read_id(alloc, found, &at.member("id")?, topology)
+    read_id(alloc, found, &at.member("id"), topology)
 }
 
 #[tactic(auto, unfolding(crate::specs::Drafts::salt_in))]
-fn salt_in(value: &Value, at: &Pointer) -> Result<Hash, ScriptFault>
-    ensures { Follows ScriptFault.Memory result (salt_in at.now (view value.now)) }
+fn salt_in(value: &Value, at: &Place) -> Result<Hash, WalkFault>
+    ensures { Follows WalkFault.Memory result (salt_in at.now (view value.now)) }
 {
     let found = member(value, at, "salt")?;
-    read_hash(found, &at.member("salt")?)
+    read_hash(found, &at.member("salt"))
 }
 
 /// The template and the fields of a contract as they are handed in.
@@ -84,16 +84,16 @@ fn salt_in(value: &Value, at: &Pointer) -> Result<Hash, ScriptFault>
 pub fn read_instance(
     alloc: Global,
     value: &Value,
-    at: &Pointer,
+    at: &Place,
     topology: &Topology,
-) -> Result<(TemplateName, ArgList), ScriptFault>
-    ensures { Follows ScriptFault.Memory result (instance_of topology.now.hosts at.now (view value.now)) }
+) -> Result<(TemplateName, ArgList), WalkFault>
+    ensures { Follows WalkFault.Memory result (instance_of topology.now.hosts at.now (view value.now)) }
 {
     if !has_create_members(value) {
         return shape(at);
     }
     let template = template_in(value, at)?;
-    let fields = args_in(alloc, value, at, "fields", 5, topology)?;
+    let fields = args_in(alloc, value, at, "fields", FIELDS, topology)?;
     Ok((template, fields))
 }
 
@@ -101,23 +101,23 @@ pub fn read_instance(
 fn instance_in(
     alloc: Global,
     value: &Value,
-    at: &Pointer,
+    at: &Place,
     topology: &Topology,
-) -> Result<(TemplateName, ArgList), ScriptFault>
-    ensures { Follows ScriptFault.Memory result (instance_in topology.now.hosts at.now (view value.now)) }
+) -> Result<(TemplateName, ArgList), WalkFault>
+    ensures { Follows WalkFault.Memory result (instance_in topology.now.hosts at.now (view value.now)) }
 {
     let found = member(value, at, "instance")?;
-    read_instance(alloc, found, &at.member("instance")?, topology)
+    read_instance(alloc, found, &at.member("instance"), topology)
 }
 
 #[tactic(auto, unfolding(crate::specs::Drafts::forged_of))]
 fn read_forged(
     alloc: Global,
     value: &Value,
-    at: &Pointer,
+    at: &Place,
     topology: &Topology,
-) -> Result<Input, ScriptFault>
-    ensures { Follows ScriptFault.Memory result (forged_of topology.now.hosts at.now (view value.now)) }
+) -> Result<Input, WalkFault>
+    ensures { Follows WalkFault.Memory result (forged_of topology.now.hosts at.now (view value.now)) }
 {
     if !has_forged_members(value) {
         return shape(at);
@@ -137,10 +137,10 @@ fn read_forged(
 fn read_known(
     alloc: Global,
     value: &Value,
-    at: &Pointer,
+    at: &Place,
     topology: &Topology,
-) -> Result<Input, ScriptFault>
-    ensures { Follows ScriptFault.Memory result (known_of topology.now.hosts at.now (view value.now)) }
+) -> Result<Input, WalkFault>
+    ensures { Follows WalkFault.Memory result (known_of topology.now.hosts at.now (view value.now)) }
 {
     let reference = reference_in(alloc, value, at, "known", topology)?;
     Ok(Input::Known(reference))
@@ -150,10 +150,10 @@ fn read_known(
 fn read_input(
     alloc: Global,
     value: &Value,
-    at: &Pointer,
+    at: &Place,
     topology: &Topology,
-) -> Result<Input, ScriptFault>
-    ensures { Follows ScriptFault.Memory result (input_of topology.now.hosts at.now (view value.now)) }
+) -> Result<Input, WalkFault>
+    ensures { Follows WalkFault.Memory result (input_of topology.now.hosts at.now (view value.now)) }
 {
     if is_known(value) {
         read_known(alloc, value, at, topology)
@@ -167,11 +167,11 @@ fn read_input(
 pub fn input_in(
     alloc: Global,
     value: &Value,
-    at: &Pointer,
+    at: &Place,
     topology: &Topology,
-) -> Result<Input, ScriptFault>
-    ensures { Follows ScriptFault.Memory result (input_in topology.now.hosts at.now (view value.now)) }
+) -> Result<Input, WalkFault>
+    ensures { Follows WalkFault.Memory result (input_in topology.now.hosts at.now (view value.now)) }
 {
     let found = member(value, at, "contract")?;
-    read_input(alloc, found, &at.member("contract")?, topology)
+    read_input(alloc, found, &at.member("contract"), topology)
 }

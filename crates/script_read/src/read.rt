@@ -1,85 +1,72 @@
 //! Whole scripts.
-ghost use Rattle.std.specs.Prelude.{◌≡◌, ◌≤◌, [], length, IfOk};
-ghost use Rattle.serde_json.specs.View.{view, items_view};
+ghost use Rattle.std.specs.Prelude.{◌≡◌, ◌≤◌, length, IfOk};
+ghost use Rattle.serde_json.specs.View.{view};
 ghost use Rattle.ledger_terms.specs.Answers.{Follows};
-ghost use Rattle.lang_read.specs.Walk.{FollowsAs, walk_items};
-ghost use Rattle.script_read.specs.Script.{package_step, packages_of, packages_if, packages_in, checked_of, checked_in, has_script_members, topology_in, script_of, script_in};
+ghost use Rattle.json_walk.specs.Lists.{counted_of};
+ghost use Rattle.script_read.specs.Script.{counted_package, packages_in, checked_of, checked_in, has_script_members, topology_in, script_of, script_in};
 
 use crate::host::hosts_in;
 use crate::rounds::rounds_in;
 use crate::script::Script;
+use crate::script_fault::ScriptFault;
 use crate::times::read_params;
 use crate::vetting::vetting_in;
+use json_walk::{
+    PACKAGES, PARTICIPANTS, Place, TEMPLATES, WalkFault, fits, read_counted, read_json,
+};
 use lang_check::{CheckKind, check};
 use lang_eval::Checked;
-use lang_read::{ScriptFault, fits, read_few_items, read_json, read_package, shape};
-use ledger_terms::{PackageList, Pointer, Topology};
+use lang_read::read_package;
+use ledger_terms::{Package, PackageList, Pointer, Topology};
 use serde_json::Value;
 use std::alloc::Global;
 
-#[tactic(auto, unfolding(crate::specs::Script::package_step))]
-fn push_package(
+/// A package, and the number of templates with its own. `before` is the number of those in the packages before.
+#[tactic(auto, unfolding(crate::specs::Script::counted_package))]
+fn read_counted_package(
     alloc: Global,
     value: &Value,
-    at: &Pointer,
-    index: usize,
+    at: &Place,
     before: u64,
     topology: &Topology,
-    packages: &mut PackageList,
-) -> Result<u64, ScriptFault>
-    requires { before ≤ 64 }
-    ensures first { FollowsAs (λ n. (packages.new, n)) result
-        (package_step topology.now.hosts at.now index (packages.old, before) (view value.now)) }
-    ensures few { IfOk result (λ n. n ≤ 64) }
+) -> Result<(Package, u64), WalkFault>
+    requires { before ≤ TEMPLATES.most }
+    ensures exact { Follows WalkFault.Memory result (counted_package topology.now.hosts before at.now (view value.now)) }
+    ensures few { IfOk result (λ s. s.1 ≤ TEMPLATES.most) }
 {
-    let here = at.item(index)?;
-    let package = read_package(alloc, value, &here, topology, before)?;
+    let package = read_package(alloc, value, at, topology, before)?;
     let count = before + package.templates.len() as u64;
-    packages.push(package)?;
-    Ok(count)
+    Ok((package, count))
 }
 
-fn read_package_items(
-    alloc: Global,
-    items: &[Value],
-    at: &Pointer,
-    topology: &Topology,
-) -> Result<(PackageList, u64), ScriptFault>
-    ensures { Follows ScriptFault.Memory result (walk_items (package_step topology.now.hosts at.now) 0 ([], 0) (items_view items.now)) }
-{
-    let mut packages = PackageList::new(alloc);
-    let mut count = 0;
-    'items: for (i, item) in items.iter().enumerate() {
-        count = push_package(alloc, item, at, i, count, topology, &mut packages)?;
-    }
-    Ok((packages, count))
-}
-
-#[tactic(auto, unfolding(crate::specs::Script::packages_of))]
 fn read_packages(
     alloc: Global,
     value: &Value,
-    at: &Pointer,
+    at: &Place,
     topology: &Topology,
-) -> Result<(PackageList, u64), ScriptFault>
-    ensures { Follows ScriptFault.Memory result (packages_of topology.now.hosts at.now (view value.now)) }
+) -> Result<(PackageList, u64), WalkFault>
+    ensures { Follows WalkFault.Memory result (counted_of (counted_package topology.now.hosts) at.now PACKAGES (view value.now)) }
 {
-    let items = read_few_items(value, at, 3, 8)?;
-    read_package_items(alloc, items, at, topology)
+    read_counted(
+        alloc,
+        value,
+        at,
+        PACKAGES,
+        TEMPLATES.most,
+        |item, here, before|
+            requires { before ≤ TEMPLATES.most }
+        { read_counted_package(alloc, item, here, before, topology) },
+    )
 }
 
 #[tactic(auto, unfolding(crate::specs::Script::packages_in))]
-fn packages_in(
-    alloc: Global,
-    value: &Value,
-    topology: &Topology,
-) -> Result<PackageList, ScriptFault>
-    ensures { Follows ScriptFault.Memory result (packages_in topology.now.hosts (view value.now)) }
+fn packages_in(alloc: Global, value: &Value, topology: &Topology) -> Result<PackageList, WalkFault>
+    ensures { Follows WalkFault.Memory result (packages_in topology.now.hosts (view value.now)) }
 {
     match value.get("packages") {
         Some(found) => {
-            let here = Pointer::root(alloc).member("packages")?;
-            let (packages, _) = read_packages(alloc, found, &here, topology)?;
+            let root = Place::root(alloc);
+            let (packages, _) = read_packages(alloc, found, &root.member("packages"), topology)?;
             Ok(packages)
         }
         None => Ok(PackageList::new(alloc)),
@@ -122,9 +109,9 @@ fn has_script_members(value: &Value) -> bool
 }
 
 #[tactic(auto, unfolding(crate::specs::Script::topology_in))]
-fn topology_in(alloc: Global, value: &Value) -> Result<Topology, ScriptFault>
-    ensures first { Follows ScriptFault.Memory result (topology_in (view value.now)) }
-    ensures few { IfOk result (λ t. length t.hosts ≤ 8) }
+fn topology_in(alloc: Global, value: &Value) -> Result<Topology, WalkFault>
+    ensures first { Follows WalkFault.Memory result (topology_in (view value.now)) }
+    ensures few { IfOk result (λ t. length t.hosts ≤ PARTICIPANTS.most) }
 {
     let hosts = hosts_in(alloc, value)?;
     let params = read_params(alloc, value)?;
@@ -137,7 +124,9 @@ fn read_value(alloc: Global, value: &Value) -> Result<Script, ScriptFault>
     ensures { Follows ScriptFault.Memory result (script_of (view value.now)) }
 {
     if !has_script_members(value) {
-        return shape(&Pointer::root(alloc));
+        return Err(ScriptFault::Shape {
+            path: Pointer::root(alloc),
+        });
     }
     let known = topology_in(alloc, value)?;
     let checked = checked_in(alloc, value, &known)?;

@@ -7,10 +7,13 @@ ghost use Rattle.script_read.specs.Commands.{reference_in};
 
 use crate::host::is_participant;
 use hex::FromHex;
-use lang_read::{ScriptFault, member, parts_round, shape};
-use ledger_terms::{ContractRef, Hash, Label, Name, Path, Pointer, Text, Topology};
+use json_walk::{LABEL_STEPS, Place, WalkFault, check_limit, member, parts_round, shape};
+use ledger_terms::{ContractRef, Hash, Label, Name, Path, Text, Topology};
 use serde_json::Value;
 use std::alloc::{AllocError, Global};
+
+/// The last of the steps of a path, which begin at 0.
+const LAST_STEP: u16 = 63;
 
 /// The hash that 64 hexadecimal digits of either case spell.
 fn hash_named(text: &str) -> Option<Hash>
@@ -24,8 +27,8 @@ fn hash_named(text: &str) -> Option<Hash>
 
 /// The hash that a value spells.
 #[tactic(auto, unfolding(crate::specs::Refs::hash_of))]
-pub fn read_hash(value: &Value, at: &Pointer) -> Result<Hash, ScriptFault>
-    ensures { Follows ScriptFault.Memory result (hash_of at.now (view value.now)) }
+pub fn read_hash(value: &Value, at: &Place) -> Result<Hash, WalkFault>
+    ensures { Follows WalkFault.Memory result (hash_of at.now (view value.now)) }
 {
     let Some(text) = value.as_str() else {
         return shape(at);
@@ -49,7 +52,7 @@ fn two_digits(first: u8, second: u8) -> Option<u16>
         return None;
     }
     let number = u16::from(first - 48) * 10 + u16::from(second - 48);
-    if number > 63 {
+    if number > LAST_STEP {
         return None;
     }
     Some(number)
@@ -116,24 +119,18 @@ fn label_named(alloc: Global, text: &str) -> Result<Option<Label>, AllocError>
 fn read_label(
     alloc: Global,
     text: &str,
-    at: &Pointer,
+    at: &Place,
     topology: &Topology,
-) -> Result<Label, ScriptFault>
-    ensures { Follows ScriptFault.Memory result (label_of topology.now.hosts at.now text.now) }
+) -> Result<Label, WalkFault>
+    ensures { Follows WalkFault.Memory result (label_of topology.now.hosts at.now text.now) }
 {
     let Some(label) = label_named(alloc, text)? else {
         return shape(at);
     };
-    if label.path.len() > 16 {
-        return Err(ScriptFault::Limit {
-            path: at.clone()?,
-            which: 20,
-            found: label.path.len() as u64,
-        });
-    }
+    check_limit(at, LABEL_STEPS, label.path.len() as u64)?;
     if !is_participant(topology.hosts.as_slice(), label.participant) {
-        return Err(ScriptFault::Unknown {
-            path: at.clone()?,
+        return Err(WalkFault::Unknown {
+            path: at.pointer()?,
             name: Text::of(alloc, label.participant.as_str())?,
         });
     }
@@ -150,10 +147,10 @@ fn behind_mark(text: &str) -> Option<&str>
 fn read_text(
     alloc: Global,
     text: &str,
-    at: &Pointer,
+    at: &Place,
     topology: &Topology,
-) -> Result<ContractRef, ScriptFault>
-    ensures { Follows ScriptFault.Memory result (reference_by topology.now.hosts at.now text.now (behind_mark text.now)) }
+) -> Result<ContractRef, WalkFault>
+    ensures { Follows WalkFault.Memory result (reference_by topology.now.hosts at.now text.now (behind_mark text.now)) }
 {
     if let Some(label) = behind_mark(text) {
         return Ok(ContractRef::Label(read_label(alloc, label, at, topology)?));
@@ -169,10 +166,10 @@ fn read_text(
 pub fn read_reference(
     alloc: Global,
     value: &Value,
-    at: &Pointer,
+    at: &Place,
     topology: &Topology,
-) -> Result<ContractRef, ScriptFault>
-    ensures { Follows ScriptFault.Memory result (reference_of topology.now.hosts at.now (view value.now)) }
+) -> Result<ContractRef, WalkFault>
+    ensures { Follows WalkFault.Memory result (reference_of topology.now.hosts at.now (view value.now)) }
 {
     let Some(text) = value.as_str() else {
         return shape(at);
@@ -185,12 +182,12 @@ pub fn read_reference(
 pub fn reference_in(
     alloc: Global,
     value: &Value,
-    at: &Pointer,
+    at: &Place,
     name: &str,
     topology: &Topology,
-) -> Result<ContractRef, ScriptFault>
-    ensures { Follows ScriptFault.Memory result (reference_in topology.now.hosts at.now name.now (view value.now)) }
+) -> Result<ContractRef, WalkFault>
+    ensures { Follows WalkFault.Memory result (reference_in topology.now.hosts at.now name.now (view value.now)) }
 {
     let found = member(value, at, name)?;
-    read_reference(alloc, found, &at.member(name)?, topology)
+    read_reference(alloc, found, &at.member(name), topology)
 }

@@ -1,107 +1,54 @@
 //! The rounds of a script.
 ghost use Rattle.std.specs.Prelude.{◌≡◌, ◌≤◌, [], length, IfOk, OnOk};
 ghost use Rattle.serde_json.specs.View.{view, items_view};
-ghost use Rattle.ledger_terms.specs.Answers.{Follows, FollowsOn};
-ghost use Rattle.lang_read.specs.Walk.{FollowsAs, walk_items};
-ghost use Rattle.script_read.specs.Rounds.{advance_in, paused_step, paused_of, paused_in, truth_or, hold_in, has_round_members, round_of, round_step, rounds_of, rounds_in};
+ghost use Rattle.ledger_terms.specs.Answers.{Follows};
+ghost use Rattle.json_walk.specs.Lists.{counted_of};
+ghost use Rattle.script_read.specs.Rounds.{advance_in, paused_in, hold_in, has_round_members, round_of, rounds_in};
 
 use crate::round::{Round, RoundList};
 use crate::submission::{read_participant, submits_in};
-use lang_read::{
-    ScriptFault, fits, member, read_few_items, read_integer, read_items, read_truth, shape,
+use json_walk::{
+    ADVANCE, Place, ROUNDS, SUBMISSIONS, WalkFault, fits, member, read_counted, read_integer,
+    read_list, shape, truth_or,
 };
-use ledger_terms::{ParticipantIdList, Pointer, Topology};
+use ledger_terms::{ParticipantIdList, Topology};
 use serde_json::Value;
 use std::alloc::Global;
 
 #[tactic(auto, unfolding(crate::specs::Rounds::advance_in))]
-fn advance_in(value: &Value, at: &Pointer) -> Result<u64, ScriptFault>
-    ensures { Follows ScriptFault.Memory result (advance_in at.now (view value.now)) }
+fn advance_in(value: &Value, at: &Place) -> Result<u64, WalkFault>
+    ensures { Follows WalkFault.Memory result (advance_in at.now (view value.now)) }
 {
     match value.get("advance") {
-        Some(found) => read_integer(found, &at.member("advance")?, 15, 0, 1_000_000_000_000),
+        Some(found) => read_integer(found, &at.member("advance"), ADVANCE),
         None => Ok(0),
     }
-}
-
-#[tactic(auto, unfolding(crate::specs::Rounds::paused_step))]
-fn push_paused(
-    alloc: Global,
-    value: &Value,
-    at: &Pointer,
-    index: usize,
-    topology: &Topology,
-    paused: &mut ParticipantIdList,
-) -> Result<(), ScriptFault>
-    requires { length topology.now.hosts ≤ 256 }
-    ensures { FollowsOn ScriptFault.Memory paused.new result
-        (paused_step topology.now.hosts at.now index paused.old (view value.now)) }
-{
-    let here = at.item(index)?;
-    let participant = read_participant(alloc, value, &here, topology)?;
-    paused.push(participant)?;
-    Ok(())
-}
-
-fn read_paused_items(
-    alloc: Global,
-    items: &[Value],
-    at: &Pointer,
-    topology: &Topology,
-) -> Result<ParticipantIdList, ScriptFault>
-    requires { length topology.now.hosts ≤ 256 }
-    ensures { Follows ScriptFault.Memory result (walk_items (paused_step topology.now.hosts at.now) 0 [] (items_view items.now)) }
-{
-    let mut paused = ParticipantIdList::new(alloc);
-    'items: for (i, item) in items.iter().enumerate() {
-        push_paused(alloc, item, at, i, topology, &mut paused)?;
-    }
-    Ok(paused)
-}
-
-#[tactic(auto, unfolding(crate::specs::Rounds::paused_of))]
-fn read_paused(
-    alloc: Global,
-    value: &Value,
-    at: &Pointer,
-    topology: &Topology,
-) -> Result<ParticipantIdList, ScriptFault>
-    requires { length topology.now.hosts ≤ 256 }
-    ensures { Follows ScriptFault.Memory result (paused_of topology.now.hosts at.now (view value.now)) }
-{
-    let items = read_items(value, at)?;
-    read_paused_items(alloc, items, at, topology)
 }
 
 #[tactic(auto, unfolding(crate::specs::Rounds::paused_in))]
 fn paused_in(
     alloc: Global,
     value: &Value,
-    at: &Pointer,
+    at: &Place,
     topology: &Topology,
-) -> Result<ParticipantIdList, ScriptFault>
+) -> Result<ParticipantIdList, WalkFault>
     requires { length topology.now.hosts ≤ 256 }
-    ensures { Follows ScriptFault.Memory result (paused_in topology.now.hosts at.now (view value.now)) }
+    ensures { Follows WalkFault.Memory result (paused_in topology.now.hosts at.now (view value.now)) }
 {
     match value.get("paused") {
-        Some(found) => read_paused(alloc, found, &at.member("paused")?, topology),
+        Some(found) => read_list(
+            alloc,
+            found,
+            &at.member("paused"),
+            |item, here| read_participant(alloc, item, here, topology),
+        ),
         None => Ok(ParticipantIdList::new(alloc)),
     }
 }
 
-#[tactic(auto, unfolding(crate::specs::Rounds::truth_or))]
-fn truth_or(value: &Value, at: &Pointer, name: &str) -> Result<bool, ScriptFault>
-    ensures { Follows ScriptFault.Memory result (truth_or at.now name.now (view value.now)) }
-{
-    match value.get(name) {
-        Some(found) => read_truth(found, &at.member(name)?),
-        None => Ok(false),
-    }
-}
-
 #[tactic(auto, unfolding(crate::specs::Rounds::hold_in))]
-fn hold_in(value: &Value, at: &Pointer) -> Result<bool, ScriptFault>
-    ensures { Follows ScriptFault.Memory result (hold_in at.now (view value.now)) }
+fn hold_in(value: &Value, at: &Place) -> Result<bool, WalkFault>
+    ensures { Follows WalkFault.Memory result (hold_in at.now (view value.now)) }
 {
     truth_or(value, at, "hold_verdicts")
 }
@@ -117,19 +64,19 @@ fn has_round_members(value: &Value) -> bool
     )
 }
 
-/// A round, where so many submissions stand in the rounds before it; gives that number after it too.
+/// A round, and the number of submissions with its own. `before` is the number of those in the rounds before.
 #[tactic(auto, unfolding(crate::specs::Rounds::round_of))]
 fn read_round(
     alloc: Global,
     value: &Value,
-    at: &Pointer,
-    before: usize,
+    at: &Place,
+    before: u64,
     topology: &Topology,
-) -> Result<(Round, usize), ScriptFault>
+) -> Result<(Round, u64), WalkFault>
     requires known { length topology.now.hosts ≤ 256 }
-    requires few { before ≤ 2048 }
-    ensures first { Follows ScriptFault.Memory result (round_of topology.now.hosts before at.now (view value.now)) }
-    ensures few { IfOk result (λ s. s.1 ≤ 2048) }
+    requires few { before ≤ SUBMISSIONS.most }
+    ensures first { Follows WalkFault.Memory result (round_of topology.now.hosts before at.now (view value.now)) }
+    ensures few { IfOk result (λ s. s.1 ≤ SUBMISSIONS.most) }
 {
     if !has_round_members(value) {
         return shape(at);
@@ -147,71 +94,35 @@ fn read_round(
     Ok((round, count))
 }
 
-#[tactic(auto, unfolding(crate::specs::Rounds::round_step))]
-fn push_round(
-    alloc: Global,
-    value: &Value,
-    at: &Pointer,
-    index: usize,
-    before: usize,
-    topology: &Topology,
-    rounds: &mut RoundList,
-) -> Result<usize, ScriptFault>
-    requires known { length topology.now.hosts ≤ 256 }
-    requires few { before ≤ 2048 }
-    ensures first { FollowsAs (λ n. (rounds.new, n)) result
-        (round_step topology.now.hosts at.now index (rounds.old, before) (view value.now)) }
-    ensures few { IfOk result (λ n. n ≤ 2048) }
-{
-    let here = at.item(index)?;
-    let (round, count) = read_round(alloc, value, &here, before, topology)?;
-    rounds.push(round)?;
-    Ok(count)
-}
-
-fn read_round_items(
-    alloc: Global,
-    items: &[Value],
-    at: &Pointer,
-    topology: &Topology,
-) -> Result<(RoundList, usize), ScriptFault>
-    requires { length topology.now.hosts ≤ 256 }
-    ensures { Follows ScriptFault.Memory result (walk_items (round_step topology.now.hosts at.now) 0 ([], 0) (items_view items.now)) }
-{
-    let mut rounds = RoundList::new(alloc);
-    let mut count = 0;
-    'items: for (i, item) in items.iter().enumerate() {
-        count = push_round(alloc, item, at, i, count, topology, &mut rounds)?;
-    }
-    Ok((rounds, count))
-}
-
-#[tactic(auto, unfolding(crate::specs::Rounds::rounds_of))]
 fn read_rounds(
     alloc: Global,
     value: &Value,
-    at: &Pointer,
+    at: &Place,
     topology: &Topology,
-) -> Result<(RoundList, usize), ScriptFault>
+) -> Result<(RoundList, u64), WalkFault>
     requires { length topology.now.hosts ≤ 256 }
-    ensures { Follows ScriptFault.Memory result (rounds_of topology.now.hosts at.now (view value.now)) }
+    ensures { Follows WalkFault.Memory result (counted_of (round_of topology.now.hosts) at.now ROUNDS (view value.now)) }
 {
-    let items = read_few_items(value, at, 11, 2048)?;
-    read_round_items(alloc, items, at, topology)
+    read_counted(
+        alloc,
+        value,
+        at,
+        ROUNDS,
+        SUBMISSIONS.most,
+        |item, here, before|
+            requires { before ≤ SUBMISSIONS.most }
+        { read_round(alloc, item, here, before, topology) },
+    )
 }
 
 /// The rounds of a script.
 #[tactic(auto, unfolding(crate::specs::Rounds::rounds_in))]
-pub fn rounds_in(
-    alloc: Global,
-    value: &Value,
-    topology: &Topology,
-) -> Result<RoundList, ScriptFault>
+pub fn rounds_in(alloc: Global, value: &Value, topology: &Topology) -> Result<RoundList, WalkFault>
     requires { length topology.now.hosts ≤ 256 }
-    ensures { Follows ScriptFault.Memory result (rounds_in topology.now.hosts (view value.now)) }
+    ensures { Follows WalkFault.Memory result (rounds_in topology.now.hosts (view value.now)) }
 {
-    let root = Pointer::root(alloc);
+    let root = Place::root(alloc);
     let found = member(value, &root, "rounds")?;
-    let (rounds, _) = read_rounds(alloc, found, &root.member("rounds")?, topology)?;
+    let (rounds, _) = read_rounds(alloc, found, &root.member("rounds"), topology)?;
     Ok(rounds)
 }

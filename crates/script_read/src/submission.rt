@@ -1,18 +1,17 @@
 //! Submissions.
 ghost use Rattle.std.specs.Prelude.{◌≡◌, ◌≤◌, ◌+◌, [], length, IfOk};
-ghost use Rattle.serde_json.specs.View.{view, items_view};
-ghost use Rattle.ledger_terms.specs.Answers.{Follows, FollowsOn};
-ghost use Rattle.lang_read.specs.Walk.{walk_items};
-ghost use Rattle.script_read.specs.Rounds.{participant_named, participant_of, participant_member, participant_in, act_as_in, time_of, time_in, ledger_time_in, is_prepared, submission_of, submission_step, submits_of, submits_in};
+ghost use Rattle.serde_json.specs.View.{view};
+ghost use Rattle.ledger_terms.specs.Answers.{Follows};
+ghost use Rattle.script_read.specs.Rounds.{participant_named, participant_of, participant_member, participant_in, act_as_in, time_of, time_in, ledger_time_in, is_prepared, submission_of, submits_of, submits_in};
 
-use crate::host::read_some_items;
 use crate::what::{are_commands, what_in};
-use lang_read::{
-    ScriptFault, fits, member, name_in, read_integer, read_items, read_name, read_party_items,
-    shape,
+use json_walk::{
+    ACT_AS, LEDGER_TIME, Place, SUBMISSIONS, WalkFault, check_limit, fits, member, name_in,
+    read_each, read_few, read_integer, read_items, read_name, shape,
 };
+use lang_read::read_party;
 use ledger_terms::{
-    Host, Name, ParticipantId, PartySet, Pointer, Submission, SubmissionList, Text, Topology,
+    Host, Name, ParticipantId, PartySet, Submission, SubmissionList, Text, Topology,
 };
 use serde_json::Value;
 use std::alloc::Global;
@@ -36,16 +35,16 @@ fn participant_named(hosts: &[Host], name: Name) -> Option<ParticipantId>
 pub fn read_participant(
     alloc: Global,
     value: &Value,
-    at: &Pointer,
+    at: &Place,
     topology: &Topology,
-) -> Result<ParticipantId, ScriptFault>
+) -> Result<ParticipantId, WalkFault>
     requires { length topology.now.hosts ≤ 256 }
-    ensures { Follows ScriptFault.Memory result (participant_of topology.now.hosts at.now (view value.now)) }
+    ensures { Follows WalkFault.Memory result (participant_of topology.now.hosts at.now (view value.now)) }
 {
     let name = read_name(value, at)?;
     let Some(participant) = participant_named(topology.hosts.as_slice(), name) else {
-        return Err(ScriptFault::Unknown {
-            path: at.clone()?,
+        return Err(WalkFault::Unknown {
+            path: at.pointer()?,
             name: Text::of(alloc, name.as_str())?,
         });
     };
@@ -56,26 +55,26 @@ pub fn read_participant(
 fn participant_member(
     alloc: Global,
     value: &Value,
-    at: &Pointer,
+    at: &Place,
     name: &str,
     topology: &Topology,
-) -> Result<ParticipantId, ScriptFault>
+) -> Result<ParticipantId, WalkFault>
     requires { length topology.now.hosts ≤ 256 }
-    ensures { Follows ScriptFault.Memory result (participant_member topology.now.hosts at.now name.now (view value.now)) }
+    ensures { Follows WalkFault.Memory result (participant_member topology.now.hosts at.now name.now (view value.now)) }
 {
     let found = member(value, at, name)?;
-    read_participant(alloc, found, &at.member(name)?, topology)
+    read_participant(alloc, found, &at.member(name), topology)
 }
 
 #[tactic(auto, unfolding(crate::specs::Rounds::participant_in))]
 fn participant_in(
     alloc: Global,
     value: &Value,
-    at: &Pointer,
+    at: &Place,
     topology: &Topology,
-) -> Result<ParticipantId, ScriptFault>
+) -> Result<ParticipantId, WalkFault>
     requires { length topology.now.hosts ≤ 256 }
-    ensures { Follows ScriptFault.Memory result (participant_in topology.now.hosts at.now (view value.now)) }
+    ensures { Follows WalkFault.Memory result (participant_in topology.now.hosts at.now (view value.now)) }
 {
     participant_member(alloc, value, at, "participant", topology)
 }
@@ -84,39 +83,43 @@ fn participant_in(
 fn act_as_in(
     alloc: Global,
     value: &Value,
-    at: &Pointer,
+    at: &Place,
     topology: &Topology,
-) -> Result<PartySet, ScriptFault>
-    ensures { Follows ScriptFault.Memory result (act_as_in topology.now.hosts at.now (view value.now)) }
+) -> Result<PartySet, WalkFault>
+    ensures { Follows WalkFault.Memory result (act_as_in topology.now.hosts at.now (view value.now)) }
 {
     let found = member(value, at, "act_as")?;
-    let here = at.member("act_as")?;
-    let items = read_some_items(found, &here, 14, 128)?;
-    let names = read_party_items(alloc, items, &here, topology)?;
+    let names = read_few(
+        alloc,
+        found,
+        &at.member("act_as"),
+        ACT_AS,
+        |item, here| read_party(alloc, item, here, topology),
+    )?;
     Ok(PartySet::of(alloc, &names)?)
 }
 
 #[tactic(auto, unfolding(crate::specs::Rounds::time_of))]
-fn read_time(value: &Value, at: &Pointer) -> Result<Option<u64>, ScriptFault>
-    ensures { Follows ScriptFault.Memory result (time_of at.now (view value.now)) }
+fn read_time(value: &Value, at: &Place) -> Result<Option<u64>, WalkFault>
+    ensures { Follows WalkFault.Memory result (time_of at.now (view value.now)) }
 {
-    let time = read_integer(value, at, 17, 0, 10_000_000_000_000_000)?;
+    let time = read_integer(value, at, LEDGER_TIME)?;
     Ok(Some(time))
 }
 
 #[tactic(auto, unfolding(crate::specs::Rounds::time_in))]
-fn time_in(value: &Value, at: &Pointer, name: &str) -> Result<Option<u64>, ScriptFault>
-    ensures { Follows ScriptFault.Memory result (time_in at.now name.now (view value.now)) }
+fn time_in(value: &Value, at: &Place, name: &str) -> Result<Option<u64>, WalkFault>
+    ensures { Follows WalkFault.Memory result (time_in at.now name.now (view value.now)) }
 {
     match value.get(name) {
-        Some(found) => read_time(found, &at.member(name)?),
+        Some(found) => read_time(found, &at.member(name)),
         None => Ok(None),
     }
 }
 
 #[tactic(auto, unfolding(crate::specs::Rounds::ledger_time_in))]
-fn ledger_time_in(value: &Value, at: &Pointer) -> Result<Option<u64>, ScriptFault>
-    ensures { Follows ScriptFault.Memory result (ledger_time_in at.now (view value.now)) }
+fn ledger_time_in(value: &Value, at: &Place) -> Result<Option<u64>, WalkFault>
+    ensures { Follows WalkFault.Memory result (ledger_time_in at.now (view value.now)) }
 {
     time_in(value, at, "ledger_time")
 }
@@ -136,11 +139,11 @@ fn is_prepared(value: &Value) -> bool
 fn read_submission(
     alloc: Global,
     value: &Value,
-    at: &Pointer,
+    at: &Place,
     topology: &Topology,
-) -> Result<Submission, ScriptFault>
+) -> Result<Submission, WalkFault>
     requires { length topology.now.hosts ≤ 256 }
-    ensures { Follows ScriptFault.Memory result (submission_of topology.now.hosts at.now (view value.now)) }
+    ensures { Follows WalkFault.Memory result (submission_of topology.now.hosts at.now (view value.now)) }
 {
     if !(are_commands(value) || is_prepared(value)) {
         return shape(at);
@@ -159,83 +162,47 @@ fn read_submission(
     })
 }
 
-#[tactic(auto, unfolding(crate::specs::Rounds::submission_step))]
-fn push_submission(
-    alloc: Global,
-    value: &Value,
-    at: &Pointer,
-    index: usize,
-    topology: &Topology,
-    submits: &mut SubmissionList,
-) -> Result<(), ScriptFault>
-    requires { length topology.now.hosts ≤ 256 }
-    ensures { FollowsOn ScriptFault.Memory submits.new result
-        (submission_step topology.now.hosts at.now index submits.old (view value.now)) }
-{
-    let here = at.item(index)?;
-    let submission = read_submission(alloc, value, &here, topology)?;
-    submits.push(submission)?;
-    Ok(())
-}
-
-fn read_submission_items(
-    alloc: Global,
-    items: &[Value],
-    at: &Pointer,
-    topology: &Topology,
-) -> Result<SubmissionList, ScriptFault>
-    requires { length topology.now.hosts ≤ 256 }
-    ensures { Follows ScriptFault.Memory result (walk_items (submission_step topology.now.hosts at.now) 0 [] (items_view items.now)) }
-{
-    let mut submits = SubmissionList::new(alloc);
-    'items: for (i, item) in items.iter().enumerate() {
-        push_submission(alloc, item, at, i, topology, &mut submits)?;
-    }
-    Ok(submits)
-}
-
-#[tactic(auto, using(lang_read::proofs::Items::item_count_view), unfolding(crate::specs::Rounds::submits_of))]
+#[tactic(auto, using(json_walk::proofs::Items::item_count_view), unfolding(crate::specs::Rounds::submits_of))]
 fn read_submits(
     alloc: Global,
     value: &Value,
-    at: &Pointer,
-    before: usize,
+    at: &Place,
+    before: u64,
     topology: &Topology,
-) -> Result<(SubmissionList, usize), ScriptFault>
+) -> Result<(SubmissionList, u64), WalkFault>
     requires known { length topology.now.hosts ≤ 256 }
-    requires few { before ≤ 2048 }
-    ensures first { Follows ScriptFault.Memory result (submits_of topology.now.hosts before at.now (view value.now)) }
-    ensures few { IfOk result (λ s. s.1 ≤ 2048) }
+    requires few { before ≤ SUBMISSIONS.most }
+    ensures first { Follows WalkFault.Memory result (submits_of topology.now.hosts before at.now (view value.now)) }
+    ensures few { IfOk result (λ s. s.1 ≤ SUBMISSIONS.most) }
 {
     let items = read_items(value, at)?;
-    let count = before + items.len();
-    if count > 2048 {
-        return Err(ScriptFault::Limit {
-            path: at.clone()?,
-            which: 12,
-            found: count as u64,
-        });
-    }
-    let submits = read_submission_items(alloc, items, at, topology)?;
+    let count = before + items.len() as u64;
+    check_limit(at, SUBMISSIONS, count)?;
+    let submits = read_each(
+        alloc,
+        items,
+        at,
+        |item, here| read_submission(alloc, item, here, topology),
+    )?;
     Ok((submits, count))
 }
 
-/// The submissions of a round, where so many stand in the rounds before it; gives that number after it too.
+/// The submissions of a round, and the number of submissions with them. `before` is the number of those in the rounds before.
 #[tactic(auto, unfolding(crate::specs::Rounds::submits_in))]
 pub fn submits_in(
     alloc: Global,
     value: &Value,
-    at: &Pointer,
-    before: usize,
+    at: &Place,
+    before: u64,
     topology: &Topology,
-) -> Result<(SubmissionList, usize), ScriptFault>
+) -> Result<(SubmissionList, u64), WalkFault>
     requires known { length topology.now.hosts ≤ 256 }
-    requires few { before ≤ 2048 }
-    ensures first { Follows ScriptFault.Memory result (submits_in topology.now.hosts before at.now (view value.now)) }
-    ensures few { IfOk result (λ s. s.1 ≤ 2048) }
+    requires few { before ≤ SUBMISSIONS.most }
+    ensures first { Follows WalkFault.Memory result (submits_in topology.now.hosts before at.now (view value.now)) }
+    ensures few { IfOk result (λ s. s.1 ≤ SUBMISSIONS.most) }
 {
     match value.get("submits") {
-        Some(found) => read_submits(alloc, found, &at.member("submits")?, before, topology),
+        Some(found) => read_submits(alloc, found, &at.member("submits"), before, topology),
         None => Ok((SubmissionList::new(alloc), before)),
     }
 }

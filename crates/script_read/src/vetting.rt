@@ -1,13 +1,13 @@
 //! What the participants have vetted.
 ghost use Rattle.std.specs.Prelude.{◌≡◌, [], IfOk, OnOk, slice_get};
 ghost use Rattle.serde_json.specs.View.{view, items_view};
-ghost use Rattle.ledger_terms.specs.Answers.{Follows, FollowsOn};
-ghost use Rattle.lang_read.specs.Walk.{walk_items};
-ghost use Rattle.script_read.specs.Hosts.{is_package, package_names, vetted_step, vetted_of, vetted_in, with_vetted, vetting_step, vetting_in};
+ghost use Rattle.ledger_terms.specs.Answers.{Follows};
+ghost use Rattle.json_walk.specs.Walk.{walk_items};
+ghost use Rattle.script_read.specs.Hosts.{is_package, package_names, package_name_of, vetted_in, with_vetted, vetting_step, vetting_in};
 
-use crate::host::{participants_at, participants_of};
-use lang_read::{ScriptFault, read_items, read_name};
-use ledger_terms::{Host, HostList, Name, NameList, Package, Pointer, Text};
+use crate::host::participants_of;
+use json_walk::{Place, WalkFault, read_items, read_list, read_name};
+use ledger_terms::{Host, HostList, Name, NameList, Package, Text};
 use serde_json::Value;
 use std::alloc::{AllocError, Global};
 
@@ -27,69 +27,42 @@ fn package_names(alloc: Global, packages: &[Package]) -> Result<NameList, AllocE
     Ok(names)
 }
 
-#[tactic(auto, unfolding(crate::specs::Hosts::vetted_step))]
-fn push_package(
+/// The name of one of the packages.
+#[tactic(auto, unfolding(crate::specs::Hosts::package_name_of))]
+fn read_package_name(
     alloc: Global,
     value: &Value,
-    at: &Pointer,
-    index: usize,
+    at: &Place,
     packages: &[Package],
-    names: &mut NameList,
-) -> Result<(), ScriptFault>
-    ensures { FollowsOn ScriptFault.Memory names.new result
-        (vetted_step packages.now at.now index names.old (view value.now)) }
+) -> Result<Name, WalkFault>
+    ensures { Follows WalkFault.Memory result (package_name_of packages.now at.now (view value.now)) }
 {
-    let here = at.item(index)?;
-    let name = read_name(value, &here)?;
+    let name = read_name(value, at)?;
     if !is_package(packages, name) {
-        return Err(ScriptFault::Unknown {
-            path: here,
+        return Err(WalkFault::Unknown {
+            path: at.pointer()?,
             name: Text::of(alloc, name.as_str())?,
         });
     }
-    names.push(name)?;
-    Ok(())
-}
-
-fn read_package_items(
-    alloc: Global,
-    items: &[Value],
-    at: &Pointer,
-    packages: &[Package],
-) -> Result<NameList, ScriptFault>
-    ensures { Follows ScriptFault.Memory result (walk_items (vetted_step packages.now at.now) 0 [] (items_view items.now)) }
-{
-    let mut names = NameList::new(alloc);
-    'items: for (i, item) in items.iter().enumerate() {
-        push_package(alloc, item, at, i, packages, &mut names)?;
-    }
-    Ok(names)
-}
-
-#[tactic(auto, unfolding(crate::specs::Hosts::vetted_of))]
-fn read_vetted(
-    alloc: Global,
-    value: &Value,
-    at: &Pointer,
-    packages: &[Package],
-) -> Result<NameList, ScriptFault>
-    ensures { Follows ScriptFault.Memory result (vetted_of packages.now at.now (view value.now)) }
-{
-    let items = read_items(value, at)?;
-    read_package_items(alloc, items, at, packages)
+    Ok(name)
 }
 
 #[tactic(auto, unfolding(crate::specs::Hosts::vetted_in))]
 fn vetted_in(
     alloc: Global,
     value: &Value,
-    at: &Pointer,
+    at: &Place,
     packages: &[Package],
-) -> Result<NameList, ScriptFault>
-    ensures { Follows ScriptFault.Memory result (vetted_in packages.now at.now (view value.now)) }
+) -> Result<NameList, WalkFault>
+    ensures { Follows WalkFault.Memory result (vetted_in packages.now at.now (view value.now)) }
 {
     match value.get("vetted") {
-        Some(found) => read_vetted(alloc, found, &at.member("vetted")?, packages),
+        Some(found) => read_list(
+            alloc,
+            found,
+            &at.member("vetted"),
+            |item, here| read_package_name(alloc, item, here, packages),
+        ),
         None => Ok(package_names(alloc, packages)?),
     }
 }
@@ -113,36 +86,19 @@ fn push_vetted(
 }
 
 #[tactic(auto, unfolding(crate::specs::Hosts::vetting_step))]
-fn push_vetting(
-    alloc: Global,
-    value: &Value,
-    at: &Pointer,
-    index: usize,
-    packages: &[Package],
-    hosts: &[Host],
-    done: &mut HostList,
-) -> Result<(), ScriptFault>
-    ensures { FollowsOn ScriptFault.Memory done.new result
-        (vetting_step packages.now hosts.now at.now index done.old (view value.now)) }
-{
-    let here = at.item(index)?;
-    let vetted = vetted_in(alloc, value, &here, packages)?;
-    push_vetted(hosts, index, vetted, done)?;
-    Ok(())
-}
-
 fn read_vetting_items(
     alloc: Global,
     items: &[Value],
-    at: &Pointer,
+    at: &Place,
     packages: &[Package],
     hosts: &[Host],
-) -> Result<HostList, ScriptFault>
-    ensures { Follows ScriptFault.Memory result (walk_items (vetting_step packages.now hosts.now at.now) 0 [] (items_view items.now)) }
+) -> Result<HostList, WalkFault>
+    ensures { Follows WalkFault.Memory result (walk_items (vetting_step packages.now hosts.now at.now) 0 [] (items_view items.now)) }
 {
     let mut done = HostList::new(alloc);
     'items: for (i, item) in items.iter().enumerate() {
-        push_vetting(alloc, item, at, i, packages, hosts, &mut done)?;
+        let vetted = vetted_in(alloc, item, &at.item(i), packages)?;
+        push_vetted(hosts, i, vetted, &mut done)?;
     }
     Ok(done)
 }
@@ -154,11 +110,12 @@ pub fn vetting_in(
     value: &Value,
     packages: &[Package],
     hosts: &[Host],
-) -> Result<HostList, ScriptFault>
-    ensures { Follows ScriptFault.Memory result (vetting_in packages.now hosts.now (view value.now)) }
+) -> Result<HostList, WalkFault>
+    ensures { Follows WalkFault.Memory result (vetting_in packages.now hosts.now (view value.now)) }
 {
     let found = participants_of(alloc, value)?;
-    let at = participants_at(alloc)?;
+    let root = Place::root(alloc);
+    let at = root.member("participants");
     let items = read_items(found, &at)?;
     read_vetting_items(alloc, items, &at, packages, hosts)
 }

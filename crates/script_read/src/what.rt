@@ -1,14 +1,17 @@
 //! What a submission asks for.
-ghost use Rattle.std.specs.Prelude.{◌≡◌, []};
-ghost use Rattle.serde_json.specs.View.{view, items_view};
+ghost use Rattle.std.specs.Prelude.{◌≡◌};
+ghost use Rattle.serde_json.specs.View.{view};
 ghost use Rattle.ledger_terms.specs.Answers.{Follows};
 ghost use Rattle.script_read.specs.Rounds.{commands_in, seed_of_of, some_seed_of, seed_of_in, trees_in, prepared_in, are_commands, what_in};
 
-use crate::command::read_command_items;
-use crate::host::{is_participant, read_some_items};
+use crate::command::read_command;
+use crate::host::is_participant;
 use crate::tree::read_tree;
-use lang_read::{ScriptFault, fits, member, read_items, read_name, read_two};
-use ledger_terms::{DraftList, Pointer, SeedOf, Text, Topology, What};
+use json_walk::{
+    COMMANDS, Place, WalkFault, fits, member, read_few, read_few_items, read_items, read_name,
+    read_two,
+};
+use ledger_terms::{DraftList, SeedOf, Text, Topology, What};
 use serde_json::Value;
 use std::alloc::Global;
 
@@ -16,15 +19,19 @@ use std::alloc::Global;
 fn commands_in(
     alloc: Global,
     value: &Value,
-    at: &Pointer,
+    at: &Place,
     topology: &Topology,
-) -> Result<What, ScriptFault>
-    ensures { Follows ScriptFault.Memory result (commands_in topology.now.hosts at.now (view value.now)) }
+) -> Result<What, WalkFault>
+    ensures { Follows WalkFault.Memory result (commands_in topology.now.hosts at.now (view value.now)) }
 {
     let found = member(value, at, "commands")?;
-    let here = at.member("commands")?;
-    let items = read_some_items(found, &here, 13, 16)?;
-    let commands = read_command_items(alloc, items, &here, topology)?;
+    let commands = read_few(
+        alloc,
+        found,
+        &at.member("commands"),
+        COMMANDS,
+        |item, here| read_command(alloc, item, here, topology),
+    )?;
     Ok(What::Commands(commands))
 }
 
@@ -32,22 +39,22 @@ fn commands_in(
 fn read_seed(
     alloc: Global,
     value: &Value,
-    at: &Pointer,
+    at: &Place,
     topology: &Topology,
-) -> Result<SeedOf, ScriptFault>
-    ensures { Follows ScriptFault.Memory result (seed_of_of topology.now.hosts at.now (view value.now)) }
+) -> Result<SeedOf, WalkFault>
+    ensures { Follows WalkFault.Memory result (seed_of_of topology.now.hosts at.now (view value.now)) }
 {
     let items = read_items(value, at)?;
     let (participant, command) = read_two(items, at)?;
-    let here = at.item(0)?;
+    let here = at.item(0);
     let participant = read_name(participant, &here)?;
     if !is_participant(topology.hosts.as_slice(), participant) {
-        return Err(ScriptFault::Unknown {
-            path: here,
+        return Err(WalkFault::Unknown {
+            path: here.pointer()?,
             name: Text::of(alloc, participant.as_str())?,
         });
     }
-    let command = read_name(command, &at.item(1)?)?;
+    let command = read_name(command, &at.item(1))?;
     Ok(SeedOf {
         participant,
         command,
@@ -58,10 +65,10 @@ fn read_seed(
 fn read_some_seed(
     alloc: Global,
     value: &Value,
-    at: &Pointer,
+    at: &Place,
     topology: &Topology,
-) -> Result<Option<SeedOf>, ScriptFault>
-    ensures { Follows ScriptFault.Memory result (some_seed_of topology.now.hosts at.now (view value.now)) }
+) -> Result<Option<SeedOf>, WalkFault>
+    ensures { Follows WalkFault.Memory result (some_seed_of topology.now.hosts at.now (view value.now)) }
 {
     let seed = read_seed(alloc, value, at, topology)?;
     Ok(Some(seed))
@@ -71,13 +78,13 @@ fn read_some_seed(
 fn seed_of_in(
     alloc: Global,
     value: &Value,
-    at: &Pointer,
+    at: &Place,
     topology: &Topology,
-) -> Result<Option<SeedOf>, ScriptFault>
-    ensures { Follows ScriptFault.Memory result (seed_of_in topology.now.hosts at.now (view value.now)) }
+) -> Result<Option<SeedOf>, WalkFault>
+    ensures { Follows WalkFault.Memory result (seed_of_in topology.now.hosts at.now (view value.now)) }
 {
     match value.get("seed_of") {
-        Some(found) => read_some_seed(alloc, found, &at.member("seed_of")?, topology),
+        Some(found) => read_some_seed(alloc, found, &at.member("seed_of"), topology),
         None => Ok(None),
     }
 }
@@ -86,14 +93,14 @@ fn seed_of_in(
 fn trees_in(
     alloc: Global,
     value: &Value,
-    at: &Pointer,
+    at: &Place,
     topology: &Topology,
-) -> Result<DraftList, ScriptFault>
-    ensures { Follows ScriptFault.Memory result (trees_in topology.now.hosts at.now (view value.now)) }
+) -> Result<DraftList, WalkFault>
+    ensures { Follows WalkFault.Memory result (trees_in topology.now.hosts at.now (view value.now)) }
 {
     let found = member(value, at, "prepared")?;
-    let here = at.member("prepared")?;
-    read_some_items(found, &here, 13, 16)?;
+    let here = at.member("prepared");
+    read_few_items(found, &here, COMMANDS)?;
     let (trees, _) = read_tree(alloc, found, &here, 1, 0, topology)?;
     Ok(trees)
 }
@@ -102,10 +109,10 @@ fn trees_in(
 fn prepared_in(
     alloc: Global,
     value: &Value,
-    at: &Pointer,
+    at: &Place,
     topology: &Topology,
-) -> Result<What, ScriptFault>
-    ensures { Follows ScriptFault.Memory result (prepared_in topology.now.hosts at.now (view value.now)) }
+) -> Result<What, WalkFault>
+    ensures { Follows WalkFault.Memory result (prepared_in topology.now.hosts at.now (view value.now)) }
 {
     let roots = trees_in(alloc, value, at, topology)?;
     let seed_of = seed_of_in(alloc, value, at, topology)?;
@@ -129,10 +136,10 @@ pub fn are_commands(value: &Value) -> bool
 pub fn what_in(
     alloc: Global,
     value: &Value,
-    at: &Pointer,
+    at: &Place,
     topology: &Topology,
-) -> Result<What, ScriptFault>
-    ensures { Follows ScriptFault.Memory result (what_in topology.now.hosts at.now (view value.now)) }
+) -> Result<What, WalkFault>
+    ensures { Follows WalkFault.Memory result (what_in topology.now.hosts at.now (view value.now)) }
 {
     if are_commands(value) {
         commands_in(alloc, value, at, topology)

@@ -1,6 +1,6 @@
 use Rattle.std.proofs.Common.{◌≡◌, [], drop}
 use Rattle.serde_json.specs.View.{items_view}
-use Rattle.lang_read.specs.Walk.{walk_items}
+use Rattle.json_walk.specs.Walk.{walk_items}
 use Rattle.script_read.specs.Hosts.{new_party_step}
 use Rattle.script_read.proofs.host.read_new_parties.Given as goal
 

@@ -3,8 +3,8 @@ use Rattle.std.specs.Prelude.{codes}
 use Rattle.serde_json.specs.Data.{array, depth, items_depth}
 use Rattle.serde_json.specs.View.{view, items_view}
 use Rattle.serde_json.specs.declared.value.Value.{the_lemmas}
-use Rattle.lang_read.specs.Walk.{member_of}
-use Rattle.lang_read.proofs.Nested.{member_below, item_below}
+use Rattle.json_walk.specs.Walk.{member_of}
+use Rattle.json_walk.proofs.Nested.{member_below, item_below}
 use Rattle.script_read.specs.Drafts.{exercise_draft_of, has_draft_members, call_of}
 use Rattle.script_read.proofs.Trees.{draft_of-is, node_of-is, tree_of-is}
 use Rattle.script_read.proofs.tree.+tree.Goals as goal
@@ -15,7 +15,7 @@ pub read_draft-read_node-requires : goal.read_draft-read_node-requires
 read_draft-read_node-requires t c =
     let is : member_of c.args.at.now (codes "exercise") (view c.args.value.now) ≡ Ok (view c.in_ok-found.found.now) = c.in_ok-found.ensures in
     let below : 2 * depth (view c.in_ok-found.found.now) < 2 * depth (view c.args.value.now) = omega (arith, member_below c.args.at.now (codes "exercise") (view c.args.value.now) (view c.in_ok-found.found.now) is) in
-    (rw (← c.decreases) below, (c.in_ok-check_depth.ensures.within, c.requires.few))
+    (rw (← c.decreases) below, (c.in_ok-check_limit.ensures.most, c.requires.few))
 
 pub read_node-read_tree-requires : goal.read_node-read_tree-requires
 read_node-read_tree-requires t c =
@@ -32,20 +32,20 @@ read_drafts-read_draft-requires t c =
 
 -- ---- lists
 
-pub read_tree-returns-in_err-check_count-in-Array-clause-first : goal.read_tree-returns-in_err-check_count-in-Array-clause-first
-read_tree-returns-in_err-check_count-in-Array-clause-first t c =
+pub read_tree-returns-in_err-check_limit-in-Array-clause-first : goal.read_tree-returns-in_err-check_limit-in-Array-clause-first
+read_tree-returns-in_err-check_limit-in-Array-clause-first t c =
     let is : view c.args.value.now ≡ array (items_view c.in-Array.items.items) = search (rules, the_lemmas) in
     rw (tree_of-is c.args.topology.now.hosts c.args.at.now c.args.depth c.args.before c.in-Array.items.items _ is) (search rules)
 
-pub read_tree-returns-in_ok-check_count-in-Array-clause-first : goal.read_tree-returns-in_ok-check_count-in-Array-clause-first
-read_tree-returns-in_ok-check_count-in-Array-clause-first t c =
+pub read_tree-returns-in_ok-check_limit-in-Array-clause-first : goal.read_tree-returns-in_ok-check_limit-in-Array-clause-first
+read_tree-returns-in_ok-check_limit-in-Array-clause-first t c =
     let is : view c.args.value.now ≡ array (items_view c.in-Array.items.items) = search (rules, the_lemmas) in
     rw (tree_of-is c.args.topology.now.hosts c.args.at.now c.args.depth c.args.before c.in-Array.items.items _ is) (search rules)
 
 -- ---- drafts
 
-pub read_draft-returns-in_err-check_depth-clause-first : goal.read_draft-returns-in_err-check_depth-clause-first
-read_draft-returns-in_err-check_depth-clause-first t c = rw (draft_of-is c.args.topology.now.hosts c.args.at.now c.args.depth c.args.before (view c.args.value.now)) (search rules)
+pub read_draft-returns-in_err-check_limit-clause-first : goal.read_draft-returns-in_err-check_limit-clause-first
+read_draft-returns-in_err-check_limit-clause-first t c = rw (draft_of-is c.args.topology.now.hosts c.args.at.now c.args.depth c.args.before (view c.args.value.now)) (search rules)
 
 pub read_draft-returns-in_err-leaf-clause-first : goal.read_draft-returns-in_err-leaf-clause-first
 read_draft-returns-in_err-leaf-clause-first t c = rw (draft_of-is c.args.topology.now.hosts c.args.at.now c.args.depth c.args.before (view c.args.value.now)) (search rules)

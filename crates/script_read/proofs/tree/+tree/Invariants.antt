@@ -2,6 +2,7 @@ use Rattle.std.proofs.Common.{◌≡◌, ◌≤◌, ◌+◌, ◌*◌, drop}
 use Rattle.serde_json.specs.Data.{depth, items_depth}
 use Rattle.serde_json.specs.View.{view, items_view}
 use Rattle.ledger_terms.specs.Forest.{NoRoots}
+use Rattle.json_walk.specs.declared.limits.TheConstants.{DRAFTS}
 use Rattle.script_read.specs.Drafts.{drafts_from}
 use Rattle.script_read.proofs.tree.+tree.Given as goal
 
@@ -20,5 +21,5 @@ decreases-read_drafts l = 2 * items_depth (items_view l.items.now.items) + 1
 abbrev pub invariant-read_drafts-drafts : goal.invariant-read_drafts-drafts
 invariant-read_drafts-drafts l = record {
   walk : drafts_from l.topology.hosts l.at l.depth l.i (l.drafts, l.count) (items_view (drop l.i l.items.items)) ≡ drafts_from l.topology.hosts l.at l.depth 0 (NoRoots, l.before) (items_view l.items.items);
-  within : l.count ≤ 64;
+  within : l.count ≤ DRAFTS.most;
 }

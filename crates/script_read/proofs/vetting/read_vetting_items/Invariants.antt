@@ -1,6 +1,6 @@
 use Rattle.std.proofs.Common.{◌≡◌, [], drop}
 use Rattle.serde_json.specs.View.{items_view}
-use Rattle.lang_read.specs.Walk.{walk_items}
+use Rattle.json_walk.specs.Walk.{walk_items}
 use Rattle.script_read.specs.Hosts.{vetting_step}
 use Rattle.script_read.proofs.vetting.read_vetting_items.Given as goal
 

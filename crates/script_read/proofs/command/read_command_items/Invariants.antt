@@ -1,9 +1,0 @@
-use Rattle.std.proofs.Common.{◌≡◌, [], drop}
-use Rattle.serde_json.specs.View.{items_view}
-use Rattle.lang_read.specs.Walk.{walk_items}
-use Rattle.script_read.specs.Commands.{command_step}
-use Rattle.script_read.proofs.command.read_command_items.Given as goal
-
-abbrev pub invariant-items : goal.invariant-items
-invariant-items l =
-    walk_items (command_step l.topology.hosts l.at) l.i l.commands (items_view (drop l.i l.items)) ≡ walk_items (command_step l.topology.hosts l.at) 0 [] (items_view l.items)
