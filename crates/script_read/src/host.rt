@@ -4,7 +4,7 @@ ghost use Rattle.serde_json.specs.View.{view, items_view};
 ghost use Rattle.ledger_terms.specs.Answers.{Follows, FollowsOn, FollowsAs};
 ghost use Rattle.json_walk.specs.Walk.{walk_items};
 ghost use Rattle.ledger_terms.specs.Parties.{has_party, set_of};
-ghost use Rattle.script_read.specs.Hosts.{is_participant, new_party_step, party_items_in, new_name_in, has_host_members, host_of, host_step, hosts_of, root_member, participants_of, hosts_in};
+ghost use Rattle.script_read.specs.Hosts.{is_participant, new_party_step, party_items_in, new_name_in, has_host_members, host_of, host_step, hosts_of, root_member, participants_at, participants_of, hosts_in};
 
 use json_walk::{
     PARTICIPANTS, PARTIES, Place, WalkFault, check_limit, fits, member, name_in, read_few_items,
@@ -148,12 +148,14 @@ fn read_host_items(alloc: Global, items: &[Value], at: &Place) -> Result<(HostLi
 }
 
 #[tactic(auto, unfolding(crate::specs::Hosts::hosts_of))]
-fn read_hosts(alloc: Global, value: &Value, at: &Place) -> Result<(HostList, u64), WalkFault>
-    ensures first { Follows WalkFault.Memory result (hosts_of at.now (view value.now)) }
+fn read_hosts(alloc: Global, value: &Value) -> Result<(HostList, u64), WalkFault>
+    ensures first { Follows WalkFault.Memory result (hosts_of participants_at (view value.now)) }
     ensures few { IfOk result (λ s. length s.0 ≤ PARTICIPANTS.most) }
 {
-    let items = read_few_items(value, at, PARTICIPANTS)?;
-    read_host_items(alloc, items, at)
+    let root = Place::root(alloc);
+    let at = root.member("participants");
+    let items = read_few_items(value, &at, PARTICIPANTS)?;
+    read_host_items(alloc, items, &at)
 }
 
 #[tactic(auto, unfolding(crate::specs::Hosts::root_member))]
@@ -180,7 +182,6 @@ pub fn hosts_in(alloc: Global, value: &Value) -> Result<HostList, WalkFault>
     ensures few { IfOk result (λ h. length h ≤ PARTICIPANTS.most) }
 {
     let found = participants_of(alloc, value)?;
-    let root = Place::root(alloc);
-    let (hosts, _) = read_hosts(alloc, found, &root.member("participants"))?;
+    let (hosts, _) = read_hosts(alloc, found)?;
     Ok(hosts)
 }

@@ -110,7 +110,8 @@ fn read_rounds(
         ROUNDS,
         SUBMISSIONS.most,
         |item, here, before|
-            requires { before ≤ SUBMISSIONS.most }
+            requires known { length topology.now.hosts ≤ 256 }
+            requires few { before ≤ SUBMISSIONS.most }
         { read_round(alloc, item, here, before, topology) },
     )
 }
