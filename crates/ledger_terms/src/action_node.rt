@@ -5,6 +5,7 @@ ghost use Rattle.ledger_terms.specs.Grown.{forest_of, tree_of};
 ghost use Rattle.ledger_terms.specs.Roots.{tree_at, trees_count};
 
 use crate::action::{Action, copy_action};
+use crate::exact::Exact;
 use crate::hash::Hash;
 use std::alloc::{AllocError, Global};
 use std::marker::Model;
@@ -144,4 +145,12 @@ impl Clone for ActionNode {
             children: self.children.clone()?,
         })
     }
+}
+
+impl Exact for ActionNode {
+    ghost same = { λ a b h. h };
+}
+
+impl Exact for ActionNodeList {
+    ghost same = { λ a b h. h };
 }

@@ -1,6 +1,7 @@
 //! What a contract says.
 ghost use Rattle.std.specs.Prelude.{◌≡◌, IfOk};
 
+use crate::exact::Exact;
 use crate::template_name::TemplateName;
 use crate::value::{ValueList, copy_values};
 use std::alloc::AllocError;
@@ -20,4 +21,11 @@ pub fn copy_instance(instance: &Instance) -> Result<Instance, AllocError>
         template: instance.template,
         fields: copy_values(&instance.fields)?,
     })
+}
+
+impl Exact for Instance {
+    ghost use Rattle.std.proofs.Common.{rules};
+    ghost use Rattle.std.proofs.lemmas.List.Elements.{same_from_all_zip};
+
+    ghost same = { Prim.search (rules, same_from_all_zip) };
 }

@@ -3,6 +3,7 @@ ghost use Rattle.std.specs.Prelude.{◌≡◌, ◌++◌, [], IfOk, OnOk};
 ghost use Rattle.std.specs.List.{flat_map};
 ghost use Rattle.ledger_terms.specs.Pointers.{is_reserved, escape_of, token_byte, at_member, at_item};
 
+use crate::exact::Exact;
 use crate::text::Text;
 use std::alloc::{AllocError, Global};
 use std::marker::Model;
@@ -111,4 +112,8 @@ impl PartialEq for Pointer {
     fn eq(&self, other: &Pointer) -> bool {
         self.as_str() == other.as_str()
     }
+}
+
+impl Exact for Pointer {
+    ghost same = { λ a b h. h };
 }

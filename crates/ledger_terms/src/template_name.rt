@@ -1,4 +1,5 @@
 //! How a template is named.
+use crate::exact::Exact;
 use crate::name::Name;
 
 /// A template's name, which is written `Package.Template`.
@@ -6,4 +7,8 @@ use crate::name::Name;
 pub struct TemplateName {
     pub package: Name,
     pub name: Name,
+}
+
+impl Exact for TemplateName {
+    ghost same = { λ a b h. h };
 }
