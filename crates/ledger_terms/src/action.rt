@@ -83,11 +83,10 @@ impl Action {
 }
 
 /// Another action that is equal.
-#[tactic(auto, using(std::proofs::lemmas::List::Elements::same_from_all_zip))]
 pub fn copy_action(action: &Action) -> Result<Action, AllocError>
     ensures { IfOk result (λ a. a ≡ action.now) }
 {
-    action.clone()
+    action.copied()
 }
 
 impl Exact for Action {

@@ -3,7 +3,7 @@ ghost use Rattle.std.specs.Prelude.{◌≡◌, IfOk};
 
 use crate::exact::Exact;
 use crate::template_name::TemplateName;
-use crate::value::{ValueList, copy_values};
+use crate::value::ValueList;
 use std::alloc::AllocError;
 
 /// A contract's template and the values of its fields, in the order in which the template declares them.
@@ -17,10 +17,7 @@ pub struct Instance {
 pub fn copy_instance(instance: &Instance) -> Result<Instance, AllocError>
     ensures { IfOk result (λ i. i ≡ instance.now) }
 {
-    Ok(Instance {
-        template: instance.template,
-        fields: copy_values(&instance.fields)?,
-    })
+    instance.copied()
 }
 
 impl Exact for Instance {

@@ -95,8 +95,122 @@ pub const MOST_WAIT: u64 = 1_000_000_000_000;
 /// The greatest ledger time, in microseconds.
 pub const MOST_LEDGER_TIME: u64 = 10_000_000_000_000_000;
 
-/// The limit on participants.
+/// The limit on participants of a topology.
 pub const PARTICIPANTS: Limit = Limit {
     number: 1,
     most: MOST_PARTICIPANTS as u64,
+};
+
+/// The limit on parties of a topology.
+pub const PARTIES: Limit = Limit {
+    number: 2,
+    most: MOST_PARTIES as u64,
+};
+
+/// The limit on packages of a script.
+pub const PACKAGES: Limit = Limit {
+    number: 3,
+    most: MOST_PACKAGES as u64,
+};
+
+/// The limit on templates of all packages of a script.
+pub const TEMPLATES: Limit = Limit {
+    number: 4,
+    most: MOST_TEMPLATES as u64,
+};
+
+/// The limit on fields of a template.
+pub const FIELDS: Limit = Limit {
+    number: 5,
+    most: MOST_FIELDS as u64,
+};
+
+/// The limit on parameters of a choice, or arguments of an Exercise.
+pub const PARAMS: Limit = Limit {
+    number: 6,
+    most: MOST_PARAMS as u64,
+};
+
+/// The limit on choices of a template.
+pub const CHOICES: Limit = Limit {
+    number: 7,
+    most: MOST_CHOICES as u64,
+};
+
+/// The limit on levels of an expression.
+pub const EXPR_DEPTH: Limit = Limit {
+    number: 8,
+    most: MOST_EXPR_DEPTH as u64,
+};
+
+/// The limit on statements of a choice, nested ones counted.
+pub const STATEMENTS: Limit = Limit {
+    number: 9,
+    most: MOST_STATEMENTS as u64,
+};
+
+/// The limit on bytes of a text.
+pub const TEXT_BYTES: Limit = Limit {
+    number: 10,
+    most: MOST_TEXT_BYTES as u64,
+};
+
+/// The limit on rounds of a script.
+pub const ROUNDS: Limit = Limit {
+    number: 11,
+    most: MOST_ROUNDS as u64,
+};
+
+/// The limit on submissions of all rounds of a script.
+pub const SUBMISSIONS: Limit = Limit {
+    number: 12,
+    most: MOST_SUBMISSIONS as u64,
+};
+
+/// The limit on commands or root drafts of a submission.
+pub const COMMANDS: Limit = Limit {
+    number: 13,
+    most: MOST_COMMANDS as u64,
+};
+
+/// The limit on parties that a submission acts as.
+pub const ACT_AS: Limit = Limit {
+    number: 14,
+    most: MOST_ACT_AS as u64,
+};
+
+/// The limit on microseconds by which a round moves the clock.
+pub const ADVANCE: Limit = Limit {
+    number: 15,
+    most: MOST_ADVANCE,
+};
+
+/// The limit on microseconds of a timeout or a skew.
+pub const WAIT: Limit = Limit {
+    number: 16,
+    most: MOST_WAIT,
+};
+
+/// The limit on microseconds of a ledger time.
+pub const LEDGER_TIME: Limit = Limit {
+    number: 17,
+    most: MOST_LEDGER_TIME,
+};
+
+/// The limit on drafts of a prepared tree, counted with their children.
+pub const DRAFTS: Limit = Limit {
+    number: 18,
+    most: MOST_DRAFTS as u64,
+};
+
+/// The limit on levels of a prepared tree.
+pub const DRAFT_DEPTH: Limit = Limit {
+    number: 19,
+    most: MOST_DRAFT_DEPTH as u64,
+};
+
+/// The limit on steps of a label.
+pub const LABEL_STEPS: Limit = Limit {
+    number: 20,
+    most: MOST_LABEL_STEPS as u64,
 };
