@@ -1,7 +1,7 @@
 -- The bytes of actions as numbers of the machine.
 use Rattle.std.proofs.Common.{◌≡◌, ℕ, ◌+◌, ◌-◌, ◌^◌, Bool, true, false, length, refl, arith}
 use Rattle.std.specs.Prelude.{◌&&◌, ◌↔◌, IsTrue}
-use Rattle.ledger_terms.specs.Deciding.{both, both_true}
+use Rattle.ledger_terms.proofs.Deciding.{both, both_true}
 use Rattle.ledger_terms.specs.declared.action.Action.{Action}
 use Rattle.ledger_terms.specs.declared.action.Action.TheVariants.{Create, Exercise, Fetch}
 use Rattle.wire_form.specs.Lengths.{capped}

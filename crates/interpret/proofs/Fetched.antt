@@ -1,7 +1,7 @@
 -- The stakeholders among the authorisers are authorised, and a set of them is put together in one way.
 use Rattle.std.proofs.Common.{◌≡◌, ℕ, Bool, true, false, List, [], ◌∷◌, refl, sym, ◌∙◌}
 use Rattle.std.specs.Prelude.{◌||◌}
-use Rattle.ledger_terms.specs.Deciding.{both_true, bytes_decide}
+use Rattle.ledger_terms.proofs.Deciding.{both_true, bytes_decide}
 use Rattle.ledger_terms.specs.Parties.{same_name, has_party, is_subset, set_of}
 use Rattle.ledger_terms.proofs.Members.{has_party-set_of}
 use Rattle.ledger_model.specs.Authority.{same_members}

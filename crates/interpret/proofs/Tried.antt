@@ -2,8 +2,8 @@
 use Rattle.std.proofs.Common.{◌≡◌, ℕ, Bool, true, List, [], ◌∷◌, ◌++◌, Result, Ok, Err, refl, ap}
 use Rattle.std.specs.Prelude.{◌&&◌, Some, IfOk}
 use Rattle.std.specs.Bool.{Decides}
-use Rattle.ledger_terms.specs.Deciding.{both, both_true, bytes_decide, lists_decide}
-use Rattle.ledger_terms.specs.SameValues.{value_decides, template_decides}
+use Rattle.ledger_terms.proofs.Deciding.{both, both_true, bytes_decide, lists_decide}
+use Rattle.ledger_terms.proofs.SameValues.{value_decides, template_decides}
 use Rattle.ledger_terms.specs.declared.value.Value.{Value}
 use Rattle.ledger_terms.specs.declared.action.Action.{Action}
 use Rattle.ledger_terms.specs.declared.action.Action.TheVariants.{Create, Exercise, Fetch}

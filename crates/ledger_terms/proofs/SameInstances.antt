@@ -3,8 +3,8 @@ use Rattle.std.specs.Prelude.{◌≡◌, Bool, true, refl}
 use Rattle.std.specs.Bool.{Decides}
 use Rattle.ledger_terms.specs.declared.instance.Instance.{Instance}
 use Rattle.ledger_terms.specs.contracts.instance.InstancePartialEq.TheImpl as instance_eq
-use Rattle.ledger_terms.specs.Deciding.{both, both_true, decided, lists_decide}
-use Rattle.ledger_terms.specs.SameValues.{value_decides, template_decides}
+use Rattle.ledger_terms.proofs.Deciding.{both, both_true, decided, lists_decide}
+use Rattle.ledger_terms.proofs.SameValues.{value_decides, template_decides}
 
 instance_same : (a b : Instance) → instance_eq.ghosts.eq a b ≡ true → a ≡ b
 instance_same a b h =

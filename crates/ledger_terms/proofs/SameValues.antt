@@ -10,7 +10,7 @@ use Rattle.ledger_terms.specs.contracts.kind.KindPartialEq.TheImpl as kind_eq
 use Rattle.ledger_terms.specs.declared.template_name.TemplateName.{TemplateName}
 use Rattle.ledger_terms.specs.contracts.value.ValuePartialEq.TheImpl as value_eq
 use Rattle.ledger_terms.specs.contracts.template_name.TemplateNamePartialEq.TheImpl as template_eq
-use Rattle.ledger_terms.specs.Deciding.{both, both_true, decided, bytes_decide, lists_decide}
+use Rattle.ledger_terms.proofs.Deciding.{both, both_true, decided, bytes_decide, lists_decide}
 
 value_same : (a b : Value) → value_eq.ghosts.eq a b ≡ true → a ≡ b
 value_same UnitValue UnitValue h = refl
