@@ -1,5 +1,5 @@
 -- A submission whose sender and command an earlier Sent result has is refused as its duplicate, and as nothing else.
-use Rattle.std.proofs.Common.{◌≡◌, ℕ, ◌<◌, ◌≤◌, Bool, true, false, List, take, Some, None, refl, sym, ap, ◌∙◌, subst, inl, inr, arith}
+use Rattle.std.proofs.Common.{◌≡◌, ℕ, ◌<◌, true, false, List, take, Some, sym, ap, ◌∙◌, subst, inl, inr, arith}
 use Rattle.std.specs.Prelude.{slice_get, Contains}
 use Rattle.std.specs.List.{list_any}
 use Rattle.std.proofs.lemmas.Bool.{cases_order, and_from, both_ways, eq-eqb}
@@ -8,7 +8,7 @@ use Rattle.std.proofs.lemmas.Slice.Eq.{bytes_eq-Decides}
 use Rattle.ledger_terms.specs.declared.submission.Submission.{Submission}
 use Rattle.ledger_model.specs.Terms.{ParticipantId}
 use Rattle.canton_model.specs.Log.{request_at}
-use Rattle.world_model.specs.Messages.{Entry, Message, RequestMessage, Request}
+use Rattle.world_model.specs.Messages.{Entry, RequestMessage, Request}
 use Rattle.canton_model.specs.Genuine.{is_request_of, RequestFits, FitsIfRequest}
 use Rattle.ledger_model.proofs.Lists.{in_any, at_in_take}
 use Rattle.world_model.specs.Machine.{Machine, GenuineLog, IsMachine, IsRequestFor}
