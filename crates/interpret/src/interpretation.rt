@@ -15,7 +15,7 @@ use crate::ids::child_seed;
 use crate::progress::nothing_done;
 use crate::resolve::{all_resolved, referred};
 use crate::turn::Turn;
-use lang_eval::{Checked, kinds};
+use lang_eval::{Checked, kind_of};
 use ledger_model::Step;
 use ledger_terms::{
     ActionNodeList, Arg, ArgList, Command, CommandList, ContractRef, FieldDecl, Hash, Kind,
@@ -28,7 +28,7 @@ fn kind_of_arg(arg: &Arg) -> Kind
     ensures { result ≡ kind_of_arg arg.now }
 {
     match arg {
-        Arg::Plain(value) => kinds::kind_of(value),
+        Arg::Plain(value) => kind_of(value),
         Arg::Contract(_) => Kind::Contract,
     }
 }
