@@ -23,4 +23,5 @@ subset_by b (x ∷ c) g = both_true _ _ (g x (first_in x c)) (subset_by b c (λ 
 
 pub set_members : (names : PartyNames) → same_members (set_of names) names ≡ true
 set_members names =
-    both_true _ _ (subset_by names (set_of names) (λ p h. sym (has_party-set_of names p) ∙ h)) (subset_by (set_of names) names (λ p h. has_party-set_of names p ∙ h))
+    both_true _ _ (subset_by names (set_of names) (λ p h. sym (has_party-set_of names p) ∙ h))
+    (subset_by (set_of names) names (λ p h. has_party-set_of names p ∙ h))

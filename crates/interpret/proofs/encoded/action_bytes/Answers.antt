@@ -7,4 +7,5 @@ returns-then-not-is_spellable_action c =
 
 pub returns : goal.returns
 returns c =
-    spelled_bytes _ c.args.action.now _ _ (action_is _ c.args.action.now c.is_spellable_action.ensures.exact) c.if-not-is_spellable_action.false c.action_len.ensures c.saturating_add.ensures
+    spelled_bytes _ c.args.action.now _ _ (action_is _ c.args.action.now c.is_spellable_action.ensures.exact) c.if-not-is_spellable_action.false
+    c.action_len.ensures c.saturating_add.ensures
