@@ -15,9 +15,12 @@ mod totals;
 mod values;
 mod whole;
 
+pub use actions::put_trees;
+pub use fault_names::command_fault_name;
 pub use node_view::{NodeView, NodeViewList};
 pub use round_submissions::RoundSubmissionList;
 pub use submit_fault::SubmitFault;
 pub use submit_result::{SubmitResult, SubmitResultList};
 pub use totals::summary;
+pub use values::{put_names, put_value};
 pub use whole::report;
