@@ -22,5 +22,5 @@ pub use round_submissions::RoundSubmissionList;
 pub use submit_fault::SubmitFault;
 pub use submit_result::{SubmitResult, SubmitResultList};
 pub use totals::summary;
-pub use values::{put_names, put_value};
+pub use values::{put_instance, put_names, put_value};
 pub use whole::report;
