@@ -1,5 +1,6 @@
 //! Expressions and their values.
-use crate::faults::{fault_text, topology};
+use crate::hosting::topology;
+use fixtures::fault_text;
 use lang_eval::{Bindings, EvalFault, eval_expr};
 use lang_read::{ScriptFault, read_expr, read_items, read_json, read_two};
 use ledger_terms::{Pointer, Text, Topology};

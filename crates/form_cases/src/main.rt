@@ -7,7 +7,7 @@
 
 mod case;
 mod expressions;
-mod faults;
+mod hosting;
 mod packages;
 mod spelled;
 mod terms;

@@ -1,5 +1,6 @@
 //! Packages and their faults.
-use crate::faults::{fault_text, topology};
+use crate::hosting::topology;
+use fixtures::fault_text;
 use lang_check::{CheckFault, CheckKind, check};
 use lang_read::{ScriptFault, read_items, read_json, read_package};
 use ledger_terms::{PackageList, Pointer, Topology};

@@ -1,9 +1,8 @@
 //! Cases.
-use crate::lines::put_line;
+use crate::lines::{path_text, put_line};
 use crate::submissions::put_submission;
 use consist::inconsistent;
-use fixtures::know_created;
-use lang_read::ScriptFault;
+use fixtures::{fault_text, know_created};
 use ledger_model::{Commit, CommitList};
 use ledger_terms::{ActionNodeList, KnownList};
 use script_read::{Script, read_script};
@@ -17,7 +16,10 @@ pub(crate) fn answer(alloc: Global, line: &str) -> Result<String, AllocError> {
             put_line(&mut out, &["script", name])?;
             match read_script(alloc, json.as_bytes()) {
                 Ok(script) => put_script(alloc, &script, &mut out)?,
-                Err(fault) => put_fault(&fault, &mut out)?,
+                Err(fault) => {
+                    let fault = fault_text(alloc, &fault)?;
+                    put_line(&mut out, &[fault.as_str()])?;
+                }
             }
         }
         None => put_line(&mut out, &[line])?,
@@ -32,20 +34,6 @@ fn case_of(line: &str) -> Option<(&str, &str)> {
         rest.split_once(' ')
     } else {
         None
-    }
-}
-
-/// Puts the fault of a script at the end, with its place.
-fn put_fault(fault: &ScriptFault, out: &mut String) -> Result<(), AllocError> {
-    if let ScriptFault::Package { fault } = fault {
-        return put_line(
-            out,
-            &["fault Package", fault.kind.name(), fault.at.as_str()],
-        );
-    }
-    match fault.path() {
-        Some(path) => put_line(out, &["fault", fault.name(), path]),
-        None => put_line(out, &["fault", fault.name()]),
     }
 }
 
@@ -76,7 +64,7 @@ fn put_ledger(alloc: Global, ledger: &CommitList, out: &mut String) -> Result<()
     match inconsistent(alloc, ledger)? {
         Some(found) => {
             let commit = format!(in alloc; "{}", found.commit)?;
-            let path = crate::lines::path_text(alloc, &found.path)?;
+            let path = path_text(alloc, &found.path)?;
             put_line(
                 out,
                 &["ledger inconsistent", commit.as_str(), path.as_str()],
