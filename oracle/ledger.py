@@ -322,7 +322,6 @@ def conforms(packages, node):
         if action['kind'] == 'create':
             created_parties(packages, instance)
             return True
-        packages.stakeholders(instance)
         if action['kind'] == 'fetch':
             return True
         choice = packages.choice('%s.%s' % instance[:2], action['choice'])
