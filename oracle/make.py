@@ -1,4 +1,5 @@
-"""Writes the inputs and the expected outputs of crates/tree_cases and crates/form_cases from the tables of this folder.
+"""Writes the inputs and the expected outputs of crates/tree_cases, crates/form_cases and crates/run_cases from the
+tables of this folder.
 
 What a table says of a case by hand is compared with what is computed here, where both are there.
 """
@@ -9,7 +10,7 @@ import form_cases
 import language
 import tree_cases
 from tables import bytes as byte_tables
-from tables import expressions, package_faults, script_faults, transactions
+from tables import expressions, package_faults, runs, script_faults, transactions
 
 CRATES = os.path.join(os.path.dirname(os.path.dirname(os.path.abspath(__file__))), 'crates')
 
@@ -71,6 +72,12 @@ def byte_rows():
         yield '%s %s' % (word, digits), [computed]
 
 
+def run_rows():
+    for name, words, source, take, put, status, line, text in runs.cases():
+        lines = ['run ' + name, 'status %d' % status] + ([] if line is None else [line])
+        yield 'run %s %d %d %s %s' % (name, take, put, words, source), lines + ['|' + written for written in text.splitlines()]
+
+
 def write(crate, parts):
     """Writes the cases of a crate, each part below a heading that it writes again."""
     asked, answered = [], []
@@ -88,6 +95,7 @@ def write(crate, parts):
 def main():
     write('tree_cases', [('Transactions, and scripts with their first fault', tree_rows())])
     write('form_cases', [('Terms and trees as bytes', byte_rows()), ('Expressions', expression_rows()), ('Packages', package_rows())])
+    write('run_cases', [('Whole runs', run_rows())])
 
 
 if __name__ == '__main__':
