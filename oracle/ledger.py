@@ -5,7 +5,7 @@ A node of a tree is a dictionary with `seed`, `action` and `children`.
 import hashlib
 import struct
 
-from language import Fault, evaluate
+from language import Fault, evaluate, literal
 from terms import action_bytes, instance_bytes, value_bytes, values_bytes
 
 
@@ -71,7 +71,6 @@ class Transaction:
         raise Refused('ContractUnknown', [root])
 
     def argument(self, form, root):
-        from language import literal
         if isinstance(form, dict) and 'contract' in form:
             return ('Contract', self.resolved(form['contract'], root))
         return literal(form)
@@ -197,7 +196,6 @@ class Transaction:
 
 
 def kind_of(form):
-    from language import literal
     return 'Contract' if isinstance(form, dict) and 'contract' in form else literal(form)[0]
 
 
