@@ -59,11 +59,10 @@ def parties_line(word, view):
     return '%s %s %s %s' % (word, path_text(view['path']), ','.join(view['informees']), ','.join(view['confirmers']))
 
 
-def opened_lines(sender, time, by, views, name, parties):
+def opened_lines(script, sender, time, by, views, name, parties):
     if parties is None:
         yield 'told mediator ' + sender
-        for view in trees.all_views(views):
-            yield parties_line('tells', view)
+        yield from view_lines(script, views)
         return
     shown = name == sender or any(trees.sees(v, parties) for v in views)
     yield 'opened %s %s %d %s' % (name, sender, time, ','.join(by) if shown else 'hidden')
@@ -79,7 +78,7 @@ def envelope_lines(script, submission, seed, by, views):
         data = trees.envelope(common, requesters, views, parties, name == sender)
         yield 'envelope %s %s %s' % (name, root.hex(), data.hex())
         yield 'decoded %s yes' % name
-        yield from opened_lines(sender, time, by, views, name, parties)
+        yield from opened_lines(script, sender, time, by, views, name, parties)
 
 
 def submission_lines(script, packages, known, commits, submission):
@@ -100,7 +99,6 @@ def submission_lines(script, packages, known, commits, submission):
     except trees.NoViews as none:
         yield 'no roles ' + path_text(none.path)
         return
-    yield from view_lines(script, views)
     yield from envelope_lines(script, submission, seed, by, views)
 
 

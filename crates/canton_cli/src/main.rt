@@ -10,7 +10,7 @@ use std::{env, io};
 /// The words after the program's name.
 fn words_of(rt: &HostRuntime) -> io::Result<WordList> {
     let all: Vec<String> = env::args(rt)?.collect(rt.alloc())?;
-    Ok(words_after_name(rt.alloc(), all)?)
+    Ok(words_after_name(rt.alloc(), all.as_slice())?)
 }
 
 fn finish_of(rt: &HostRuntime, alloc: Global) -> Finish {

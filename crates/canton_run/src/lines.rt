@@ -60,9 +60,13 @@ fn put_place(out: &mut String, fault: &ScriptFault) -> Result<(), AllocError>
             put_path(out, fault.kind.name())?;
             put_path(out, fault.at.as_str())
         }
-        _ => match fault.path() {
-            Some(path) => put_path(out, path),
-            None => Ok(()),
-        },
+        ScriptFault::Shape { path } => put_path(out, path.as_str()),
+        ScriptFault::NotInteger { path } => put_path(out, path.as_str()),
+        ScriptFault::Unknown { path, .. } => put_path(out, path.as_str()),
+        ScriptFault::Limit { path, .. } => put_path(out, path.as_str()),
+        ScriptFault::Repeated { path } => put_path(out, path.as_str()),
+        ScriptFault::NotJson => Ok(()),
+        ScriptFault::NotBuilt => Ok(()),
+        ScriptFault::Memory => Ok(()),
     }
 }

@@ -1,6 +1,6 @@
 //! The words of the command line.
-ghost use Rattle.std.specs.Prelude.{◌≡◌, ◌↔◌, ◌∷◌, [], IfOk, codes, drop, map, string_bytes};
-ghost use Rattle.std.specs.declared.io.error_kind.ErrorKind.TheVariants.{InvalidData};
+ghost use Rattle.std.specs.Prelude.{◌≡◌, ◌≢◌, ◌↔◌, ◌∷◌, [], IfOk, codes, drop, map, string_bytes};
+ghost use Rattle.std.specs.declared.io.kind.ErrorKind.TheVariants.{InvalidData};
 ghost use Rattle.canton_run.specs.Words.{are_run};
 
 use ledger_terms::{ListOf, Text};
@@ -11,15 +11,24 @@ use std::io::ErrorKind;
 pub type WordList = ListOf<Text>;
 
 /// The words that stand after the program's name.
-pub fn words_after_name(alloc: Global, all: Vec<String>) -> Result<WordList, AllocError>
-    ensures { IfOk result (λ words. words ≡ drop 1 (map string_bytes all.items)) }
+pub fn words_after_name(alloc: Global, all: &[String]) -> Result<WordList, AllocError>
+    ensures { IfOk result (λ words. words ≡ map string_bytes (drop 1 all.now)) }
 {
-    let words = all.into_iter().skip(1).map(Text::of_string).collect(alloc)?;
-    Ok(WordList::of(words))
+    let mut words = WordList::new(alloc);
+    let Some((_, after)) = all.split_first() else {
+        return Ok(words);
+    };
+    'words: for word in after {
+        words.push(Text::of(alloc, word.as_str())?)?;
+    }
+    Ok(words)
 }
 
 /// The status where the words can't be had: 2 where they are no text, else 70.
-pub fn status_without_words(why: ErrorKind) -> u8 {
+pub fn status_without_words(why: ErrorKind) -> u8
+    ensures text { result ≡ 2 ↔ why ≡ InvalidData }
+    ensures memory { result ≢ 2 → result ≡ 70 }
+{
     match why {
         ErrorKind::InvalidData => 2,
         _ => 70,

@@ -1,4 +1,7 @@
 //! The trees of a transaction as its recipients get them.
+ghost use Rattle.blind_tree.specs.Vertices.{IsNarrow};
+ghost use Rattle.blind_tree.specs.InRange.{IsSpellableTree};
+
 use crate::lines::{hash_text, put_line, yes};
 use crate::opened_views::put_opened;
 use blind_tree::{
@@ -24,10 +27,10 @@ pub(crate) fn put_envelopes(
     let trees = blind_all(alloc, views, sender, topology, &recipients)?;
     for (at, tree) in trees.as_slice().iter().enumerate() {
         let name = match topology.hosts.get(at) {
-            Some(host) => host.name.as_str(),
-            None => "mediator",
+            Some(host) => Some(host.name),
+            None => None,
         };
-        put_envelope(alloc, name, tree, out)?;
+        put_envelope(alloc, topology, name, tree, out)?;
     }
     Ok(())
 }
@@ -42,28 +45,40 @@ fn recipients(alloc: Global, topology: &Topology) -> Result<RecipientList, Alloc
     Ok(recipients)
 }
 
-/// Puts an envelope at the end: the root hash and the bytes of its tree, whether these are decoded to a tree of that root, and
-/// what it opens.
+/// Puts an envelope at the end, for the mediator where there is no name: the root hash and the bytes of its tree, whether these are
+/// decoded to a tree of that root, and what it opens.
 fn put_envelope(
     alloc: Global,
-    name: &str,
+    topology: &Topology,
+    name: Option<Name>,
     tree: &Tree,
     out: &mut String,
 ) -> Result<(), AllocError> {
+    let word = match &name {
+        Some(name) => name.as_str(),
+        None => "mediator",
+    };
     if !is_spellable(tree) {
-        return put_line(out, &["no envelope", name]);
+        return put_line(out, &["no envelope", word]);
     }
+    put_bytes(alloc, word, tree, out)?;
+    put_opened(alloc, topology, name, tree, out)
+}
+
+fn put_bytes(alloc: Global, word: &str, tree: &Tree, out: &mut String) -> Result<(), AllocError>
+    requires tree { IsSpellableTree tree.now }
+    requires narrow { IsNarrow tree.now.views }
+{
     let root = root_of(alloc, tree)?;
     let bytes = encode_tree(alloc, tree)?;
     let digits = hex::encode(alloc, bytes.as_slice())?;
     let root_digits = hash_text(alloc, &root)?;
     put_line(
         out,
-        &["envelope", name, root_digits.as_str(), digits.as_str()],
+        &["envelope", word, root_digits.as_str(), digits.as_str()],
     )?;
     let same = is_decoded(alloc, bytes.as_slice(), &root)?;
-    put_line(out, &["decoded", name, yes(same)])?;
-    put_opened(alloc, name, tree, out)
+    put_line(out, &["decoded", word, yes(same)])
 }
 
 /// Whether bytes are those of a tree with this root.

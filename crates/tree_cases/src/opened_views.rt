@@ -1,24 +1,30 @@
 //! What a tree opens to its recipient.
+ghost use Rattle.blind_tree.specs.Vertices.{IsNarrow};
+
 use crate::lines::{names_text, path_text, put_line};
-use blind_tree::{OpenedTree, Tree, informee_tree, opened};
-use ledger_terms::{PartySet, Path};
+use crate::views::put_views;
+use blind_tree::{OpenedTree, PlacedView, Tree, informee_tree, opened};
+use ledger_terms::{Name, Topology};
 use std::alloc::{AllocError, Global};
 use wire_form::WireFault;
 
-/// Puts at the end what is opened of a tree: for the mediator the informees and confirmers of each view, for a participant the
-/// ledger time, the requesters where they are shown, and the views.
+/// Puts at the end what is opened of a tree that can be written: for the mediator, which has no name, who sees and confirms each
+/// view, for a participant the ledger time, the requesters where they are shown, and the views.
 pub(crate) fn put_opened(
     alloc: Global,
-    name: &str,
+    topology: &Topology,
+    name: Option<Name>,
     tree: &Tree,
     out: &mut String,
-) -> Result<(), AllocError> {
-    if name == "mediator" {
-        return put_informees(alloc, tree, out);
-    }
+) -> Result<(), AllocError>
+    requires { IsNarrow tree.now.views }
+{
+    let Some(name) = name else {
+        return put_informees(alloc, topology, tree, out);
+    };
     match opened(alloc, tree) {
-        Ok(opened) => put_opened_tree(alloc, name, &opened, out),
-        Err(fault) => put_fault(alloc, name, &fault, out),
+        Ok(opened) => put_opened_tree(alloc, name.as_str(), &opened, out),
+        Err(fault) => put_fault(alloc, name.as_str(), &fault, out),
     }
 }
 
@@ -59,53 +65,37 @@ fn put_opened_tree(
         ],
     )?;
     for placed in opened.views.as_slice() {
-        let view = &placed.view;
-        put_parties(
-            alloc,
-            "opens",
-            &placed.path,
-            &view.informees,
-            &view.confirmers,
-            out,
-        )?;
+        put_view(alloc, placed, out)?;
     }
     Ok(())
 }
 
-fn put_informees(alloc: Global, tree: &Tree, out: &mut String) -> Result<(), AllocError> {
+fn put_informees(
+    alloc: Global,
+    topology: &Topology,
+    tree: &Tree,
+    out: &mut String,
+) -> Result<(), AllocError>
+    requires { IsNarrow tree.now.views }
+{
     match informee_tree(alloc, tree) {
-        Ok(roles) => {
-            put_line(out, &["told mediator", roles.sender.as_str()])?;
-            for view in roles.views.as_slice() {
-                put_parties(
-                    alloc,
-                    "tells",
-                    &view.path,
-                    &view.informees,
-                    &view.confirmers,
-                    out,
-                )?;
-            }
-            Ok(())
-        }
+        Ok(told) => put_views(alloc, topology, &told, out),
         Err(fault) => put_fault(alloc, "mediator", &fault, out),
     }
 }
 
 /// Puts a line of a view at the end: its path, its informees and its confirmers.
-fn put_parties(
-    alloc: Global,
-    word: &str,
-    path: &Path,
-    informees: &PartySet,
-    confirmers: &PartySet,
-    out: &mut String,
-) -> Result<(), AllocError> {
-    let path = path_text(alloc, path)?;
-    let informees = names_text(alloc, informees)?;
-    let confirmers = names_text(alloc, confirmers)?;
+fn put_view(alloc: Global, placed: &PlacedView, out: &mut String) -> Result<(), AllocError> {
+    let path = path_text(alloc, &placed.path)?;
+    let informees = names_text(alloc, &placed.view.informees)?;
+    let confirmers = names_text(alloc, &placed.view.confirmers)?;
     put_line(
         out,
-        &[word, path.as_str(), informees.as_str(), confirmers.as_str()],
+        &[
+            "opens",
+            path.as_str(),
+            informees.as_str(),
+            confirmers.as_str(),
+        ],
     )
 }

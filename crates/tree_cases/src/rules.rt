@@ -55,32 +55,42 @@ fn has_authority(alloc: Global, checked: &Checked, tx: &Tx) -> Result<bool, Allo
     for root in tx.roots.as_slice() {
         if !has_roles(alloc, checked, &root.action)
             || !authorised(alloc, checked, &root.action, &tx.act_as)?
-            || !has_authority_below(alloc, checked, root)?
         {
+            return Ok(false);
+        }
+    }
+    has_authority_below(alloc, checked, &tx.roots)
+}
+
+/// Whether the consequences of nodes have roles and are authorised.
+fn has_authority_below(
+    alloc: Global,
+    checked: &Checked,
+    nodes: &ActionNodeList,
+) -> Result<bool, AllocError> {
+    for node in nodes.as_slice() {
+        if !gives_authority(alloc, checked, node)? {
+            return Ok(false);
+        }
+        if !has_authority_below(alloc, checked, &node.children)? {
             return Ok(false);
         }
     }
     Ok(true)
 }
 
-/// Whether the consequences of an action have roles and are authorised.
-fn has_authority_below(
+/// Whether an action and its direct consequences have roles, and these are authorised.
+fn gives_authority(
     alloc: Global,
     checked: &Checked,
     node: &ActionNode,
 ) -> Result<bool, AllocError> {
     if !has_roles(alloc, checked, &node.action)
         || !children_have_roles(alloc, checked, node.children.as_slice())
-        || !children_authorised(alloc, checked, node)?
     {
         return Ok(false);
     }
-    for child in node.children.as_slice() {
-        if !has_authority_below(alloc, checked, child)? {
-            return Ok(false);
-        }
-    }
-    Ok(true)
+    children_authorised(alloc, checked, node)
 }
 
 /// Puts the projection to each participant at the end, where all actions have roles.

@@ -2,7 +2,6 @@
 use crate::envelopes::put_envelopes;
 use crate::lines::{path_text, put_line};
 use crate::rules::put_rules;
-use crate::views::put_views;
 use fixtures::{sender_of, transaction};
 use interpret::CommandFault;
 use ledger_terms::{ActionNodeList, KnownList, Name, Submission, Tx};
@@ -68,10 +67,7 @@ fn put_transaction(
     put_trees(out, 1, &tx.roots)?;
     put_rules(alloc, script, tx, out)?;
     match split(alloc, &script.checked, tx) {
-        Ok(views) => {
-            put_views(alloc, &script.topology, &views, out)?;
-            put_envelopes(alloc, &script.topology, sender, &views, out)
-        }
+        Ok(views) => put_envelopes(alloc, &script.topology, sender, &views, out),
         Err(SplitFault::NoRoles { path }) => {
             let path = path_text(alloc, &path)?;
             put_line(out, &["no roles", path.as_str()])

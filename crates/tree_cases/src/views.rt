@@ -1,33 +1,20 @@
-//! The views of a transaction.
-use crate::lines::{names_text, put_line};
+//! Who sees and who confirms the views of a transaction.
+use crate::lines::{names_text, path_text, put_line};
+use blind_tree::{RolesTree, ViewRoles};
 use ledger_terms::{PartySet, Topology};
 use std::alloc::{AllocError, Global};
-use view_split::{View, ViewList, Views};
 
-/// Puts a line for each view at the end, each before those below it: its path, its informees and the participants that see it
-/// for them, and its confirmers and the participants that confirm for them.
+/// Puts two lines for each view at the end, as the mediator is told of it: its path, its informees and the participants that
+/// see it for them, and its confirmers and the participants that confirm for them.
 pub(crate) fn put_views(
     alloc: Global,
     topology: &Topology,
-    views: &Views,
+    told: &RolesTree,
     out: &mut String,
 ) -> Result<(), AllocError> {
-    put_beside(alloc, topology, "", &views.roots, out)
-}
-
-/// Puts views side by side at the end, whose paths begin with a text.
-fn put_beside(
-    alloc: Global,
-    topology: &Topology,
-    above: &str,
-    views: &ViewList,
-    out: &mut String,
-) -> Result<(), AllocError> {
-    for (at, view) in views.as_slice().iter().enumerate() {
-        let path = format!(in alloc; "{above}{at}")?;
-        put_view(alloc, topology, path.as_str(), view, out)?;
-        let below = format!(in alloc; "{path}.")?;
-        put_beside(alloc, topology, below.as_str(), &view.subviews, out)?;
+    put_line(out, &["told mediator", told.sender.as_str()])?;
+    for view in told.views.as_slice() {
+        put_view(alloc, topology, view, out)?;
     }
     Ok(())
 }
@@ -35,28 +22,33 @@ fn put_beside(
 fn put_view(
     alloc: Global,
     topology: &Topology,
-    path: &str,
-    view: &View,
+    view: &ViewRoles,
     out: &mut String,
 ) -> Result<(), AllocError> {
-    let informees = names_text(alloc, &view.informees)?;
-    let confirmers = names_text(alloc, &view.confirmers)?;
-    let seen = hosts_text(alloc, topology, &view.informees)?;
-    let confirmed = hosts_text(alloc, topology, &view.confirmers)?;
-    put_line(
+    let path = path_text(alloc, &view.path)?;
+    put_hosted(alloc, topology, "view", path.as_str(), &view.informees, out)?;
+    put_hosted(
+        alloc,
+        topology,
+        "confirmed",
+        path.as_str(),
+        &view.confirmers,
         out,
-        &["view", path, informees.as_str(), "on", seen.as_str()],
-    )?;
-    put_line(
-        out,
-        &[
-            "confirmed",
-            path,
-            confirmers.as_str(),
-            "on",
-            confirmed.as_str(),
-        ],
     )
+}
+
+/// Puts a line at the end with parties and the participants that host one of them.
+fn put_hosted(
+    alloc: Global,
+    topology: &Topology,
+    word: &str,
+    path: &str,
+    parties: &PartySet,
+    out: &mut String,
+) -> Result<(), AllocError> {
+    let names = names_text(alloc, parties)?;
+    let hosts = hosts_text(alloc, topology, parties)?;
+    put_line(out, &[word, path, names.as_str(), "on", hosts.as_str()])
 }
 
 /// The participants that host one of the parties, in the order of the topology.
