@@ -12,6 +12,9 @@ mod totals;
 mod values;
 mod whole;
 
+pub use actions::put_trees;
+pub use fault_names::command_fault_name;
 pub use round_submissions::RoundSubmissionList;
 pub use totals::summary;
+pub use values::{put_instance, put_names, put_value};
 pub use whole::report;
