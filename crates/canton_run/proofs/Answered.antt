@@ -3,7 +3,7 @@ use Rattle.std.proofs.Common.{◌≡◌, ℕ, ◌+◌, ◌≤◌, true, false, L
 use Rattle.std.proofs.lemmas.Bool.Decides.{nat_tests}
 use Rattle.ledger_terms.specs.declared.host.Host.{Host}
 use Rattle.ledger_terms.specs.declared.params.Params.{Params}
-use Rattle.canton_model.specs.declared.check.ViewVerdict.{ViewVerdict}
+use Rattle.canton_model.specs.declared.view_verdict.ViewVerdict.{ViewVerdict}
 use Rattle.ledger_model.specs.Opening.{Shown, OpenedView}
 use Rattle.canton_model.specs.Inbox.{Received, received}
 use Rattle.canton_model.specs.Checks.{is_confirmed_by, verdicts_owed}

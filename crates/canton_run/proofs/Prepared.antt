@@ -4,7 +4,7 @@ use Rattle.std.specs.Prelude.{slice_get}
 use Rattle.std.proofs.lemmas.Bool.Decides.{nat_tests}
 use Rattle.ledger_terms.specs.declared.host.Host.{Host}
 use Rattle.ledger_terms.specs.declared.submission.Submission.{Submission}
-use Rattle.canton_model.specs.declared.message.Request.{Request}
+use Rattle.canton_model.specs.declared.request.Request.{Request}
 use Rattle.proto_model.specs.NoteForm.{note_request}
 use Rattle.canton_run.specs.Play.{sole_party, text_in_what, prepared}
 

@@ -5,7 +5,7 @@ use Rattle.std.proofs.lemmas.List.{take_more}
 use Rattle.std.proofs.Math.Seq.{take-length}
 use Rattle.std.proofs.lemmas.Option.{slice_get_within, get_or_from_slice_get, slice_get_cases, none-some}
 use Rattle.ledger_terms.specs.declared.host.Host.{Host}
-use Rattle.canton_model.specs.declared.message.Entry.{Entry}
+use Rattle.canton_model.specs.declared.entry.Entry.{Entry}
 use Rattle.canton_model.specs.Inbox.{Item, inbox}
 use Rattle.proto_model.specs.PlainReading.{plain_reading}
 use Rattle.node_core.specs.NodeState.{NodeState, reading_of, with_item}

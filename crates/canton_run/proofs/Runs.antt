@@ -4,8 +4,8 @@ use Rattle.std.proofs.lemmas.Bool.Decides.{nat_tests}
 use Rattle.std.proofs.lemmas.Option.{same_Some, none-some}
 use Rattle.ledger_terms.specs.declared.host.Host.{Host}
 use Rattle.ledger_terms.specs.declared.params.Params.{Params}
-use Rattle.canton_model.specs.declared.message.Entry.{Entry}
-use Rattle.canton_model.specs.declared.message.Request.{Request}
+use Rattle.canton_model.specs.declared.entry.Entry.{Entry}
+use Rattle.canton_model.specs.declared.request.Request.{Request}
 use Rattle.canton_model.specs.Log.{request_at, decision_time_of}
 use Rattle.canton_model.specs.Timeline.{timeline_of, outcome_of}
 use Rattle.canton_model.specs.Genuine.{Genuine, IsReading, NoCollision}

@@ -5,9 +5,9 @@ use Rattle.std.proofs.lemmas.Bool.Decides.{nat_tests}
 use Rattle.ledger_terms.specs.declared.host.Host.{Host}
 use Rattle.ledger_terms.specs.declared.params.Params.{Params}
 use Rattle.ledger_terms.specs.declared.submission.Submission.{Submission}
-use Rattle.canton_model.specs.declared.message.Entry.{Entry}
-use Rattle.canton_model.specs.declared.message.Request.{Request}
-use Rattle.canton_model.specs.declared.message.Response.{Response}
+use Rattle.canton_model.specs.declared.entry.Entry.{Entry}
+use Rattle.canton_model.specs.declared.request.Request.{Request}
+use Rattle.canton_model.specs.declared.response.Response.{Response}
 use Rattle.canton_model.specs.declared.message.Message.TheVariants.{Request as RequestMessage}
 use Rattle.canton_model.specs.Genuine.{Genuine, NoCollision}
 use Rattle.ledger_model.specs.Opening.{Shown}

@@ -11,13 +11,13 @@ use Rattle.ledger_terms.specs.declared.command.Command.TheVariants.{Create}
 use Rattle.ledger_terms.specs.declared.what.What.{What}
 use Rattle.ledger_terms.specs.declared.what.What.TheVariants.{Commands}
 use Rattle.ledger_terms.specs.declared.submission.Submission.{Submission}
-use Rattle.canton_model.specs.declared.message.Entry.{Entry}
+use Rattle.canton_model.specs.declared.entry.Entry.{Entry}
 use Rattle.canton_model.specs.declared.message.Message.{Message}
 use Rattle.canton_model.specs.declared.message.Message.TheVariants.{Request as RequestMessage, Response as ResponseMessage, Verdict as VerdictMessage}
-use Rattle.canton_model.specs.declared.message.Request.{Request}
-use Rattle.canton_model.specs.declared.message.Response.{Response}
-use Rattle.canton_model.specs.declared.message.Decision.{Decision}
-use Rattle.canton_model.specs.declared.message.Decision.TheVariants.{Approved}
+use Rattle.canton_model.specs.declared.request.Request.{Request}
+use Rattle.canton_model.specs.declared.response.Response.{Response}
+use Rattle.canton_model.specs.declared.decision.Decision.{Decision}
+use Rattle.canton_model.specs.declared.decision.Decision.TheVariants.{Approved}
 use Rattle.canton_model.specs.Mediation.{first_rejection}
 use Rattle.canton_model.specs.Inbox.{inbox, clean, clean_time, node_log, node_active}
 use Rattle.canton_model.specs.Reading.{Reading}

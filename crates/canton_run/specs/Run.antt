@@ -2,9 +2,9 @@
 use Rattle.std.specs.Prelude.{◌≡◌, ℕ, ◌≤◌, true, List, [], ◌∷◌, ◌++◌, Option, Some, None, length, take}
 use Rattle.ledger_terms.specs.declared.host.Host.{Host}
 use Rattle.ledger_terms.specs.declared.params.Params.{Params}
-use Rattle.canton_model.specs.declared.message.Entry.{Entry}
-use Rattle.canton_model.specs.declared.message.Request.{Request}
-use Rattle.canton_model.specs.declared.message.Decision.TheVariants.{Approved}
+use Rattle.canton_model.specs.declared.entry.Entry.{Entry}
+use Rattle.canton_model.specs.declared.request.Request.{Request}
+use Rattle.canton_model.specs.declared.decision.Decision.TheVariants.{Approved}
 use Rattle.canton_model.specs.Log.{request_of, request_at, decision_time_of}
 use Rattle.canton_model.specs.Timeline.{Decided, timeline_of, outcome_of, is_approved_in}
 use Rattle.canton_model.specs.Mediation.{missing_of}

@@ -10,9 +10,9 @@ use Rattle.ledger_terms.specs.declared.template_name.TemplateName.{TemplateName}
 use Rattle.ledger_terms.specs.declared.topology.Topology.{Topology}
 use Rattle.ledger_terms.specs.declared.value.Value.{Value}
 use Rattle.ledger_terms.specs.declared.value.Value.TheVariants.{Int}
-use Rattle.canton_model.specs.declared.message.Entry.{Entry}
-use Rattle.canton_model.specs.declared.message.Outcome.{Outcome}
-use Rattle.canton_model.specs.declared.message.Outcome.TheVariants.{Approved, Rejected, TimedOut, Expired, Undecided}
+use Rattle.canton_model.specs.declared.entry.Entry.{Entry}
+use Rattle.canton_model.specs.declared.outcome.Outcome.{Outcome}
+use Rattle.canton_model.specs.declared.outcome.Outcome.TheVariants.{Approved, Rejected, TimedOut, Expired, Undecided}
 use Rattle.canton_model.specs.Log.{request_of, decision_time_of}
 use Rattle.canton_model.specs.Timeline.{kind_of, outcome_of, timeline_of}
 use Rattle.node_core.specs.declared.node_view.NodeView.{NodeView}

@@ -5,4 +5,4 @@ use Rattle.canton_model.proofs.laws.active_sets_are_exact.Goals as goal
 
 pub returns : goal.returns
 returns c reading params log p n lawful distinct genuine within =
-    active_sets reading params log (informs reading lawful) distinct genuine (sealed_of reading params log genuine) (opens_of reading params log genuine) p n within
+    active_sets reading params log (informs reading lawful) distinct genuine (sealed_of reading params log lawful genuine) (opens_of reading params log lawful genuine) p n within

@@ -1,8 +1,8 @@
-//! The answers of the local checks.
+//! Why a participant rejects a view.
 ghost use Rattle.std.specs.Prelude.{◌≡◌};
 ghost use Rattle.canton_model.specs.ReasonNames.{reason_name};
 
-use ledger_terms::{ListOf, Path};
+use std::fmt;
 
 /// Why a participant rejects a view.
 #[derive(Clone, Copy, PartialEq, Eq)]
@@ -19,7 +19,7 @@ pub enum Reason {
 }
 
 impl Reason {
-    /// The reason's word.
+    /// The reason's word, as it is displayed.
     pub fn name(&self) -> &'static str
         ensures { result.now ≡ reason_name self.now }
     {
@@ -37,19 +37,12 @@ impl Reason {
     }
 }
 
-/// A participant's verdict on a view, with the number of the action in its core that shows the reason.
-#[derive(Clone, Copy, PartialEq, Eq)]
-pub enum LocalVerdict {
-    Approve,
-    Reject { reason: Reason, action: u16 },
-}
+impl fmt::Display for Reason {
+    ghost use Rattle.std.specs.Prelude.{Some};
 
-/// A view's path with a verdict on it.
-#[derive(Drop)]
-pub struct ViewVerdict {
-    pub view: Path,
-    pub verdict: LocalVerdict,
-}
+    ghost output = { λ reason. Some (reason_name reason) };
 
-/// Verdicts on views.
-pub type ViewVerdictList = ListOf<ViewVerdict>;
+    fn fmt<W: fmt::Write>(&self, f: &mut fmt::Formatter<W>) -> fmt::Result {
+        f.write_str(self.name())
+    }
+}
