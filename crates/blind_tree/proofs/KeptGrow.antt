@@ -10,13 +10,15 @@ use Rattle.ledger_terms.specs.Roots.{trees_count}
 use Rattle.ledger_terms.proofs.Grow.{join-assoc, join-end}
 use Rattle.view_split.specs.ViewLists.{view_tree, views_of, view_count}
 use Rattle.view_split.specs.SplitView.{SplitView}
+use Rattle.view_split.specs.Seen.{is_sight}
 use Rattle.view_split.specs.declared.view.View.{View}
 use Rattle.blind_tree.specs.Vertices.{Vertices, NoVertices, beside}
+use Rattle.blind_tree.specs.Blind.{has_sight}
 use Rattle.blind_tree.specs.LeafBytes.{AreSpellableViews}
 use Rattle.blind_tree.specs.KeptParts.{KeptPart}
 use Rattle.blind_tree.specs.KeptLists.{kept_of, one_kept, part_kept, kept_count}
 use Rattle.blind_tree.specs.Kept.{kept, kept_digests, is_kept_sight, has_kept_sight, sees_kept_root, cut, cut_one, cut_part, cut_for_mediator}
-use Rattle.blind_tree.specs.declared.kept.KeptView.{KeptView}
+use Rattle.blind_tree.specs.declared.kept_list.KeptView.{KeptView}
 use Rattle.blind_tree.proofs.Grow.{beside-assoc, beside-nothing}
 
 kept_of-append : (vs ws : List KeptView) → kept_of (vs ++ ws) ≡ join (kept_of vs) (kept_of ws)
@@ -35,6 +37,11 @@ pub view_at : (vs : List View) (i : ℕ) (d : View) → i < length vs → view_c
 view_at [] i d h = absurd (omega arith)
 view_at (v ∷ vs) zero d h = omega arith
 view_at (v ∷ vs) (suc i) d h = omega (arith, view_at vs i d (omega arith))
+
+pub view_below : (vs : List View) (i : ℕ) (d : View) → i < length vs → view_count (get_or vs i d).subviews < view_count (views_of vs)
+view_below [] i d h = absurd (omega arith)
+view_below (v ∷ vs) zero d h = omega arith
+view_below (v ∷ vs) (suc i) d h = omega (arith, view_below vs i d (omega arith))
 
 spellable_parts : (v : View) (rest : Forest SplitView) → AreSpellableViews (join (view_tree v) rest) → AreSpellableViews (view_tree v) × AreSpellableViews rest
 spellable_parts v rest s = ((s.0, s.1, s.2, tt), s.3)
@@ -68,12 +75,12 @@ kept_at [] i d h = absurd (omega arith)
 kept_at (v ∷ vs) zero d h = omega arith
 kept_at (v ∷ vs) (suc i) d h = omega (arith, kept_at vs i d (omega arith))
 
-pub digests_step : (vs : List KeptView) (i : ℕ) (v : KeptView) (all out new : List (List ℕ)) → i < length vs → v ≡ get_or vs i v → new ≡ out ++ v.digest ∷ []
+pub digests_step : (vs : List KeptView) (i : ℕ) (v : KeptView) (all out new : List (List ℕ)) → i < length vs → v ≡ get_or vs i v → new ≡ out ++ v.hash ∷ []
     → out ++ kept_digests (kept_of (drop i vs)) ≡ all → new ++ kept_digests (kept_of (drop (i + 1) vs)) ≡ all
 digests_step vs i v all out new h at grown before =
     let rest = kept_digests (kept_of (drop (i + 1) vs)) in
     ap (λ (xs : List (List ℕ)). xs ++ rest) grown
-    ∙ (append_assoc out (v.digest ∷ []) rest
+    ∙ (append_assoc out (v.hash ∷ []) rest
     ∙ (ap (λ (f : Forest KeptPart). out ++ kept_digests f) (sym (next_kept vs i v h at)) ∙ before))
 
 pub kept_digests-length : (f : Forest KeptPart) → length (kept_digests f) ≡ trees_count f
@@ -100,6 +107,13 @@ sight_step hosts vs i v all h at before =
     sym (or_assoc (list_any hosts v.informees) (has_kept_sight hosts v.subviews) (has_kept_sight hosts (kept_of (drop (i + 1) vs))))
     ∙ (ap (λ (b : Bool). list_any hosts v.informees || b) (sym (any_parts (is_kept_sight hosts) (preorder v.subviews) (preorder (kept_of (drop (i + 1) vs)))))
     ∙ (ap (has_kept_sight hosts) (sym (next_kept vs i v h at)) ∙ before))
+
+pub view_sight_step : (hosts : List ℕ → Bool) (vs : List View) (i : ℕ) (v : View) (all : Bool) → i < length vs → v ≡ get_or vs i v → has_sight hosts (views_of (drop i vs)) ≡ all
+    → ((list_any hosts v.informees || has_sight hosts v.subviews) || has_sight hosts (views_of (drop (i + 1) vs))) ≡ all
+view_sight_step hosts vs i v all h at before =
+    sym (or_assoc (list_any hosts v.informees) (has_sight hosts v.subviews) (has_sight hosts (views_of (drop (i + 1) vs))))
+    ∙ (ap (λ (b : Bool). list_any hosts v.informees || b) (sym (any_parts (is_sight hosts) (preorder v.subviews) (preorder (views_of (drop (i + 1) vs)))))
+    ∙ (ap (has_sight hosts) (sym (next_of vs i v h at)) ∙ before))
 
 pub root_step : (hosts : List ℕ → Bool) (vs : List KeptView) (i : ℕ) (v : KeptView) (all : Bool) → i < length vs → v ≡ get_or vs i v → sees_kept_root hosts (kept_of (drop i vs)) ≡ all
     → (list_any hosts v.informees || sees_kept_root hosts (kept_of (drop (i + 1) vs))) ≡ all

@@ -4,7 +4,8 @@ use Rattle.std.specs.List.{list_any, list_all}
 use Rattle.ledger_model.specs.Terms.{PartySet, Action, Act, instance_of, ParticipantId}
 use Rattle.ledger_model.specs.Forest.{Forest, NoRoots, Root, acts, roots_of, below_at}
 use Rattle.ledger_model.specs.Status.{shows_locked, shows_inactive, shows_not_fresh, shows_unordered}
-use Rattle.ledger_model.specs.Language.{Roles, roles_of}
+use Rattle.ledger_model.specs.Language.{roles_of}
+use Rattle.ledger_model.specs.declared.roles.Roles.{Roles}
 use Rattle.ledger_model.specs.Authority.{is_authorised, authorisers_below}
 use Rattle.canton_model.specs.Log.{Params, ViewVerdict, LocalVerdict, Approve, Reject, Reason, IdMismatch, NotVetted, TimeSkew, Locked, Inactive, NotFresh, Unordered, NotConformant, NotAuthorised}
 use Rattle.ledger_model.specs.Opening.{Shown, OpenedView}

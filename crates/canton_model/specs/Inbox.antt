@@ -3,7 +3,8 @@ use Rattle.std.specs.Prelude.{◌≡◌, ℕ, zero, suc, ◌+◌, ◌<◌, ◌�
 use Rattle.std.specs.List.{list_any}
 use Rattle.ledger_model.specs.Terms.{Hash, Act, ActiveRow, id_of, instance_of, is_create, consumes, ParticipantId}
 use Rattle.ledger_model.specs.Forest.{Forest, NoRoots, Root, Commit, acts, project}
-use Rattle.ledger_model.specs.Status.{Status, status_after, is_locked_by}
+use Rattle.ledger_model.specs.Status.{status_after, is_locked_by}
+use Rattle.ledger_model.specs.declared.status.Status.{Status}
 use Rattle.canton_model.specs.Evidence.{gather}
 use Rattle.canton_model.specs.Log.{Params, Entry, Message, RequestMessage, ResponseMessage, VerdictMessage, Tick, Request, Verdict, request_at}
 use Rattle.canton_model.specs.Timeline.{Moment, is_decided_at, is_approved_in}

@@ -2,7 +2,8 @@
 use Rattle.std.specs.Prelude.{◌≡◌, ℕ, ◌≤◌, Bool, List, Option, Some, None, length, take, slice_get}
 use Rattle.ledger_model.specs.Terms.{Hash, Act, ParticipantId}
 use Rattle.ledger_model.specs.Forest.{Forest, NoRoots, acts, Commit, ledger_acts}
-use Rattle.ledger_model.specs.Status.{Status, status_after}
+use Rattle.ledger_model.specs.Status.{status_after}
+use Rattle.ledger_model.specs.declared.status.Status.{Status}
 use Rattle.canton_model.specs.Evidence.{Requests, ledger_below}
 use Rattle.canton_model.specs.Log.{Params, Entry, Message, RequestMessage, ResponseMessage, VerdictMessage, Tick, Verdict, Request, request_at, decision_time_of, TimesFrom}
 use Rattle.canton_model.specs.Timeline.{timeline_of, is_decided_at, is_approved_in, verdict_on}

@@ -24,7 +24,7 @@ use Rattle.proto_model.specs.NoteLog.{note_log, LeavesTime}
 use Rattle.proto_model.specs.BuiltIn.{built_in}
 use Rattle.proto_model.proofs.Conforming.{decides}
 use Rattle.proto_model.proofs.OneRequest.{empty_genuine}
-use Rattle.report_text.specs.declared.submit_result.SubmitResult.{SubmitResult}
+use Rattle.node_core.specs.declared.submit_result.SubmitResult.{SubmitResult}
 use Rattle.canton_run.specs.declared.script.Script.{Script}
 use Rattle.canton_run.specs.Play.{request_of_script}
 use Rattle.canton_run.specs.Run.{IsRun, IsSettled, hosts_of, params_of, requests_in, if_request, results_of}

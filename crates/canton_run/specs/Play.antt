@@ -21,8 +21,8 @@ use Rattle.canton_model.specs.declared.message.Decision.TheVariants.{Approved}
 use Rattle.canton_model.specs.Mediation.{first_rejection}
 use Rattle.canton_model.specs.Inbox.{inbox, clean, clean_time, node_log, node_active}
 use Rattle.canton_model.specs.Reading.{Reading}
-use Rattle.report_text.specs.declared.node_view.NodeView.{NodeView}
-use Rattle.report_text.specs.declared.submit_result.SubmitResult.TheVariants.{Sent}
+use Rattle.node_core.specs.declared.node_view.NodeView.{NodeView}
+use Rattle.node_core.specs.declared.submit_result.SubmitResult.TheVariants.{Sent}
 use Rattle.canton_run.specs.declared.played.Played.{Played}
 use Rattle.canton_run.specs.declared.script.Script.{Script}
 use Rattle.node_core.specs.NodeState.{NodeState, begun, reading_of, with_item}

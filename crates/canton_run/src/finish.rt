@@ -2,8 +2,8 @@
 ghost use Rattle.std.specs.Prelude.{◌≡◌, []};
 
 use lang_read::ScriptFault;
+use node_core::SubmitResultList;
 use proto_model::EntryList;
-use report_text::SubmitResultList;
 use std::alloc::Global;
 
 /// How a run ended: its status, the script's fault at status 3, and the log and the answers to the submissions at statuses 0

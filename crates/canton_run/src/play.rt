@@ -2,7 +2,7 @@
 ghost use Rattle.std.specs.Prelude.{◌≡◌, ◌≤◌, [], ◌∷◌, IfOk, OnOk, Some, length, take, option_copied};
 ghost use Rattle.canton_model.specs.Inbox.{inbox};
 ghost use Rattle.proto_model.specs.PlainReading.{plain_reading};
-ghost use Rattle.report_text.specs.declared.submit_result.SubmitResult.TheVariants.{Sent};
+ghost use Rattle.node_core.specs.declared.submit_result.SubmitResult.TheVariants.{Sent};
 ghost use Rattle.node_core.specs.NodeState.{begun, reading_of};
 ghost use Rattle.canton_run.specs.Play.{answer_of, with_message, with_answer, view_in, view_at, log_of_request, sole_submission, request_of_script, views_of, PlayedAs, IsPlainScript};
 ghost use Rattle.canton_run.specs.FirstScript.{IsFirst};
@@ -13,9 +13,9 @@ use crate::played::Played;
 use crate::prepare::prepare;
 use crate::script::Script;
 use ledger_terms::{ParticipantId, Submission};
-use node_core::{FinishFault, Node};
+use node_core::{FinishFault, Node, NodeView, NodeViewList, SubmitResult, SubmitResultList};
 use proto_model::{BuiltIn, Entry, EntryList, Message, Request, Response, Setup, Verdict};
-use report_text::{NodeView, NodeViewList, RoundSubmissionList, SubmitResult, SubmitResultList};
+use report_text::RoundSubmissionList;
 use std::alloc::{AllocError, Global};
 
 /// Puts a message at the end of the log. Without Ticks an entry's time is its place and one.

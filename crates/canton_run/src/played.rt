@@ -1,6 +1,6 @@
 //! What a run leaves behind.
+use node_core::{NodeViewList, SubmitResultList};
 use proto_model::EntryList;
-use report_text::{NodeViewList, SubmitResultList};
 
 /// The sequencer's log, the answers to the submissions in script order, and what each participant knows at its clean place.
 #[derive(Drop)]

@@ -20,8 +20,8 @@ keep_into-loop-view-preserved t c = (
 pub keep_into-returns : goal.keep_into-returns
 keep_into-returns t c = kept_end _ _ _ _ c.loop-view-test.false c.loop-view.invariant.1
 
-pub keep_view-view_hash-digest-requires : goal.keep_view-view_hash-digest-requires
-keep_view-view_hash-digest-requires t c =
+pub keep_view-view_hash-hash-requires : goal.keep_view-view_hash-hash-requires
+keep_view-view_hash-hash-requires t c =
     let all : c.as_slice.result.now ≡ kept_digests (kept sha256 c.args.view.now.subviews) =
     rw (c.as_slice.ensures.value, c.in_ok-below.ensures, c.in_ok-keep_into.ensures, c.new-subviews.ensures) refl in
     let l = ap (λ (xs : List (List ℕ)). length xs) all in

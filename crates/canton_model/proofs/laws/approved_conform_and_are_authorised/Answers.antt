@@ -1,6 +1,6 @@
 use Rattle.canton_model.proofs.Approved.{sound}
 use Rattle.canton_model.proofs.Fits.{sealed_of, opens_of}
-use Rattle.ledger_model.proofs.laws.approved_conform_and_are_authorised.Goals as goal
+use Rattle.canton_model.proofs.laws.approved_conform_and_are_authorised.Goals as goal
 
 pub returns-clause-conform : goal.returns-clause-conform
 returns-clause-conform c reading params log k commit lawful genuine ok e =

@@ -4,7 +4,7 @@ use Rattle.canton_model.specs.Timeline.{timeline_of, outcome_of}
 use Rattle.canton_model.proofs.Outcomes.{cause_holds}
 use Rattle.canton_model.proofs.Lawful.{informs}
 use Rattle.canton_model.proofs.Fits.{sealed_of, opens_of}
-use Rattle.ledger_model.proofs.laws.each_outcome_has_its_cause.Goals as goal
+use Rattle.canton_model.proofs.laws.each_outcome_has_its_cause.Goals as goal
 
 pub returns : goal.returns
 returns c reading params log j lawful distinct genuine =

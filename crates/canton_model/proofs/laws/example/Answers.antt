@@ -13,7 +13,7 @@ use Rattle.ledger_model.specs.Conformance.{body_of, Possible, Continues, AreRest
 use Rattle.canton_model.specs.Genuine.{IsCovered, IsRootCovered, IsSealed, FitsIfRequest, FitsIfResponse}
 use Rattle.canton_model.specs.Ledger.{FitsIfVerdict}
 use Rattle.ledger_model.proofs.Lists.{In, in_from_Contains}
-use Rattle.ledger_model.proofs.laws.example.Goals as goal
+use Rattle.canton_model.proofs.laws.example.Goals as goal
 
 verdict_fits : (k : ℕ) (e : Entry) → slice_get Example.log k ≡ Some e → FitsIfVerdict Example.params Example.log k e.time e.message
 verdict_fits zero e h = subst (λ (x : Entry). FitsIfVerdict Example.params Example.log 0 x.time x.message) (same_Some _ e h) tt

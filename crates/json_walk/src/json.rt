@@ -1,0 +1,22 @@
+//! From bytes to a JSON value.
+ghost use Rattle.std.specs.Prelude.{◌≡◌, ◌≢◌, MatchResult, Ok, Err};
+ghost use Rattle.serde_json.specs.View.{view};
+ghost use Rattle.json_walk.specs.Walk.{json_of};
+
+use crate::walk_fault::WalkFault;
+use serde_json::Value;
+use std::alloc::Global;
+
+/// The value that the bytes are JSON of (RFC 8259, as `serde_json` reads it).
+pub fn read_json(alloc: Global, bytes: &[u8]) -> Result<Value, WalkFault>
+    ensures { MatchResult result (λ v. json_of bytes.now ≡ Ok (view v)) (λ e. e ≢ WalkFault.Memory → json_of bytes.now ≡ Err e) }
+{
+    match Value::from_slice(alloc, bytes) {
+        Ok(value) => Ok(value),
+        Err(fault) => if fault.is_memory() {
+            Err(WalkFault::Memory)
+        } else {
+            Err(WalkFault::NotJson)
+        },
+    }
+}
