@@ -10,7 +10,7 @@ use Rattle.std.proofs.lemmas.Bool.Decides.{nat_tests}
 use Rattle.log_row.specs.LogPrefix.{Agree}
 use Rattle.atomic_table.specs.Table.{Me, keeps, step, opening, Allows, Splits, Joins}
 use Rattle.atomic_table.proofs.Lists.{at_set, at_snoc, set_again}
-use Rattle.canton_model.specs.declared.message.Entry.{Entry}
+use Rattle.canton_model.specs.declared.entry.Entry.{Entry}
 use Rattle.log_row.specs.declared.seat.View.{View}
 use Rattle.log_row.specs.Lists.{AllBegin, NoneLonger, longer}
 use Rattle.log_row.specs.Seats.{writer, reader, Fits, Kept, copied, joined, Appends, Learns}

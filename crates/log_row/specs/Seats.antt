@@ -4,7 +4,7 @@ use mathlib.Core.Option.{some}
 use mathlib.Core.List.{IsPrefix}
 use lib.ListN.{get_elem?}
 use Rattle.atomic_table.specs.Table.{State, Step, Me}
-use Rattle.canton_model.specs.declared.message.Entry.{Entry}
+use Rattle.canton_model.specs.declared.entry.Entry.{Entry}
 use Rattle.log_row.specs.declared.seat.View.{View}
 use Rattle.log_row.specs.Lists.{AllBegin, longer}
 

@@ -27,7 +27,7 @@ impl TableRule<(), View, ()> for Law {
 /// Which entries a step adds. Each call picks them.
 pub trait Adds {
     ghost use Rattle.std.specs.Prelude.{List};
-    ghost use Rattle.canton_model.specs.declared.message.Entry.{Entry};
+    ghost use Rattle.canton_model.specs.declared.entry.Entry.{Entry};
 
     ghost entries: { List Entry };
 }

@@ -1,7 +1,7 @@
 //! What the mediator's calls do, in terms of the log.
 ghost use Rattle.std.specs.Prelude.{◌≡◌, ℕ, List, [], ◌∷◌, ◌++◌, Option, IfSome};
 ghost use Rattle.world_model.specs.Messages.{Entry as EntryValue};
-ghost use Rattle.canton_model.specs.declared.message.Verdict.{Verdict as VerdictValue};
+ghost use Rattle.canton_model.specs.declared.verdict.Verdict.{Verdict as VerdictValue};
 ghost use Rattle.world_model.specs.Machine.{Machine, GenuineLog};
 ghost use Rattle.world_model.specs.Fits.{IsDecision};
 ghost use Rattle.world_model.specs.Mediator.{MediatorState, new_mediator, read_by_mediator, next_verdict, give_back};

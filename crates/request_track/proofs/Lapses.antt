@@ -4,7 +4,7 @@ use Rattle.std.proofs.Common.{ap, ◌∙◌, inl, inr, arith}
 use Rattle.std.specs.Prelude.{if◌then◌else◌, nat_le, nat_lt, nat_eq, remove}
 use Rattle.std.proofs.lemmas.Bool.{eq-eqb, ne_eqb, cases_lt, and_parts}
 use Rattle.std.proofs.lemmas.List.Edits.{get_or-remove_below}
-use Rattle.canton_model.specs.declared.message.Outcome.TheVariants.{Expired}
+use Rattle.canton_model.specs.declared.outcome.Outcome.TheVariants.{Expired}
 use Rattle.request_track.specs.declared.tracked.Tracked.{Tracked}
 use Rattle.request_track.specs.Pairs.{Pair, is_undecided, is_open, tracked_at, settled, in_place, undecided_of, without, put_if, drop_if, Apart}
 use Rattle.request_track.specs.Pairs.{is_late, late_tracked, expired, expire_one}

@@ -3,7 +3,7 @@ use Rattle.std.proofs.Common.{◌≡◌, ℕ, suc, ◌≤◌, Bool, true, false,
 use Rattle.std.specs.Prelude.{if◌then◌else◌, nat_le, nat_eq, min, option_map}
 use Rattle.std.proofs.lemmas.Bool.{leb-true, leb-false, le-leb, lt-leb, eq-eqb, ne_eqb, eqb-true, eqb-false, cases_lt, cases_eq}
 use Rattle.indexmap.specs.IndexMap.{insert_entry}
-use Rattle.canton_model.specs.declared.message.Outcome.{Outcome}
+use Rattle.canton_model.specs.declared.outcome.Outcome.{Outcome}
 use Rattle.request_track.specs.declared.tracked.Tracked.{Tracked}
 use Rattle.request_track.specs.Pairs.{Pair, is_undecided, is_open, tracked_at, settled, clean_of, in_place, undecided_of, without, first_or, put_if}
 use Rattle.request_track.specs.Pairs.{drop_if, Apart}

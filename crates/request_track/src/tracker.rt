@@ -3,7 +3,7 @@ ghost use Rattle.std.specs.Prelude.{◌≡◌, ◌+◌, ◌<◌, ◌≤◌, ◌^
 ghost use Rattle.std.specs.Prelude.{vec_len, vec_capacity};
 ghost use Rattle.request_track.specs.Expiring.{Expiring};
 ghost use Rattle.indexmap.specs.IndexMap.{spare};
-ghost use Rattle.canton_model.specs.declared.message.Outcome.TheVariants.{Undecided, Expired};
+ghost use Rattle.canton_model.specs.declared.outcome.Outcome.TheVariants.{Undecided, Expired};
 ghost use Rattle.request_track.specs.Pairs.{Pair, Apart, tracked_at, outcome_at, settled, expired, clean_of, undecided_of, late_tracked, is_late};
 
 use crate::pairs::{push_pair, settle_pair, tracked};

@@ -1,7 +1,7 @@
 -- A log that grows keeps a slip for each place.
 use Rattle.std.proofs.Common.{◌≡◌, ◌⊎◌, ℕ, zero, suc, ◌+◌, ◌≤◌, ◌<◌, List, [], ◌∷◌, ◌++◌, length, take, Some, slice_get, refl, ap, sym, ◌∙◌, inl, inr}
 use Rattle.std.proofs.Common.{⊎_elim, arith, length-append}
-use Rattle.canton_model.specs.declared.message.Entry.{Entry}
+use Rattle.canton_model.specs.declared.entry.Entry.{Entry}
 use Rattle.log_row.specs.LogPrefix.{LogPrefix, extended}
 use Rattle.seq_log.specs.Slips.{prefix_to, Holds}
 

@@ -1,5 +1,5 @@
 use Rattle.std.proofs.Common.{◌≡◌, List, Option, subst, sym, ◌∙◌}
-use Rattle.canton_model.specs.declared.message.Verdict.{Verdict}
+use Rattle.canton_model.specs.declared.verdict.Verdict.{Verdict}
 use Rattle.world_model.specs.Mediator.{MediatorState, next_verdict}
 use Rattle.mediator.specs.declared.open_case.OpenCase.{OpenCase}
 use Rattle.mediator.specs.OpenCases.{first_due, after_giving}

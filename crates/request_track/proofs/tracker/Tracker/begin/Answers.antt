@@ -1,6 +1,6 @@
 use Rattle.std.proofs.Common.{◌≡◌, ◌+◌, ◌++◌, ◌∷◌, [], ◌∙◌, ap, sym, true, length, arith, length-append}
 use Rattle.std.proofs.lemmas.Grind.{common_steps}
-use Rattle.canton_model.specs.declared.message.Outcome.TheVariants.{Undecided}
+use Rattle.canton_model.specs.declared.outcome.Outcome.TheVariants.{Undecided}
 use Rattle.request_track.specs.Pairs.{Pair, undecided_of, put_if, first_or}
 use Rattle.request_track.proofs.Undecided.{undecided_pushed, few_undecided, clean_first, apart_pushed}
 use Rattle.request_track.proofs.tracker.Tracker.begin.Goals as goal
