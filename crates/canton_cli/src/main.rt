@@ -59,7 +59,7 @@ fn line(alloc: Global, finish: &Finish) -> Result<String, AllocError> {
 fn fault_line(alloc: Global, fault: &ScriptFault) -> Result<String, AllocError> {
     let name = fault.name();
     if let ScriptFault::Package { fault } = fault {
-        let kind = fault.kind.name();
+        let kind = fault.kind.as_str();
         let place = fault.at.as_str();
         return format!(in alloc; "canton_cli: script {name} {kind} {place}");
     }
