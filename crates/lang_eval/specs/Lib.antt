@@ -10,3 +10,4 @@ pub mod Typed
 pub mod Checking
 pub mod Language
 pub mod RoleSets
+pub mod Named
