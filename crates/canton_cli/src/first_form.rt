@@ -8,8 +8,7 @@ ghost use Rattle.canton_cli.specs.FirstScript.{IsFirst};
 ghost use Rattle.canton_cli.specs.FirstForm.{default_params, name_in, sole_of, list_in, text_in, is_text, is_text_if, is_party, parties_in, host_in, words_in, note_args, fields_in, create_in, command_in, party_of, actor_in, wanted_in, is_submission, command_id_in, submission_in, submits_in, submits_if, round_in, rounds_in, sole_host_in, is_script, played_in, first_form};
 
 use crate::script::Script;
-use lang_eval::note::note_name;
-use lang_eval::note_template;
+use lang_eval::{note_name, note_template};
 use lang_read::{ScriptFault, fits};
 use ledger_terms::{
     Arg, ArgList, Command, CommandList, Host, HostList, Name, NameList, Params, ParticipantId,

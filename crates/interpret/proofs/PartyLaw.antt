@@ -1,11 +1,10 @@
 -- A wanted transaction names no party beyond those that packages, commands and known contracts name.
-use Rattle.std.proofs.Common.{◌≡◌, ℕ, ◌+◌, Bool, true, false, cond, List, [], ◌∷◌, ◌++◌, Option, Some, None, Result, Ok, Err, refl, sym, ap, subst, ◌∙◌, inl, inr}
+use Rattle.std.proofs.Common.{◌≡◌, ℕ, ◌+◌, Bool, true, false, cond, List, [], ◌∷◌, ◌++◌, Option, Some, None, Result, Ok, Err, refl, sym, ap, subst, ◌∙◌}
 use Rattle.std.specs.Prelude.{slice_get}
 use Rattle.std.specs.List.{flat_map, list_all}
-use Rattle.std.proofs.lemmas.Bool.{cases_Bool}
 use Rattle.std.proofs.lemmas.Grind.{flat_map-append}
 use Rattle.ledger_terms.specs.Deciding.{both, bytes_decide, lists_decide}
-use Rattle.ledger_terms.specs.Parties.{has_party, set_of}
+use Rattle.ledger_terms.specs.Parties.{has_party}
 use Rattle.ledger_terms.specs.declared.value.Value.{Value}
 use Rattle.ledger_terms.specs.declared.value.Value.TheVariants.{Unit as UnitValue}
 use Rattle.ledger_terms.specs.declared.instance.Instance.{Instance}
@@ -18,7 +17,7 @@ use Rattle.ledger_terms.specs.declared.command.Command.TheVariants.{Create as Cr
 use Rattle.ledger_terms.specs.declared.action.Action.{Action}
 use Rattle.ledger_terms.specs.declared.action.Action.TheVariants.{Create, Exercise, Fetch}
 use Rattle.ledger_terms.specs.Forest.{NoRoots, Root, preorder}
-use Rattle.ledger_terms.specs.Trees.{Act, Actions}
+use Rattle.ledger_terms.specs.Trees.{Actions}
 use Rattle.ledger_model.specs.Parties.{within}
 use Rattle.ledger_model.specs.Language.{roles_of}
 use Rattle.ledger_model.specs.Conformance.{Demands, Possible, seen_of}
@@ -26,7 +25,7 @@ use Rattle.ledger_model.specs.Authority.{authorisers_below}
 use Rattle.ledger_model.specs.declared.step.ChoiceCall.{ChoiceCall}
 use Rattle.ledger_model.specs.declared.step.Seen.{Seen}
 use Rattle.ledger_model.specs.declared.step.Step.{Step}
-use Rattle.ledger_model.specs.declared.step.Step.TheVariants.{Create as CreateNext, Exercise as ExerciseNext, Fetch as FetchNext, Done}
+use Rattle.ledger_model.specs.declared.step.Step.TheVariants.{Done}
 use Rattle.lang_eval.specs.declared.eval_fault.EvalFault.{EvalFault}
 use Rattle.lang_eval.specs.declared.role_fault.RoleFault.{RoleFault}
 use Rattle.lang_eval.specs.declared.role_fault.RoleFault.TheVariants.{NoRoles}
@@ -49,8 +48,8 @@ use Rattle.interpret.specs.declared.progress.Progress.{Progress}
 use Rattle.interpret.specs.Ids.{Hash}
 use Rattle.interpret.specs.Language.{the_language, are_controllers, is_exercisable}
 use Rattle.interpret.specs.Tested.{fetchers}
-use Rattle.interpret.specs.Act.{Source, Turn, Stop, End, Child, body_source, step_of, turn_of}
-use Rattle.interpret.specs.Commands.{args_have_kinds, called_demand, command_demand, command_turn, commands_source, create_demand, demand_turn, exercise_demand, referenced_id, referenced_values, where_there}
+use Rattle.interpret.specs.Act.{Source, End, Child, body_source, step_of, turn_of}
+use Rattle.interpret.specs.Commands.{args_have_kinds, called_demand, command_demand, command_turn, commands_source, demand_turn, referenced_id, referenced_values, where_there}
 use Rattle.interpret.specs.Interpreted.{nothing_done}
 use Rattle.interpret.specs.NamedParties.{parties_in_act, parties_in_args, parties_in_command, parties_in_commands, parties_in_contracts, parties_in_forest, parties_in_known}
 use Rattle.interpret.specs.Wanted.{Wanted, IsWanted, IsInput, IsFetchedBy, after, after_action, after_all, no_source, one_less, source_of, result_of}

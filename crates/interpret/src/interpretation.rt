@@ -16,7 +16,7 @@ use crate::place::Place;
 use crate::progress::nothing_done;
 use crate::references::{referenced_id, referenced_values};
 use crate::turn::Turn;
-use lang_eval::{Checked, kinds};
+use lang_eval::{Checked, kind_of};
 use ledger_terms::{
     ActionNodeList, Arg, ArgList, Command, CommandList, ContractRef, FieldDecl, Hash, Kind,
     KnownContracts, Name, PartySet, Path, TemplateName, Value,
@@ -28,7 +28,7 @@ fn kind_of_arg(arg: &Arg) -> Kind
     ensures { result ≡ kind_of_arg arg.now }
 {
     match arg {
-        Arg::Plain(value) => kinds::kind_of(value),
+        Arg::Plain(value) => kind_of(value),
         Arg::Contract(_) => Kind::Contract,
     }
 }

@@ -14,7 +14,7 @@ use crate::nameable::Nameable;
 use crate::scope::Scope;
 use crate::signature::Signature;
 use crate::stop::Stop;
-use lang_eval::note::archive_name;
+use lang_eval::archive_name;
 use ledger_terms::{
     Choice, Expr, ExprList, FieldDecl, Kind, Name, Pointer, Stmt, StmtList, Template, TemplateName,
     Text,

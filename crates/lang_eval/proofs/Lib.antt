@@ -8,3 +8,4 @@ pub mod Known
 pub mod NamedValues
 pub mod NamedSteps
 pub mod NamedRoles
+pub mod Archived

@@ -1,5 +1,7 @@
+pub mod FaultNames
 pub mod Names
 pub mod Value
+pub mod Operation
 pub mod Found
 pub mod Next
 pub mod Shown
