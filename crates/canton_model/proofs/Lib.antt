@@ -18,6 +18,7 @@ pub mod Outcomes
 pub mod LongerLogs
 pub mod InboxOutcomes
 pub mod AskedParticipants
+pub mod ExampleReading
 pub mod WorkedConforms
 pub mod WorkedSealed
 pub mod WorkedLog

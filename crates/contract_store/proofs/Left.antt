@@ -4,18 +4,21 @@ use Rattle.std.proofs.Common.{sym, ap, ◌∙◌, inl, inr, arith}
 use Rattle.std.specs.Prelude.{if◌then◌else◌, ◌||◌, ◌&&◌, not, option_map, ◌⊎◌}
 use Rattle.std.specs.List.{list_any}
 use Rattle.std.specs.Str.{bytes_eq}
-use Rattle.std.proofs.lemmas.Bool.{or_parts, or_left}
+use Rattle.std.proofs.lemmas.Bool.{cases_Bool, both_ways, not-true, or_left}
+use Rattle.std.proofs.Math.Nat.{min-eq_left}
 use Rattle.ledger_terms.specs.Trees.{Act}
 use Rattle.ledger_terms.specs.declared.known.Known.{Known}
 use Rattle.ledger_terms.specs.declared.active_row.ActiveRow.{ActiveRow}
 use Rattle.ledger_terms.specs.declared.action.Action.{Action}
 use Rattle.ledger_terms.specs.declared.action.Action.TheVariants.{Create, Exercise, Fetch}
-use Rattle.ledger_model.specs.Terms.{Hash, id_of, instance_of, is_create, is_consuming, creates, consumes}
+use Rattle.ledger_model.specs.Terms.{Hash, id_of, instance_of, is_create, is_consuming, consumes}
 use Rattle.contract_store.specs.declared.row.StoreRow.{StoreRow}
-use Rattle.contract_store.specs.Rows.{is_of, row_id, created, consumed, with_created, with_consumed}
+use Rattle.contract_store.specs.Rows.{is_of, row_id, smaller, created, consumed, with_created, with_consumed}
 use Rattle.contract_store.specs.Active.{active_of, active}
 use Rattle.contract_store.specs.Written.{Placed, contract_of, salt_in, write, written, acts_of}
-use Rattle.contract_store.specs.ActiveLaw.{CreatedOnce, is_left, row_for, left_of}
+use Rattle.canton_model.specs.Inbox.{first_of_each}
+use Rattle.canton_model.proofs.FirstRows.{first_filtered}
+use Rattle.contract_store.specs.ActiveLaw.{NoneBefore, InOrder, row_for, created_rows, is_left, left_of}
 use Rattle.contract_store.proofs.Maps.{same_bytes, equal_bytes}
 use Rattle.contract_store.proofs.Following.{never_both, no_more, one_more, or_or, new_created, new_consumed}
 
@@ -116,22 +119,6 @@ changed_gone (p ∷ ps) row =
     ∙ ap (λ b. b || list_any (consumes (row_id row)) (acts_of ps)) (touched_gone p row)
     ∙ or_or (gone row) (consumes (row_id row) p.act) (list_any (consumes (row_id row)) (acts_of ps))
 
-touched_since : (p : Placed) (row : StoreRow) → creates (row_id row) p.act ≡ false → (touched p row).created_at ≡ row.created_at
-touched_since p row e = by (own (row_id row) p) (is_create p.act.action) (is_consuming p.act.action) e
-  where
-    by : (o cr co : Bool) → (o && cr) ≡ false
-        → (if o then (if cr then with_created p.place row else if co then with_consumed p.place row else row) else row).created_at ≡ row.created_at
-    by true true co e = absurd (cc)
-    by true false true e = refl
-    by true false false e = refl
-    by false cr co e = refl
-
-changed_since : (ps : List Placed) (row : StoreRow) → list_any (creates (row_id row)) (acts_of ps) ≡ false → (changed row ps).created_at ≡ row.created_at
-changed_since [] row e = refl
-changed_since (p ∷ ps) row e =
-    let parts = or_parts (creates (row_id row) p.act) (list_any (creates (row_id row)) (acts_of ps)) e in
-    changed_since ps (touched p row) (ap (λ (k : Known). list_any (creates k.id) (acts_of ps)) (touched_known p row) ∙ parts.1) ∙ touched_since p row parts.0
-
 active_by : (since end : Option ℕ) (known : Known) (b : Bool) → is_some end ≡ b
     → active_of since end known ≡ (if b then None else option_map (λ place. record { created_at = place; known = known }) since)
 active_by (Some place) None known true e = absurd (cc)
@@ -157,13 +144,28 @@ own_salt seed (Create id instance) e = refl
 own_salt seed (Exercise id salt instance choice args actors consuming result) e = absurd (cc)
 own_salt seed (Fetch id salt instance actors) e = absurd (cc)
 
-created_active : (p : Placed) (ps : List Placed) → is_create p.act.action ≡ true → list_any (creates (id_of p.act.action)) (acts_of ps) ≡ false
+-- where the places rise the first Create's place stays
+touched_first : (n : ℕ) (p : Placed) (row : StoreRow) → n ≤ p.place → row.created_at ≡ Some n → (touched p row).created_at ≡ Some n
+touched_first n p row h e = by (own (row_id row) p) (is_create p.act.action) (is_consuming p.act.action)
+  where
+    by : (o cr co : Bool)
+        → (if o then (if cr then with_created p.place row else if co then with_consumed p.place row else row) else row).created_at ≡ Some n
+    by true true co = ap (λ (o : Option ℕ). Some (smaller o p.place)) e ∙ ap Some (min-eq_left h)
+    by true false true = e
+    by true false false = e
+    by false cr co = e
+
+changed_first : (n : ℕ) (ps : List Placed) (row : StoreRow) → NoneBefore n ps → row.created_at ≡ Some n → (changed row ps).created_at ≡ Some n
+changed_first n [] row h e = e
+changed_first n (p ∷ ps) row h e = changed_first n ps (touched p row) h.1 (touched_first n p row h.0 e)
+
+created_active : (p : Placed) (ps : List Placed) → is_create p.act.action ≡ true → NoneBefore p.place ps
     → active (changed (new_created p) ps) ≡ (if list_any (consumes (id_of p.act.action)) (acts_of ps) then None else Some (row_for p))
-created_active p ps e once =
+created_active p ps e above =
     active_by (changed (new_created p) ps).created_at (changed (new_created p) ps).consumed_at (changed (new_created p) ps).known
     (list_any (consumes (id_of p.act.action)) (acts_of ps)) (changed_gone ps (new_created p))
     ∙ ap (λ (s : Option ℕ). if list_any (consumes (id_of p.act.action)) (acts_of ps) then None
-    else option_map (λ place. record { created_at = place; known = (changed (new_created p) ps).known }) s) (changed_since ps (new_created p) once)
+    else option_map (λ place. record { created_at = place; known = (changed (new_created p) ps).known }) s) (changed_first p.place ps (new_created p) above refl)
     ∙ ap (λ (k : Known). if list_any (consumes (id_of p.act.action)) (acts_of ps) then None else Some (record { created_at = p.place; known = k }))
     (changed_known ps (new_created p))
     ∙ ap (λ (s : Hash). if list_any (consumes (id_of p.act.action)) (acts_of ps) then None
@@ -188,23 +190,21 @@ same_consumed k c (p ∷ ps) e = by (own k p) refl (same_consumed k c ps e)
         rw off rest)
     by false h rest = ap (λ b. consumes c p.act || b) rest
 
-fewer_created : (k c : Hash) (ps : List Placed) → list_any (creates c) (acts_of ps) ≡ false → list_any (creates c) (acts_of (others k ps)) ≡ false
-fewer_created k c [] e = refl
-fewer_created k c (p ∷ ps) e =
-    (let parts = or_parts (creates c p.act) (list_any (creates c) (acts_of ps)) e in by (own k p) parts.0 (fewer_created k c ps parts.1))
+none_others : (n : ℕ) (k : Hash) (ps : List Placed) → NoneBefore n ps → NoneBefore n (others k ps)
+none_others n k [] h = tt
+none_others n k (p ∷ ps) h = by (own k p) (none_others n k ps h.1)
   where
-    by : (b : Bool) → creates c p.act ≡ false → list_any (creates c) (acts_of (others k ps)) ≡ false
-        → list_any (creates c) (acts_of (if b then others k ps else p ∷ others k ps)) ≡ false
-    by true h rest = rest
-    by false h rest = rw h rest
-
-once_others : (k : Hash) (ps : List Placed) → CreatedOnce ps → CreatedOnce (others k ps)
-once_others k [] o = tt
-once_others k (p ∷ ps) o = by (own k p) (once_others k ps o.1)
-  where
-    by : (b : Bool) → CreatedOnce (others k ps) → CreatedOnce (if b then others k ps else p ∷ others k ps)
+    by : (b : Bool) → NoneBefore n (others k ps) → NoneBefore n (if b then others k ps else p ∷ others k ps)
     by true rest = rest
-    by false rest = ((λ e. fewer_created k (id_of p.act.action) ps (o.0 e)), rest)
+    by false rest = (h.0, rest)
+
+order_others : (k : Hash) (ps : List Placed) → InOrder ps → InOrder (others k ps)
+order_others k [] o = tt
+order_others k (p ∷ ps) o = by (own k p) (order_others k ps o.1)
+  where
+    by : (b : Bool) → InOrder (others k ps) → InOrder (if b then others k ps else p ∷ others k ps)
+    by true rest = rest
+    by false rest = (none_others p.place k ps o.0, rest)
 
 fewer : (k : Hash) (ps : List Placed) → length (others k ps) ≤ length ps
 fewer k [] = omega arith
@@ -218,43 +218,55 @@ and_false : (b : Bool) → (b && false) ≡ false
 and_false true = refl
 and_false false = refl
 
--- of the actions on one contract nothing is left behind its first
-left_others : (k : Hash) (all all' : List Act) (ps : List Placed)
-    → ((c : Hash) → bytes_eq c k ≡ false → list_any (consumes c) all ≡ list_any (consumes c) all')
-    → (list_any (consumes k) all ≡ true) ⊎ (list_any (creates k) (acts_of ps) ≡ false) → filter (is_left all) ps ≡ filter (is_left all') (others k ps)
-left_others k all all' [] same shut = refl
-left_others k all all' (p ∷ ps) same shut = by (own k p) refl shut (λ s. left_others k all all' ps same s)
-  where
-    by : (b : Bool) → own k p ≡ b → (list_any (consumes k) all ≡ true) ⊎ ((creates k p.act || list_any (creates k) (acts_of ps)) ≡ false)
-        → ((list_any (consumes k) all ≡ true) ⊎ (list_any (creates k) (acts_of ps) ≡ false) → filter (is_left all) ps ≡ filter (is_left all') (others k ps))
-        → filter (is_left all) (p ∷ ps) ≡ filter (is_left all') (if b then others k ps else p ∷ others k ps)
-    by true h (inl c) rest =
-        (let w = same_bytes (id_of p.act.action) k h in
-        let off : is_left all p ≡ false =
-        ap (λ i. is_create p.act.action && not (list_any (consumes i) all)) w ∙ ap (λ b. is_create p.act.action && not b) c
-        ∙ and_false (is_create p.act.action) in
-        rw off (rest (inl c)))
-    by true h (inr n) rest =
-        (let parts = or_parts (creates k p.act) (list_any (creates k) (acts_of ps)) n in
-        let none : is_create p.act.action ≡ false = ap (λ b. b && is_create p.act.action) (sym h) ∙ parts.0 in
-        let off : is_left all p ≡ false = ap (λ b. b && not (list_any (consumes (id_of p.act.action)) all)) none in
-        rw off (rest (inr parts.1)))
-    by false h shut rest =
-        (let one : is_left all p ≡ is_left all' p = ap (λ b. is_create p.act.action && not b) (same (id_of p.act.action) h) in
-        ap (λ b. cond b (p ∷ filter (is_left all) ps) (filter (is_left all) ps)) one ∙ ap (λ qs. cond (is_left all' p) (p ∷ qs) qs) (rest (shorter shut)))
-      where
-        shorter : (list_any (consumes k) all ≡ true) ⊎ ((creates k p.act || list_any (creates k) (acts_of ps)) ≡ false)
-            → (list_any (consumes k) all ≡ true) ⊎ (list_any (creates k) (acts_of ps) ≡ false)
-        shorter (inl c) = inl c
-        shorter (inr n) = inr (or_parts (creates k p.act) (list_any (creates k) (acts_of ps)) n).1
+-- a row of another contract
+abbrev is_apart : Hash → ActiveRow → Bool
+is_apart k row = not (bytes_eq row.known.id k)
+
+created_others : (k : Hash) (ps : List Placed) → created_rows (others k ps) ≡ filter (is_apart k) (created_rows ps)
+created_others k [] = refl
+created_others k (p ∷ ps) =
+    let rest = created_others k ps in
+    elim (cases_Bool (own k p)) [
+      | inl mine ↦ elim (cases_Bool (is_create p.act.action)) [ inl made ↦ rw (made, mine) rest | inr other ↦ rw (other, mine) rest ]
+      | inr apart ↦ elim (cases_Bool (is_create p.act.action)) [
+        | inl made ↦ rw (apart, made, apart) (ap (λ (rows : List ActiveRow). row_for p ∷ rows) rest)
+        | inr other ↦ rw (apart, other) rest
+      ]
+    ]
+
+first_others : (k : Hash) (ps : List Placed) → first_of_each (created_rows (others k ps)) ≡ filter (is_apart k) (first_of_each (created_rows ps))
+first_others k ps =
+    ap first_of_each (created_others k ps)
+    ∙ sym (first_filtered (is_apart k) (created_rows ps) (λ a b i j e. ap (λ (id : Hash). not (bytes_eq id k)) e))
+
+-- what the test f keeps passes g
+filter_through : (f g : ActiveRow → Bool) (rows : List ActiveRow) → ((r : ActiveRow) → f r ≡ true → g r ≡ true)
+    → filter f (filter g rows) ≡ filter f rows
+filter_through f g [] h = refl
+filter_through f g (x ∷ xs) h =
+    let rest = filter_through f g xs h in
+    elim (cases_Bool (f x)) [
+      | inl yes' ↦ let kept = h x yes' in rw (kept, yes', rest) refl
+      | inr no' ↦ elim (cases_Bool (g x)) [ inl also ↦ rw (also, no', rest) refl | inr out ↦ rw (out, no', rest) refl ]
+    ]
+
+-- two tests that say the same of what g keeps
+filter_under : (f f' g : ActiveRow → Bool) (rows : List ActiveRow) → ((r : ActiveRow) → g r ≡ true → f r ≡ f' r)
+    → filter f (filter g rows) ≡ filter f' (filter g rows)
+filter_under f f' g [] h = refl
+filter_under f f' g (x ∷ xs) h =
+    let rest = filter_under f f' g xs h in
+    elim (cases_Bool (g x)) [
+      | inr out ↦ rw (out, rest) refl
+      | inl kept ↦ let same = h x kept in elim (cases_Bool (f' x)) [
+        | inl yes' ↦ rw (kept, same, yes', rest) refl
+        | inr no' ↦ rw (kept, same, no', rest) refl
+      ]
+    ]
 
 cons_row : (b : Bool) (p : Placed) (rows : List ActiveRow) → cons_if (if b then None else Some (row_for p)) rows ≡ cond (not b) (row_for p ∷ rows) rows
 cons_row true p rows = refl
 cons_row false p rows = refl
-
-map_cond : (b : Bool) (p : Placed) (ps : List Placed) → map row_for (cond b (p ∷ ps) ps) ≡ cond b (row_for p ∷ map row_for ps) (map row_for ps)
-map_cond true p ps = refl
-map_cond false p ps = refl
 
 -- the actions behind the first, as seen with it and without those on its contract
 module _ (p : Placed) (ps : List Placed) where
@@ -264,74 +276,87 @@ module _ (p : Placed) (ps : List Placed) where
   abbrev all_p : List Act
   all_p = acts_of (p ∷ ps)
 
+  abbrev rows_p : List ActiveRow
+  rows_p = first_of_each (created_rows ps)
+
   seen_without : (c : Hash) → bytes_eq c id_p ≡ false → list_any (consumes c) all_p ≡ list_any (consumes c) (acts_of (others id_p ps))
   seen_without c e =
       (let off : consumes c p.act ≡ false = ap (λ b. b && is_consuming p.act.action) (bytes_sym id_p c ∙ e) in rw off (sym (same_consumed id_p c ps e)))
 
-  rest_left : (list_any (consumes id_p) all_p ≡ true) ⊎ (list_any (creates id_p) (acts_of ps) ≡ false)
-      → map row_for (filter (is_left all_p) ps) ≡ left_of (others id_p ps)
-  rest_left shut = ap (map row_for) (left_others id_p all_p (acts_of (others id_p ps)) ps seen_without shut)
+  rest_left : filter (is_left all_p) (filter (is_apart id_p) rows_p) ≡ left_of (others id_p ps)
+  rest_left =
+      filter_under (is_left all_p) (is_left (acts_of (others id_p ps))) (is_apart id_p) rows_p
+      (λ r kept. ap not (seen_without r.known.id (not-true (bytes_eq r.known.id id_p) kept)))
+      ∙ ap (filter (is_left (acts_of (others id_p ps)))) (sym (first_others id_p ps))
 
   -- a Create
-  first_created : is_create p.act.action ≡ true → list_any (creates id_p) (acts_of ps) ≡ false
-      → actives (written (others id_p ps) []) ≡ left_of (others id_p ps)
+  first_created : is_create p.act.action ≡ true → NoneBefore p.place ps → actives (written (others id_p ps) []) ≡ left_of (others id_p ps)
       → actives (written ps (new_created p ∷ [])) ≡ left_of (p ∷ ps)
-  first_created e once rest =
+  first_created e above rest =
       (let none : is_consuming p.act.action ≡ false = ap (λ b. b && is_consuming p.act.action) (sym e) ∙ never_both p.act.action in
       let mine : list_any (consumes id_p) all_p ≡ list_any (consumes id_p) (acts_of ps) =
       ap (λ b. (bytes_eq id_p id_p && b) || list_any (consumes id_p) (acts_of ps)) none
       ∙ ap (λ b. b || list_any (consumes id_p) (acts_of ps)) (and_false (bytes_eq id_p id_p)) in
-      let left : is_left all_p p ≡ not (list_any (consumes id_p) (acts_of ps)) = ap (λ b. b && not (list_any (consumes id_p) all_p)) e ∙ ap not mine in
+      let made : created_rows (p ∷ ps) ≡ row_for p ∷ created_rows ps = rw e refl in
       ap actives (split ps (new_created p) [])
-      ∙ ap (λ (o : Option ActiveRow). cons_if o (actives (written (others id_p ps) []))) (created_active p ps e once)
+      ∙ ap (λ (o : Option ActiveRow). cons_if o (actives (written (others id_p ps) []))) (created_active p ps e above)
       ∙ cons_row (list_any (consumes id_p) (acts_of ps)) p (actives (written (others id_p ps) []))
-      ∙ ap (λ (rows : List ActiveRow). cond (not (list_any (consumes id_p) (acts_of ps))) (row_for p ∷ rows) rows) (rest ∙ sym (rest_left (inr once)))
-      ∙ ap (λ b. cond b (row_for p ∷ map row_for (filter (is_left all_p) ps)) (map row_for (filter (is_left all_p) ps))) (sym left)
-      ∙ sym (map_cond (is_left all_p p) p (filter (is_left all_p) ps)))
+      ∙ ap (λ (rows : List ActiveRow). cond (not (list_any (consumes id_p) (acts_of ps))) (row_for p ∷ rows) rows) (rest ∙ sym rest_left)
+      ∙ ap (λ b. cond (not b) (row_for p ∷ filter (is_left all_p) (filter (is_apart id_p) rows_p)) (filter (is_left all_p) (filter (is_apart id_p) rows_p)))
+      (sym mine)
+      ∙ ap (λ (rows : List ActiveRow). filter (is_left all_p) (first_of_each rows)) (sym made))
 
-  not_left : is_create p.act.action ≡ false → left_of (p ∷ ps) ≡ map row_for (filter (is_left all_p) ps)
-  not_left e =
-      map_cond (is_left all_p p) p (filter (is_left all_p) ps)
-      ∙ ap (λ b. cond b (row_for p ∷ map row_for (filter (is_left all_p) ps)) (map row_for (filter (is_left all_p) ps)))
-      (ap (λ b. b && not (list_any (consumes id_p) all_p)) e)
+  not_created : is_create p.act.action ≡ false → left_of (p ∷ ps) ≡ filter (is_left all_p) rows_p
+  not_created e = let same : created_rows (p ∷ ps) ≡ created_rows ps = rw e refl in ap (λ (rows : List ActiveRow). filter (is_left all_p) (first_of_each rows)) same
 
   -- a consuming Exercise
   first_consumed : is_create p.act.action ≡ false → is_consuming p.act.action ≡ true → actives (written (others id_p ps) []) ≡ left_of (others id_p ps)
       → actives (written ps (new_consumed p ∷ [])) ≡ left_of (p ∷ ps)
   first_consumed e c rest =
-      (let used : list_any (consumes id_p) all_p ≡ true = or_left (consumes id_p p.act) (list_any (consumes id_p) (acts_of ps))
-      (ap (λ b. b && is_consuming p.act.action) (equal_bytes id_p) ∙ c) in
       ap actives (split ps (new_consumed p) [])
       ∙ ap (λ (o : Option ActiveRow). cons_if o (actives (written (others id_p ps) []))) (consumed_active p ps)
-      ∙ rest ∙ sym (rest_left (inl used)) ∙ sym (not_left e))
+      ∙ rest ∙ sym rest_left ∙ filter_through (is_left all_p) (is_apart id_p) rows_p apart ∙ sym (not_created e)
+    where
+      used : list_any (consumes id_p) all_p ≡ true
+      used = or_left (consumes id_p p.act) (list_any (consumes id_p) (acts_of ps)) (ap (λ b. b && is_consuming p.act.action) (equal_bytes id_p) ∙ c)
+
+      apart : (r : ActiveRow) → is_left all_p r ≡ true → is_apart id_p r ≡ true
+      apart r kept =
+          elim (cases_Bool (bytes_eq r.known.id id_p)) [
+            | inr other ↦ ap not other
+            | inl same ↦
+                let it : list_any (consumes r.known.id) all_p ≡ true =
+                ap (λ (id : Hash). list_any (consumes id) all_p) (same_bytes r.known.id id_p same) ∙ used in
+                absurd (both_ways _ (not-true _ kept) it)
+          ]
 
   -- another action
   first_other : is_create p.act.action ≡ false → is_consuming p.act.action ≡ false → actives (written ps []) ≡ left_of ps
       → actives (written ps []) ≡ left_of (p ∷ ps)
-  first_other e c rest = rest ∙ ap (map row_for) (same_filter ps) ∙ sym (not_left e)
+  first_other e c rest = rest ∙ same_filter rows_p ∙ sym (not_created e)
     where
-      one : (x : Placed) → is_left (acts_of ps) x ≡ is_left all_p x
-      one x = ap (λ b. is_create x.act.action && not (b || list_any (consumes (id_of x.act.action)) (acts_of ps)))
-          (sym (ap (λ b. bytes_eq id_p (id_of x.act.action) && b) c ∙ and_false (bytes_eq id_p (id_of x.act.action))))
+      one : (r : ActiveRow) → is_left (acts_of ps) r ≡ is_left all_p r
+      one r = ap (λ b. not (b || list_any (consumes r.known.id) (acts_of ps)))
+          (sym (ap (λ b. bytes_eq id_p r.known.id && b) c ∙ and_false (bytes_eq id_p r.known.id)))
 
-      same_filter : (xs : List Placed) → filter (is_left (acts_of ps)) xs ≡ filter (is_left all_p) xs
+      same_filter : (rows : List ActiveRow) → filter (is_left (acts_of ps)) rows ≡ filter (is_left all_p) rows
       same_filter [] = refl
-      same_filter (x ∷ xs) =
-          ap (λ b. cond b (x ∷ filter (is_left (acts_of ps)) xs) (filter (is_left (acts_of ps)) xs)) (one x)
-          ∙ ap (λ qs. cond (is_left all_p x) (x ∷ qs) qs) (same_filter xs)
+      same_filter (r ∷ rows) =
+          ap (λ b. cond b (r ∷ filter (is_left (acts_of ps)) rows) (filter (is_left (acts_of ps)) rows)) (one r)
+          ∙ ap (λ (kept : List ActiveRow). cond (is_left all_p r) (r ∷ kept) kept) (same_filter rows)
 
-pub actives_left : (n : ℕ) (ps : List Placed) → length ps ≤ n → CreatedOnce ps → actives (written ps []) ≡ left_of ps
+pub actives_left : (n : ℕ) (ps : List Placed) → length ps ≤ n → InOrder ps → actives (written ps []) ≡ left_of ps
 actives_left n [] h o = refl
 actives_left zero (p ∷ ps) h o = absurd (omega arith)
 actives_left (suc n) (p ∷ ps) h o =
     by (is_create p.act.action) (is_consuming p.act.action) refl refl
     (actives_left n (others (id_of p.act.action) ps) (let f = fewer (id_of p.act.action) ps in omega arith)
-    (once_others (id_of p.act.action) ps o.1)) (actives_left n ps (omega arith) o.1)
+    (order_others (id_of p.act.action) ps o.1)) (actives_left n ps (omega arith) o.1)
   where
     by : (cr co : Bool) → is_create p.act.action ≡ cr → is_consuming p.act.action ≡ co
         → actives (written (others (id_of p.act.action) ps) []) ≡ left_of (others (id_of p.act.action) ps) → actives (written ps []) ≡ left_of ps
         → actives (written ps (if cr then created (contract_of p.act) p.place [] else if co then consumed (contract_of p.act) p.place [] else []))
         ≡ left_of (p ∷ ps)
-    by true co e c rest same = first_created p ps e (o.0 e) rest
+    by true co e c rest same = first_created p ps e o.0 rest
     by false true e c rest same = first_consumed p ps e c rest
     by false false e c rest same = first_other p ps e c same

@@ -1,18 +1,16 @@
 -- The active rows of a store, in order.
-use Rattle.std.proofs.Common.{◌≡◌, ℕ, Bool, true, false, cond, List, [], ◌∷◌, length, map, filter, Option, Some, None, refl, ap, ◌∙◌, arith}
-use Rattle.std.specs.Prelude.{◌&&◌, not}
-use Rattle.std.specs.List.{list_any}
-use Rattle.std.proofs.lemmas.Bool.{le-leb}
-use Rattle.ledger_terms.specs.Trees.{Act}
+use Rattle.std.proofs.Common.{◌≡◌, ℕ, Bool, true, false, cond, List, [], ◌∷◌, length, map, filter, Option, Some, None, refl, ap, ◌∙◌, inl, inr, arith}
+use Rattle.std.specs.Prelude.{◌&&◌}
+use Rattle.std.proofs.lemmas.Bool.{cases_Bool, le-leb}
 use Rattle.ledger_terms.specs.declared.active_row.ActiveRow.{ActiveRow}
-use Rattle.ledger_model.specs.Terms.{id_of, instance_of, is_create, consumes}
 use Rattle.ledger_model.specs.Terms.{ParticipantId}
 use Rattle.canton_model.specs.Reading.{Reading}
-use Rattle.canton_model.specs.Inbox.{is_active_create}
+use Rattle.canton_model.specs.Inbox.{first_of_each, is_active_row, is_stakeholder_hosted}
+use Rattle.canton_model.proofs.FirstRows.{is_other}
 use Rattle.contract_store.specs.declared.row.StoreRow.{StoreRow}
 use Rattle.contract_store.specs.Active.{active, in_order, in_order_if, active_rows}
 use Rattle.contract_store.specs.Written.{Placed, written, acts_of}
-use Rattle.contract_store.specs.ActiveLaw.{NoneBefore, InOrder, CreatedOnce, is_left, row_for, left_of, is_hosted}
+use Rattle.contract_store.specs.ActiveLaw.{NoneBefore, InOrder, is_creation, row_for, created_rows, is_left, left_of}
 use Rattle.contract_store.proofs.Soonest.{NotBefore, Rising}
 use Rattle.contract_store.proofs.Left.{actives, cons_if, actives_left}
 
@@ -47,35 +45,53 @@ module _ (f : Placed → Bool) where
       by true rest = (above p.place ps r.0, rest)
       by false rest = rest
 
-pub active_is_left : (ps : List Placed) → InOrder ps → CreatedOnce ps → active_rows (written ps []) ≡ left_of ps
-active_is_left ps r o =
-    let e = actives_left (length ps) ps (omega arith) o in
-    sorted (written ps []) (rw e (rises (is_left (acts_of ps)) ps r)) ∙ e
-
-module _ (reading : Reading) (party : ParticipantId) (all : List Act) where
-  abbrev hosted_row : ActiveRow → Bool
-  hosted_row a = is_hosted reading party a.known.instance
-
-  abbrev is_active : Placed → Bool
-  is_active p = is_active_create reading party all p.act
-
-  hosted_left : (ps : List Placed) → filter hosted_row (map row_for (filter (is_left all) ps)) ≡ map row_for (filter is_active ps)
-  hosted_left [] = refl
-  hosted_left (p ∷ ps) =
-      by (is_create p.act.action) (is_hosted reading party (instance_of p.act.action)) refl (not (list_any (consumes (id_of p.act.action)) all))
-      (hosted_left ps)
+-- a part of rising rows rises, and so do the first of each contract
+module _ (f : ActiveRow → Bool) where
+  kept_above : (n : ℕ) (rows : List ActiveRow) → NotBefore n rows → NotBefore n (filter f rows)
+  kept_above n [] r = tt
+  kept_above n (a ∷ rows) r = by (f a) (kept_above n rows r.1)
     where
-      by : (cr h : Bool) → is_hosted reading party (instance_of p.act.action) ≡ h → (n : Bool)
-          → filter hosted_row (map row_for (filter (is_left all) ps)) ≡ map row_for (filter is_active ps)
-          → filter hosted_row (map row_for (cond (cr && n) (p ∷ filter (is_left all) ps) (filter (is_left all) ps))) ≡ map row_for
-          (cond (cr && (h && n)) (p ∷ filter is_active ps) (filter is_active ps))
-      by true true e true rest = rw e (ap (λ rows. row_for p ∷ rows) rest)
-      by true true e false rest = rest
-      by true false e true rest = rw e rest
-      by true false e false rest = rest
-      by false h e n rest = rest
+      by : (b : Bool) → NotBefore n (filter f rows) → NotBefore n (cond b (a ∷ filter f rows) (filter f rows))
+      by true rest = (r.0, rest)
+      by false rest = rest
 
-pub hosted_is_active : (reading : Reading) (party : ParticipantId) (ps : List Placed) → InOrder ps → CreatedOnce ps
-    → filter (λ (a : ActiveRow). is_hosted reading party a.known.instance) (active_rows (written ps [])) ≡ map row_for
-    (filter (λ (p : Placed). is_active_create reading party (acts_of ps) p.act) ps)
-hosted_is_active reading party ps r o = ap (filter (hosted_row reading party (acts_of ps))) (active_is_left ps r o) ∙ hosted_left reading party (acts_of ps) ps
+  kept_rises : (rows : List ActiveRow) → Rising rows → Rising (filter f rows)
+  kept_rises [] r = tt
+  kept_rises (a ∷ rows) r = by (f a) (kept_rises rows r.1)
+    where
+      by : (b : Bool) → Rising (filter f rows) → Rising (cond b (a ∷ filter f rows) (filter f rows))
+      by true rest = (kept_above a.created_at rows r.0, rest)
+      by false rest = rest
+
+first_above : (n : ℕ) (rows : List ActiveRow) → NotBefore n rows → NotBefore n (first_of_each rows)
+first_above n [] r = tt
+first_above n (a ∷ rows) r = (r.0, kept_above (is_other a) n (first_of_each rows) (first_above n rows r.1))
+
+first_rises : (rows : List ActiveRow) → Rising rows → Rising (first_of_each rows)
+first_rises [] r = tt
+first_rises (a ∷ rows) r = (
+  kept_above (is_other a) a.created_at (first_of_each rows) (first_above a.created_at rows r.0),
+  kept_rises (is_other a) (first_of_each rows) (first_rises rows r.1),
+)
+
+pub active_is_left : (ps : List Placed) → InOrder ps → active_rows (written ps []) ≡ left_of ps
+active_is_left ps r =
+    let e = actives_left (length ps) ps (omega arith) r in
+    sorted (written ps []) (rw e (kept_rises (is_left (acts_of ps)) (first_of_each (created_rows ps)) (first_rises (created_rows ps) (rises is_creation ps r)))) ∙ e
+
+-- two tests one after the other
+filter_both : (f g : ActiveRow → Bool) (rows : List ActiveRow) → filter f (filter g rows) ≡ filter (λ (a : ActiveRow). f a && g a) rows
+filter_both f g [] = refl
+filter_both f g (a ∷ rows) =
+    let rest = filter_both f g rows in
+    elim (cases_Bool (f a)) [
+      | inl yes' ↦ elim (cases_Bool (g a)) [ inl also ↦ rw (also, yes', rest) refl | inr out ↦ rw (out, yes', rest) refl ]
+      | inr no' ↦ elim (cases_Bool (g a)) [ inl also ↦ rw (also, no', rest) refl | inr out ↦ rw (out, no', rest) refl ]
+    ]
+
+pub hosted_is_active : (reading : Reading) (party : ParticipantId) (ps : List Placed) → InOrder ps
+    → filter (λ (a : ActiveRow). is_stakeholder_hosted reading party a.known.instance) (active_rows (written ps []))
+    ≡ filter (is_active_row reading party (acts_of ps)) (first_of_each (created_rows ps))
+hosted_is_active reading party ps r =
+    ap (filter (λ (a : ActiveRow). is_stakeholder_hosted reading party a.known.instance)) (active_is_left ps r)
+    ∙ filter_both (λ (a : ActiveRow). is_stakeholder_hosted reading party a.known.instance) (is_left (acts_of ps)) (first_of_each (created_rows ps))

@@ -4,12 +4,12 @@ use Rattle.std.proofs.lemmas.List.{map-append}
 use Rattle.std.proofs.lemmas.List.Elements.{filter-append}
 use Rattle.ledger_terms.specs.Trees.{Act}
 use Rattle.ledger_terms.specs.declared.active_row.ActiveRow.{ActiveRow}
-use Rattle.ledger_model.specs.Terms.{ParticipantId}
+use Rattle.ledger_model.specs.Terms.{ParticipantId, is_create}
 use Rattle.canton_model.specs.Reading.{Reading}
-use Rattle.canton_model.specs.Inbox.{Item, active_row, is_active_create, created_at_place, created_below, authentic_below, node_active}
+use Rattle.canton_model.specs.Inbox.{Item, active_row, is_stakeholder_hosted, created_at_place, created_below, first_of_each, is_active_row, authentic_below, node_active}
 use Rattle.contract_store.specs.Active.{active_rows}
 use Rattle.contract_store.specs.Written.{Placed, written, acts_of}
-use Rattle.contract_store.specs.ActiveLaw.{NoneBefore, InOrder, CreatedOnce, row_for, is_hosted}
+use Rattle.contract_store.specs.ActiveLaw.{NoneBefore, InOrder, is_creation, row_for, created_rows}
 use Rattle.contract_store.specs.Below.{at_place, writes_of, placed_below}
 use Rattle.contract_store.proofs.Ordered.{hosted_is_active}
 
@@ -67,32 +67,28 @@ module _ (reading : Reading) (items : List Item) where
       ∙ ap (λ bs. bs ++ acts_of (map (at_place k) (writes_of reading items k))) (acts_below k)
       ∙ ap (λ bs. authentic_below reading items k ++ bs) (acts_here k (writes_of reading items k))
 
-  module _ (party : ParticipantId) (all : List Act) where
-    abbrev counts : Placed → Bool
-    counts p = is_active_create reading party all p.act
+  rows_here : (k : ℕ) (as' : List Act) → created_rows (map (at_place k) as') ≡ created_at_place k as'
+  rows_here k [] = refl
+  rows_here k (a ∷ as') = by (is_create a.action) (rows_here k as')
+    where
+      by : (b : Bool) → created_rows (map (at_place k) as') ≡ created_at_place k as'
+          → map row_for (cond b (at_place k a ∷ filter is_creation (map (at_place k) as')) (filter is_creation (map (at_place k) as')))
+          ≡ map (active_row k) (cond b (a ∷ filter (λ (act : Act). is_create act.action) as') (filter (λ (act : Act). is_create act.action) as'))
+      by true e = ap (λ rows. active_row k a ∷ rows) e
+      by false e = e
 
-    rows_here : (k : ℕ) (as' : List Act) → map row_for (filter counts (map (at_place k) as')) ≡ created_at_place reading party all k as'
-    rows_here k [] = refl
-    rows_here k (a ∷ as') = by (is_active_create reading party all a) (rows_here k as')
-      where
-        by : (b : Bool) → map row_for (filter counts (map (at_place k) as')) ≡ created_at_place reading party all k as'
-            → map row_for (cond b (at_place k a ∷ filter counts (map (at_place k) as')) (filter counts (map (at_place k) as'))) ≡ map (active_row k)
-            (cond b (a ∷ filter (is_active_create reading party all) as') (filter (is_active_create reading party all) as'))
-        by true e = ap (λ rows. active_row k a ∷ rows) e
-        by false e = e
+  rows_below : (n : ℕ) → created_rows (placed_below reading items n) ≡ created_below reading items n
+  rows_below zero = refl
+  rows_below (suc k) =
+      ap (map row_for) (filter-append is_creation (placed_below reading items k) (map (at_place k) (writes_of reading items k)))
+      ∙ map-append row_for (filter is_creation (placed_below reading items k)) (filter is_creation (map (at_place k) (writes_of reading items k)))
+      ∙ ap (λ rows. rows ++ created_rows (map (at_place k) (writes_of reading items k))) (rows_below k)
+      ∙ ap (λ rows. created_below reading items k ++ rows) (rows_here k (writes_of reading items k))
 
-    rows_below : (n : ℕ) → map row_for (filter counts (placed_below reading items n)) ≡ created_below reading party items all n
-    rows_below zero = refl
-    rows_below (suc k) =
-        ap (map row_for) (filter-append counts (placed_below reading items k) (map (at_place k) (writes_of reading items k)))
-        ∙ map-append row_for (filter counts (placed_below reading items k)) (filter counts (map (at_place k) (writes_of reading items k)))
-        ∙ ap (λ rows. rows ++ map row_for (filter counts (map (at_place k) (writes_of reading items k)))) (rows_below k)
-        ∙ ap (λ rows. created_below reading party items all k ++ rows) (rows_here k (writes_of reading items k))
-
-pub active_is_node_active : (reading : Reading) (party : ParticipantId) (items : List Item) (n : ℕ) → CreatedOnce (placed_below reading items n)
-    → filter (λ (a : ActiveRow). is_hosted reading party a.known.instance)
+pub active_is_node_active : (reading : Reading) (party : ParticipantId) (items : List Item) (n : ℕ)
+    → filter (λ (a : ActiveRow). is_stakeholder_hosted reading party a.known.instance)
     (active_rows (written (placed_below reading items n) [])) ≡ node_active reading party items n
-active_is_node_active reading party items n once =
-    hosted_is_active reading party (placed_below reading items n) (in_order_below reading items n) once
-    ∙ ap (λ all. map row_for (filter (counts reading items party all) (placed_below reading items n))) (acts_below reading items n)
-    ∙ rows_below reading items party (authentic_below reading items n) n
+active_is_node_active reading party items n =
+    hosted_is_active reading party (placed_below reading items n) (in_order_below reading items n)
+    ∙ ap (λ all. filter (is_active_row reading party all) (first_of_each (created_rows (placed_below reading items n)))) (acts_below reading items n)
+    ∙ ap (λ rows. filter (is_active_row reading party (authentic_below reading items n)) (first_of_each rows)) (rows_below reading items n)

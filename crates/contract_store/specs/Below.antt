@@ -6,10 +6,9 @@ use Rattle.ledger_model.specs.Forest.{acts}
 use Rattle.ledger_model.specs.Terms.{ParticipantId}
 use Rattle.canton_model.specs.Reading.{Reading}
 use Rattle.canton_model.specs.Timeline.{is_approved_in}
-use Rattle.canton_model.specs.Inbox.{Item, moments, opened_at, node_active}
+use Rattle.canton_model.specs.Inbox.{Item, moments, opened_at, is_stakeholder_hosted, node_active}
 use Rattle.contract_store.specs.Active.{active_rows}
 use Rattle.contract_store.specs.Written.{Placed, written}
-use Rattle.contract_store.specs.ActiveLaw.{CreatedOnce, is_hosted}
 
 abbrev pub at_place : ℕ → Act → Placed
 at_place k a = record { place = k; act = a }
@@ -24,6 +23,6 @@ placed_below reading items (suc k) = placed_below reading items k ++ map (at_pla
 
 -- its active rows with a hosted stakeholder are the model's active contracts
 abbrev pub ActiveIsNodeActive : Type 0
-ActiveIsNodeActive = (reading : Reading) (party : ParticipantId) (items : List Item) (n : ℕ) → CreatedOnce (placed_below reading items n)
-    → filter (λ (a : ActiveRow). is_hosted reading party a.known.instance)
+ActiveIsNodeActive = (reading : Reading) (party : ParticipantId) (items : List Item) (n : ℕ)
+    → filter (λ (a : ActiveRow). is_stakeholder_hosted reading party a.known.instance)
     (active_rows (written (placed_below reading items n) [])) ≡ node_active reading party items n

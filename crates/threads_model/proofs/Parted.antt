@@ -4,7 +4,7 @@ use Rattle.world_model.specs.Messages.{Entry}
 use Rattle.world_model.specs.Machine.{Machine}
 use Rattle.world_model.specs.World.{World}
 use Rattle.world_model.specs.Lawful.{Lawful, NodeHas, MediatorHas}
-use Rattle.world_model.proofs.Prefixes.{genuine_take}
+use Rattle.canton_model.proofs.LongerLogs.{genuine_take}
 use Rattle.threads_model.specs.Behind.{Parted}
 use Rattle.threads_model.proofs.Begins.{begins_length, front_of}
 
@@ -34,6 +34,6 @@ lawful_is_parted m w h =
       hosts = h.hosts;
       node = λ p node at. let r =
           h.node p node at in
-          (take r.0 w.log, (drop r.0 w.log, take-append-drop r.0 w.log), record { genuine = genuine_take m w.log r.0 h.genuine; has = r.2 });
-      mediator = (take med.0 w.log, (drop med.0 w.log, take-append-drop med.0 w.log), record { genuine = genuine_take m w.log med.0 h.genuine; has = med.2 });
+          (take r.0 w.log, (drop r.0 w.log, take-append-drop r.0 w.log), record { genuine = genuine_take m.reading m.params w.log r.0 h.genuine; has = r.2 });
+      mediator = (take med.0 w.log, (drop med.0 w.log, take-append-drop med.0 w.log), record { genuine = genuine_take m.reading m.params w.log med.0 h.genuine; has = med.2 });
     }

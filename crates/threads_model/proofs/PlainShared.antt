@@ -14,7 +14,7 @@ use Rattle.world_model.specs.Rounds.{Round, Unwanted, SubmitResult, Refused, Res
 use Rattle.world_model.specs.Plain.{HandedIn, AnswersWanted, IsPausedAnswer, IsAwakeAnswer, Submitted, PlainPart, PlainRounds}
 use Rattle.world_model.proofs.RoundFacts.{submitted_longer}
 use Rattle.world_model.proofs.Appended.{appended_keeps, appended_within, sequenced_keeps, sequenced_within}
-use Rattle.world_model.proofs.Prefixes.{genuine_take}
+use Rattle.canton_model.proofs.LongerLogs.{genuine_take}
 use Rattle.world_model.proofs.Grown.{request_within}
 use Rattle.threads_model.specs.Inputs.{inputs, one_if, is_sent, tickets, is_by, results_of}
 use Rattle.threads_model.specs.Clients.{ClientStep}
@@ -128,7 +128,7 @@ module _ {F : Type 0} (m : Machine) (why : Why F) (now : ℕ) (round : Round) wh
         → append_fault m log (RequestMessage q) ≡ f → (result : SubmitResult F) (next : List Entry) → HandedIn now log q f result next → Good m log
         → Good m next
     good_handed log what q w None e result next h g =
-        let sealed = (machine.prepares what (take (length log) log) now q (genuine_take m log (length log) g.0) w).sealed in
+        let sealed = (machine.prepares what (take (length log) log) now q (genuine_take m.reading m.params log (length log) g.0) w).is_sealed in
         subst (Good m) (sym h.1) (appended_keeps m now log (RequestMessage q) g.0 sealed e, appended_within m now log (RequestMessage q) g.1 e)
     good_handed log what q w (Some (Already place)) e result next h g = subst (Good m) (sym h.1) g
     good_handed log what q w (Some (Full amount need)) e result next h g = subst (Good m) (sym h.1) g
@@ -176,4 +176,4 @@ plain_rounds_are_shared m why machine now before [] after g h = h
 plain_rounds_are_shared m why machine now before (x ∷ rest) after g h =
     let now' = now + x.round.advance in
     let part = plain_is_shared m why now' x.round machine x.results before h.0 g h.2 in
-    (h.0, h.1, part, h.3, plain_rounds_are_shared m why machine now' h.0 rest after (part_good m why now' x.round x.results before h.0 part) h.4)
+    (h.0, h.1, part, h.3, plain_rounds_are_shared m why machine now' h.0 rest after (part_good m why now' x.round x.results before h.0 machine.is_reading part) h.4)

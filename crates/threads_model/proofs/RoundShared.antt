@@ -17,7 +17,7 @@ use Rattle.world_model.specs.Rounds.{wanted_at, begun, is_tick, SentHolds, Dupli
 use Rattle.world_model.specs.Rounds.{PartHolds, RoundHolds}
 use Rattle.world_model.proofs.Grown.{request_grown, request_within}
 use Rattle.world_model.proofs.Growing.{result_grown}
-use Rattle.world_model.proofs.Prefixes.{genuine_take}
+use Rattle.canton_model.proofs.LongerLogs.{genuine_take}
 use Rattle.world_model.proofs.PlainFacts.{passes_add}
 use Rattle.world_model.proofs.Ends.{passes_settle}
 use Rattle.world_model.proofs.Steps.{entry_of_request}
@@ -67,7 +67,7 @@ module _ {F : Type 0} (m : Machine) (why : Why F) (machine : IsMachine m) (now :
 
   -- its request is its participant's
   wanted_sender : (what : Submission) (n : ℕ) (q : Request) → wanted_at m now log what n ≡ Some q → q.sender ≡ what.participant
-  wanted_sender what n q w = (machine.prepares what (take n log) now q (genuine_take m log n j.genuine) w).sender
+  wanted_sender what n q w = (machine.prepares what (take n log) now q (genuine_take m.reading m.params log n j.genuine) w).sender
 
   sent_sender : (what : Submission) (place n : ℕ) (q : Request) → In (what, Sent place n) results → request_at log place ≡ Some q → q.sender ≡ what.participant
   sent_sender what place n q i at =
@@ -213,7 +213,7 @@ module _ {F : Type 0} (m : Machine) (why : Why F) (machine : IsMachine m) (now :
       where
         mine : (q : Request) → wanted_at m now next what n ≡ Some q → q.sender ≡ what.participant
         mine q w =
-            (machine.prepares what (take n next) now q (subst (GenuineLog m) (take_same next log n begins within) (genuine_take m log n j.genuine)) w).sender
+            (machine.prepares what (take n next) now q (subst (GenuineLog m) (take_same next log n begins within) (genuine_take m.reading m.params log n j.genuine)) w).sender
 
         in_pre : (other : Submission) (r : ℕ) → In (other, Sent place r) results → request_at log place ≡ Some h.first → place < length next
             → In (other, Sent place r) pre

@@ -6,6 +6,7 @@ use mathlib.Core.List.{IsPrefix}
 use Rattle.ledger_terms.specs.declared.submission.Submission.{Submission}
 use Rattle.world_model.specs.Messages.{Entry}
 use Rattle.ledger_model.proofs.Lists.{in_append_cases, in_append_left, in_append_right, in_from_Contains}
+use Rattle.canton_model.specs.Genuine.{IsReading}
 use Rattle.world_model.specs.Machine.{Machine, GenuineLog, IsMachine}
 use Rattle.world_model.specs.Sequencing.{spent}
 use Rattle.world_model.specs.Settled.{left}
@@ -38,10 +39,11 @@ module _ {F : Type 0} (m : Machine) (why : Why F) where
   part_longer now round results before after h =
       begins_then before (begun m now round before) after (begun_begins m now round before) (shared_longer m why now round results before after h)
 
-  pub part_good : (now : ℕ) (round : Round) (results : Results F) (before after : List Entry) → SharedPart m why now round results before after → Good m after
-  part_good now round results before after h =
+  pub part_good : (now : ℕ) (round : Round) (results : Results F) (before after : List Entry) → IsReading m.reading
+      → SharedPart m why now round results before after → Good m after
+  part_good now round results before after is h =
       subst (Good m) (sym h.2) (
-        passes_genuine m now round.paused round.holds_verdicts (left m.hosts h.0) h.0 (h.1).genuine,
+        passes_genuine m now is round.paused round.holds_verdicts (left m.hosts h.0) h.0 (h.1).genuine,
         passes_within m now round.paused round.holds_verdicts (left m.hosts h.0) h.0 (h.1).within_capacity,
       )
 
@@ -52,11 +54,11 @@ module _ {F : Type 0} (m : Machine) (why : Why F) where
       begins_then before h.0 after (part_longer (now + x.round.advance) x.round x.results before h.0 h.2)
       (rounds_longer (now + x.round.advance) h.0 rest after h.4)
 
-  rounds_good : (now : ℕ) (before : List Entry) (rounds : List (RoundAnswers F)) (after : List Entry) → SharedRounds m why now before rounds after
-      → Good m before → Good m after
-  rounds_good now before [] after h g = subst (Good m) (sym h) g
-  rounds_good now before (x ∷ rest) after h g =
-      rounds_good (now + x.round.advance) h.0 rest after h.4 (part_good (now + x.round.advance) x.round x.results before h.0 h.2)
+  rounds_good : (now : ℕ) (before : List Entry) (rounds : List (RoundAnswers F)) (after : List Entry) → IsReading m.reading
+      → SharedRounds m why now before rounds after → Good m before → Good m after
+  rounds_good now before [] after is h g = subst (Good m) (sym h) g
+  rounds_good now before (x ∷ rest) after is h g =
+      rounds_good (now + x.round.advance) h.0 rest after is h.4 (part_good (now + x.round.advance) x.round x.results before h.0 is h.2)
 
   -- one round more
   pub rounds_more : (now : ℕ) (before : List Entry) (rounds : List (RoundAnswers F)) (mid : List Entry) (x : RoundAnswers F) (after : List Entry)
@@ -108,7 +110,7 @@ module _ {F : Type 0} (m : Machine) (why : Why F) where
     pub run_holds : (rounds : List (RoundAnswers F)) (log : List Entry) → SharedRounds m why 0 [] rounds log → RunHolds m why log rounds
     run_holds rounds log h =
         let new = new_lawful m in
-        let g = rounds_good 0 [] rounds log h (new.genuine, new.within_capacity) in
+        let g = rounds_good 0 [] rounds log machine.is_reading h (new.genuine, new.within_capacity) in
         record {
           genuine = g.0;
           within_capacity = g.1;

@@ -22,7 +22,8 @@ use Rattle.world_model.specs.Sequencing.{spent, sequenced, unless_refused}
 use Rattle.world_model.specs.Fits.{MayStand, IsOwed, IsDecision}
 use Rattle.world_model.specs.Rounds.{Paused, Unwanted, Duplicate, LogFull, Sent, Refused, Why, wanted_at, read_at}
 use Rattle.world_model.specs.Locks.{SequencerBehind, Prepared}
-use Rattle.world_model.proofs.Grown.{slice_get_last, owed_stands, scan_grown}
+use Rattle.canton_model.proofs.LongerLogs.{scan_grown}
+use Rattle.world_model.proofs.Grown.{slice_get_last, owed_stands}
 use Rattle.world_model.proofs.Appended.{none_such, appended_keeps, appended_within, sequenced_keeps, sequenced_within}
 use Rattle.world_model.proofs.Halves.{request_lands}
 use Rattle.threads_model.specs.Inputs.{is_input, one_if, inputs}

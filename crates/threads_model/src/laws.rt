@@ -8,6 +8,7 @@ ghost use Rattle.ledger_model.specs.Terms.{ParticipantId};
 ghost use Rattle.canton_model.specs.Log.{request_at};
 ghost use Rattle.canton_model.specs.Inbox.{inbox};
 ghost use Rattle.world_model.specs.Messages.{Entry, Message, RequestMessage, ResponseMessage, VerdictMessage, Tick, Request, Response, Verdict};
+ghost use Rattle.canton_model.specs.Genuine.{IsReading};
 ghost use Rattle.world_model.specs.Machine.{Machine, GenuineLog, IsMachine};
 ghost use Rattle.world_model.specs.Places.{has_place};
 ghost use Rattle.world_model.specs.Sequencing.{Already, LogFull as Full, TooLate, append_fault, entry_after, last_time, sequenced, spent};
@@ -225,6 +226,7 @@ pub fn one_thread_is_shared<F>()
         → PlainRounds m why now before rounds after
         → SharedRounds m why now before rounds after }
     ensures good { (m : Machine) (why : Why F) (now : ℕ) (round : Round) (results : Results F) (before after : List Entry)
+        → IsReading m.reading
         → SharedPart m why now round results before after
         → GenuineLog m after × (spent after ≤ m.capacity) }
 {}

@@ -1,20 +1,22 @@
 -- A message that may stand keeps a log genuine, appended or refused.
-use Rattle.std.proofs.Common.{◌≡◌, ℕ, suc, ◌+◌, ◌≤◌, Bool, false, List, [], ◌∷◌, ◌++◌, length, Option, Some, None, refl, sym, ◌∙◌, inl, inr, arith, append-nil}
+use Rattle.std.proofs.Common.{◌≡◌, ℕ, suc, ◌+◌, ◌≤◌, Bool, false, List, [], ◌∷◌, ◌++◌, length, take, Option, Some, None, refl, sym, ◌∙◌, inl, inr, arith, append-nil, subst, le_refl}
 use Rattle.std.specs.Prelude.{nat_lt}
 use Rattle.std.specs.List.{list_any}
 use Rattle.std.proofs.lemmas.Bool.{cases_Bool, or_from, ltb-false}
 use Rattle.std.proofs.lemmas.Option.{none-some}
-use Rattle.std.proofs.Math.Seq.{take-append_seam}
-use Rattle.canton_model.specs.Log.{Params, decision_time_of, verdict_of}
+use Rattle.std.proofs.lemmas.List.{take_all}
+use Rattle.canton_model.specs.Log.{Params, FollowsTime, decision_time_of, verdict_of}
 use Rattle.world_model.specs.Messages.{Entry, Message, RequestMessage, ResponseMessage, VerdictMessage, Tick}
 use Rattle.canton_model.specs.Timeline.{timeline_of, decision_on, verdict_on, or_else}
 use Rattle.canton_model.specs.Mediation.{is_response_of}
-use Rattle.canton_model.specs.Genuine.{is_request_of}
+use Rattle.canton_model.specs.Ledger.{FitsIfVerdict}
+use Rattle.canton_model.specs.Genuine.{is_request_of, FitsIfRequest, FitsIfResponse}
 use Rattle.world_model.specs.Machine.{Machine, GenuineLog}
-use Rattle.world_model.specs.Sequencing.{last_time, entry_after, is_verdict_on, is_same, first_from, spent, AppendFault, if_full, if_late, if_already}
+use Rattle.world_model.specs.Sequencing.{last_time, time_after, entry_after, is_verdict_on, is_same, first_from, spent, AppendFault, if_full, if_late, if_already}
 use Rattle.world_model.specs.Sequencing.{append_fault, unless_refused, sequenced}
 use Rattle.world_model.specs.Fits.{MayStand}
-use Rattle.world_model.proofs.Grown.{request_within, request_grown, decision_time_grown, owed_grown, scan_within, follows_after, genuine_snoc}
+use Rattle.canton_model.proofs.LongerLogs.{genuine_push}
+use Rattle.world_model.proofs.Grown.{request_within, last_is_end, follows_after}
 
 pub no_fault : (o : Option ℕ) (f : Option AppendFault) → or_else (if_already o) f ≡ None → (o ≡ None) × (f ≡ None)
 no_fault None f e = (refl, e)
@@ -51,40 +53,54 @@ not_late params log j h =
 
 pub appended_keeps : (m : Machine) (now : ℕ) (log : List Entry) (message : Message) → GenuineLog m log → MayStand m log message
     → append_fault m log message ≡ None → GenuineLog m (log ++ entry_after now log message ∷ [])
-appended_keeps m now log Tick g may none = genuine_snoc m log (entry_after now log Tick) g (follows_after now log Tick) tt tt tt
-appended_keeps m now log (RequestMessage q) g may none =
-    let parts = no_fault (first_from (is_same (RequestMessage q)) 0 log) _ none in
-    genuine_snoc m log (entry_after now log (RequestMessage q)) g refl tt tt
+appended_keeps m now log message g may none =
+    genuine_push m.reading m.params log (entry_after now log message) g
     (record {
-      sealed = may;
-      first = rw (take-append_seam log (entry_after now log (RequestMessage q) ∷ [])) (none_such (is_request_of q.sender q.command) 0 log parts.0);
+      time = subst (λ (t : ℕ). FollowsTime message t (time_after now message log)) (last_is_end log) (follows_after now log message);
+      verdict = verdict_fits message may none;
+      request = request_fits message may none;
+      response = response_fits message may none;
     })
-appended_keeps m now log (ResponseMessage r) g may none =
-    let parts = no_fault (first_from (is_same (ResponseMessage r)) 0 log) _ none in
-    let more = entry_after now log (ResponseMessage r) ∷ [] in
-    let lt = request_within log r.request may.request may.there in
-    genuine_snoc m log (entry_after now log (ResponseMessage r)) g refl tt
-    (record {
-      request = may.request;
-      earlier = lt;
-      there = request_grown log more r.request lt ∙ may.there;
-      confirming = may.confirming;
-      first = rw (take-append_seam log more) (none_such (is_response_of r.from r.request) 0 log parts.0);
-      owed = may.owed ∙ sym (owed_grown log more m.reading m.params r.from r.request lt);
-      in_time = rw (decision_time_grown log more m.params r.request lt) (not_late m.params log r.request parts.1);
-    })
-    tt
-appended_keeps m now log (VerdictMessage v) g may none =
-    let parts = no_fault (first_from (is_same (VerdictMessage v)) 0 log) _ none in
-    let more = entry_after now log (VerdictMessage v) ∷ [] in
-    let lt = scan_within m.params log v.request v.decision may in
-    genuine_snoc m log (entry_after now log (VerdictMessage v)) g refl
-    (record {
-      decided = rw (take-append_seam log more) may;
-      first = rw (take-append_seam log more) (no_verdict v.request 0 log parts.0);
-      in_time = rw (decision_time_grown log more m.params v.request lt) (not_late m.params log v.request parts.1);
-    })
-    tt tt
+  where
+    all : take (length log) log ≡ log
+    all = take_all (length log) log (le_refl (length log))
+
+    request_fits : (x : Message) → MayStand m log x → append_fault m log x ≡ None → FitsIfRequest m.reading log (length log) x
+    request_fits Tick may' none' = tt
+    request_fits (ResponseMessage r) may' none' = tt
+    request_fits (VerdictMessage v) may' none' = tt
+    request_fits (RequestMessage q) may' none' =
+        let parts = no_fault (first_from (is_same (RequestMessage q)) 0 log) _ none' in
+        record { is_sealed = may'; first = rw all (none_such (is_request_of q.sender q.command) 0 log parts.0) }
+
+    response_fits : (x : Message) → MayStand m log x → append_fault m log x ≡ None
+        → FitsIfResponse m.reading m.params log (length log) (time_after now x log) x
+    response_fits Tick may' none' = tt
+    response_fits (RequestMessage q) may' none' = tt
+    response_fits (VerdictMessage v) may' none' = tt
+    response_fits (ResponseMessage r) may' none' =
+        let parts = no_fault (first_from (is_same (ResponseMessage r)) 0 log) _ none' in
+        record {
+          request = may'.request;
+          earlier = request_within log r.request may'.request may'.there;
+          there = may'.there;
+          confirming = may'.confirming;
+          first = rw all (none_such (is_response_of r.from r.request) 0 log parts.0);
+          owed = may'.owed;
+          in_time = not_late m.params log r.request parts.1;
+        }
+
+    verdict_fits : (x : Message) → MayStand m log x → append_fault m log x ≡ None → FitsIfVerdict m.params log (length log) (time_after now x log) x
+    verdict_fits Tick may' none' = tt
+    verdict_fits (RequestMessage q) may' none' = tt
+    verdict_fits (ResponseMessage r) may' none' = tt
+    verdict_fits (VerdictMessage v) may' none' =
+        let parts = no_fault (first_from (is_same (VerdictMessage v)) 0 log) _ none' in
+        record {
+          decided = rw all may';
+          first = rw all (no_verdict v.request 0 log parts.0);
+          in_time = not_late m.params log v.request parts.1;
+        }
 
 pub sequenced_keeps : (m : Machine) (now : ℕ) (log : List Entry) (message : Message) → GenuineLog m log → MayStand m log message
     → GenuineLog m (sequenced m now log message)

@@ -14,7 +14,7 @@ use Rattle.canton_model.specs.Mediation.{is_response_of, has_responded, scan}
 use Rattle.canton_model.specs.Inbox.{inbox}
 use Rattle.canton_model.specs.Checks.{verdicts_owed}
 use Rattle.canton_model.specs.Ledger.{VerdictFits, FitsIfVerdict}
-use Rattle.canton_model.specs.Genuine.{ResponseFits, FitsIfResponse}
+use Rattle.canton_model.specs.Genuine.{IsReading, ResponseFits, FitsIfResponse}
 use Rattle.ledger_model.proofs.Lists.{In, in_from_Contains, contains_from_In, in_at, at_in, in_any, from_any, from_filter}
 use Rattle.canton_model.proofs.Decided.{verdict_place, entry_at, verdict_message, slice_get_drop}
 use Rattle.world_model.specs.Machine.{Machine, GenuineLog}
@@ -24,8 +24,10 @@ use Rattle.world_model.specs.Mediator.{Progress, Settled, Waiting, approved_or_w
 use Rattle.world_model.specs.Rounds.{is_tick}
 use Rattle.world_model.specs.Settled as s
 use Rattle.world_model.specs.Complete.{Unhindered}
-use Rattle.world_model.proofs.Grown.{scan_grown}
+use Rattle.canton_model.proofs.LongerLogs.{scan_grown}
+use Rattle.canton_model.proofs.Fits.{sealed_of}
 use Rattle.world_model.proofs.Progressed.{scan_is}
+use Rattle.world_model.proofs.NodeFacts.{confirming_asked}
 
 -- times where no Tick stands: each entry comes one microsecond after the one before
 plain_time : (message : Message) (before time : ℕ) → is_tick message ≡ false → FollowsTime message before time → time ≡ before + 1
@@ -183,7 +185,7 @@ entry_there : (o : Option Entry) (q : Request) → request_in o ≡ Some q → (
 entry_there None q e = absurd (none-some q e)
 entry_there (Some x) q e = (x, refl)
 
-module _ (m : Machine) (paused : List ParticipantId) (log : List Entry) (genuine : GenuineLog m log) (settled : s.Settled m paused false log) (k : ℕ)
+module _ (m : Machine) (paused : List ParticipantId) (log : List Entry) (is : IsReading m.reading) (genuine : GenuineLog m log) (settled : s.Settled m paused false log) (k : ℕ)
     (u : Unhindered m paused log k) where
   abbrev q : Request
   q = u.request
@@ -261,7 +263,8 @@ module _ (m : Machine) (paused : List ParticipantId) (log : List Entry) (genuine
       elim (cases_Bool (has_responded k log p)) [
         | inl yes' ↦ yes'
         | inr no' ↦
-            let owes : s.is_asked_in m.reading p (request_at log k) ≡ true = ap (s.is_asked_in m.reading p) u.there ∙ u.asks p asked in
+            let owes : s.is_asked_in m.reading p (request_at log k) ≡ true = ap (s.is_asked_in m.reading p) u.there
+            ∙ confirming_asked m.reading p q (sealed_of m.reading m.params log is genuine k q u.there) asked in
             let due : s.is_due m log p k ≡ true = and_from _ _ owes (and_from _ _ (ap not no') (undecided none)) in
             absurd (both_ways _ not_late (settled.responses p k here.0 here.1 due))
       ]

@@ -14,7 +14,7 @@ use Rattle.ledger_model.proofs.Lists.{in_any, at_in_take}
 use Rattle.world_model.specs.Machine.{Machine, GenuineLog, IsMachine, IsRequestFor}
 use Rattle.world_model.specs.Places.{has_place}
 use Rattle.world_model.specs.Rounds.{Round, Paused, Unwanted, Duplicate, LogFull, SubmitResult, Sent, Refused, Results, Why, read_of, wanted_at, ResultHolds}
-use Rattle.world_model.proofs.Prefixes.{genuine_take}
+use Rattle.canton_model.proofs.LongerLogs.{genuine_take}
 use Rattle.world_model.proofs.Steps.{entry_of_request}
 
 -- a request is found among the entries before a later place
@@ -38,7 +38,7 @@ module _ (m : Machine) (log : List Entry) (genuine : GenuineLog m log) where
       (sent : Contains earlier (before, Sent place n)) (same : before.participant ≡ what.participant) (first : Request)
       (there : request_at log place ≡ Some first) (sender : first.sender ≡ what.participant) (command : first.command ≡ what.command) where
     its : (r : ℕ) (q : Request) → wanted_at m now log what r ≡ Some q → IsRequestFor m.reading what q
-    its r q w = machine.prepares what (take r log) now q (genuine_take m log r genuine) w
+    its r q w = machine.prepares what (take r log) now q (genuine_take m.reading m.params log r genuine) w
 
     pub is_duplicate : (result : SubmitResult F) (q : Request) → wanted_at m now log what (read_of result) ≡ Some q
         → ResultHolds m why now round log start end earlier what result → result ≡ Refused (Duplicate place) (read_of result)

@@ -9,6 +9,7 @@ use Rattle.world_model.specs.Messages.{Entry, Message, RequestMessage, ResponseM
 use Rattle.canton_model.specs.Timeline.{timeline_of, verdict_on}
 use Rattle.canton_model.specs.Mediation.{scan}
 use Rattle.ledger_model.proofs.Lists.{In, in_append_cases}
+use Rattle.canton_model.specs.Genuine.{IsReading}
 use Rattle.canton_model.proofs.Fits.{sealed_of}
 use Rattle.world_model.specs.Machine.{Machine, GenuineLog}
 use Rattle.world_model.specs.Sequencing.{spent, entry_after, is_same, first_from, AppendFault, append_fault, unless_refused, sequenced}
@@ -17,7 +18,8 @@ use Rattle.world_model.specs.Places.{has_place}
 use Rattle.world_model.specs.Settled.{is_due, is_asked_in, message_if, owed_response, due_at, due_below, due, verdict_to, due_verdicts_below}
 use Rattle.world_model.specs.Settled.{due_verdicts, append_each, reply_of, replies_below, verdicts_unless, pass, passes, left}
 use Rattle.world_model.specs.Settled as s
-use Rattle.world_model.proofs.Grown.{request_within, request_grown, owed_stands, scan_grown, scan_request_there}
+use Rattle.canton_model.proofs.LongerLogs.{scan_grown}
+use Rattle.world_model.proofs.Grown.{request_within, request_grown, owed_stands, scan_request_there}
 use Rattle.world_model.proofs.Appended.{sequenced_more, sequenced_keeps, sequenced_within, no_fault}
 use Rattle.world_model.proofs.NodeFacts.{asked_request, asked_confirms}
 use Rattle.world_model.proofs.Passes.{fixed_is_settled}
@@ -148,11 +150,11 @@ module _ (m : Machine) (now : ℕ) where
       (λ y i. subst (λ (xs : List Entry). MayStand m xs y) (sym more.1) (may_grown log more.0 y (h y (inr i))))
       (sequenced_keeps m now log x g (h x (inl refl)))
 
-  pub due_may : (log : List Entry) (g : GenuineLog m log) (p n : ℕ) (x : Message) → In x (due_below m p log n) → MayStand m log x
-  due_may log g p zero x i = absurd i
-  due_may log g p (suc n) x i =
+  pub due_may : (is : IsReading m.reading) (log : List Entry) (g : GenuineLog m log) (p n : ℕ) (x : Message) → In x (due_below m p log n) → MayStand m log x
+  due_may is log g p zero x i = absurd i
+  due_may is log g p (suc n) x i =
       elim (in_append_cases (due_below m p log n) (due_at m p log n) x i) [
-        | inl l ↦ due_may log g p n x l
+        | inl l ↦ due_may is log g p n x l
         | inr r ↦
             let t = in_if (is_due m log p n) x _ r in
             let q = asked_request m.reading p (request_at log n) (and_parts (is_asked_in m.reading p (request_at log n)) _ t.0).0 in
@@ -160,7 +162,7 @@ module _ (m : Machine) (now : ℕ) where
             (record {
               request = q.0;
               there = q.1;
-              confirming = asked_confirms m.reading p q.0 (sealed_of m.reading m.params log g n q.0 q.1) q.2;
+              confirming = asked_confirms m.reading p q.0 (sealed_of m.reading m.params log is g n q.0 q.1) q.2;
               owed = refl;
             })
       ]
@@ -177,27 +179,27 @@ module _ (m : Machine) (now : ℕ) where
       by_decision None e h = absurd h
       by_decision (Some d) e h = let t = in_if (not (is_some (verdict_on n (timeline_of log)))) x _ h in subst (MayStand m log) t.1 e
 
-  pub replies_genuine : (paused : List ParticipantId) (log : List Entry) (n : ℕ) → GenuineLog m log → GenuineLog m (replies_below m now paused log n)
-  replies_genuine paused log zero g = g
-  replies_genuine paused log (suc n) g =
-      let h = replies_genuine paused log n g in
+  pub replies_genuine : (is : IsReading m.reading) (paused : List ParticipantId) (log : List Entry) (n : ℕ) → GenuineLog m log → GenuineLog m (replies_below m now paused log n)
+  replies_genuine is paused log zero g = g
+  replies_genuine is paused log (suc n) g =
+      let h = replies_genuine is paused log n g in
       elim (cases_Bool (has_place paused n)) [
         | inl b ↦ rw b h
         | inr b ↦ rw b
-            (each_genuine _ (due m (replies_below m now paused log n) n) (due_may _ h n (length (replies_below m now paused log n))) h)
+            (each_genuine _ (due m (replies_below m now paused log n) n) (due_may is _ h n (length (replies_below m now paused log n))) h)
       ]
 
   pub unless_genuine : (held : Bool) (log : List Entry) → GenuineLog m log → GenuineLog m (verdicts_unless m now held log)
   unless_genuine true log g = g
   unless_genuine false log g = each_genuine log (due_verdicts m log) (verdicts_may log (length log)) g
 
-  pub pass_genuine : (paused : List ParticipantId) (held : Bool) (log : List Entry) → GenuineLog m log → GenuineLog m (pass m now paused held log)
-  pass_genuine paused held log g = unless_genuine held _ (replies_genuine paused log m.hosts g)
+  pub pass_genuine : (is : IsReading m.reading) (paused : List ParticipantId) (held : Bool) (log : List Entry) → GenuineLog m log → GenuineLog m (pass m now paused held log)
+  pass_genuine is paused held log g = unless_genuine held _ (replies_genuine is paused log m.hosts g)
 
-  pub passes_genuine : (paused : List ParticipantId) (held : Bool) (n : ℕ) (log : List Entry) → GenuineLog m log
+  pub passes_genuine : (is : IsReading m.reading) (paused : List ParticipantId) (held : Bool) (n : ℕ) (log : List Entry) → GenuineLog m log
       → GenuineLog m (passes m now paused held n log)
-  passes_genuine paused held zero log g = g
-  passes_genuine paused held (suc n) log g = passes_genuine paused held n _ (pass_genuine paused held log g)
+  passes_genuine is paused held zero log g = g
+  passes_genuine is paused held (suc n) log g = passes_genuine is paused held n _ (pass_genuine is paused held log g)
 
   -- within the capacity
   pub each_within : (log : List Entry) (messages : List Message) → spent log ≤ m.capacity → spent (append_each m now log messages) ≤ m.capacity

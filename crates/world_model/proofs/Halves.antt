@@ -15,7 +15,8 @@ use Rattle.world_model.specs.Fits.{IsOwed, IsDecision}
 use Rattle.world_model.specs.Node.{NodeState, owes_at, owed_at, response_at, finish}
 use Rattle.world_model.specs.Lawful.{NodeHas}
 use Rattle.world_model.specs.Locks.{Prepared, NodeBehind, Claimed}
-use Rattle.world_model.proofs.Grown.{scan_grown, slice_get_left, owed_stands}
+use Rattle.canton_model.proofs.LongerLogs.{scan_grown}
+use Rattle.world_model.proofs.Grown.{slice_get_left, owed_stands}
 use Rattle.world_model.proofs.Appended.{sequenced_keeps}
 use Rattle.world_model.proofs.NodeFacts.{inbox_length, inbox_append}
 use Rattle.world_model.proofs.Steps.{has_finish}
@@ -40,7 +41,7 @@ verdict_lands m now list more v decided g =
 pub request_lands : (m : Machine) (now then' : ℕ) (list log : List Entry) (what : Submission) (q : Request) → IsMachine m
     → Prepared m then' list what q → GenuineLog m log → GenuineLog m (sequenced m now log (RequestMessage q))
 request_lands m now then' list log what q machine h g =
-    sequenced_keeps m now log (RequestMessage q) g (machine.prepares what list then' q h.genuine h.wanted).sealed
+    sequenced_keeps m now log (RequestMessage q) g (machine.prepares what list then' q h.genuine h.wanted).is_sealed
 
 -- a job that was claimed over a shorter list
 module _ (m : Machine) (p : ParticipantId) (list more : List Entry) (k : ℕ) (c : Claimed m p list k) where

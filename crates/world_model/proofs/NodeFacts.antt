@@ -12,8 +12,8 @@ use Rattle.canton_model.specs.Reading.{Reading, is_recipient}
 use Rattle.canton_model.specs.Inbox.{Item, told, content_of, shown_by, shown_in, shown_at, item_after, items_after, inbox}
 use Rattle.canton_model.specs.Checks.{is_confirmed_by, verdicts_owed}
 use Rattle.canton_model.specs.Ledger.{read_by}
-use Rattle.canton_model.specs.Genuine.{IsSealed}
-use Rattle.ledger_model.proofs.Lists.{from_any, contains_from_In}
+use Rattle.canton_model.specs.Genuine.{IsReading, IsSealed}
+use Rattle.ledger_model.proofs.Lists.{from_any, in_any, in_from_Contains, contains_from_In}
 use Rattle.canton_model.proofs.InboxFacts.{shown_received}
 use Rattle.canton_model.proofs.Fits.{sealed_of}
 use Rattle.world_model.specs.Machine.{Machine, GenuineLog, confirms_some_view, is_asked}
@@ -97,20 +97,27 @@ asked_confirms reading p q sealed h =
     let w = from_any (is_confirmed_by reading p) (s.0).views some' in
     sealed.asked p s.0 w.0 s.1 (contains_from_In (s.0).views w.0 w.1) w.2
 
+-- and who is confirming there owes verdicts to it
+pub confirming_asked : (reading : Reading) (p : ParticipantId) (q : Request) → IsSealed reading q → Contains q.confirming p → is_asked reading p q ≡ true
+confirming_asked reading p q sealed h =
+    let a = sealed.answers p h in
+    ap (confirms_some_view reading p) a.is_shown
+    ∙ in_any (is_confirmed_by reading p) (a.shown).views a.view (in_from_Contains (a.shown).views a.view a.is_opened) a.is_confirmed
+
 -- what is owed at a place is told by the entries up to it
 pub owed_is : (reading : Reading) (params : Params) (p : ParticipantId) (log : List Entry) (k : ℕ)
     → owed_at reading params p (inbox reading p log) k ≡ verdicts_owed reading params p (inbox reading p (take (suc k) log)) k
 owed_is reading params p log k = ap (λ (items : List Item). verdicts_owed reading params p items k) (inbox_take reading p (suc k) [] log)
 
 -- the response to a place where it owes verdicts is owed
-pub response_owed : (m : Machine) (p : ParticipantId) (log : List Entry) (k : ℕ) → GenuineLog m log
+pub response_owed : (m : Machine) (p : ParticipantId) (log : List Entry) (k : ℕ) → IsReading m.reading → GenuineLog m log
     → owes_at m.reading p (inbox m.reading p log) k ≡ true → IsOwed m.reading m.params log (response_at m.reading m.params p (inbox m.reading p log) k)
-response_owed m p log k g h =
+response_owed m p log k is g h =
     let r = asked_request m.reading p (request_at log k) (sym (owes_is m.reading p log k) ∙ h) in
     record {
       request = r.0;
       there = r.1;
-      confirming = asked_confirms m.reading p r.0 (sealed_of m.reading m.params log g k r.0 r.1) r.2;
+      confirming = asked_confirms m.reading p r.0 (sealed_of m.reading m.params log is g k r.0 r.1) r.2;
       owed = owed_is m.reading m.params p log k;
     }
 

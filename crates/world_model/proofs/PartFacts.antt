@@ -3,6 +3,7 @@ use Rattle.std.proofs.Common.{◌≡◌, ℕ, zero, suc, ◌+◌, ◌≤◌, Boo
 use Rattle.std.specs.Prelude.{slice_get}
 use Rattle.canton_model.specs.Log.{decision_time_of}
 use Rattle.world_model.specs.Messages.{Entry, Approved}
+use Rattle.canton_model.specs.Genuine.{IsReading}
 use Rattle.canton_model.specs.Timeline.{Decided, outcome_of, timeline_of}
 use Rattle.ledger_model.proofs.Lists.{In, contains_from_In, at_in}
 use Rattle.world_model.specs.Machine.{Machine, GenuineLog}
@@ -17,11 +18,11 @@ in_right (z ∷ xs) ys zero x le e = absurd (omega (arith, le))
 in_right (z ∷ xs) ys (suc i) x le e = in_right xs ys i x (omega (arith, le)) e
 
 pub part_approves : {F : Type 0} (m : Machine) (now : ℕ) (round : Round) (results : Results F) (before after : List Entry) (k : ℕ)
-    → GenuineLog m after → PartHolds m now round results before after → round.holds_verdicts ≡ false → length (begun m now round before) ≤ k
+    → IsReading m.reading → GenuineLog m after → PartHolds m now round results before after → round.holds_verdicts ≡ false → length (begun m now round before) ≤ k
     → length after ≤ k + m.params.response_timeout → AllApprove m round.paused after k
     → outcome_of (timeline_of after) k (decision_time_of m.params after k) ≡ Decided Approved
-part_approves m now round results before after k genuine part open' le short a =
-    approved m round.paused after genuine (subst (λ (b : Bool). Settled m round.paused b after) open' part.settled) k
+part_approves m now round results before after k is genuine part open' le short a =
+    approved m round.paused after is genuine (subst (λ (b : Bool). Settled m round.paused b after) open' part.settled) k
     (record {
       request = a.request;
       there = a.there;
@@ -29,7 +30,6 @@ part_approves m now round results before after k genuine part open' le short a =
           let at' : slice_get (begun m now round before ++ part.rest) i ≡ Some e = ap (λ (xs : List Entry). slice_get xs i) (sym part.is_begun) ∙ at in
           part.no_tick e (contains_from_In part.rest e (in_right (begun m now round before) part.rest i e (omega (arith, le, lt)) at'));
       short = short;
-      asks = a.asks;
       somebody = a.somebody;
       present = a.present;
       approves = a.approves;

@@ -19,7 +19,7 @@ use Rattle.world_model.specs.Plain.{HandedIn, AnswersWanted, Submitted, PlainPar
 use Rattle.world_model.proofs.Appended.{appended_keeps, appended_within, sequenced_keeps, sequenced_within, sequenced_more}
 use Rattle.world_model.proofs.Grown.{request_grown}
 use Rattle.world_model.proofs.AfterTurn.{one_more}
-use Rattle.world_model.proofs.Prefixes.{genuine_take}
+use Rattle.canton_model.proofs.LongerLogs.{genuine_take}
 use Rattle.world_model.proofs.Ends.{passes_genuine, passes_within}
 use Rattle.world_model.proofs.Steps.{new_lawful}
 use Rattle.world_model.proofs.RoundFacts.{submitted_longer, results_hold}
@@ -158,7 +158,7 @@ module _ {F : Type 0} (m : Machine) (why : Why F) where
       where
         by_fault : (f : Option AppendFault) → append_fault m log (RequestMessage q) ≡ f → HandedIn now log q f result next → Good m next
         by_fault None e a =
-            let sealed = (machine.prepares what (take (length log) log) now q (genuine_take m log (length log) g.0) w).sealed in
+            let sealed = (machine.prepares what (take (length log) log) now q (genuine_take m.reading m.params log (length log) g.0) w).is_sealed in
             subst (Good m) (sym a.1) (appended_keeps m now log (RequestMessage q) g.0 sealed e, appended_within m now log (RequestMessage q) g.1 e)
         by_fault (Some (Already place)) e a = subst (Good m) (sym a.1) g
         by_fault (Some (Full amount need)) e a = subst (Good m) (sym a.1) g
@@ -178,7 +178,7 @@ module _ {F : Type 0} (m : Machine) (why : Why F) where
     part_good now round results before after h g =
         let s = submitted_good now round (begun m now round before) results h.0 h.1 (begun_good m now round before g) in
         subst (Good m) (sym h.2) (
-          passes_genuine m now round.paused round.holds_verdicts (left m.hosts h.0) h.0 s.0,
+          passes_genuine m now machine.is_reading round.paused round.holds_verdicts (left m.hosts h.0) h.0 s.0,
           passes_within m now round.paused round.holds_verdicts (left m.hosts h.0) h.0 s.1,
         )
 

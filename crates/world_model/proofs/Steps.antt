@@ -12,6 +12,7 @@ use Rattle.canton_model.specs.Log.{request_of, request_in}
 use Rattle.world_model.specs.Messages.{Entry, Message, RequestMessage, ResponseMessage, VerdictMessage, Tick, Request, Response, Verdict}
 use Rattle.canton_model.specs.Checks.{verdicts_owed}
 use Rattle.canton_model.specs.Ledger.{VerdictFits, FitsIfVerdict}
+use Rattle.canton_model.specs.Genuine.{IsReading}
 use Rattle.canton_model.specs.Mediation.{scan}
 use Rattle.canton_model.specs.Inbox.{Item, shown_in, item_after, inbox}
 use Rattle.ledger_model.proofs.Lists.{In, in_append_cases, in_from_Contains, contains_from_In, from_filter, in_any, from_any}
@@ -27,10 +28,10 @@ use Rattle.world_model.specs.World.{World, Event, Advance, Submit, NodeRead, Val
 use Rattle.world_model.specs.World.{Pause, set_at, with_node, with_mediator, submit_wanted, submit, node_reads, validates, replies, loses_reply}
 use Rattle.world_model.specs.World.{at_node, mediator_reads, gives_verdict, loses_verdict, happens, played, new_world}
 use Rattle.world_model.specs.Lawful.{IsOwn, NodeHas, MediatorHas, Lawful}
-use Rattle.world_model.proofs.Grown.{slice_get_left, take_grown, owed_stands, scan_within, scan_grown}
+use Rattle.world_model.proofs.Grown.{slice_get_left, take_grown, owed_stands, scan_within}
 use Rattle.world_model.proofs.Appended.{sequenced_keeps, sequenced_more, sequenced_within}
 use Rattle.world_model.proofs.NodeFacts.{inbox_length, first_from_is, response_owed}
-use Rattle.world_model.proofs.Prefixes.{genuine_take}
+use Rattle.canton_model.proofs.LongerLogs.{genuine_take, scan_grown}
 use Rattle.world_model.proofs.MediatorFacts.{VerdictsBelow, cases_push, next_is_decision}
 
 -- lists
@@ -233,15 +234,15 @@ module _ (m : Machine) where
       (ap (λ (items : List Item). items ++ item_after m.reading p read e ∷ []) h.items ∙ sym (items_push m.reading p [] read e))
 
   -- the response that waits is owed
-  pub waiting_owed : (p : ParticipantId) (read : List Entry) (node : NodeState) (r : Response) → GenuineLog m read → NodeHas m p read node
+  pub waiting_owed : (p : ParticipantId) (read : List Entry) (node : NodeState) (r : Response) → IsReading m.reading → GenuineLog m read → NodeHas m p read node
       → In r node.outbox → IsOwed m.reading m.params read r
-  waiting_owed p read node r g h i =
+  waiting_owed p read node r is g h i =
       let o = h.outbox r (contains_from_In node.outbox r i) in
       let owes : owes_at m.reading p (inbox m.reading p read) r.request ≡ true =
       ap (λ (items : List Item). owes_at m.reading p items r.request) (sym h.items) ∙ o.owes in
-      let is : r ≡ response_at m.reading m.params p (inbox m.reading p read) r.request =
+      let same : r ≡ response_at m.reading m.params p (inbox m.reading p read) r.request =
       o.is ∙ ap (λ (items : List Item). response_at m.reading m.params p items r.request) h.items in
-      subst (IsOwed m.reading m.params read) (sym is) (response_owed m p read r.request g owes)
+      subst (IsOwed m.reading m.params read) (sym same) (response_owed m p read r.request is g owes)
 
   pub mediator_has_read : (read : List Entry) (mediator : MediatorState) (e : Entry) → MediatorHas m read mediator
       → MediatorHas m (read ++ e ∷ []) (read_by_mediator m.params mediator e)
@@ -311,7 +312,7 @@ module _ (m : Machine) where
     in_outbox p node r at e =
         let n = h.node p node at in
         whole_log n.0 w.log _
-        (waiting_owed p (take n.0 w.log) node r (genuine_take m w.log n.0 h.genuine) n.2
+        (waiting_owed p (take n.0 w.log) node r machine.is_reading (genuine_take m.reading m.params w.log n.0 h.genuine) n.2
         (head_waits (first_from (is_waiting_at m.params node) 0 (length node.items)) e))
       where
         head_waits : (o : Option ℕ) → option_and_then (waiting_to node.outbox) o ≡ Some r → In r node.outbox
@@ -347,7 +348,7 @@ module _ (m : Machine) where
 
     taken : (v : Verdict) → next_verdict w.mediator ≡ Some v
         → IsDecision m.params (take (h.mediator).0 w.log) v × MediatorHas m (take (h.mediator).0 w.log) (take_verdict w.mediator v.request)
-    taken v e = let n = h.mediator in mediator_has_taken (take n.0 w.log) w.mediator v (genuine_take m w.log n.0 h.genuine) n.2 e
+    taken v e = let n = h.mediator in mediator_has_taken (take n.0 w.log) w.mediator v (genuine_take m.reading m.params w.log n.0 h.genuine) n.2 e
 
     took : (v : Verdict) → next_verdict w.mediator ≡ Some v → Lawful m (with_mediator w (take_verdict w.mediator v.request))
     took v e = let n = h.mediator in lawful_with_mediator w (take_verdict w.mediator v.request) h (n.0, n.1, (taken v e).1)
@@ -368,9 +369,9 @@ module _ (m : Machine) where
     wanted what node (Some q) at e =
         let n = h.node what.participant node at in
         let read = take n.0 w.log in
-        let is = machine.prepares what read w.now q (genuine_take m w.log n.0 h.genuine)
+        let is = machine.prepares what read w.now q (genuine_take m.reading m.params w.log n.0 h.genuine)
         (subst (λ (items : List Item). m.prepare what items w.now ≡ Some q) (n.2).items e) in
-        lawful_append w w.now (RequestMessage q) h is.sealed
+        lawful_append w w.now (RequestMessage q) h is.is_sealed
 
     submitted : (what : Submission) (node : NodeState) → slice_get w.nodes what.participant ≡ Some node → Lawful m (submit m w what node)
     submitted what node at =

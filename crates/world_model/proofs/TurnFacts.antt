@@ -24,7 +24,7 @@ use Rattle.world_model.specs.Settled.{is_late, is_undecided, is_asked_in, is_due
 use Rattle.world_model.specs.Turns.{caught_up, validate_below, message_of, waiting_at, waiting_below, IsReady}
 use Rattle.world_model.proofs.Grown.{request_within, decision_time_grown}
 use Rattle.world_model.proofs.Appended.{sequenced_more}
-use Rattle.world_model.proofs.InboxDecided.{decided_same}
+use Rattle.canton_model.proofs.InboxOutcomes.{decided_same}
 use Rattle.world_model.proofs.NodeFacts.{inbox_length, inbox_append, asked_request, asked_shown, owes_is, owed_is}
 use Rattle.world_model.proofs.Steps.{has_validated, has_more, waiting_in, length_take}
 

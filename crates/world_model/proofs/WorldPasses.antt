@@ -8,6 +8,7 @@ use Rattle.std.proofs.Math.Seq.{take-append_seam}
 use Rattle.ledger_model.specs.Terms.{ParticipantId}
 use Rattle.canton_model.specs.Log.{request_at}
 use Rattle.world_model.specs.Messages.{Entry, Message}
+use Rattle.canton_model.specs.Genuine.{IsReading}
 use Rattle.canton_model.specs.Mediation.{scan}
 use Rattle.world_model.specs.Machine.{Machine, GenuineLog}
 use Rattle.world_model.specs.Sequencing.{last_time, spent}
@@ -19,7 +20,7 @@ use Rattle.world_model.specs.Lawful.{NodeHas, MediatorHas, Lawful}
 use Rattle.world_model.specs.Settled.{append_each, due, due_verdicts, replies_below, pass, passes, left}
 use Rattle.world_model.specs.Turns.{IsReady, IsMediatorReady, caught_up, turn_messages, verdict_messages}
 use Rattle.world_model.specs.Settling.{WorldReady, PassedTo}
-use Rattle.world_model.proofs.Grown.{scan_grown}
+use Rattle.canton_model.proofs.LongerLogs.{scan_grown}
 use Rattle.world_model.proofs.Steps.{lawful_grown, lawful_with_node, lawful_with_mediator, set_cases, verdicts_below}
 use Rattle.world_model.proofs.Ends.{each_genuine, each_within, due_may, verdicts_may, passes_end, fixed_stays}
 use Rattle.world_model.proofs.TurnFacts.{caught, same_below, each_more, each_rises}
@@ -75,10 +76,10 @@ module _ (m : Machine) (paused : List ParticipantId) (w : World) (r : WorldReady
 
 module _ (m : Machine) (paused : List ParticipantId) (began : List Entry) where
   -- a participant's turn
-  pub turn : (p : ParticipantId) (w : World) (node after : NodeState) → PassedTo m paused began p w → slice_get w.nodes p ≡ Some node
+  pub turn : (p : ParticipantId) (w : World) (node after : NodeState) → IsReading m.reading → PassedTo m paused began p w → slice_get w.nodes p ≡ Some node
       → has_place paused p ≡ false → NodeHas m p w.log after
       → PassedTo m paused began (suc p) (with_node (with_log w (append_each m w.now w.log (turn_messages m p w.log node))) p after)
-  turn p w node after h at awake has = subst (λ (xs : List Entry). PassedTo m paused began (suc p) (with_node (with_log w xs) p after)) (sym same) due_turn
+  turn p w node after is h at awake has = subst (λ (xs : List Entry). PassedTo m paused began (suc p) (with_node (with_log w xs) p after)) (sym same) due_turn
     where
       l : Lawful m w
       l = (h.ready).lawful
@@ -87,7 +88,7 @@ module _ (m : Machine) (paused : List ParticipantId) (began : List Entry) where
       same = let n = l.node p node at in turn_same m w.now p w.log n.0 node l.genuine n.1 n.2 ((h.ready).nodes p node at awake)
 
       genuine' : GenuineLog m (append_each m w.now w.log (due m w.log p))
-      genuine' = each_genuine m w.now w.log (due m w.log p) (due_may m w.now w.log l.genuine p (length w.log)) l.genuine
+      genuine' = each_genuine m w.now w.log (due m w.log p) (due_may m w.now is w.log l.genuine p (length w.log)) l.genuine
 
       quiet : NoRequests m w.now (due m w.log p)
       quiet = due_no_request m w.now w.log p (length w.log)

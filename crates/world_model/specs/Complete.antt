@@ -7,18 +7,17 @@ use Rattle.canton_model.specs.Timeline.{Decided, outcome_of, timeline_of}
 use Rattle.world_model.specs.Messages.{Entry, Request, ViewVerdict, Approve, Approved}
 use Rattle.canton_model.specs.Inbox.{inbox}
 use Rattle.canton_model.specs.Checks.{verdicts_owed}
-use Rattle.world_model.specs.Machine.{Machine, AllAsked}
+use Rattle.world_model.specs.Machine.{Machine}
 use Rattle.world_model.specs.Places.{has_place}
 use Rattle.world_model.specs.Rounds.{RoundAnswers, Sent, is_tick}
 
 -- The request at place k of a log: no Tick stands after it, the entries after it are no more than the response timeout's
--- microseconds, its confirming participants owe verdicts, are there and aren't paused, and all their checks approve.
+-- microseconds, its confirming participants are there and aren't paused, and all their checks approve.
 pub record Unhindered (m : Machine) (paused : List ParticipantId) (log : List Entry) (k : ℕ) : Type 0 where
   pub request : Request
   pub there : request_at log k ≡ Some request
   pub no_tick : (i : ℕ) (e : Entry) → k < i → slice_get log i ≡ Some e → is_tick e.message ≡ false
   pub short : length log ≤ k + m.params.response_timeout
-  pub asks : AllAsked m.reading request
   pub somebody : (p : ParticipantId) × Contains request.confirming p
   pub present : (p : ParticipantId) → Contains request.confirming p → (p < m.hosts) × (has_place paused p ≡ false)
   pub approves : (p : ParticipantId) (v : ViewVerdict) → Contains request.confirming p
@@ -28,7 +27,6 @@ pub record Unhindered (m : Machine) (paused : List ParticipantId) (log : List En
 pub record AllApprove (m : Machine) (paused : List ParticipantId) (log : List Entry) (k : ℕ) : Type 0 where
   pub request : Request
   pub there : request_at log k ≡ Some request
-  pub asks : AllAsked m.reading request
   pub somebody : (p : ParticipantId) × Contains request.confirming p
   pub present : (p : ParticipantId) → Contains request.confirming p → (p < m.hosts) × (has_place paused p ≡ false)
   pub approves : (p : ParticipantId) (v : ViewVerdict) → Contains request.confirming p

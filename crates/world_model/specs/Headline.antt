@@ -17,7 +17,7 @@ use Rattle.canton_model.specs.Inbox.{inbox, clean, node_log, node_active, active
 use Rattle.canton_model.specs.Inbox.{is_locked_in_inbox, status_in_inbox}
 use Rattle.canton_model.specs.Ledger.{ledger, commits_below, whole_at, status_in}
 use Rattle.canton_model.specs.Genuine.{NoCollision}
-use Rattle.canton_model.specs.Causes.{CauseOf, is_locked_in}
+use Rattle.canton_model.specs.Causes.{CauseOf, LocalCauseOf, is_locked_in}
 
 -- The action stands in the whole of a request, is authentic, and is on a contract with a stakeholder that the participant
 -- hosts.
@@ -34,9 +34,8 @@ pub record OneLedger (reading : Reading) (params : Params) (log : List Entry) : 
   -- the ledger's commits below that place, taken whole, create and don't consume.
   pub active : (p : ParticipantId) (n : ℕ) → n ≤ length log
       → node_active reading p (inbox reading p (take n log)) (clean params (inbox reading p (take n log)))
-      ≡ active_of reading p (ledger_acts (commits_below reading log (clean params (inbox reading p (take n log)))))
-      (commits_below reading log (clean params (inbox reading p (take n log))))
-  -- each rejection, timeout and expiry has its cause
+      ≡ active_of reading p (commits_below reading log (clean params (inbox reading p (take n log))))
+  -- each rejection for a lock or a status tells what the ledger says
   pub caused : (j : ℕ) → CauseOf reading params log j (outcome_of (timeline_of log) j (decision_time_of params log j))
   -- who hosts a stakeholder counts the contract as locked exactly where it is, and gives it its status where it isn't
   pub locked : (p : ParticipantId) (k : ℕ) (a : Act) → k < length log → IsAtHost reading log p a
@@ -57,4 +56,6 @@ pub record Headline (reading : Reading) (params : Params) (log : List Entry) : T
   -- what is opened of a request to a participant is its projection to the hosted parties
   pub opened : (p : ParticipantId) (k : ℕ) (request : Request) (t : Transaction) → request_at log k ≡ Some request → reading.whole request ≡ Some t
       → roots_in (reading.shown p request) ≡ project (is_informed reading p) t.roots
+  -- What each rejection, timeout and expiry says is so.
+  pub caused : (j : ℕ) → LocalCauseOf reading params log j (outcome_of (timeline_of log) j (decision_time_of params log j))
   pub one_ledger : NoCollision reading log → OneLedger reading params log

@@ -1,5 +1,5 @@
 -- What a world rests on besides its log: how requests are read, the times, the capacity, and what a submission wants.
-use Rattle.std.specs.Prelude.{◌≡◌, ℕ, Bool, true, List, Option, Some, Contains}
+use Rattle.std.specs.Prelude.{◌≡◌, ℕ, Bool, true, List, Option, Some}
 use Rattle.std.specs.List.{list_any}
 use Rattle.ledger_terms.specs.declared.submission.Submission.{Submission}
 use Rattle.ledger_model.specs.Terms.{ParticipantId}
@@ -9,7 +9,7 @@ use Rattle.ledger_model.specs.Opening.{Shown, views_in}
 use Rattle.canton_model.specs.Reading.{Reading}
 use Rattle.canton_model.specs.Inbox.{Item, inbox}
 use Rattle.canton_model.specs.Checks.{is_confirmed_by}
-use Rattle.canton_model.specs.Genuine.{Genuine, IsSealed}
+use Rattle.canton_model.specs.Genuine.{Genuine, IsReading}
 
 pub record Machine : Type 0 where
   pub reading : Reading
@@ -30,18 +30,14 @@ confirms_some_view reading p shown = list_any (is_confirmed_by reading p) (views
 abbrev pub is_asked : Reading → ParticipantId → Request → Bool
 is_asked reading p request = confirms_some_view reading p (reading.shown p request)
 
--- each confirming participant owes verdicts
-abbrev pub AllAsked : Reading → Request → Type 0
-AllAsked reading request = (p : ParticipantId) → Contains request.confirming p → is_asked reading p request ≡ true
-
 -- what the request of a submission has
 pub record IsRequestFor (reading : Reading) (what : Submission) (request : Request) : Type 0 where
-  pub sealed : IsSealed reading request
-  pub asks : AllAsked reading request
+  pub is_sealed : reading.is_sealed request ≡ true
   pub sender : request.sender ≡ what.participant
   pub command : request.command ≡ what.command
 
 -- what holds of every machine
 pub record IsMachine (m : Machine) : Type 0 where
+  pub is_reading : IsReading m.reading
   pub prepares : (what : Submission) (log : List Entry) (now : ℕ) (request : Request) → GenuineLog m log
       → m.prepare what (inbox m.reading what.participant log) now ≡ Some request → IsRequestFor m.reading what request

@@ -83,6 +83,7 @@ pub fn passes_settle()
     ensures fixed { (m : Machine) (now : ℕ) (paused : List ParticipantId) (held : Bool) (log : List Entry) → pass m now paused held log ≡ log
         → Settled m paused held log }
     ensures genuine { (m : Machine) (now : ℕ) (paused : List ParticipantId) (held : Bool) (n : ℕ) (log : List Entry)
+        → IsReading m.reading
         → GenuineLog m log
         → GenuineLog m (passes m now paused held n log) }
     ensures capacity { (m : Machine) (now : ℕ) (paused : List ParticipantId) (held : Bool) (n : ℕ) (log : List Entry)
@@ -139,6 +140,7 @@ pub fn ready_stays()
 /// whatever it has claimed.
 pub fn turns_are_a_pass()
     ensures turns { (m : Machine) (now : ℕ) (paused : List ParticipantId) (nodes : ParticipantId → NodeState) (log : List Entry)
+        → IsReading m.reading
         → GenuineLog m log
         → ((p : ParticipantId) → p < m.hosts → has_place paused p ≡ false → MayTurn m p log (nodes p))
         → turns_below m now paused nodes log m.hosts ≡ replies_below m now paused log m.hosts }
@@ -187,6 +189,7 @@ pub fn catching_up_keeps()
 pub fn a_pass_over_a_world()
     ensures begins { (m : Machine) (paused : List ParticipantId) (w : World) → WorldReady m paused w → PassedTo m paused w.log 0 w }
     ensures turn { (m : Machine) (paused : List ParticipantId) (began : List Entry) (p : ParticipantId) (w : World) (node after : NodeState)
+        → IsReading m.reading
         → PassedTo m paused began p w
         → slice_get w.nodes p ≡ Some node
         → has_place paused p ≡ false
@@ -254,6 +257,7 @@ pub fn outcome_stays()
 /// In a settled log a request that nothing hinders is approved.
 pub fn unhindered_is_approved()
     ensures { (m : Machine) (paused : List ParticipantId) (log : List Entry) (k : ℕ)
+        → IsReading m.reading
         → GenuineLog m log
         → Settled m paused false log
         → Unhindered m paused log k
@@ -321,6 +325,7 @@ pub fn one_thread_run<F>()
 /// In a short part whose verdicts aren't held a request that all approve is approved.
 pub fn short_part_approves<F>()
     ensures { (m : Machine) (now : ℕ) (round : Round) (results : Results F) (before after : List Entry) (k : ℕ)
+        → IsReading m.reading
         → GenuineLog m after
         → PartHolds m now round results before after
         → round.holds_verdicts ≡ false
@@ -337,12 +342,15 @@ pub fn headline_of_genuine_log()
 
 /// It holds of the log after any list of events.
 pub fn headline_of_events()
-    ensures { (m : Machine) (events : List Event) → IsMachine m → IsReading m.reading → Headline m.reading m.params (played m (new_world m) events).log }
+    ensures { (m : Machine) (events : List Event) → IsMachine m → Headline m.reading m.params (played m (new_world m) events).log }
 {}
 
 /// In a run the requests that all approve, in short parts whose verdicts aren't held, are approved, and stay so.
 pub fn run_approves<F>()
-    ensures { (m : Machine) (why : Why F) (log : List Entry) (rounds : List (RoundAnswers F)) → RunHolds m why log rounds → RoundsApprove m log rounds }
+    ensures { (m : Machine) (why : Why F) (log : List Entry) (rounds : List (RoundAnswers F))
+        → IsReading m.reading
+        → RunHolds m why log rounds
+        → RoundsApprove m log rounds }
 {}
 
 /// The premises can be met, and the definitions compute.
