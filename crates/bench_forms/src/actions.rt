@@ -2,13 +2,14 @@
 use ledger_terms::{Action, Bytes, Hash, Instance, Name, PartySet, TemplateName, Value, ValueList};
 use std::alloc::Global;
 use std::io;
-use wire_form::{decode_action, encode_action, is_spellable_action};
+use wire_form::{Decoded, decode_action, encode_action, is_spellable_action};
 
-/// How many bytes actions took, and how many of them came back equal.
+/// How many bytes actions took, how many actions were decoded, and whether these have the same bytes again.
 #[derive(Clone, Copy)]
 pub(crate) struct Trip {
     pub(crate) bytes: usize,
-    pub(crate) same: u32,
+    pub(crate) actions: u32,
+    pub(crate) is_same: bool,
 }
 
 fn name(text: &str) -> io::Result<Name> {
@@ -53,8 +54,8 @@ fn exercise(alloc: Global) -> io::Result<Action> {
     })
 }
 
-/// A create and an exercise in turn, so many in all, there and back.
-pub(crate) fn round_trip(alloc: Global, count: u32) -> io::Result<Trip> {
+/// The bytes of a create and an exercise in turn, so many in all.
+fn encoded(alloc: Global, count: u32) -> io::Result<Bytes> {
     let create = create(alloc)?;
     let exercise = exercise(alloc)?;
     let mut out = Bytes::new(alloc);
@@ -64,24 +65,36 @@ pub(crate) fn round_trip(alloc: Global, count: u32) -> io::Result<Trip> {
             encode_action(action, &mut out)?;
         }
     }
-    let bytes = out.as_slice();
-    let mut trip = Trip {
-        bytes: bytes.len(),
-        same: 0,
-    };
+    Ok(out)
+}
+
+/// The action that the bytes spell from a place on, and the place after it.
+fn decoded(alloc: Global, bytes: &[u8], at: usize) -> Option<Decoded<Action>> {
+    if at > bytes.len() {
+        return None;
+    }
+    decode_action(alloc, bytes, at).ok()
+}
+
+/// Encodes a create and an exercise in turn, so many in all, decodes them and encodes them again.
+pub(crate) fn round_trip(alloc: Global, count: u32) -> io::Result<Trip> {
+    let first = encoded(alloc, count)?;
+    let mut second = Bytes::new(alloc);
+    let mut actions = 0;
     let mut at = 0;
-    for i in 0..count {
-        let action = if i % 2 == 0 { &create } else { &exercise };
-        if at > bytes.len() {
-            break;
-        }
-        let Ok(decoded) = decode_action(alloc, bytes, at) else {
+    for _ in 0..count {
+        let Some(read) = decoded(alloc, first.as_slice(), at) else {
             break;
         };
-        if decoded.value == *action {
-            trip.same = trip.same.saturating_add(1);
+        if is_spellable_action(&read.value) {
+            encode_action(&read.value, &mut second)?;
         }
-        at = decoded.next;
+        at = read.next;
+        actions += 1;
     }
-    Ok(trip)
+    Ok(Trip {
+        bytes: first.len(),
+        actions,
+        is_same: first == second,
+    })
 }

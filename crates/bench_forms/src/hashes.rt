@@ -1,5 +1,5 @@
 //! Hashes of strings of 200 bytes.
-use hash_id::contract_id;
+use hash_id::contract_id_of_bytes;
 use ledger_terms::Hash;
 
 // With the tag and the salt before it, a string of 200 bytes.
@@ -9,7 +9,7 @@ const INSTANCE: [u8; 167] = [90; 167];
 pub(crate) fn last_of(count: u32) -> Hash {
     let mut last = Hash([0; 32]);
     for _ in 0..count {
-        last = contract_id(&last, &INSTANCE);
+        last = contract_id_of_bytes(&last, &INSTANCE);
     }
     last
 }

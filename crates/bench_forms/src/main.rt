@@ -1,8 +1,9 @@
 //! Work to take the time of. `hash N` makes N hashes of strings of 200 bytes, each from the one before, and writes the last.
-//! `wire N` encodes N actions into one buffer and decodes them again, and writes how many bytes they took and how many came
-//! back equal. `blind N` makes and verifies the four trees of a transfer N times, and writes how many hashes were made and
-//! how many trees were verified. `script 1` reads standard input as a script, and writes how many bytes it has and how many
-//! submissions, or its fault.
+//! `wire N` encodes N actions into one buffer, decodes them and encodes them again, and writes how many bytes they took, how
+//! many actions were decoded, and whether their bytes are the same again. `blind N` makes and verifies the four trees of a
+//! transfer N times, and writes how many hashes were made and how many trees were verified. `script N` reads standard input N
+//! times as a script, and writes how many bytes it has and how many submissions, or its fault. `json N` reads it N times as a
+//! JSON value and no more.
 #![tactic(auto)]
 
 mod actions;
@@ -50,7 +51,11 @@ fn run(rt: &impl Print, alloc: Global, work: Work, count: u32) -> io::Result<()>
         }
         Work::Wire => {
             let trip = round_trip(alloc, count)?;
-            println!(rt; "{} bytes, {} same", trip.bytes, trip.same)
+            let again = if trip.is_same { "the same" } else { "other" };
+            println!(rt;
+                "{} bytes, {} actions, {again} bytes again",
+                trip.bytes, trip.actions
+            )
         }
         Work::Blind => {
             let made = make_and_verify(alloc, count)?;

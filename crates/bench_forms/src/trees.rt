@@ -1,5 +1,5 @@
 //! The trees of a transfer.
-use crate::transfer::{invalid, name, topology, views};
+use crate::transfer::{invalid, worked_transfer};
 use blind_tree::{
     Leaf, Recipient, RecipientList, Tree, TreeList, Vertex, VertexList, are_spellable, blind_all,
     is_spellable, root_of, verify,
@@ -78,18 +78,23 @@ const TO_MAKE: u64 = 6 + 6 + 2;
 
 /// Makes the four trees of a transfer and verifies them against the root of the first, so often.
 pub(crate) fn make_and_verify(alloc: Global, rounds: u32) -> io::Result<Made> {
-    let views = views(alloc)?;
-    let topology = topology(alloc)?;
+    let transfer = worked_transfer(alloc)?;
     let recipients = recipients(alloc)?;
     let mut made = Made {
         hashes: 0,
         verified: 0,
     };
-    if !are_spellable(&views) {
+    if !are_spellable(&transfer.views) {
         return Err(invalid());
     }
     for _ in 0..rounds {
-        let trees = blind_all(alloc, &views, name("P2")?, &topology, &recipients)?;
+        let trees = blind_all(
+            alloc,
+            &transfer.views,
+            transfer.sender,
+            &transfer.topology,
+            &recipients,
+        )?;
         made.hashes = made.hashes.saturating_add(TO_MAKE);
         verify_all(alloc, &trees, &mut made)?;
     }

@@ -2,21 +2,21 @@
 use Rattle.std.proofs.Common.{◌≡◌, ◌≢◌, ℕ, List, [], ◌∷◌, length, Result, Ok, Err, refl, sym, ap, subst, ◌∙◌, append-nil}
 use Rattle.std.specs.Prelude.{IfOk}
 use Rattle.ledger_terms.specs.Answers.{UnlessMemory}
-use Rattle.wire_form.specs.declared.stop.Stop.{Stop}
-use Rattle.wire_form.specs.declared.stop.Stop.TheVariants as stops
+use Rattle.wire_form.specs.declared.reader_fault.ReaderFault.{ReaderFault}
+use Rattle.wire_form.specs.declared.reader_fault.ReaderFault.TheVariants as faults
 use Rattle.wire_form.specs.declared.wire_fault.WireFault.{WireFault}
 use Rattle.wire_form.specs.declared.wire_fault.WireFault.TheVariants.{Memory}
 use Rattle.wire_form.specs.Formats.{◌>>=◌, Reading, Gives}
 use Rattle.wire_form.proofs.FormatLaws.{IsBytes, Reads}
-use Rattle.blind_tree.specs.Reading.{ended, with_place, read_all, finished}
+use Rattle.blind_tree.specs.Reading.{ended, with_place, read_all, reader_answer}
 
 -- what a reader gave, with nothing left after it
-pub given_all : {A : Type 0} (read : Reading A) (bytes rest : List ℕ) (got : Result A Stop) → Gives (λ x. (x, rest)) got (read bytes)
-    → UnlessMemory Memory (finished got (length bytes) (length rest)) (read_all read bytes)
+pub given_all : {A : Type 0} (read : Reading A) (bytes rest : List ℕ) (got : Result A ReaderFault) → Gives (λ x. (x, rest)) got (read bytes)
+    → UnlessMemory Memory (reader_answer got (length bytes) (length rest)) (read_all read bytes)
 given_all read bytes [] (Ok x) h other = ap (λ r. with_place (length bytes) (r >>= λ y. ended y.0 y.1)) (sym h)
 given_all read bytes (b ∷ more) (Ok x) h other = ap (λ r. with_place (length bytes) (r >>= λ y. ended y.0 y.1)) (sym h)
-given_all read bytes rest (Err (stops.Left n)) h other = ap (λ r. with_place (length bytes) (r >>= λ y. ended y.0 y.1)) (sym h)
-given_all read bytes rest (Err stops.Memory) h other = absurd (other refl)
+given_all read bytes rest (Err (faults.Left n)) h other = ap (λ r. with_place (length bytes) (r >>= λ y. ended y.0 y.1)) (sym h)
+given_all read bytes rest (Err faults.Memory) h other = absurd (other refl)
 
 module _ {A : Type 0} (s : A → List ℕ) (F : A → Type 0) (read : Reading A) (r : Reads s F read) where
   abbrev Answer : Type 0
@@ -52,9 +52,9 @@ module _ {A : Type 0} (s : A → List ℕ) (F : A → Type 0) (read : Reading A)
     pub found : IfOk a (λ x. F x × (bytes ≡ s x))
     pub only : (x : A) → F x → bytes ≡ s x → UnlessMemory Memory a (Ok x)
 
-  pub decodes_all : (bytes from rest : List ℕ) (got : Result A Stop) (left : ℕ) (a : Answer) → IsBytes bytes → from ≡ bytes → Gives (λ x. (x, rest)) got (read from) → left ≡ length rest
-      → a ≡ finished got (length bytes) left → DecodesAll bytes a
+  pub decodes_all : (bytes from rest : List ℕ) (got : Result A ReaderFault) (left : ℕ) (a : Answer) → IsBytes bytes → from ≡ bytes → Gives (λ x. (x, rest)) got (read from) → left ≡ length rest
+      → a ≡ reader_answer got (length bytes) left → DecodesAll bytes a
   decodes_all bytes from rest got left a fits begins h at_left is =
-      let whole : a ≡ finished got (length bytes) (length rest) = is ∙ ap (finished got (length bytes)) at_left in
+      let whole : a ≡ reader_answer got (length bytes) (length rest) = is ∙ ap (reader_answer got (length bytes)) at_left in
       let exact = subst (λ (b : Answer). UnlessMemory Memory b (read_all read bytes)) (sym whole) (given_all read bytes rest got (subst (λ (k : List ℕ). Gives (λ x. (x, rest)) got (read k)) begins h)) in
       record { exact = exact; found = all_found bytes a fits exact; only = all_read bytes a exact }

@@ -7,8 +7,9 @@ use Rattle.ledger_terms.specs.Forest.{Forest, NoRoots, Root, preorder}
 use Rattle.ledger_terms.specs.Roots.{trees_count}
 use Rattle.ledger_terms.specs.Hosting.{hosts_at}
 use Rattle.ledger_terms.specs.declared.host.Host.{Host}
-use Rattle.hash_id.specs.Strings.{view_hash_string, tree_hash_string}
+use Rattle.hash_id.specs.Strings.{leaf_hash_string, view_hash_string, tree_hash_string}
 use Rattle.wire_form.specs.Spelling.{spell_parties}
+use Rattle.ledger_model.specs.Opening.{Transaction}
 use Rattle.view_split.specs.SplitView.{SplitView}
 use Rattle.view_split.specs.Numbered.{map_forest}
 use Rattle.view_split.specs.Seen.{is_sight}
@@ -18,15 +19,16 @@ use Rattle.blind_tree.specs.Digests.{Hashing, leaf_digest, digests, root_digest}
 use Rattle.blind_tree.specs.Agreement.{IsSizedLeaf, AreSized, IsSized}
 use Rattle.blind_tree.specs.InRange.{IsSpellableLeaf, AreSpellable, IsSpellableTree, nesting}
 use Rattle.blind_tree.specs.LeafBytes.{common_bytes, roles_bytes, core_bytes}
-use Rattle.blind_tree.specs.Blind.{Shown, leaf_of, digest_of, roles_digest, core_digest, view_digests, views_shown, named, shown_to, is_hidden, shows_roles, shows_core, vertices_shown, has_sight, sees_root, tree_of, blind_for, is_host_named, transaction_digest}
+use Rattle.blind_tree.specs.Blind.{Visibility, leaf_of, digest_of, roles_digest, core_digest, view_digests, views_shown, informees_alone, shown_to, is_hidden, shows_roles, shows_core, vertices_shown, has_sight, sees_root, leaf_with, Salts, tree_with, tree_to, tree_to_mediator, digest_with, salts_of, transaction_of, blind_for, is_host_named, transaction_digest}
 use Rattle.blind_tree.specs.Seen.{contents_shown, paths_seen, depth, AreSmall, IsSmall}
+use Rattle.blind_tree.specs.declared.tree.Tree.{Tree}
 use Rattle.blind_tree.specs.declared.recipient.Recipient.{Recipient}
 use Rattle.blind_tree.specs.declared.recipient.Recipient.TheVariants.{Participant, Mediator}
 use Rattle.blind_tree.proofs.KeptGrow.{any_parts}
 use Rattle.blind_tree.proofs.KeptLaws.{unshown, unnamed}
 
 abbrev Marked : Type 0
-Marked = Forest (Shown × SplitView)
+Marked = Forest (Visibility × SplitView)
 
 neither : (a b : Bool) → (a || b) ≡ false → (a ≡ false) × (b ≡ false)
 neither true b e = cc
@@ -54,15 +56,34 @@ module _ (sha : Hashing) where
             (λ i. sha (view_hash_string (leaf_keeps (shows_roles marked.0) 3 (view.first).seed (roles_bytes view) i) (leaf_keeps (shows_core marked.0) 4 (view.first).seed (core_bytes view) i) (vertices_keep subviews i)) ∷ vertices_keep others i)
       ]
 
-  root_kept : (sender : List ℕ) (shows : Bool) (views : Views) (f : Marked) → views_shown f ≡ views.roots → root_digest sha (tree_of sha sender shows views f) ≡ transaction_digest sha views sender
-  root_kept sender shows views f same =
-      λ i. sha (tree_hash_string (digest_of sha 1 views.seed (common_bytes sender views.ledger_time)) (leaf_keeps shows 2 views.seed (spell_parties views.act_as) i)
+  salted_leaf_keeps : (shows : Bool) (kind : ℕ) (salt bytes : List ℕ) → leaf_digest sha kind (leaf_with sha shows kind salt bytes) ≡ sha (leaf_hash_string kind salt bytes)
+  salted_leaf_keeps true kind salt bytes = refl
+  salted_leaf_keeps false kind salt bytes = refl
+
+  -- every tree with these salts has one root
+  salted_root : (salts : Salts) (sender : List ℕ) (shows : Bool) (t : Transaction) (views : Forest SplitView) (f : Marked) → views_shown f ≡ views
+      → root_digest sha (tree_with sha salts sender shows t f) ≡ digest_with sha salts sender t views
+  salted_root salts sender shows t views f same =
+      λ i. sha (tree_hash_string (sha (leaf_hash_string 1 salts.common (common_bytes sender t.ledger_time))) (salted_leaf_keeps shows 2 salts.requesters (spell_parties t.requesters) i)
       ((vertices_keep f ∙ ap (view_digests sha) same) i))
+
+  pub participants_root : (salts : Salts) (sender : List ℕ) (t : Transaction) (views : Forest SplitView) (hosts : List ℕ → Bool) (sends : Bool)
+      → root_digest sha (tree_to sha salts sender t views hosts sends) ≡ digest_with sha salts sender t views
+  participants_root salts sender t views hosts sends =
+      salted_root salts sender (sees_root hosts views || sends) t views (shown_to hosts false views) (unshown hosts false views)
+
+  pub mediators_root : (salts : Salts) (sender : List ℕ) (t : Transaction) (views : Forest SplitView)
+      → root_digest sha (tree_to_mediator sha salts sender t views) ≡ digest_with sha salts sender t views
+  mediators_root salts sender t views = salted_root salts sender false t views (map_forest informees_alone views) (unnamed views)
 
   pub one_root : (views : Views) (sender : List ℕ) (hosts : List Host) (to : Recipient) → root_digest sha (blind_for sha views sender hosts to) ≡ transaction_digest sha views sender
   one_root views sender hosts (Participant p) =
-      root_kept sender (sees_root (hosts_at hosts p) views.roots || is_host_named hosts p sender) views (shown_to (hosts_at hosts p) false views.roots) (unshown (hosts_at hosts p) false views.roots)
-  one_root views sender hosts Mediator = root_kept sender false views (map_forest named views.roots) (unnamed views.roots)
+      participants_root (salts_of sha views.seed) sender (transaction_of views) views.roots (hosts_at hosts p) (is_host_named hosts p sender)
+  one_root views sender hosts Mediator = mediators_root (salts_of sha views.seed) sender (transaction_of views) views.roots
+
+  -- a transaction's tree with the salts of its seed
+  abbrev tree_of : (sender : List ℕ) (shows : Bool) → Views → Marked → Tree
+  tree_of sender shows views f = tree_with sha (salts_of sha views.seed) sender shows (transaction_of views) f
 
   module _ (long : (s : List ℕ) → length (sha s) ≡ 32) where
     sized_leaf : (shows : Bool) (kind : ℕ) (seed bytes : List ℕ) → IsSizedLeaf (leaf_of sha shows kind seed bytes)
@@ -78,7 +99,7 @@ module _ (sha : Hashing) where
           | inr inner ↦ rw inner (sized_leaf (shows_roles marked.0) 3 (view.first).seed (roles_bytes view), sized_leaf (shows_core marked.0) 4 (view.first).seed (core_bytes view), sized_vertices subviews, sized_vertices others)
         ]
 
-    sized_tree : (sender : List ℕ) (shows : Bool) (views : Views) (f : Marked) → IsSized (tree_of sha sender shows views f)
+    sized_tree : (sender : List ℕ) (shows : Bool) (views : Views) (f : Marked) → IsSized (tree_of sender shows views f)
     sized_tree sender shows views f =
         record {
           common_is = sized_leaf true 1 views.seed (common_bytes sender views.ledger_time);
@@ -89,7 +110,7 @@ module _ (sha : Hashing) where
     pub sized : (views : Views) (sender : List ℕ) (hosts : List Host) (to : Recipient) → IsSized (blind_for sha views sender hosts to)
     sized views sender hosts (Participant p) =
         sized_tree sender (sees_root (hosts_at hosts p) views.roots || is_host_named hosts p sender) views (shown_to (hosts_at hosts p) false views.roots)
-    sized views sender hosts Mediator = sized_tree sender false views (map_forest named views.roots)
+    sized views sender hosts Mediator = sized_tree sender false views (map_forest informees_alone views.roots)
 
   -- ---- what is shown
 
@@ -113,7 +134,7 @@ module _ (sha : Hashing) where
         ]
       ]
 
-  pub mediator_sees_none : (above : List ℕ) (k : ℕ) (f : Forest SplitView) → contents_shown above k (vertices_shown sha (map_forest named f)) ≡ []
+  pub mediator_sees_none : (above : List ℕ) (k : ℕ) (f : Forest SplitView) → contents_shown above k (vertices_shown sha (map_forest informees_alone f)) ≡ []
   mediator_sees_none above k NoRoots = refl
   mediator_sees_none above k (Root view subviews others) = λ i. mediator_sees_none (above ++ k ∷ []) 0 subviews i ++ mediator_sees_none above (suc k) others i
 
@@ -150,7 +171,7 @@ module _ (sha : Hashing) where
         )
       ]
 
-  spellable_tree : (sender : List ℕ) (shows : Bool) (views : Views) (f : Marked) → views_shown f ≡ views.roots → IsSmall sender views → IsSpellableTree (tree_of sha sender shows views f)
+  spellable_tree : (sender : List ℕ) (shows : Bool) (views : Views) (f : Marked) → views_shown f ≡ views.roots → IsSmall sender views → IsSpellableTree (tree_of sender shows views f)
   spellable_tree sender shows views f same small =
       let few : trees_count (views_shown f) ≤ 64 = rw same small.few in
       let deep : depth (views_shown f) ≤ 16 = rw same small.nested in
@@ -166,4 +187,4 @@ module _ (sha : Hashing) where
   pub spellable : (views : Views) (sender : List ℕ) (hosts : List Host) (to : Recipient) → IsSmall sender views → IsSpellableTree (blind_for sha views sender hosts to)
   spellable views sender hosts (Participant p) small =
       spellable_tree sender (sees_root (hosts_at hosts p) views.roots || is_host_named hosts p sender) views (shown_to (hosts_at hosts p) false views.roots) (unshown (hosts_at hosts p) false views.roots) small
-  spellable views sender hosts Mediator small = spellable_tree sender false views (map_forest named views.roots) (unnamed views.roots) small
+  spellable views sender hosts Mediator small = spellable_tree sender false views (map_forest informees_alone views.roots) (unnamed views.roots) small

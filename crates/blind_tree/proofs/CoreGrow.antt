@@ -1,13 +1,14 @@
 -- Cores written child by child.
-use Rattle.std.proofs.Common.{◌≡◌, ℕ, zero, suc, ◌+◌, ◌<◌, ◌≤◌, List, [], ◌∷◌, ◌++◌, length, get_or, drop, refl, sym, ◌∙◌, subst, ap, arith, append_assoc}
-use Rattle.std.proofs.lemmas.List.{drop_more}
+use Rattle.std.proofs.Common.{◌≡◌, ℕ, max, zero, suc, ◌+◌, ◌-◌, ◌^◌, ◌<◌, ◌≤◌, List, [], ◌∷◌, ◌++◌, length, get_or, drop, refl, sym, ◌∙◌, subst, ap, arith, append_assoc}
+use Rattle.std.proofs.lemmas.List.{drop_all, drop_more}
 use Rattle.ledger_terms.specs.Trees.{Act}
 use Rattle.view_split.specs.Holed as holed
-use Rattle.view_split.specs.Holed.{Holed, NoMore}
+use Rattle.view_split.specs.Holed.{Holed, NoMore, holes}
 use Rattle.view_split.specs.CoreLists.{act_of, children_of, core_weight}
 use Rattle.view_split.specs.declared.core_node.CoreChild.{CoreChild}
 use Rattle.view_split.specs.declared.core_node.CoreChild.TheVariants.{Inner, Hole}
-use Rattle.blind_tree.specs.Cores.{AreSpellableChildren, IsSpellableChild, spell_child, spell_children}
+use Rattle.wire_form.specs.Lengths.{capped}
+use Rattle.blind_tree.specs.Cores.{AreSpellableChildren, IsSpellableChild, levels, spell_child, spell_children}
 
 -- a child and those after it
 abbrev pub with_child : CoreChild → Holed Act → Holed Act
@@ -50,3 +51,31 @@ child_step cs i c all out new h at grown before =
     ap (λ (xs : List ℕ). xs ++ spell_children rest) grown
     ∙ (append_assoc out (spell_child c) (spell_children rest)
     ∙ (ap (λ (xs : List ℕ). out ++ xs) (sym next) ∙ before))
+
+-- ---- holes and levels
+
+holes_with : (c : CoreChild) (rest : Holed Act) → holes (with_child c rest) ≡ holes (children_of (c ∷ [])) + holes rest
+holes_with (Inner node) rest = omega arith
+holes_with Hole rest = omega arith
+
+-- the holes with those of one more child
+pub holes_step : (cs : List CoreChild) (i : ℕ) (c : CoreChild) (count more all : ℕ) → i < length cs → c ≡ get_or cs i c → more ≡ capped (holes (children_of (c ∷ [])))
+    → capped (count + holes (children_of (drop i cs))) ≡ capped all → capped (capped (count + more) + holes (children_of (drop (i + 1) cs))) ≡ capped all
+holes_step cs i c count more all h at is before =
+    let here = ap (λ (k : Holed Act). holes k) (next_child cs i c h at) ∙ holes_with c (children_of (drop (i + 1) cs)) in
+    omega (arith, here, is, before)
+
+pub holes_end : (cs : List CoreChild) (i count all : ℕ) → length cs ≤ i → count ≤ 2 ^ 64 - 1
+    → capped (count + holes (children_of (drop i cs))) ≡ capped all → count ≡ capped all
+holes_end cs i count all past fits before =
+    let none : holes (children_of (drop i cs)) ≡ 0 = rw (drop_all i cs past) refl in
+    omega (arith, none, fits, before)
+
+levels_with : (c : CoreChild) (rest : Holed Act) → levels (with_child c rest) ≡ max (levels (children_of (c ∷ []))) (levels rest)
+levels_with (Inner node) rest = omega arith
+levels_with Hole rest = omega arith
+
+-- the levels of one more child
+pub levels_step : (cs : List CoreChild) (i : ℕ) (c : CoreChild) → i < length cs → c ≡ get_or cs i c
+    → levels (children_of (drop i cs)) ≡ max (levels (children_of (c ∷ []))) (levels (children_of (drop (i + 1) cs)))
+levels_step cs i c h at = ap (λ (k : Holed Act). levels k) (next_child cs i c h at) ∙ levels_with c (children_of (drop (i + 1) cs))

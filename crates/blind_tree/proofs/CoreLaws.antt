@@ -1,206 +1,209 @@
--- Each core is read from its spelling.
-use Rattle.std.proofs.Common.{◌≡◌, ℕ, zero, suc, ◌+◌, ◌-◌, ◌≤◌, false, List, [], ◌∷◌, ◌++◌, length, Result, Ok, refl, sym, ap, lit<, ◌∙◌, append_assoc, append-nil, arith, inl, inr}
-use Rattle.std.specs.Prelude.{nat_eq}
+-- The format of cores, composed of those of fields.
+use Rattle.std.proofs.Common.{◌≡◌, ℕ, zero, suc, ◌≤◌, max, List, [], ◌∷◌, ◌++◌, length, Result, Ok, refl, sym, ap, lit<, subst, ◌∙◌, append_assoc, arith}
 use Rattle.std.specs.Int.{w16, to_be_bytes}
-use Rattle.std.proofs.lemmas.Bool.{cases_Bool}
-use Rattle.std.proofs.lemmas.Bool.Decides.{Decides-eqb}
-use Rattle.std.proofs.lemmas.List.{length-append}
+use Rattle.std.specs.List.{flat_map, AllByRecursion}
 use Rattle.ledger_terms.specs.Trees.{Act}
 use Rattle.ledger_terms.specs.declared.action.Action.{Action}
-use Rattle.wire_form.specs.Formats.{◌>>=◌, both_at}
+use Rattle.wire_form.specs.Formats.{◌>>=◌, Reading, both_at, counted_at, any_item}
 use Rattle.wire_form.specs.Fields.{count_at, hash_at}
 use Rattle.wire_form.specs.Reading.{action_at}
 use Rattle.wire_form.specs.Spelling.{spell_action}
 use Rattle.wire_form.specs.InRange.{IsAction, IsHash}
-use Rattle.wire_form.proofs.FormatLaws.{Reads}
-use Rattle.wire_form.proofs.Compose.{both_reads, seen_reads, ranged_reads}
+use Rattle.wire_form.proofs.FormatLaws.{IsBytes, IsBytes-rest, Takes, Reads, ok_is}
+use Rattle.wire_form.proofs.Compose.{both_reads, seen_reads, ranged_reads, counted_reads, under, tag_takes, Admits, any_admitted}
 use Rattle.wire_form.proofs.FieldLaws.{count_reads, hash_reads}
 use Rattle.wire_form.proofs.ValueLaws.{action_reads}
-use Rattle.view_split.specs.Holed.{Holed, NoMore, Inner, width, beside}
+use Rattle.view_split.specs.Holed.{Holed, NoMore, Inner, width}
 use Rattle.view_split.specs.Holed as holed
-use Rattle.blind_tree.specs.Cores.{spell_children, spell_core}
-use Rattle.blind_tree.specs.Marks.{arity, front, back, with_mark, built, built_on}
-use Rattle.blind_tree.specs.CoreReading.{HeadParts, head_of, core_head_at, tagged_mark_at, mark_at, Begun, next_mark_at, marks_from, completed, marks_at, CoreParts, core_of, core_at, found_of, found_at}
+use Rattle.view_split.specs.CoreLists.{act_of, children_of}
+use Rattle.view_split.specs.declared.core_node.CoreNode.{CoreNode}
+use Rattle.view_split.specs.declared.core_node.CoreChild.{CoreChild}
+use Rattle.view_split.specs.declared.core_node.CoreChild.TheVariants as children
+use Rattle.blind_tree.specs.Cores.{levels, spell_child, spell_children, spell_core, spell_node}
+use Rattle.blind_tree.specs.CoreReading.{NodeParts, node_of, children_with, node_with, tagged_child_at, tagged_hole_at, hole_at, child_at, node_at, core_at}
 use Rattle.blind_tree.specs.Seen.{AreChildren, IsCore}
-use Rattle.blind_tree.specs.declared.mark.Head.{Head}
-use Rattle.blind_tree.specs.declared.mark.Mark.{Mark}
-use Rattle.blind_tree.specs.declared.mark.Mark.TheVariants.{Hole, Begins}
-use Rattle.blind_tree.proofs.Building.{built_start}
+use Rattle.blind_tree.specs.Leaves.{IsNode}
+use Rattle.blind_tree.proofs.TreeLaws.{respelled_reads}
 
--- ---- an action with the number of its children
+-- ---- children side by side, and a child by itself
 
-abbrev pub spell_head : Head → List ℕ
-spell_head head = head.seed ++ spell_action head.action ++ to_be_bytes w16 head.children
+abbrev core_with : Act → Holed Act → CoreNode
+core_with act below = record { seed = act.seed; action = act.action; children = below }
 
-pub record IsHead (head : Head) : Type 0 where
-  pub seed_is : IsHash head.seed
-  pub action_is : IsAction head.action
-  pub few : head.children ≤ 63
+abbrev child_list : Holed Act → List CoreChild
+child_list NoMore = []
+child_list (Inner act below others) = children.Inner (core_with act below) ∷ child_list others
+child_list (holed.Hole others) = children.Hole ∷ child_list others
 
-abbrev parts_of : Head → HeadParts
-parts_of head = ((head.seed, head.action), head.children)
+listed : (cs : List CoreChild) → child_list (children_of cs) ≡ cs
+listed [] = refl
+listed (children.Inner core ∷ cs) = ap (λ (ds : List CoreChild). children.Inner core ∷ ds) (listed cs)
+listed (children.Hole ∷ cs) = ap (λ (ds : List CoreChild). children.Hole ∷ ds) (listed cs)
 
-abbrev FitHead : HeadParts → Type 0
-FitHead p = (IsHash p.0.0 × IsAction p.0.1) × (p.1 ≤ 63)
+unlisted : (h : Holed Act) → children_of (child_list h) ≡ h
+unlisted NoMore = refl
+unlisted (Inner act below others) = ap (Inner act below) (unlisted others)
+unlisted (holed.Hole others) = ap holed.Hole (unlisted others)
 
-pub head_reads : Reads spell_head IsHead core_head_at
-unfolding core_head_at
-head_reads =
-    let acts = both_reads (λ h. h) IsHash hash_at spell_action IsAction action_at hash_reads action_reads in
-    let parts = both_reads (λ (p : List ℕ × Action). p.0 ++ spell_action p.1) (λ p. IsHash p.0 × IsAction p.1) (both_at hash_at action_at) (λ k. to_be_bytes w16 k) (λ k. k ≤ 63) (count_at 63) acts (count_reads 63 (lit< tt)) in
-    ranged_reads spell_head (λ h. FitHead (parts_of h)) IsHead core_head_at
-    (λ head h. record { seed_is = h.0.0; action_is = h.0.1; few = h.1 }) (λ head h. ((h.seed_is, h.action_is), h.few))
-    (seen_reads head_of parts_of (λ p. refl) (λ h. refl) (λ (p : HeadParts). (p.0.0 ++ spell_action p.0.1) ++ to_be_bytes w16 p.1) FitHead (both_at (both_at hash_at action_at) (count_at 63)) parts)
+list_width : (h : Holed Act) → length (child_list h) ≡ width h
+list_width NoMore = refl
+list_width (Inner act below others) = ap suc (list_width others)
+list_width (holed.Hole others) = ap suc (list_width others)
 
-abbrev pub spell_mark : Mark → List ℕ
-spell_mark Hole = 1 ∷ []
-spell_mark (Begins head) = 0 ∷ spell_head head
+list_spelled : (h : Holed Act) → flat_map spell_child (child_list h) ≡ spell_children h
+list_spelled NoMore = refl
+list_spelled (Inner act below others) = ap (λ (k : List ℕ). spell_child (children.Inner (core_with act below)) ++ k) (list_spelled others)
+list_spelled (holed.Hole others) = ap (λ (k : List ℕ). (1 ∷ []) ++ k) (list_spelled others)
 
-abbrev head_with : Act → ℕ → Head
-head_with act n = record { seed = act.seed; action = act.action; children = n }
+-- in range, with actions on so many levels at most
+abbrev IsChild : ℕ → CoreChild → Type 0
+IsChild n (children.Inner core) =
+    (suc (levels core.children) ≤ n) × IsHash core.seed × IsAction core.action × (width core.children ≤ 63) × AreChildren core.children
+IsChild n children.Hole = Unit {0}
 
--- ---- what stands in a core, in pre-order
+record IsList (n : ℕ) (h : Holed Act) : Type 0 where
+  few : width h ≤ 63
+  nested : levels h ≤ n
+  each : AreChildren h
 
-abbrev marks_of : Holed Act → List Mark
-marks_of NoMore = []
-marks_of (Inner act below others) = Begins (head_with act (width below)) ∷ (marks_of below ++ marks_of others)
-marks_of (holed.Hole others) = Hole ∷ marks_of others
+range_from : (n : ℕ) (h : Holed Act) → AllByRecursion (IsChild n) (child_list h) → (levels h ≤ n) × AreChildren h
+range_from n NoMore all = (omega arith, tt)
+range_from n (Inner act below others) all =
+    let r = range_from n others all.1 in (omega (arith, all.0.0, r.0), (all.0.1, all.0.2, all.0.3, all.0.4, r.1))
+range_from n (holed.Hole others) all = range_from n others all.1
 
-beside-end : (h : Holed Act) → beside h NoMore ≡ h
-beside-end NoMore = refl
-beside-end (Inner act below others) = ap (Inner act below) (beside-end others)
-beside-end (holed.Hole others) = ap holed.Hole (beside-end others)
+range_to : (n : ℕ) (h : Holed Act) → levels h ≤ n → AreChildren h → AllByRecursion (IsChild n) (child_list h)
+range_to n NoMore nested h = tt
+range_to n (Inner act below others) nested h =
+    ((omega (arith, nested), h.0, h.1, h.2, h.3), range_to n others (omega (arith, nested)) h.4)
+range_to n (holed.Hole others) nested h = (tt, range_to n others nested h)
 
-front_beside : (h more : Holed Act) → front (width h) (beside h more) ≡ h
-front_beside NoMore more = refl
-front_beside (Inner act below others) more = ap (Inner act below) (front_beside others more)
-front_beside (holed.Hole others) more = ap holed.Hole (front_beside others more)
+abbrev FitList : ℕ → List CoreChild → Type 0
+FitList n cs = (length cs ≤ 63) × AllByRecursion (IsChild n) cs × Admits any_item [] cs
 
-back_beside : (h more : Holed Act) → back (width h) (beside h more) ≡ more
-back_beside NoMore more = refl
-back_beside (Inner act below others) more = back_beside others more
-back_beside (holed.Hole others) more = back_beside others more
+list_from : (n : ℕ) (h : Holed Act) → FitList n (child_list h) → IsList n h
+list_from n h fit =
+    let r = range_from n h fit.1 in record { few = omega (arith, list_width h, fit.0); nested = r.0; each = r.1 }
 
-built_append : (ms ns : List Mark) (h : Holed Act) → built_on (ms ++ ns) h ≡ built_on ms (built_on ns h)
-built_append [] ns h = refl
-built_append (m ∷ ms) ns h = ap (with_mark m) (built_append ms ns h)
+list_to : (n : ℕ) (h : Holed Act) → IsList n h → FitList n (child_list h)
+list_to n h is = (omega (arith, list_width h, is.few), range_to n h is.nested is.each, any_admitted [] (child_list h))
 
-built_marks : (h more : Holed Act) → built_on (marks_of h) more ≡ beside h more
-built_marks NoMore more = refl
-built_marks (holed.Hole others) more = ap holed.Hole (built_marks others more)
-built_marks (Inner act below others) more =
-    let inner : built_on (marks_of below ++ marks_of others) more ≡ beside below (beside others more) =
-    built_append (marks_of below) (marks_of others) more ∙ (built_marks below (built_on (marks_of others) more) ∙ ap (beside below) (built_marks others more)) in
-    ap (with_mark (Begins (head_with act (width below)))) inner
-    ∙ (λ i. Inner act (front_beside below (beside others more) i) (back_beside below (beside others more) i))
+abbrev spell_counted : List CoreChild → List ℕ
+spell_counted cs = to_be_bytes w16 (length cs) ++ flat_map spell_child cs
 
-built_again : (h : Holed Act) → built (marks_of h) ≡ h
-built_again h = sym (built_start (marks_of h)) ∙ (built_marks h NoMore ∙ beside-end h)
+abbrev spell_list : Holed Act → List ℕ
+spell_list h = to_be_bytes w16 (width h) ++ spell_children h
 
-marks_short : (h : Holed Act) → length (marks_of h) ≤ length (spell_children h)
-marks_short NoMore = omega arith
-marks_short (holed.Hole others) = let r = marks_short others in omega (arith, r)
-marks_short (Inner act below others) =
-    let b = marks_short below in
-    let o = marks_short others in
-    let front_part = act.seed ++ spell_action act.action ++ to_be_bytes w16 (width below) in
-    let l = length-append (marks_of below) (marks_of others) in
-    let m = length-append (front_part ++ spell_children below) (spell_children others) in
-    let n = length-append front_part (spell_children below) in
-    omega (arith, b, o, l, m, n)
+counted_spelled : (h : Holed Act) → spell_counted (child_list h) ≡ spell_list h
+counted_spelled h = λ i. to_be_bytes w16 (list_width h i) ++ list_spelled h i
 
--- ---- reading them
+list_reads : (n : ℕ) → Reads spell_child (IsChild n) (child_at n) → Reads spell_list (IsList n) (children_with (child_at n))
+list_reads n r =
+    let counted = counted_reads (λ k. to_be_bytes w16 k) (λ k. k ≤ 63) (count_at 63) spell_child (IsChild n) (child_at n) any_item (count_reads 63 (lit< tt)) r in
+    let seen = seen_reads children_of child_list listed unlisted spell_counted (FitList n) (counted_at (count_at 63) any_item (child_at n)) counted in
+    ranged_reads spell_list (λ h. FitList n (child_list h)) (IsList n) (children_with (child_at n)) (list_from n) (list_to n)
+    (respelled_reads (λ h. spell_counted (child_list h)) spell_list (λ h. FitList n (child_list h)) (children_with (child_at n)) counted_spelled seen)
 
-mark_again : (act : Act) (n : ℕ) (rest : List ℕ) → IsHash act.seed → IsAction act.action → n ≤ 63 → mark_at (spell_mark (Begins (head_with act n)) ++ rest) ≡ Ok (Begins (head_with act n), rest)
-unfolding mark_at tagged_mark_at
-mark_again act n rest s a few =
-    ap (λ (r : Result (Head × List ℕ) ℕ). r >>= λ x. Ok (Begins x.0, x.1)) (head_reads.again (head_with act n) rest (record { seed_is = s; action_is = a; few = few }))
+-- ---- an action with its children
 
-hole_again : (rest : List ℕ) → mark_at (1 ∷ rest) ≡ Ok (Hole, rest)
-unfolding mark_at tagged_mark_at
-hole_again rest = refl
+abbrev acts_at : Reading (List ℕ × Action)
+acts_at = both_at hash_at action_at
 
-pub some_missing : (n : ℕ) → nat_eq (suc n) 0 ≡ false
-some_missing n =
-    elim (cases_Bool (nat_eq (suc n) 0)) [
-      | inl same ↦ (let e : suc n ≡ 0 = (Decides-eqb (suc n) 0).0 same in absurd (omega (arith, e)))
-      | inr other ↦ other
-    ]
+abbrev spell_act : List ℕ × Action → List ℕ
+spell_act p = p.0 ++ spell_action p.1
 
-step_again : (f n : ℕ) (so_far : List Mark) (mark : Mark) (bytes rest : List ℕ) → mark_at bytes ≡ Ok (mark, rest) → marks_from (suc f) (suc n, so_far) bytes ≡ marks_from f (n + arity mark, so_far ++ mark ∷ []) rest
-unfolding marks_from next_mark_at
-step_again f n so_far mark bytes rest first =
-    let one : suc n - 1 ≡ n = omega arith in
-    rw (some_missing n, first, one) refl
+abbrev IsAct : List ℕ × Action → Type 0
+IsAct p = IsHash p.0 × IsAction p.1
 
-stays : (f : ℕ) (so_far : List Mark) (bytes : List ℕ) → marks_from f (0, so_far) bytes ≡ Ok ((0, so_far), bytes)
-unfolding marks_from next_mark_at
-stays zero so_far bytes = refl
-stays (suc f) so_far bytes = stays f so_far bytes
+acts_read : Reads spell_act IsAct acts_at
+acts_read = both_reads (λ h. h) IsHash hash_at spell_action IsAction action_at hash_reads action_reads
 
-begun_at : (f : ℕ) (n m : ℕ) (so_far : List Mark) (bytes : List ℕ) → n ≡ m → marks_from f (n, so_far) bytes ≡ marks_from f (m, so_far) bytes
-begun_at f n m so_far bytes e = ap (λ (k : ℕ). marks_from f (k, so_far) bytes) e
+abbrev spell_parts : NodeParts → List ℕ
+spell_parts p = spell_act p.0 ++ spell_list p.1
 
-fuel_at : (f g : ℕ) (begun : Begun) (bytes : List ℕ) → f ≡ g → marks_from f begun bytes ≡ marks_from g begun bytes
-fuel_at f g begun bytes e = ap (λ (k : ℕ). marks_from k begun bytes) e
+abbrev FitParts : ℕ → NodeParts → Type 0
+FitParts n p = IsAct p.0 × IsList n p.1
 
-so_far_at : (f n : ℕ) (a b : List Mark) (bytes : List ℕ) → a ≡ b → marks_from f (n, a) bytes ≡ marks_from f (n, b) bytes
-so_far_at f n a b bytes e = ap (λ (k : List Mark). marks_from f (n, k) bytes) e
+abbrev parts_of : CoreNode → NodeParts
+parts_of core = ((core.seed, core.action), core.children)
 
-marks_again : (h : Holed Act) (more f : ℕ) (so_far : List Mark) (rest : List ℕ) → AreChildren h
-    → marks_from (length (marks_of h) + f) (width h + more, so_far) (spell_children h ++ rest) ≡ marks_from f (more, so_far ++ marks_of h) rest
-marks_again NoMore more f so_far rest fit =
-    fuel_at (0 + f) f (0 + more, so_far) rest (omega arith) ∙ (begun_at f (0 + more) more so_far rest (omega arith) ∙ so_far_at f more so_far (so_far ++ []) rest (sym (append-nil so_far)))
-marks_again (holed.Hole others) more f so_far rest fit =
-    let bytes = spell_children others ++ rest in
-    fuel_at (suc (length (marks_of others)) + f) (suc (length (marks_of others) + f)) (suc (width others) + more, so_far) (1 ∷ bytes) (omega arith)
-    ∙ (begun_at (suc (length (marks_of others) + f)) (suc (width others) + more) (suc (width others + more)) so_far (1 ∷ bytes) (omega arith)
-    ∙ (step_again (length (marks_of others) + f) (width others + more) so_far Hole (1 ∷ bytes) bytes (hole_again bytes)
-    ∙ (begun_at (length (marks_of others) + f) (width others + more + 0) (width others + more) (so_far ++ Hole ∷ []) bytes (omega arith)
-    ∙ (marks_again others more f (so_far ++ Hole ∷ []) rest fit
-    ∙ so_far_at f more ((so_far ++ Hole ∷ []) ++ marks_of others) (so_far ++ Hole ∷ marks_of others) rest (append_assoc so_far (Hole ∷ []) (marks_of others))))))
-marks_again (Inner act below others) more f so_far rest fit =
-    let mark = Begins (head_with act (width below)) in
-    let head_bytes = act.seed ++ spell_action act.action ++ to_be_bytes w16 (width below) in
-    let last = spell_children others ++ rest in
-    let bytes = spell_children below ++ last in
-    let lb = length (marks_of below) in
-    let lo = length (marks_of others) in
-    let spelled : spell_children (Inner act below others) ++ rest ≡ (0 ∷ head_bytes) ++ bytes =
-    append_assoc (0 ∷ (head_bytes ++ spell_children below)) (spell_children others) rest ∙ append_assoc (0 ∷ head_bytes) (spell_children below) last in
-    ap (marks_from (length (marks_of (Inner act below others)) + f) (suc (width others) + more, so_far)) spelled
-    ∙ (fuel_at (suc (length (marks_of below ++ marks_of others)) + f) (suc (lb + (lo + f))) (suc (width others) + more, so_far) ((0 ∷ head_bytes) ++ bytes) (omega (arith, length-append (marks_of below) (marks_of others)))
-    ∙ (begun_at (suc (lb + (lo + f))) (suc (width others) + more) (suc (width others + more)) so_far ((0 ∷ head_bytes) ++ bytes) (omega arith)
-    ∙ (step_again (lb + (lo + f)) (width others + more) so_far mark ((0 ∷ head_bytes) ++ bytes) bytes (mark_again act (width below) bytes fit.0 fit.1 fit.2)
-    ∙ (begun_at (lb + (lo + f)) (width others + more + width below) (width below + (width others + more)) (so_far ++ mark ∷ []) bytes (omega arith)
-    ∙ (marks_again below (width others + more) (lo + f) (so_far ++ mark ∷ []) last fit.3
-    ∙ (marks_again others more f ((so_far ++ mark ∷ []) ++ marks_of below) rest fit.4
-    ∙ so_far_at f more (((so_far ++ mark ∷ []) ++ marks_of below) ++ marks_of others) (so_far ++ mark ∷ (marks_of below ++ marks_of others)) rest
-    (append_assoc (so_far ++ mark ∷ []) (marks_of below) (marks_of others) ∙ append_assoc so_far (mark ∷ []) (marks_of below ++ marks_of others))))))))
+record FitNode (n : ℕ) (core : CoreNode) : Type 0 where
+  seed_is : IsHash core.seed
+  action_is : IsAction core.action
+  few : width core.children ≤ 63
+  nested : levels core.children ≤ n
+  each : AreChildren core.children
 
-children_again : (h : Holed Act) (rest : List ℕ) → AreChildren h → marks_at (width h) (spell_children h ++ rest) ≡ Ok (marks_of h, rest)
-unfolding marks_at
-children_again h rest fit =
-    let bytes = spell_children h ++ rest in
-    let f = length bytes - length (marks_of h) in
-    let long : length bytes ≡ length (marks_of h) + f = omega (arith, marks_short h, length-append (spell_children h) rest) in
-    let all : marks_from (length bytes) (width h, []) bytes ≡ Ok ((0, marks_of h), rest) =
-    fuel_at (length bytes) (length (marks_of h) + f) (width h, []) bytes long
-    ∙ (begun_at (length (marks_of h) + f) (width h) (width h + 0) [] bytes (omega arith)
-    ∙ (marks_again h 0 f [] rest fit ∙ stays f (marks_of h) rest)) in
-    ap (λ (r : Result (Begun × List ℕ) ℕ). r >>= λ x. completed x.0 x.1) all
+node_spelled : (core : CoreNode) → spell_parts (parts_of core) ≡ spell_node core
+node_spelled core = sym (append_assoc (spell_act (core.seed, core.action)) (to_be_bytes w16 (width core.children)) (spell_children core.children))
 
-pub core_again : (first : Act) (below : Holed Act) (rest : List ℕ) → IsCore first below → core_at (spell_core first below ++ rest) ≡ Ok ((first, below), rest)
-unfolding core_at
-core_again first below rest h =
-    let head = head_with first (width below) in
-    let spelled : spell_core first below ++ rest ≡ spell_head head ++ (spell_children below ++ rest) = append_assoc (spell_head head) (spell_children below) rest in
-    ap core_at spelled
-    ∙ (ap (λ (r : Result (Head × List ℕ) ℕ). r >>= λ x. (marks_at (x.0).children x.1 >>= λ marks. Ok (core_of x.0 marks.0, marks.1)))
-    (head_reads.again head (spell_children below ++ rest) (record { seed_is = h.seed_is; action_is = h.action_is; few = h.few }))
-    ∙ (ap (λ (r : Result (List Mark × List ℕ) ℕ). r >>= λ marks. Ok (core_of head marks.0, marks.1)) (children_again below rest h.children)
-    ∙ ap (λ (k : Holed Act). Ok ((first, k), rest)) (built_again below)))
+node_reads : (n : ℕ) → Reads spell_child (IsChild n) (child_at n) → Reads spell_node (FitNode n) (node_with (child_at n))
+node_reads n r =
+    let parts = both_reads spell_act IsAct acts_at spell_list (IsList n) (children_with (child_at n)) acts_read (list_reads n r) in
+    let seen = seen_reads node_of parts_of (λ p. refl) (λ core. refl) spell_parts (FitParts n) (both_at acts_at (children_with (child_at n))) parts in
+    ranged_reads spell_node (λ core. FitParts n (parts_of core)) (FitNode n) (node_with (child_at n))
+    (λ core h. record { seed_is = h.0.0; action_is = h.0.1; few = h.1.few; nested = h.1.nested; each = h.1.each })
+    (λ core h. ((h.seed_is, h.action_is), record { few = h.few; nested = h.nested; each = h.each }))
+    (respelled_reads (λ core. spell_parts (parts_of core)) spell_node (λ core. FitParts n (parts_of core)) (node_with (child_at n)) node_spelled seen)
 
-pub found_again : (first : Act) (below : Holed Act) (rest : List ℕ) → IsCore first below → found_at (spell_core first below ++ rest) ≡ Ok (found_of (first, below), rest)
-unfolding found_at
-found_again first below rest h = ap (λ (r : Result (CoreParts × List ℕ) ℕ). r >>= λ x. Ok (found_of x.0, x.1)) (core_again first below rest h)
+-- ---- a child
+
+abbrev made : {A B : Type 0} → (A → B) → Result (A × List ℕ) ℕ → Result (B × List ℕ) ℕ
+made make r = r >>= λ x. Ok (make x.0, x.1)
+
+abbrev IsChildRead : ℕ → List ℕ → CoreChild → List ℕ → Type 0
+IsChildRead n bytes child rest = Takes bytes (spell_child child) rest × IsChild n child
+
+hole_takes : (n : ℕ) (rest : List ℕ) (x : CoreChild × List ℕ) → IsBytes (1 ∷ rest) → (children.Hole, rest) ≡ x → IsChildRead n (1 ∷ rest) x.0 x.1
+hole_takes n rest x fits same =
+    subst (λ (y : CoreChild × List ℕ). IsChildRead n (1 ∷ rest) y.0 y.1) same (record { parts = refl; rest_fits = IsBytes-rest 1 rest fits }, tt)
+
+last_takes : (bytes : List ℕ) (x : CoreChild × List ℕ) → IsBytes bytes → child_at 0 bytes ≡ Ok x → IsChildRead 0 bytes x.0 x.1
+unfolding child_at hole_at tagged_hole_at
+last_takes [] x fits e = absurd cc
+last_takes (zero ∷ rest) x fits e = absurd cc
+last_takes (suc zero ∷ rest) x fits e = hole_takes 0 rest x fits (ok_is (children.Hole, rest) x e)
+last_takes (suc (suc n) ∷ rest) x fits e = absurd cc
+
+last_again : (child : CoreChild) (rest : List ℕ) → IsChild 0 child → child_at 0 (spell_child child ++ rest) ≡ Ok (child, rest)
+unfolding child_at hole_at tagged_hole_at
+last_again (children.Inner core) rest h = absurd (omega (arith, h.0))
+last_again children.Hole rest h = refl
+
+child_takes : (n : ℕ) → Reads spell_node (FitNode n) (node_with (child_at n)) → (bytes : List ℕ) (x : CoreChild × List ℕ) → IsBytes bytes
+    → child_at (suc n) bytes ≡ Ok x → IsChildRead (suc n) bytes x.0 x.1
+unfolding child_at tagged_child_at
+child_takes n r [] x fits e = absurd cc
+child_takes n r (zero ∷ rest) x fits e =
+    let u = under children.Inner spell_node (FitNode n) (node_with (child_at n)) r rest x (IsBytes-rest 0 rest fits) e in
+    let f = u.3 in
+    subst (λ (c : CoreChild). IsChildRead (suc n) (0 ∷ rest) c x.1) u.1
+    (tag_takes 0 rest _ x.1 u.2, (omega (arith, f.nested), f.seed_is, f.action_is, f.few, f.each))
+child_takes n r (suc zero ∷ rest) x fits e = hole_takes (suc n) rest x fits (ok_is (children.Hole, rest) x e)
+child_takes n r (suc (suc k) ∷ rest) x fits e = absurd cc
+
+child_again : (n : ℕ) → Reads spell_node (FitNode n) (node_with (child_at n)) → (child : CoreChild) (rest : List ℕ) → IsChild (suc n) child
+    → child_at (suc n) (spell_child child ++ rest) ≡ Ok (child, rest)
+unfolding child_at tagged_child_at
+child_again n r (children.Inner core) rest h =
+    ap (made children.Inner) (r.again core rest (record { seed_is = h.1; action_is = h.2; few = h.3; nested = omega (arith, h.0); each = h.4 }))
+child_again n r children.Hole rest h = refl
+
+child_reads : (n : ℕ) → Reads spell_child (IsChild n) (child_at n)
+child_reads zero = record { takes = last_takes; again = last_again }
+child_reads (suc n) =
+    let r = node_reads n (child_reads n) in
+    record { takes = child_takes n r; again = child_again n r }
+
+-- ---- cores
+
+pub core_reads : Reads spell_node IsNode core_at
+unfolding core_at node_at
+core_reads =
+    ranged_reads spell_node (FitNode 15) IsNode core_at
+    (λ core h. record { seed_is = h.seed_is; action_is = h.action_is; few = h.few; nested = h.nested; children = h.each })
+    (λ core h. record { seed_is = h.seed_is; action_is = h.action_is; few = h.few; nested = h.nested; each = h.children })
+    (node_reads 15 (child_reads 15))
+
+pub core_again : (first : Act) (below : Holed Act) (rest : List ℕ) → IsCore first below → core_at (spell_core first below ++ rest) ≡ Ok (core_with first below, rest)
+core_again first below rest h = core_reads.again (core_with first below) rest h

@@ -8,13 +8,16 @@ pub mod KeptGrow
 pub mod KeptLaws
 pub mod CoreGrow
 pub mod ToldLaws
-pub mod MarkSteps
-pub mod Building
 pub mod OpenedLaws
 pub mod Blinded
 pub mod CoreLaws
-pub mod CoreReads
 pub mod OpensLaws
 pub mod LimitLaws
 pub mod SetLimits
 pub mod Fitting
+pub mod Sights
+pub mod Recipients
+pub mod Overlaid
+mod FilledLaws
+mod Ranged
+mod SpelledViews

@@ -20,7 +20,7 @@ use Rattle.view_split.specs.Holed.{width}
 use Rattle.view_split.specs.SplitView.{SplitView}
 use Rattle.view_split.specs.Split.{core_of, view_at, split_below, split}
 use Rattle.view_split.specs.declared.views.Views.{Views}
-use Rattle.blind_tree.specs.Cores.{spell_children, AreSpellableChildren}
+use Rattle.blind_tree.specs.Cores.{spell_children, AreSpellableChildren, levels}
 use Rattle.blind_tree.specs.LeafBytes.{core_bytes, AreSpellableViews, AreSpellable}
 use Rattle.blind_tree.specs.Seen.{depth, AreSmall, IsSmall}
 use Rattle.blind_tree.specs.Limits.{acts_length, AreSpellableActs, KeepLimits, HaveSets}
@@ -134,16 +134,25 @@ module _ (roles : Action → Roles) where
         | inr old ↦ rw old (each.0, omega (arith, core_width e below, count_size below, few), children_spellable e below (omega (arith, few)) each.1, o)
       ]
 
+  core_levels : (e : List (List ℕ)) (f : Forest Act) → levels (core_of roles e f) ≤ depth f
+  core_levels e NoRoots = omega arith
+  core_levels e (Root act below others) =
+      let o = core_levels e others in
+      elim (cases_Bool (starts roles e act)) [
+        | inl new ↦ rw new (omega (arith, o))
+        | inr old ↦ rw old (let b = core_levels e below in omega (arith, b, o))
+      ]
+
   -- ---- views
 
   record AreWithin (views : Forest SplitView) : Type 0 where
     small : AreSmall views
     spellable : AreSpellableViews views
 
-  within_root : (act : Act) (below : Forest Act) (subviews others : Forest SplitView) → suc (size below) ≤ 64 → length act.seed + length (spell_action act.action) + acts_length below ≤ 32768
+  within_root : (act : Act) (below : Forest Act) (subviews others : Forest SplitView) → suc (size below) ≤ 64 → suc (depth below) ≤ 16 → length act.seed + length (spell_action act.action) + acts_length below ≤ 32768
       → IsSpellableAction act.action → AreSpellableActs below → trees_count subviews ≤ 64 → IsPartySet (view_at roles act below).informees → IsPartySet (view_at roles act below).confirmers
       → AreWithin subviews → AreWithin others → AreWithin (Root (view_at roles act below) subviews others)
-  within_root act below subviews others few short action each count informees confirmers s o =
+  within_root act below subviews others few deep short action each count informees confirmers s o =
       let view = view_at roles act below in
       let a = set_length view.informees informees in
       let b = set_length view.confirmers confirmers in
@@ -158,6 +167,7 @@ module _ (roles : Action → Roles) where
               few = omega (arith, core_width (its_informees roles act) below, count_size below, few);
               children = children_spellable (its_informees roles act) below (omega (arith, few)) each;
             };
+            nested = omega (arith, core_levels (its_informees roles act) below, deep);
           },
           omega (arith, count),
           s.spellable,
@@ -177,36 +187,36 @@ module _ (roles : Action → Roles) where
   sets_parted NoRoots g h = (tt, h)
   sets_parted (Root view subviews others) g h = let r = sets_parted others g h.2 in ((h.0, h.1, r.0), r.1)
 
-  within_below : (e : List (List ℕ)) (f : Forest Act) → size f ≤ 64 → acts_length f ≤ 32768 → AreSpellableActs f → HaveSets (split_below roles e f) → AreWithin (split_below roles e f)
-  within_below e NoRoots few short each sets = record { small = tt; spellable = tt }
-  within_below e (Root act below others) few short each sets =
+  within_below : (e : List (List ℕ)) (f : Forest Act) → size f ≤ 64 → depth f ≤ 16 → acts_length f ≤ 32768 → AreSpellableActs f → HaveSets (split_below roles e f) → AreWithin (split_below roles e f)
+  within_below e NoRoots few deep short each sets = record { small = tt; spellable = tt }
+  within_below e (Root act below others) few deep short each sets =
       let sub = split_below roles (its_informees roles act) below in
       let loose = split_below roles e below in
       let rest = split_below roles e others in
       elim (cases_Bool (starts roles e act)) [
         | inl new ↦
             let here : HaveSets (Root (view_at roles act below) sub rest) = rw new at sets in
-            rw new (within_root act below sub rest (omega (arith, few)) (omega (arith, short)) each.0 each.1 (omega (arith, count_below (its_informees roles act) below, few)) here.0.0 here.0.1
-            (within_below (its_informees roles act) below (omega (arith, few)) (omega (arith, short)) each.1 here.1)
-            (within_below e others (omega (arith, few)) (omega (arith, short)) each.2 here.2))
+            rw new (within_root act below sub rest (omega (arith, few)) (omega (arith, deep)) (omega (arith, short)) each.0 each.1 (omega (arith, count_below (its_informees roles act) below, few)) here.0.0 here.0.1
+            (within_below (its_informees roles act) below (omega (arith, few)) (omega (arith, deep)) (omega (arith, short)) each.1 here.1)
+            (within_below e others (omega (arith, few)) (omega (arith, deep)) (omega (arith, short)) each.2 here.2))
         | inr old ↦
             let here : HaveSets (join loose rest) = rw old at sets in
             let both = sets_parted loose rest here in
-            let b = within_below e below (omega (arith, few)) (omega (arith, short)) each.1 both.0 in
-            let o = within_below e others (omega (arith, few)) (omega (arith, short)) each.2 both.1 in
+            let b = within_below e below (omega (arith, few)) (omega (arith, deep)) (omega (arith, short)) each.1 both.0 in
+            let o = within_below e others (omega (arith, few)) (omega (arith, deep)) (omega (arith, short)) each.2 both.1 in
             rw old (record { small = small_join loose rest b.small o.small; spellable = spellable_join loose rest b.spellable o.spellable })
       ]
 
-  within_split : (f : Forest Act) → size f ≤ 64 → acts_length f ≤ 32768 → AreSpellableActs f → HaveSets (split roles f) → AreWithin (split roles f)
-  within_split NoRoots few short each sets = record { small = tt; spellable = tt }
-  within_split (Root act below others) few short each sets =
-      within_root act below (split_below roles (its_informees roles act) below) (split roles others) (omega (arith, few)) (omega (arith, short)) each.0 each.1 (omega (arith, count_below (its_informees roles act) below, few)) sets.0.0 sets.0.1
-      (within_below (its_informees roles act) below (omega (arith, few)) (omega (arith, short)) each.1 sets.1)
-      (within_split others (omega (arith, few)) (omega (arith, short)) each.2 sets.2)
+  within_split : (f : Forest Act) → size f ≤ 64 → depth f ≤ 16 → acts_length f ≤ 32768 → AreSpellableActs f → HaveSets (split roles f) → AreWithin (split roles f)
+  within_split NoRoots few deep short each sets = record { small = tt; spellable = tt }
+  within_split (Root act below others) few deep short each sets =
+      within_root act below (split_below roles (its_informees roles act) below) (split roles others) (omega (arith, few)) (omega (arith, deep)) (omega (arith, short)) each.0 each.1 (omega (arith, count_below (its_informees roles act) below, few)) sets.0.0 sets.0.1
+      (within_below (its_informees roles act) below (omega (arith, few)) (omega (arith, deep)) (omega (arith, short)) each.1 sets.1)
+      (within_split others (omega (arith, few)) (omega (arith, deep)) (omega (arith, short)) each.2 sets.2)
 
   pub split_is_spellable : (views : Views) (roots : Forest Act) → views.roots ≡ split roles roots → IsPartySet views.act_as → KeepLimits roots → HaveSets views.roots → AreSpellable views
   split_is_spellable views roots same requesters limits sets =
-      let w = within_split roots limits.few limits.short limits.each (subst HaveSets same sets) in
+      let w = within_split roots limits.few limits.nested limits.short limits.each (subst HaveSets same sets) in
       record {
         requesters = requesters.few;
         few = rw same (omega (arith, count_split roots, limits.few));
@@ -215,7 +225,7 @@ module _ (roles : Action → Roles) where
 
   pub split_is_small : (views : Views) (sender : List ℕ) (roots : Forest Act) → views.roots ≡ split roles roots → IsName sender → IsPartySet views.act_as → KeepLimits roots → HaveSets views.roots → IsSmall sender views
   split_is_small views sender roots same name requesters limits sets =
-      let w = within_split roots limits.few limits.short limits.each (subst HaveSets same sets) in
+      let w = within_split roots limits.few limits.nested limits.short limits.each (subst HaveSets same sets) in
       let eight : length (to_be_bytes w64 views.ledger_time) ≡ 8 = refl in
       record {
         common = omega (arith, eight, short_name sender name, length-append (spell_name sender) (to_be_bytes w64 views.ledger_time));

@@ -1,20 +1,25 @@
 -- What is opened of vertices one after another is what is opened of all.
 use Rattle.std.proofs.Common.{◌≡◌, ℕ, suc, ◌+◌, ◌<◌, ◌≤◌, Bool, true, false, List, [], ◌∷◌, ◌++◌, length, get_or, drop, Option, Result, Ok, Err, refl, sym, ap, ◌∙◌, append_assoc, append-nil, arith, inl, inr}
-use Rattle.std.specs.Prelude.{if◌then◌else◌}
+use Rattle.std.specs.Prelude.{◌^◌, nat_eq, if◌then◌else◌}
+use Rattle.std.proofs.lemmas.Bool.Decides.{Decides-eqb}
 use Rattle.std.proofs.lemmas.Bool.{cases_Bool}
 use Rattle.std.proofs.Math.ListN.{drop_of_length-le}
 use Rattle.ledger_terms.specs.Forest.{Forest, NoRoots, join}
 use Rattle.ledger_terms.proofs.Grow.{join-assoc, join-end}
+use Rattle.wire_form.specs.Lengths.{capped}
 use Rattle.wire_form.specs.Reading.{set_at}
 use Rattle.wire_form.specs.declared.wire_fault.WireFault.{WireFault}
+use Rattle.view_split.specs.Holed.{holes}
 use Rattle.view_split.specs.SplitView.{SplitView}
 use Rattle.view_split.specs.ViewLists.{view_tree}
+use Rattle.view_split.specs.declared.core_node.CoreNode.{CoreNode}
 use Rattle.view_split.specs.declared.view.View.{View}
 use Rattle.view_split.specs.declared.placed_view.PlacedView.{PlacedView}
 use Rattle.view_split.specs.declared.opened_tree.OpenedTree.{OpenedTree}
 use Rattle.blind_tree.specs.Vertices.{Vertices, NoVertices, BlindVertex, InnerVertex, count}
 use Rattle.blind_tree.specs.VertexLists.{vertices_of, with_vertex, one_vertex}
-use Rattle.blind_tree.specs.Opening.{with_read, read_leaf, head_at, read_if_plain, is_open, ViewParts, view_of, parts_read, views_read, view_read, placed, views_opened, tree_opened}
+use Rattle.blind_tree.specs.CoreReading.{core_at}
+use Rattle.blind_tree.specs.Opening.{with_read, read_leaf, head_at, roles_at, read_if_plain, is_open, ViewParts, view_of, parts_read, views_read, view_read, placed, views_opened, tree_opened}
 use Rattle.blind_tree.specs.Opened.{vertex_read, views_after, opened_after, inner_opened}
 use Rattle.blind_tree.specs.declared.leaf.Leaf.{Leaf}
 use Rattle.blind_tree.specs.declared.tree.Tree.{Tree}
@@ -71,6 +76,27 @@ read_fault vs i v so_far all e h at one before =
 
 pub read_end : (vs : List Vertex) (i : ℕ) (so_far : Forest SplitView) (all : Result (Forest SplitView) WireFault) → length vs ≤ i → views_after (vertices_of (drop i vs)) so_far ≡ all → all ≡ Ok so_far
 read_end vs i so_far all past before = sym (rw (drop_of_length-le vs past) at before)
+
+-- ---- one view
+
+module _ (informees contents : Leaf) (subviews : Vertices) (sets : List (List ℕ) × List (List ℕ)) (core : CoreNode) (counted len : ℕ) where
+  -- both leaves are read, and the core has as many holes as there are vertices below
+  abbrev AreAlike : Type 0
+  AreAlike =
+      (read_leaf roles_at informees ≡ Ok sets) × (read_leaf core_at contents ≡ Ok core)
+      × (counted ≡ capped (holes core.children)) × (len ≡ count subviews) × (len < 2 ^ 63) × (counted ≡ len)
+
+  parts_are : AreAlike → parts_read informees contents (count subviews) ≡ Ok (sets, core)
+  parts_are h =
+      let holes_are : holes core.children ≡ count subviews = omega (arith, h.2, h.3, h.4, h.5) in
+      let same : nat_eq (holes core.children) (count subviews) ≡ true = (Decides-eqb (holes core.children) (count subviews)).1 holes_are in
+      rw (h.0, h.1, same) refl
+
+  pub view_is : (below : Forest SplitView) → AreAlike → views_read subviews ≡ Ok below → view_read informees contents subviews ≡ Ok (view_of (sets, core) below)
+  view_is below h read = rw (parts_are h, read) refl
+
+  pub view_fault : (e : WireFault) → AreAlike → views_read subviews ≡ Err e → view_read informees contents subviews ≡ Err e
+  view_fault e h read = rw (parts_are h, read) refl
 
 -- ---- topmost views
 

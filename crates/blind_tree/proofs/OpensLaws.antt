@@ -21,6 +21,7 @@ use Rattle.view_split.specs.Filled.{AreFilled}
 use Rattle.view_split.specs.Numbered.{map_forest}
 use Rattle.view_split.specs.Seen.{is_sight, seen_views}
 use Rattle.view_split.specs.Placed.{view_with, tops}
+use Rattle.view_split.specs.declared.core_node.CoreNode.{CoreNode}
 use Rattle.view_split.specs.declared.views.Views.{Views}
 use Rattle.view_split.specs.declared.placed_view.PlacedView.{PlacedView}
 use Rattle.blind_tree.specs.Vertices.{count}
@@ -28,12 +29,12 @@ use Rattle.blind_tree.specs.Digests.{Hashing}
 use Rattle.blind_tree.specs.LeafBytes.{common_bytes, roles_bytes, core_bytes}
 use Rattle.blind_tree.specs.Leaves.{spell_common, IsCommon, spell_roles, AreRoles}
 use Rattle.blind_tree.specs.Reading.{ended, with_place, read_all}
-use Rattle.blind_tree.specs.CoreReading.{found_of, found_at}
-use Rattle.blind_tree.specs.Blind.{leaf_of, vertices_shown, shown_to, named, has_sight, sees_root, blind_to, blind_for_mediator}
-use Rattle.blind_tree.specs.Opening.{head_at, roles_at, view_roles, roles_listed, told, ViewParts, parts_read, views_read, views_opened, placed, read_if_plain, tree_opened}
+use Rattle.blind_tree.specs.CoreReading.{core_at}
+use Rattle.blind_tree.specs.Blind.{leaf_of, vertices_shown, shown_to, informees_alone, has_sight, sees_root, blind_to, blind_for_mediator}
+use Rattle.blind_tree.specs.Opening.{head_at, roles_at, view_roles, roles_listed, informee_tree_of, ViewParts, parts_read, views_read, views_opened, placed, read_if_plain, tree_opened}
 use Rattle.blind_tree.specs.Seen.{roles_of_all, IsView, AreViews, AreInRange}
 use Rattle.blind_tree.specs.declared.view_roles.ViewRoles.{ViewRoles}
-use Rattle.blind_tree.proofs.CoreLaws.{found_again}
+use Rattle.blind_tree.proofs.CoreLaws as cores
 use Rattle.blind_tree.proofs.Blinded.{none_seen}
 
 abbrev Placed : Type 0
@@ -59,8 +60,11 @@ head_reads = both_reads spell_name IsName name_at (λ n. to_be_bytes w64 n) (λ 
 roles_again : (view : SplitView) → IsView view → read_all roles_at (roles_bytes view) ≡ Ok (view.informees, view.confirmers)
 roles_again view h = read_again roles_at (roles_bytes view) (view.informees, view.confirmers) (roles_reads.again (view.informees, view.confirmers) [] (h.informees_are, h.confirmers_are))
 
-core_again : (view : SplitView) → IsView view → read_all found_at (core_bytes view) ≡ Ok (found_of (view.first, view.below))
-core_again view h = read_again found_at (core_bytes view) (found_of (view.first, view.below)) (found_again view.first view.below [] h.core)
+abbrev core_in : SplitView → CoreNode
+core_in view = record { seed = (view.first).seed; action = (view.first).action; children = view.below }
+
+core_again : (view : SplitView) → IsView view → read_all core_at (core_bytes view) ≡ Ok (core_in view)
+core_again view h = read_again core_at (core_bytes view) (core_in view) (cores.core_again view.first view.below [] h.core)
 
 head_again : (sender : List ℕ) (time : ℕ) → IsName sender → time < 2 ^ 64 → read_all head_at (common_bytes sender time) ≡ Ok (sender, time)
 head_again sender time s t = read_again head_at (common_bytes sender time) (sender, time) (head_reads.again (sender, time) [] (s, t))
@@ -70,7 +74,7 @@ set_again set h = read_again set_at (spell_parties set) set (set_reads.again set
 
 -- ---- paths
 
-paths_bare : (above : List ℕ) (k : ℕ) (f : Forest SplitView) → bare (paths_from above k f) ≡ f
+pub paths_bare : (above : List ℕ) (k : ℕ) (f : Forest SplitView) → bare (paths_from above k f) ≡ f
 paths_bare above k NoRoots = refl
 paths_bare above k (Root view subviews others) = λ i. Root view (paths_bare (above ++ k ∷ []) 0 subviews i) (paths_bare above (suc k) others i)
 
@@ -112,14 +116,14 @@ module _ (sha : Hashing) where
       ]
 
   abbrev its_parts : SplitView → ViewParts
-  its_parts view = ((view.informees, view.confirmers), found_of (view.first, view.below))
+  its_parts view = ((view.informees, view.confirmers), core_in view)
 
   parts_again : (view : SplitView) (n : ℕ) → IsView view → holes view.below ≡ n
       → parts_read (leaf_of sha true 3 (view.first).seed (roles_bytes view)) (leaf_of sha true 4 (view.first).seed (core_bytes view)) n ≡ Ok (its_parts view)
   parts_again view n h filled = rw (roles_again view h, core_again view h, same_number (holes view.below) n filled) refl
 
   -- below a view that is seen all is read
-  all_again : (hosts : List ℕ → Bool) (f : Forest SplitView) → AreViews f → AreFilled f → views_read (vertices_shown sha (shown_to hosts true f)) ≡ Ok f
+  pub all_again : (hosts : List ℕ → Bool) (f : Forest SplitView) → AreViews f → AreFilled f → views_read (vertices_shown sha (shown_to hosts true f)) ≡ Ok f
   all_again hosts NoRoots h filled = refl
   all_again hosts (Root view subviews others) h filled =
       rw (parts_again view (count (vertices_shown sha (shown_to hosts true subviews))) h.0 (filled.0 ∙ sym (count_shown hosts true subviews)), all_again hosts subviews h.1 filled.1, all_again hosts others h.2 filled.2) refl
@@ -153,11 +157,11 @@ module _ (sha : Hashing) where
 
   -- ---- what the mediator is told
 
-  told_again : (above : List ℕ) (k : ℕ) (f : Forest SplitView) → AreViews f → roles_listed above k (vertices_shown sha (map_forest named f)) ≡ Ok (roles_of_all above k f)
+  told_again : (above : List ℕ) (k : ℕ) (f : Forest SplitView) → AreViews f → roles_listed above k (vertices_shown sha (map_forest informees_alone f)) ≡ Ok (roles_of_all above k f)
   told_again above k NoRoots h = refl
   told_again above k (Root view subviews others) h =
       rw (roles_again view h.0, told_again (above ++ k ∷ []) 0 subviews h.1, told_again above (suc k) others h.2)
       (ap (λ (rs : List ViewRoles). Ok (view_roles (above ++ k ∷ []) (view.informees, view.confirmers) ∷ rs)) (sym (map_append one_role (preorder (paths_from (above ++ k ∷ []) 0 subviews)) (preorder (paths_from above (suc k) others)))))
 
-  pub tree_tells : (views : Views) (sender : List ℕ) → AreInRange sender views → told (blind_for_mediator sha views sender) ≡ Ok (record { sender = sender; views = roles_of_all [] 0 views.roots })
+  pub tree_tells : (views : Views) (sender : List ℕ) → AreInRange sender views → informee_tree_of (blind_for_mediator sha views sender) ≡ Ok (record { sender = sender; views = roles_of_all [] 0 views.roots })
   tree_tells views sender h = rw (head_again sender views.ledger_time h.sender_is h.time_fits, told_again [] 0 views.roots h.each) refl

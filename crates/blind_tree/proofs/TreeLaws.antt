@@ -12,7 +12,7 @@ use Rattle.blind_tree.specs.Vertices.{Vertices, NoVertices, BlindVertex, InnerVe
 use Rattle.blind_tree.specs.VertexLists.{vertices_of}
 use Rattle.blind_tree.specs.Spelling.{spell_bytes, spell_leaf, spell_each, spell_vertices, spell_vertex, spell_tree}
 use Rattle.blind_tree.specs.InRange.{IsLeaf, nesting, AreVertices, IsTree, IsSpellableLeaf, AreSpellable, IsSpellableTree}
-use Rattle.blind_tree.specs.Reading.{long_bytes_at, PlainParts, plain_of, tagged_leaf_at, leaf_at, InnerParts, inner_of, tagged_vertex_at, list_at, vertex_at, vertices_at, TreeParts, tree_of, tree_at}
+use Rattle.blind_tree.specs.Reading.{long_bytes_at, PlainParts, plain_of, tagged_leaf_at, leaf_at, InnerParts, inner_of, tagged_vertex_at, most_beside, list_at, vertex_at, vertices_at, TreeParts, tree_of, tree_at}
 use Rattle.blind_tree.specs.declared.leaf.Leaf.{Leaf}
 use Rattle.blind_tree.specs.declared.leaf.Leaf.TheVariants as leaves
 use Rattle.blind_tree.specs.declared.vertex.Vertex.{Vertex}
@@ -130,14 +130,28 @@ range_to levels (BlindVertex hash others) n h = ((omega (arith, n), h.0), range_
 range_to levels (InnerVertex informees contents subviews others) n h =
     ((omega (arith, n), h.0, h.1, h.2, h.3), range_to levels others (omega (arith, n)) h.4)
 
+beside_64 : (levels : ℕ) → most_beside levels ≤ 64
+beside_64 zero = omega arith
+beside_64 (suc levels) = omega arith
+
+-- where no level is left, none stands
+beside_most : (levels : ℕ) (v : Vertices) → count v ≤ 64 → nesting v ≤ levels → count v ≤ most_beside levels
+beside_most zero NoVertices few nested = omega arith
+beside_most zero (BlindVertex hash others) few nested = absurd (omega (arith, nested))
+beside_most zero (InnerVertex informees contents subviews others) few nested = absurd (omega (arith, nested))
+beside_most (suc levels) v few nested = few
+
 abbrev FitList : ℕ → List Vertex → Type 0
-FitList levels vs = (length vs ≤ 64) × AllByRecursion (IsVertex levels) vs × Admits any_item [] vs
+FitList levels vs = (length vs ≤ most_beside levels) × AllByRecursion (IsVertex levels) vs × Admits any_item [] vs
 
 list_from : (levels : ℕ) (v : Vertices) → FitList levels (vertex_list v) → IsList levels v
-list_from levels v h = let r = range_from levels v h.1 in record { few = omega (arith, list_count v, h.0); nested = r.0; each = r.1 }
+list_from levels v h =
+    let r = range_from levels v h.1 in
+    record { few = omega (arith, list_count v, h.0, beside_64 levels); nested = r.0; each = r.1 }
 
 list_to : (levels : ℕ) (v : Vertices) → IsList levels v → FitList levels (vertex_list v)
-list_to levels v h = (omega (arith, list_count v, h.few), range_to levels v h.nested h.each, any_admitted [] (vertex_list v))
+list_to levels v h =
+    (omega (arith, list_count v, beside_most levels v h.few h.nested), range_to levels v h.nested h.each, any_admitted [] (vertex_list v))
 
 abbrev spell_counted : List Vertex → List ℕ
 spell_counted vs = to_be_bytes w16 (length vs) ++ flat_map spell_vertex vs
@@ -145,12 +159,21 @@ spell_counted vs = to_be_bytes w16 (length vs) ++ flat_map spell_vertex vs
 counted_spelled : (v : Vertices) → spell_counted (vertex_list v) ≡ spell_vertices v
 counted_spelled v = λ i. to_be_bytes w16 (list_count v i) ++ list_spelled v i
 
-list_reads : (levels : ℕ) → Reads spell_vertex (IsVertex levels) (vertex_at levels) → Reads spell_vertices (IsList levels) (list_at (vertex_at levels))
+-- the vertices that are read on so many levels
+abbrev below_at : ℕ → Reading Vertices
+below_at levels = list_at (most_beside levels) (vertex_at levels)
+
+limit_read : (levels : ℕ) → Reads (λ k. to_be_bytes w16 k) (λ k. k ≤ most_beside levels) (count_at (most_beside levels))
+limit_read zero = count_reads 0 (lit< tt)
+limit_read (suc levels) = count_reads 64 (lit< tt)
+
+list_reads : (levels : ℕ) → Reads spell_vertex (IsVertex levels) (vertex_at levels) → Reads spell_vertices (IsList levels) (below_at levels)
 list_reads levels r =
-    let counted = counted_reads (λ k. to_be_bytes w16 k) (λ k. k ≤ 64) (count_at 64) spell_vertex (IsVertex levels) (vertex_at levels) any_item (count_reads 64 (lit< tt)) r in
-    let seen = seen_reads vertices_of vertex_list listed unlisted spell_counted (FitList levels) (counted_at (count_at 64) any_item (vertex_at levels)) counted in
-    ranged_reads spell_vertices (λ v. FitList levels (vertex_list v)) (IsList levels) (list_at (vertex_at levels)) (list_from levels) (list_to levels)
-    (respelled_reads (λ v. spell_counted (vertex_list v)) spell_vertices (λ v. FitList levels (vertex_list v)) (list_at (vertex_at levels)) counted_spelled seen)
+    let count = count_at (most_beside levels) in
+    let counted = counted_reads (λ k. to_be_bytes w16 k) (λ k. k ≤ most_beside levels) count spell_vertex (IsVertex levels) (vertex_at levels) any_item (limit_read levels) r in
+    let seen = seen_reads vertices_of vertex_list listed unlisted spell_counted (FitList levels) (counted_at count any_item (vertex_at levels)) counted in
+    ranged_reads spell_vertices (λ v. FitList levels (vertex_list v)) (IsList levels) (below_at levels) (list_from levels) (list_to levels)
+    (respelled_reads (λ v. spell_counted (vertex_list v)) spell_vertices (λ v. FitList levels (vertex_list v)) (below_at levels) counted_spelled seen)
 
 abbrev leaves_at : Reading (Leaf × Leaf)
 leaves_at = both_at leaf_at leaf_at
@@ -170,13 +193,13 @@ spell_inner p = spell_leaves p.0 ++ spell_vertices p.1
 abbrev FitInner : ℕ → InnerParts → Type 0
 FitInner levels p = AreLeaves p.0 × IsList levels p.1
 
-inner_reads : (levels : ℕ) → Reads spell_vertices (IsList levels) (list_at (vertex_at levels)) → Reads spell_inner (FitInner levels) (both_at leaves_at (list_at (vertex_at levels)))
-inner_reads levels r = both_reads spell_leaves AreLeaves leaves_at spell_vertices (IsList levels) (list_at (vertex_at levels)) leaves_reads r
+inner_reads : (levels : ℕ) → Reads spell_vertices (IsList levels) (below_at levels) → Reads spell_inner (FitInner levels) (both_at leaves_at (below_at levels))
+inner_reads levels r = both_reads spell_leaves AreLeaves leaves_at spell_vertices (IsList levels) (below_at levels) leaves_reads r
 
 abbrev IsVertexRead : ℕ → List ℕ → Vertex → List ℕ → Type 0
 IsVertexRead levels bytes v rest = Takes bytes (spell_vertex v) rest × IsVertex levels v
 
-vertex_takes : (levels : ℕ) → Reads spell_inner (FitInner levels) (both_at leaves_at (list_at (vertex_at levels))) → (bytes : List ℕ) (x : Vertex × List ℕ) → IsBytes bytes
+vertex_takes : (levels : ℕ) → Reads spell_inner (FitInner levels) (both_at leaves_at (below_at levels)) → (bytes : List ℕ) (x : Vertex × List ℕ) → IsBytes bytes
     → vertex_at (suc levels) bytes ≡ Ok x → IsVertexRead (suc levels) bytes x.0 x.1
 unfolding vertex_at tagged_vertex_at
 vertex_takes levels r [] x fits e = absurd cc
@@ -184,12 +207,12 @@ vertex_takes levels r (zero ∷ rest) x fits e =
     let u = under Blind (λ h. h) IsHash hash_at hash_reads rest x (IsBytes-rest 0 rest fits) e in
     subst (λ (v : Vertex). IsVertexRead (suc levels) (0 ∷ rest) v x.1) u.1 (tag_takes 0 rest _ x.1 u.2, (omega arith, u.3))
 vertex_takes levels r (suc zero ∷ rest) x fits e =
-    let u = under inner_of spell_inner (FitInner levels) (both_at leaves_at (list_at (vertex_at levels))) r rest x (IsBytes-rest 1 rest fits) e in
+    let u = under inner_of spell_inner (FitInner levels) (both_at leaves_at (below_at levels)) r rest x (IsBytes-rest 1 rest fits) e in
     let f = u.3 in
     subst (λ (v : Vertex). IsVertexRead (suc levels) (1 ∷ rest) v x.1) u.1 (tag_takes 1 rest _ x.1 u.2, (omega (arith, f.1.nested), f.0.0, f.0.1, f.1.few, f.1.each))
 vertex_takes levels r (suc (suc n) ∷ rest) x fits e = absurd cc
 
-vertex_again : (levels : ℕ) → Reads spell_inner (FitInner levels) (both_at leaves_at (list_at (vertex_at levels))) → (v : Vertex) (rest : List ℕ) → IsVertex (suc levels) v
+vertex_again : (levels : ℕ) → Reads spell_inner (FitInner levels) (both_at leaves_at (below_at levels)) → (v : Vertex) (rest : List ℕ) → IsVertex (suc levels) v
     → vertex_at (suc levels) (spell_vertex v ++ rest) ≡ Ok (v, rest)
 unfolding vertex_at tagged_vertex_at
 vertex_again levels r (Blind hash) rest h = ap (made Blind) (hash_reads.again hash rest h.1)

@@ -7,7 +7,9 @@ use Rattle.ledger_terms.specs.Forest.{Forest, NoRoots, Root, preorder}
 use Rattle.ledger_terms.specs.declared.host.Host.{Host}
 use Rattle.hash_id.specs.Strings.{leaf_salt_string, leaf_hash_string, view_hash_string, tree_hash_string}
 use Rattle.wire_form.specs.Spelling.{spell_parties}
+use Rattle.ledger_model.specs.Opening.{Transaction}
 use Rattle.view_split.specs.SplitView.{SplitView}
+use Rattle.view_split.specs.Split.{assembled}
 use Rattle.view_split.specs.Numbered.{map_forest}
 use Rattle.view_split.specs.Seen.{is_sight}
 use Rattle.view_split.specs.declared.views.Views.{Views}
@@ -27,8 +29,12 @@ salt_of sha kind seed = sha (leaf_salt_string kind seed)
 abbrev pub digest_of : Hashing → (kind : ℕ) (seed bytes : List ℕ) → List ℕ
 digest_of sha kind seed bytes = sha (leaf_hash_string kind (salt_of sha kind seed) bytes)
 
+-- a leaf of a kind with this salt, shown or not
+abbrev pub leaf_with : Hashing → (shows : Bool) (kind : ℕ) (salt bytes : List ℕ) → Leaf
+leaf_with sha shows kind salt bytes = if shows then Plain salt bytes else Blind (sha (leaf_hash_string kind salt bytes))
+
 abbrev pub leaf_of : Hashing → (shows : Bool) (kind : ℕ) (seed bytes : List ℕ) → Leaf
-leaf_of sha shows kind seed bytes = if shows then Plain (salt_of sha kind seed) bytes else Blind (digest_of sha kind seed bytes)
+leaf_of sha shows kind seed bytes = leaf_with sha shows kind (salt_of sha kind seed) bytes
 
 -- the hashes of a view's leaves, and of views side by side
 abbrev pub roles_digest : Hashing → SplitView → List ℕ
@@ -43,35 +49,35 @@ view_digests sha (Root view subviews others) =
     sha (view_hash_string (roles_digest sha view) (core_digest sha view) (view_digests sha subviews)) ∷ view_digests sha others
 
 -- What a tree shows of a view: its hash alone; what stands below it; its informees and confirmers too; or its contents too.
-pub data Shown : Type 0 where
-  Hidden : Shown
-  Passed : Shown
-  Named : Shown
-  Whole : Shown
+pub data Visibility : Type 0 where
+  Hidden : Visibility
+  Passed : Visibility
+  Named : Visibility
+  Whole : Visibility
 
-abbrev pub is_hidden : Shown → Bool
+abbrev pub is_hidden : Visibility → Bool
 is_hidden Hidden = true
 is_hidden Passed = false
 is_hidden Named = false
 is_hidden Whole = false
 
-abbrev pub shows_roles : Shown → Bool
+abbrev pub shows_roles : Visibility → Bool
 shows_roles Hidden = false
 shows_roles Passed = false
 shows_roles Named = true
 shows_roles Whole = true
 
-abbrev pub shows_core : Shown → Bool
+abbrev pub shows_core : Visibility → Bool
 shows_core Hidden = false
 shows_core Passed = false
 shows_core Named = false
 shows_core Whole = true
 
-abbrev pub views_shown : Forest (Shown × SplitView) → Forest SplitView
-views_shown = map_forest (λ (m : Shown × SplitView). m.1)
+abbrev pub views_shown : Forest (Visibility × SplitView) → Forest SplitView
+views_shown = map_forest (λ (m : Visibility × SplitView). m.1)
 
 -- the vertices of views, each with what is shown of it
-abbrev pub vertices_shown : Hashing → Forest (Shown × SplitView) → Vertices
+abbrev pub vertices_shown : Hashing → Forest (Visibility × SplitView) → Vertices
 vertices_shown sha NoRoots = NoVertices
 vertices_shown sha (Root marked subviews others) =
     if is_hidden marked.0
@@ -96,36 +102,66 @@ sees_root hosts (Root view subviews others) = is_sight hosts view || sees_root h
 
 -- Whole what is seen: a view with a hosted informee, or one below such a view, as above says. Passed what stands above such
 -- a view.
-abbrev pub shown : (sees below : Bool) → Shown
-shown sees below = if sees then Whole else (if below then Passed else Hidden)
+abbrev pub visibility : (sees below : Bool) → Visibility
+visibility sees below = if sees then Whole else (if below then Passed else Hidden)
 
-abbrev pub shown_to : (hosts : List ℕ → Bool) (above : Bool) → Forest SplitView → Forest (Shown × SplitView)
+abbrev pub shown_to : (hosts : List ℕ → Bool) (above : Bool) → Forest SplitView → Forest (Visibility × SplitView)
 shown_to hosts above NoRoots = NoRoots
 shown_to hosts above (Root view subviews others) =
-    Root (shown (above || is_sight hosts view) (has_sight hosts subviews), view)
+    Root (visibility (above || is_sight hosts view) (has_sight hosts subviews), view)
     (shown_to hosts (above || is_sight hosts view) subviews)
     (shown_to hosts above others)
 
 -- to the mediator the informees and confirmers of every view
-abbrev pub named : SplitView → Shown × SplitView
-named view = (Named, view)
+abbrev pub informees_alone : SplitView → Visibility × SplitView
+informees_alone view = (Named, view)
 
--- a tree that shows so much of each view, and the requesters or not
-abbrev pub tree_of : Hashing → (sender : List ℕ) (shows_requesters : Bool) → Views → Forest (Shown × SplitView) → Tree
-tree_of sha sender shows_requesters views marked =
+-- the salts of the common leaf and of the requesters leaf
+pub record Salts : Type 0 where
+  pub common : List ℕ
+  pub requesters : List ℕ
+
+-- A tree whose first two leaves have these salts, that shows so much of each view, and the requesters or not.
+abbrev pub tree_with : Hashing → Salts → (sender : List ℕ) (shows_requesters : Bool) → Transaction → Forest (Visibility × SplitView) → Tree
+tree_with sha salts sender shows_requesters transaction marked =
     record {
-      common = leaf_of sha true 1 views.seed (common_bytes sender views.ledger_time);
-      requesters = leaf_of sha shows_requesters 2 views.seed (spell_parties views.act_as);
+      common = leaf_with sha true 1 salts.common (common_bytes sender transaction.ledger_time);
+      requesters = leaf_with sha shows_requesters 2 salts.requesters (spell_parties transaction.requesters);
       views = vertices_shown sha marked;
     }
 
--- for a participant that hosts these, and may be the sender
+-- for a participant that hosts these and may be the sender, where the transaction has these views
+abbrev pub tree_to : Hashing → Salts → (sender : List ℕ) → Transaction → Forest SplitView → (hosts : List ℕ → Bool) (sends : Bool) → Tree
+tree_to sha salts sender transaction views hosts sends =
+    tree_with sha salts sender (sees_root hosts views || sends) transaction (shown_to hosts false views)
+
+abbrev pub tree_to_mediator : Hashing → Salts → (sender : List ℕ) → Transaction → Forest SplitView → Tree
+tree_to_mediator sha salts sender transaction views = tree_with sha salts sender false transaction (map_forest informees_alone views)
+
+-- the hash of a transaction with these views, which each of its trees has
+abbrev pub digest_with : Hashing → Salts → (sender : List ℕ) → Transaction → Forest SplitView → List ℕ
+digest_with sha salts sender transaction views =
+    sha (tree_hash_string
+    (sha (leaf_hash_string 1 salts.common (common_bytes sender transaction.ledger_time)))
+    (sha (leaf_hash_string 2 salts.requesters (spell_parties transaction.requesters)))
+    (view_digests sha views))
+
+-- the salts that a sender makes of its transaction's seed
+abbrev pub salts_of : Hashing → (seed : List ℕ) → Salts
+salts_of sha seed = record { common = salt_of sha 1 seed; requesters = salt_of sha 2 seed }
+
+-- the transaction that was split into views
+abbrev pub transaction_of : Views → Transaction
+transaction_of views = record { requesters = views.act_as; ledger_time = views.ledger_time; roots = assembled views.roots }
+
+-- its trees, with the salts of its seed
 abbrev pub blind_to : Hashing → Views → (sender : List ℕ) (hosts : List ℕ → Bool) (is_sender : Bool) → Tree
 blind_to sha views sender hosts is_sender =
-    tree_of sha sender (sees_root hosts views.roots || is_sender) views (shown_to hosts false views.roots)
+    tree_to sha (salts_of sha views.seed) sender (transaction_of views) views.roots hosts is_sender
 
 abbrev pub blind_for_mediator : Hashing → Views → (sender : List ℕ) → Tree
-blind_for_mediator sha views sender = tree_of sha sender false views (map_forest named views.roots)
+blind_for_mediator sha views sender =
+    tree_to_mediator sha (salts_of sha views.seed) sender (transaction_of views) views.roots
 
 abbrev pub has_name : Option Host → List ℕ → Bool
 has_name None name = false
@@ -140,7 +176,7 @@ abbrev pub blind_for : Hashing → Views → (sender : List ℕ) → List Host �
 blind_for sha views sender hosts (Participant p) = blind_to sha views sender (hosts_at hosts p) (is_host_named hosts p sender)
 blind_for sha views sender hosts Mediator = blind_for_mediator sha views sender
 
--- the hash of a transaction, which each of its trees has
+-- its hash
 abbrev pub transaction_digest : Hashing → Views → (sender : List ℕ) → List ℕ
 transaction_digest sha views sender =
-    sha (tree_hash_string (digest_of sha 1 views.seed (common_bytes sender views.ledger_time)) (digest_of sha 2 views.seed (spell_parties views.act_as)) (view_digests sha views.roots))
+    digest_with sha (salts_of sha views.seed) sender (transaction_of views) views.roots

@@ -1,80 +1,61 @@
--- The reading of cores. A core is read from left to right, as the actions and holes that stand in it in pre-order, until no
--- child is missing.
-use Rattle.std.specs.Prelude.{ℕ, zero, suc, ◌+◌, ◌-◌, nat_eq, List, [], ◌∷◌, ◌++◌, length, Result, Ok, Err, if◌then◌else◌}
+-- The reading of cores. In one core actions stand on 16 levels at most, as in a transaction: below an action on the last of
+-- them stand holes alone.
+use Rattle.std.specs.Prelude.{ℕ, zero, suc, List, length, Result, Ok, Err}
 use Rattle.ledger_terms.specs.Trees.{Act}
 use Rattle.ledger_terms.specs.declared.action.Action.{Action}
-use Rattle.wire_form.specs.Formats.{◌>>=◌, Reading, both_at, seen_at}
+use Rattle.wire_form.specs.Formats.{◌>>=◌, Reading, both_at, seen_at, counted_at, any_item}
 use Rattle.wire_form.specs.Fields.{byte_at, count_at, hash_at}
 use Rattle.wire_form.specs.Reading.{action_at}
-use Rattle.view_split.specs.Holed.{Holed, holes}
-use Rattle.blind_tree.specs.Marks.{arity, built}
-use Rattle.blind_tree.specs.declared.mark.Head.{Head}
-use Rattle.blind_tree.specs.declared.mark.Mark.{Mark}
-use Rattle.blind_tree.specs.declared.mark.Mark.TheVariants.{Hole, Begins}
-use Rattle.blind_tree.specs.declared.found_core.FoundCore.{FoundCore}
+use Rattle.view_split.specs.Holed.{Holed}
+use Rattle.view_split.specs.CoreLists.{children_of}
+use Rattle.view_split.specs.declared.core_node.CoreNode.{CoreNode}
+use Rattle.view_split.specs.declared.core_node.CoreChild.{CoreChild}
+use Rattle.view_split.specs.declared.core_node.CoreChild.TheVariants.{Inner, Hole}
 
--- the parts of an action with its seed and the number of its children
-abbrev pub HeadParts : Type 0
-HeadParts = (List ℕ × Action) × ℕ
+-- the parts of a core: the seed of its first action, that action, and what stands below it
+abbrev pub NodeParts : Type 0
+NodeParts = (List ℕ × Action) × Holed Act
 
-abbrev pub head_of : HeadParts → Head
-head_of parts = record { seed = parts.0.0; action = parts.0.1; children = parts.1 }
+abbrev pub node_of : NodeParts → CoreNode
+node_of parts = record { seed = parts.0.0; action = parts.0.1; children = parts.1 }
 
-unfoldable pub core_head_at : Reading Head
-core_head_at = seen_at head_of (both_at (both_at hash_at action_at) (count_at 63))
+-- a count of at most 63, and so many children that are read so
+abbrev pub children_with : Reading CoreChild → Reading (Holed Act)
+children_with child = seen_at children_of (counted_at (count_at 63) any_item child)
 
--- what follows the tag of a child
-unfoldable pub tagged_mark_at : ℕ → List ℕ → ℕ → Result (Mark × List ℕ) ℕ
-tagged_mark_at zero rest here = seen_at Begins core_head_at rest
-tagged_mark_at (suc zero) rest here = Ok (Hole, rest)
-tagged_mark_at (suc (suc n)) rest here = Err here
+-- an action with its seed, and children that are read so
+abbrev pub node_with : Reading CoreChild → Reading CoreNode
+node_with child = seen_at node_of (both_at (both_at hash_at action_at) (children_with child))
 
-unfoldable pub mark_at : Reading Mark
-mark_at bytes = do
-  tag ← byte_at bytes
-  tagged_mark_at tag.0 tag.1 (length bytes)
+-- what follows the tag of a child, where an action is read so with what stands below it
+unfoldable pub tagged_child_at : Reading CoreNode → ℕ → List ℕ → ℕ → Result (CoreChild × List ℕ) ℕ
+tagged_child_at node zero rest here = seen_at Inner node rest
+tagged_child_at node (suc zero) rest here = Ok (Hole, rest)
+tagged_child_at node (suc (suc n)) rest here = Err here
 
--- how many children are missing, and what was read so far
-abbrev pub Begun : Type 0
-Begun = ℕ × List Mark
+-- the same where only a hole may stand: there the tag of an action is a field that can't be read
+unfoldable pub tagged_hole_at : ℕ → List ℕ → ℕ → Result (CoreChild × List ℕ) ℕ
+tagged_hole_at zero rest here = Err here
+tagged_hole_at (suc zero) rest here = Ok (Hole, rest)
+tagged_hole_at (suc (suc n)) rest here = Err here
 
--- the next child, where one is missing
-unfoldable pub next_mark_at : Begun → Reading Begun
-next_mark_at begun bytes =
-    if nat_eq begun.0 0
-    then Ok (begun, bytes)
-    else (mark_at bytes >>= λ mark. Ok ((begun.0 - 1 + arity mark.0, begun.1 ++ mark.0 ∷ []), mark.1))
+-- a hole
+unfoldable pub hole_at : Reading CoreChild
+hole_at bytes = byte_at bytes >>= λ tag. tagged_hole_at tag.0 tag.1 (length bytes)
 
--- so many times
-unfoldable pub marks_from : ℕ → Begun → Reading Begun
-marks_from zero begun bytes = Ok (begun, bytes)
-marks_from (suc n) begun bytes = next_mark_at begun bytes >>= λ x. marks_from n x.0 x.1
+-- a child, in which actions stand on so many levels at most
+unfoldable pub child_at : ℕ → Reading CoreChild
+child_at zero bytes = hole_at bytes
+child_at (suc levels) bytes = byte_at bytes >>= λ tag. tagged_child_at (node_with (child_at levels)) tag.0 tag.1 (length bytes)
 
--- no child may be missing
-abbrev pub completed : Begun → List ℕ → Result (List Mark × List ℕ) ℕ
-completed begun rest = if nat_eq begun.0 0 then Ok (begun.1, rest) else Err (length rest)
+-- the children of an action, below which actions stand on so many levels at most
+unfoldable pub children_at : ℕ → Reading (Holed Act)
+children_at levels = children_with (child_at levels)
 
--- what stands below an action with so many children: each child takes a byte at least
-unfoldable pub marks_at : ℕ → Reading (List Mark)
-marks_at count bytes = marks_from (length bytes) (count, []) bytes >>= λ x. completed x.0 x.1
+-- an action with them
+unfoldable pub node_at : ℕ → Reading CoreNode
+node_at levels = node_with (child_at levels)
 
--- a first action, and what stands below it
-abbrev pub CoreParts : Type 0
-CoreParts = Act × Holed Act
-
-abbrev pub core_of : Head → List Mark → CoreParts
-core_of head marks = (record { seed = head.seed; action = head.action }, built marks)
-
-unfoldable pub core_at : Reading CoreParts
-core_at bytes = do
-  head ← core_head_at bytes
-  marks ← marks_at (head.0).children head.1
-  Ok (core_of head.0 marks.0, marks.1)
-
--- a core with the number of its holes
-abbrev pub found_of : CoreParts → FoundCore
-found_of parts =
-    record { core = record { seed = (parts.0).seed; action = (parts.0).action; children = parts.1 }; holes = holes parts.1 }
-
-unfoldable pub found_at : Reading FoundCore
-found_at = seen_at found_of core_at
+-- a core: its first action stands on the first of 16 levels
+unfoldable pub core_at : Reading CoreNode
+core_at = node_at 15

@@ -1,11 +1,12 @@
 -- The one spelling of cores, and which have one.
-use Rattle.std.specs.Prelude.{ℕ, ◌≤◌, List, [], ◌∷◌, ◌++◌}
+use Rattle.std.specs.Prelude.{ℕ, suc, ◌≤◌, max, List, [], ◌∷◌, ◌++◌}
 use Rattle.std.specs.Int.{w16, to_be_bytes}
 use Rattle.ledger_terms.specs.Trees.{Act}
 use Rattle.wire_form.specs.Spelling.{spell_action}
 use Rattle.wire_form.specs.Spellable.{IsSpellableAction}
 use Rattle.view_split.specs.Holed.{Holed, NoMore, Inner, Hole, width}
 use Rattle.view_split.specs.CoreLists.{act_of}
+use Rattle.view_split.specs.declared.core_node.CoreNode.{CoreNode}
 use Rattle.view_split.specs.declared.core_node.CoreChild.{CoreChild}
 use Rattle.view_split.specs.declared.core_node.CoreChild.TheVariants as children
 
@@ -20,9 +21,18 @@ spell_children (Hole others) = (1 ∷ []) ++ spell_children others
 abbrev pub spell_core : Act → Holed Act → List ℕ
 spell_core first below = first.seed ++ spell_action first.action ++ to_be_bytes w16 (width below) ++ spell_children below
 
+abbrev pub spell_node : CoreNode → List ℕ
+spell_node core = spell_core (act_of core) core.children
+
 abbrev pub spell_child : CoreChild → List ℕ
-spell_child (children.Inner core) = 0 ∷ spell_core (act_of core) core.children
+spell_child (children.Inner core) = 0 ∷ spell_node core
 spell_child children.Hole = 1 ∷ []
+
+-- on how many levels actions stand
+abbrev pub levels : Holed Act → ℕ
+levels NoMore = 0
+levels (Inner act below others) = max (suc (levels below)) (levels others)
+levels (Hole others) = levels others
 
 -- actions that have room, and at most 63 children
 abbrev pub AreSpellableChildren : Holed Act → Type 0

@@ -13,8 +13,8 @@ use Rattle.blind_tree.specs.Digests.{Hashing}
 use Rattle.blind_tree.specs.LeafBytes.{common_bytes, roles_bytes, core_bytes}
 use Rattle.blind_tree.specs.Blind.{salt_of, digest_of, is_host_named}
 use Rattle.blind_tree.specs.KeptParts.{KeptPart}
-use Rattle.blind_tree.specs.declared.kept.KeptLeaf.{KeptLeaf}
-use Rattle.blind_tree.specs.declared.kept.KeptTree.{KeptTree}
+use Rattle.blind_tree.specs.declared.kept_leaf.KeptLeaf.{KeptLeaf}
+use Rattle.blind_tree.specs.declared.kept_tree.KeptTree.{KeptTree}
 use Rattle.blind_tree.specs.declared.leaf.Leaf.{Leaf}
 use Rattle.blind_tree.specs.declared.leaf.Leaf.TheVariants.{Blind, Plain}
 use Rattle.blind_tree.specs.declared.tree.Tree.{Tree}
@@ -22,32 +22,34 @@ use Rattle.blind_tree.specs.declared.recipient.Recipient.{Recipient}
 use Rattle.blind_tree.specs.declared.recipient.Recipient.TheVariants.{Participant, Mediator}
 
 abbrev pub kept_leaf : Hashing → (kind : ℕ) (seed bytes : List ℕ) → KeptLeaf
-kept_leaf sha kind seed bytes = record { salt = salt_of sha kind seed; bytes = bytes; digest = digest_of sha kind seed bytes }
+kept_leaf sha kind seed bytes = record { salt = salt_of sha kind seed; bytes = bytes; hash = digest_of sha kind seed bytes }
 
 -- the hashes of views side by side
 abbrev pub kept_digests : Forest KeptPart → List (List ℕ)
 kept_digests NoRoots = []
-kept_digests (Root part subviews others) = part.digest ∷ kept_digests others
+kept_digests (Root part subviews others) = part.hash ∷ kept_digests others
 
 abbrev pub kept_part : Hashing → SplitView → Forest KeptPart → KeptPart
 kept_part sha view below =
+    let informees_leaf = kept_leaf sha 3 view.first.seed (roles_bytes view) in
+    let contents_leaf = kept_leaf sha 4 view.first.seed (core_bytes view) in
     record {
       informees = view.informees;
-      roles = kept_leaf sha 3 view.first.seed (roles_bytes view);
-      core = kept_leaf sha 4 view.first.seed (core_bytes view);
-      digest = sha (view_hash_string (kept_leaf sha 3 view.first.seed (roles_bytes view)).digest (kept_leaf sha 4 view.first.seed (core_bytes view)).digest (kept_digests below));
+      informees_leaf = informees_leaf;
+      contents_leaf = contents_leaf;
+      hash = sha (view_hash_string informees_leaf.hash contents_leaf.hash (kept_digests below));
     }
 
-abbrev pub kept : Hashing → Forest SplitView → Forest KeptPart
-kept sha NoRoots = NoRoots
-kept sha (Root view subviews others) = Root (kept_part sha view (kept sha subviews)) (kept sha subviews) (kept sha others)
+abbrev pub kept_views : Hashing → Forest SplitView → Forest KeptPart
+kept_views sha NoRoots = NoRoots
+kept_views sha (Root view subviews others) = Root (kept_part sha view (kept_views sha subviews)) (kept_views sha subviews) (kept_views sha others)
 
 abbrev pub kept_tree : Hashing → Views → (sender : List ℕ) → KeptTree
 kept_tree sha views sender =
     record {
       common = kept_leaf sha 1 views.seed (common_bytes sender views.ledger_time);
       requesters = kept_leaf sha 2 views.seed (spell_parties views.act_as);
-      views = kept sha views.roots;
+      views = kept_views sha views.roots;
     }
 
 abbrev pub is_kept_sight : (List ℕ → Bool) → KeptPart → Bool
@@ -61,30 +63,31 @@ sees_kept_root hosts NoRoots = false
 sees_kept_root hosts (Root part subviews others) = is_kept_sight hosts part || sees_kept_root hosts others
 
 abbrev pub cut_leaf : Bool → KeptLeaf → Leaf
-cut_leaf shows leaf = if shows then Plain leaf.salt leaf.bytes else Blind leaf.digest
+cut_leaf shows leaf = if shows then Plain leaf.salt leaf.bytes else Blind leaf.hash
 
 -- a view and what is cut of those below it, with what is cut of those after it
 abbrev pub cut_part : (sees below : Bool) → KeptPart → (subviews others : Vertices) → Vertices
 cut_part sees below part subviews others =
     if sees || below
-    then InnerVertex (cut_leaf sees part.roles) (cut_leaf sees part.core) subviews others
-    else BlindVertex part.digest others
+    then InnerVertex (cut_leaf sees part.informees_leaf) (cut_leaf sees part.contents_leaf) subviews others
+    else BlindVertex part.hash others
 
 -- what a participant gets of views
-abbrev pub cut : (hosts : List ℕ → Bool) (above : Bool) → Forest KeptPart → Vertices
-cut hosts above NoRoots = NoVertices
-cut hosts above (Root part subviews others) =
-    cut_part (above || is_kept_sight hosts part) (has_kept_sight hosts subviews) part (cut hosts (above || is_kept_sight hosts part) subviews) (cut hosts above others)
+abbrev pub cut_views : (hosts : List ℕ → Bool) (above : Bool) → Forest KeptPart → Vertices
+cut_views hosts above NoRoots = NoVertices
+cut_views hosts above (Root part subviews others) =
+    let sees = above || is_kept_sight hosts part in
+    cut_part sees (has_kept_sight hosts subviews) part (cut_views hosts sees subviews) (cut_views hosts above others)
 
 -- the same of one view, seen or not
 abbrev pub cut_one : (hosts : List ℕ → Bool) (sees : Bool) → KeptPart → Forest KeptPart → Vertices
-cut_one hosts sees part subviews = cut_part sees (has_kept_sight hosts subviews) part (cut hosts sees subviews) NoVertices
+cut_one hosts sees part subviews = cut_part sees (has_kept_sight hosts subviews) part (cut_views hosts sees subviews) NoVertices
 
 -- what the mediator gets of views
 abbrev pub cut_for_mediator : Forest KeptPart → Vertices
 cut_for_mediator NoRoots = NoVertices
 cut_for_mediator (Root part subviews others) =
-    InnerVertex (cut_leaf true part.roles) (cut_leaf false part.core) (cut_for_mediator subviews) (cut_for_mediator others)
+    InnerVertex (cut_leaf true part.informees_leaf) (cut_leaf false part.contents_leaf) (cut_for_mediator subviews) (cut_for_mediator others)
 
 abbrev pub cut_shows : KeptTree → Bool → Vertices → Tree
 cut_shows kept shows_requesters views =
@@ -93,5 +96,5 @@ cut_shows kept shows_requesters views =
 -- what a recipient gets of a tree
 abbrev pub cut_tree : KeptTree → (sender : List ℕ) → List Host → Recipient → Tree
 cut_tree kept sender hosts (Participant p) =
-    cut_shows kept (sees_kept_root (hosts_at hosts p) kept.views || is_host_named hosts p sender) (cut (hosts_at hosts p) false kept.views)
+    cut_shows kept (sees_kept_root (hosts_at hosts p) kept.views || is_host_named hosts p sender) (cut_views (hosts_at hosts p) false kept.views)
 cut_tree kept sender hosts Mediator = cut_shows kept false (cut_for_mediator kept.views)

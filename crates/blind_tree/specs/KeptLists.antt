@@ -2,10 +2,10 @@
 use Rattle.std.specs.Prelude.{ℕ, List, [], ◌∷◌}
 use Rattle.ledger_terms.specs.Forest.{Forest, NoRoots, Root, size}
 use Rattle.blind_tree.specs.KeptParts.{KeptPart}
-use Rattle.blind_tree.specs.declared.kept.KeptView.{KeptView}
+use Rattle.blind_tree.specs.declared.kept_list.KeptView.{KeptView}
 
 abbrev pub part_kept : KeptView → KeptPart
-part_kept view = record { informees = view.informees; roles = view.roles; core = view.core; digest = view.digest }
+part_kept view = record { informees = view.informees; informees_leaf = view.informees_leaf; contents_leaf = view.contents_leaf; hash = view.hash }
 
 abbrev pub kept_of : List KeptView → Forest KeptPart
 kept_of [] = NoRoots

@@ -7,7 +7,7 @@ use Rattle.wire_form.specs.Spelling.{spell_name, spell_parties}
 use Rattle.wire_form.specs.Spellable.{IsSpellableSet}
 use Rattle.view_split.specs.SplitView.{SplitView}
 use Rattle.view_split.specs.declared.views.Views.{Views}
-use Rattle.blind_tree.specs.Cores.{IsSpellableCore, spell_core}
+use Rattle.blind_tree.specs.Cores.{IsSpellableCore, levels, spell_core}
 
 -- of the common leaf: sender and ledger time
 abbrev pub common_bytes : List ℕ → ℕ → List ℕ
@@ -21,11 +21,12 @@ roles_bytes view = spell_parties view.informees ++ spell_parties view.confirmers
 abbrev pub core_bytes : SplitView → List ℕ
 core_bytes view = spell_core view.first view.below
 
--- sets of at most 128 names and a core that has room
+-- sets of at most 128 names, and a core that has room, with actions on at most 16 levels
 pub record IsSpellableView (view : SplitView) : Type 0 where
   pub informees_are : IsSpellableSet view.informees
   pub confirmers_are : IsSpellableSet view.confirmers
   pub core : IsSpellableCore view.first view.below
+  pub nested : levels view.below ≤ 15
 
 -- the same of each, and at most 65,536 side by side below each
 abbrev pub AreSpellableViews : Forest SplitView → Type 0
@@ -33,8 +34,8 @@ AreSpellableViews NoRoots = Unit {0}
 AreSpellableViews (Root view subviews others) =
     IsSpellableView view × (trees_count subviews ≤ 65536) × AreSpellableViews subviews × AreSpellableViews others
 
--- What the leaves of a transaction have room for: sets of at most 128 names, actions of which each has a spelling, and at most
--- 63 children of each in its core. At most 65,536 views stand side by side.
+-- What the leaves of a transaction have room for: sets of at most 128 names, actions of which each has a spelling, and in each
+-- core at most 63 children of an action and 16 levels. At most 65,536 views stand side by side.
 pub record AreSpellable (views : Views) : Type 0 where
   pub requesters : IsSpellableSet views.act_as
   pub few : trees_count views.roots ≤ 65536

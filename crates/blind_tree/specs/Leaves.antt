@@ -1,13 +1,11 @@
 -- What each kind of leaf holds: its one spelling, and what of it is in range.
-use Rattle.std.specs.Prelude.{◌≡◌, ℕ, ◌<◌, ◌^◌, List, ◌++◌}
+use Rattle.std.specs.Prelude.{ℕ, ◌<◌, ◌^◌, List, ◌++◌}
 use Rattle.wire_form.specs.InRange.{IsName, IsPartySet}
 use Rattle.wire_form.specs.Spelling.{spell_parties}
-use Rattle.view_split.specs.Holed.{holes}
 use Rattle.view_split.specs.CoreLists.{act_of}
-use Rattle.blind_tree.specs.Cores.{spell_core}
+use Rattle.view_split.specs.declared.core_node.CoreNode.{CoreNode}
 use Rattle.blind_tree.specs.LeafBytes.{common_bytes}
 use Rattle.blind_tree.specs.Seen.{IsCore}
-use Rattle.blind_tree.specs.declared.found_core.FoundCore.{FoundCore}
 
 -- sender and ledger time
 abbrev pub spell_common : List ℕ × ℕ → List ℕ
@@ -26,10 +24,6 @@ spell_roles sets = spell_parties sets.0 ++ spell_parties sets.1
 abbrev pub AreRoles : Sets → Type 0
 AreRoles sets = IsPartySet sets.0 × IsPartySet sets.1
 
--- a core, of which the number of holes is known
-abbrev pub spell_found : FoundCore → List ℕ
-spell_found found = spell_core (act_of found.core) (found.core).children
-
-pub record IsFound (found : FoundCore) : Type 0 where
-  pub core : IsCore (act_of found.core) (found.core).children
-  pub counted : found.holes ≡ holes (found.core).children
+-- a core by its first action with what stands below it
+abbrev pub IsNode : CoreNode → Type 0
+IsNode core = IsCore (act_of core) core.children

@@ -15,9 +15,10 @@ pub mod KeptFall
 pub mod Kept
 pub mod Opening
 pub mod Told
-pub mod Marks
 pub mod CoreReading
 pub mod Opened
 pub mod Seen
 pub mod Leaves
 pub mod Limits
+pub mod Recipients
+pub mod Overlay

@@ -8,15 +8,16 @@ use Rattle.wire_form.specs.Reading.{set_at}
 use Rattle.wire_form.specs.declared.wire_fault.WireFault.{WireFault}
 use Rattle.wire_form.specs.declared.wire_fault.WireFault.TheVariants.{Bad}
 use Rattle.ledger_terms.specs.Forest.{Forest, NoRoots, join}
+use Rattle.view_split.specs.Holed.{holes}
 use Rattle.view_split.specs.SplitView.{SplitView}
 use Rattle.view_split.specs.ViewLists.{view_tree}
+use Rattle.view_split.specs.declared.core_node.CoreNode.{CoreNode}
 use Rattle.view_split.specs.declared.view.View.{View}
 use Rattle.view_split.specs.declared.placed_view.PlacedView.{PlacedView}
 use Rattle.view_split.specs.declared.opened_tree.OpenedTree.{OpenedTree}
 use Rattle.blind_tree.specs.Vertices.{Vertices, NoVertices, BlindVertex, InnerVertex, count}
-use Rattle.blind_tree.specs.CoreReading.{found_at}
+use Rattle.blind_tree.specs.CoreReading.{core_at}
 use Rattle.blind_tree.specs.Reading.{read_all}
-use Rattle.blind_tree.specs.declared.found_core.FoundCore.{FoundCore}
 use Rattle.blind_tree.specs.declared.leaf.Leaf.{Leaf}
 use Rattle.blind_tree.specs.declared.leaf.Leaf.TheVariants.{Blind, Plain}
 use Rattle.blind_tree.specs.declared.tree.Tree.{Tree}
@@ -53,8 +54,8 @@ roles_listed above k (InnerVertex informees contents subviews others) =
     with_read (roles_listed above (suc k) others) (λ rest. Ok (view_roles (above ++ k ∷ []) roles ∷ (below ++ rest)))))
 
 -- what the mediator reads of a tree
-abbrev pub told : Tree → Result RolesTree WireFault
-told tree =
+abbrev pub informee_tree_of : Tree → Result RolesTree WireFault
+informee_tree_of tree =
     with_read (read_leaf head_at tree.common) (λ head. with_read (roles_listed [] 0 tree.views) (λ views. Ok (record { sender = head.0; views = views })))
 
 -- ---- what a participant opens
@@ -70,17 +71,17 @@ leaf_length (Plain salt bytes) = length bytes
 
 -- informees and confirmers, and a core
 abbrev pub ViewParts : Type 0
-ViewParts = (List (List ℕ) × List (List ℕ)) × FoundCore
+ViewParts = (List (List ℕ) × List (List ℕ)) × CoreNode
 
 abbrev pub view_of : ViewParts → Forest SplitView → View
-view_of parts below = record { informees = parts.0.0; confirmers = parts.0.1; core = (parts.1).core; subviews = below }
+view_of parts below = record { informees = parts.0.0; confirmers = parts.0.1; core = parts.1; subviews = below }
 
 -- The leaves of a vertex with so many vertices below it: the informees leaf, then the contents leaf, and then whether its core
 -- has as many holes.
 abbrev pub parts_read : (informees contents : Leaf) (subviews : ℕ) → Result ViewParts WireFault
 parts_read informees contents subviews =
-    with_read (read_leaf roles_at informees) (λ roles. with_read (read_leaf found_at contents) (λ found.
-    if nat_eq found.holes subviews then Ok (roles, found) else Err (Bad (leaf_length contents))))
+    with_read (read_leaf roles_at informees) (λ roles. with_read (read_leaf core_at contents) (λ core.
+    if nat_eq (holes core.children) subviews then Ok (roles, core) else Err (Bad (leaf_length contents))))
 
 -- all the views of vertices side by side, each before those below it
 abbrev pub views_read : Vertices → Result (Forest SplitView) WireFault
@@ -105,7 +106,8 @@ views_opened above k NoVertices = Ok []
 views_opened above k (BlindVertex hash others) = views_opened above (suc k) others
 views_opened above k (InnerVertex informees contents subviews others) =
     if is_open informees contents
-    then with_read (view_read informees contents subviews) (λ view. with_read (views_opened above (suc k) others) (λ rest. Ok (placed (above ++ k ∷ []) view ∷ rest)))
+    then with_read (view_read informees contents subviews) (λ view.
+    with_read (views_opened above (suc k) others) (λ rest. Ok (placed (above ++ k ∷ []) view ∷ rest)))
     else with_read (views_opened (above ++ k ∷ []) 0 subviews) (λ first. with_read (views_opened above (suc k) others) (λ rest. Ok (first ++ rest)))
 
 -- a leaf that need not be shown

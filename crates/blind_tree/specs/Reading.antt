@@ -3,8 +3,8 @@ use Rattle.std.specs.Prelude.{ℕ, zero, suc, ◌-◌, List, [], ◌∷◌, leng
 use Rattle.std.specs.Int.{w32}
 use Rattle.wire_form.specs.Formats.{◌>>=◌, Reading, both_at, seen_at, counted_at, any_item}
 use Rattle.wire_form.specs.Fields.{byte_at, bytes_at, number_at, count_at, hash_at}
-use Rattle.wire_form.specs.declared.stop.Stop.{Stop}
-use Rattle.wire_form.specs.declared.stop.Stop.TheVariants as stops
+use Rattle.wire_form.specs.declared.reader_fault.ReaderFault.{ReaderFault}
+use Rattle.wire_form.specs.declared.reader_fault.ReaderFault.TheVariants as faults
 use Rattle.wire_form.specs.declared.wire_fault.WireFault.{WireFault}
 use Rattle.wire_form.specs.declared.wire_fault.WireFault.TheVariants.{Bad, Memory}
 use Rattle.blind_tree.specs.Vertices.{Vertices}
@@ -52,18 +52,25 @@ tagged_vertex_at below zero rest here = seen_at Blind hash_at rest
 tagged_vertex_at below (suc zero) rest here = seen_at inner_of (both_at (both_at leaf_at leaf_at) below) rest
 tagged_vertex_at below (suc (suc n)) rest here = Err here
 
--- a count of at most 64, and so many vertices that are read so
-abbrev pub list_at : Reading Vertex → Reading Vertices
-list_at vertex = seen_at vertices_of (counted_at (count_at 64) any_item vertex)
+-- how many vertices may stand side by side, where so many levels are left
+abbrev pub most_beside : ℕ → ℕ
+most_beside zero = 0
+most_beside (suc levels) = 64
 
--- A vertex, on so many levels at most, its own counted. One that stands too deep is a field that can't be read.
+-- a count that isn't above a limit, and so many vertices that are read so
+abbrev pub list_at : (limit : ℕ) → Reading Vertex → Reading Vertices
+list_at limit vertex = seen_at vertices_of (counted_at (count_at limit) any_item vertex)
+
+-- A vertex, on so many levels at most, its own counted. None stands where no level is left: the count that announces one
+-- there is the field that can't be read.
 unfoldable pub vertex_at : ℕ → Reading Vertex
 vertex_at zero bytes = Err (length bytes)
-vertex_at (suc levels) bytes = byte_at bytes >>= λ tag. tagged_vertex_at (list_at (vertex_at levels)) tag.0 tag.1 (length bytes)
+vertex_at (suc levels) bytes =
+    byte_at bytes >>= λ tag. tagged_vertex_at (list_at (most_beside levels) (vertex_at levels)) tag.0 tag.1 (length bytes)
 
 -- vertices side by side, on so many levels at most
 unfoldable pub vertices_at : ℕ → Reading Vertices
-vertices_at levels = list_at (vertex_at levels)
+vertices_at levels = list_at (most_beside levels) (vertex_at levels)
 
 -- the parts of a tree
 abbrev pub TreeParts : Type 0
@@ -90,8 +97,8 @@ abbrev pub read_all : {A : Type 0} → Reading A → List ℕ → Result A WireF
 read_all read bytes = with_place (length bytes) (read bytes >>= λ x. ended x.0 x.1)
 
 -- what a reader of so many bytes gave, with so many left after it
-abbrev pub finished : {A : Type 0} → Result A Stop → ℕ → ℕ → Result A WireFault
-finished (Ok x) len zero = Ok x
-finished (Ok x) len (suc left) = Err (Bad (len - suc left))
-finished (Err (stops.Left n)) len left = Err (Bad (len - n))
-finished (Err stops.Memory) len left = Err Memory
+abbrev pub reader_answer : {A : Type 0} → Result A ReaderFault → ℕ → ℕ → Result A WireFault
+reader_answer (Ok x) len zero = Ok x
+reader_answer (Ok x) len (suc left) = Err (Bad (len - suc left))
+reader_answer (Err (faults.Left n)) len left = Err (Bad (len - n))
+reader_answer (Err faults.Memory) len left = Err Memory

@@ -9,6 +9,7 @@ use Rattle.view_split.specs.Holed.{Holed, NoMore, Inner, Hole, width}
 use Rattle.view_split.specs.SplitView.{SplitView}
 use Rattle.view_split.specs.declared.views.Views.{Views}
 use Rattle.blind_tree.specs.Vertices.{Vertices, NoVertices, BlindVertex, InnerVertex}
+use Rattle.blind_tree.specs.Cores.{levels}
 use Rattle.blind_tree.specs.LeafBytes.{common_bytes, core_bytes, roles_bytes}
 use Rattle.view_split.specs.Seen.{is_sight}
 use Rattle.blind_tree.specs.Opening.{view_roles}
@@ -48,10 +49,12 @@ AreChildren NoMore = Unit {0}
 AreChildren (Inner act below others) = IsHash act.seed × IsAction act.action × (width below ≤ 63) × AreChildren below × AreChildren others
 AreChildren (Hole others) = AreChildren others
 
+-- the same below a first action, on at most 16 levels with its own
 pub record IsCore (first : Act) (below : Holed Act) : Type 0 where
   pub seed_is : IsHash first.seed
   pub action_is : IsAction first.action
   pub few : width below ≤ 63
+  pub nested : levels below ≤ 15
   pub children : AreChildren below
 
 pub record IsView (view : SplitView) : Type 0 where

@@ -59,7 +59,8 @@ pub unmarked-marks : (v : Vertices) (after : List (Option Mark)) (stack : List V
 unmarked-marks NoVertices after stack = refl
 unmarked-marks (BlindVertex hash others) after stack = unmarked-marks others (Some (inl hash) ∷ after) stack
 unmarked-marks (InnerVertex informees contents subviews others) after stack =
-    unmarked-marks subviews (marks others (Some (inr (informees, contents)) ∷ after)) stack ∙ unmarked-marks others (Some (inr (informees, contents)) ∷ after) (subviews ∷ stack)
+    unmarked-marks subviews (marks others (Some (inr (informees, contents)) ∷ after)) stack
+    ∙ unmarked-marks others (Some (inr (informees, contents)) ∷ after) (subviews ∷ stack)
 
 pub coded_mark : Coded (Option Mark)
 coded_mark = hlevel codes

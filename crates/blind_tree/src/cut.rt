@@ -1,19 +1,21 @@
 //! Cutting a recipient's tree from a transaction's tree with every hash. Nothing is hashed here.
 ghost use Rattle.std.specs.Prelude.{◌≡◌, IfOk, OnOk, false};
-ghost use Rattle.std.specs.List.{list_any};
 ghost use Rattle.ledger_terms.specs.Hosting.{hosts_at};
 ghost use Rattle.blind_tree.specs.Vertices.{beside};
 ghost use Rattle.blind_tree.specs.VertexLists.{one_vertex};
 ghost use Rattle.blind_tree.specs.Blind.{is_host_named};
 ghost use Rattle.blind_tree.specs.KeptLists.{one_kept, part_kept};
-ghost use Rattle.blind_tree.specs.Kept.{cut, cut_for_mediator, cut_leaf, cut_one, cut_tree, has_kept_sight, sees_kept_root};
+ghost use Rattle.blind_tree.specs.Kept.{cut_views, cut_for_mediator, cut_leaf, cut_one, cut_tree, has_kept_sight, sees_kept_root};
 
-use crate::kept::{KeptLeaf, KeptList, KeptTree, KeptView};
+use crate::kept_leaf::KeptLeaf;
+use crate::kept_list::{KeptList, KeptView};
+use crate::kept_tree::KeptTree;
 use crate::leaf::Leaf;
 use crate::recipient::Recipient;
+use crate::sight::hosts_any;
 use crate::tree::Tree;
 use crate::vertex::{Vertex, VertexList};
-use ledger_terms::{Name, ParticipantId, PartySet, Topology};
+use ledger_terms::{Name, ParticipantId, Topology};
 use std::alloc::{AllocError, Global};
 
 /// What a recipient gets of a transaction's tree.
@@ -33,7 +35,7 @@ pub(crate) fn cut_for(
             sees_root(&kept.views, topology, at) || is_sender(topology, at, sender)
         }
         Recipient::Mediator => {
-            name_into(alloc, &kept.views, &mut views)?;
+            informees_into(alloc, &kept.views, &mut views)?;
             false
         }
     };
@@ -54,22 +56,12 @@ fn is_sender(topology: &Topology, at: ParticipantId, sender: Name) -> bool
     }
 }
 
-// Whether a participant hosts one of these parties.
-fn is_hosted(topology: &Topology, at: ParticipantId, parties: &PartySet) -> bool
-    ensures { result ≡ list_any (hosts_at topology.now.hosts at) parties.now }
-{
-    parties
-        .as_slice()
-        .iter()
-        .any(|party| topology.hosts(at, *party))
-}
-
 // Whether a participant sees one of these views, those below them not counted.
 fn sees_root(views: &KeptList, topology: &Topology, at: ParticipantId) -> bool
     ensures { result ≡ sees_kept_root (hosts_at topology.now.hosts at) views.now }
 {
     for view in views.as_slice() {
-        if is_hosted(topology, at, &view.informees) {
+        if hosts_any(topology, at, &view.informees) {
             return true;
         }
     }
@@ -81,7 +73,7 @@ fn is_seen(views: &KeptList, topology: &Topology, at: ParticipantId) -> bool
     ensures { result ≡ has_kept_sight (hosts_at topology.now.hosts at) views.now }
 {
     for view in views.as_slice() {
-        if is_hosted(topology, at, &view.informees) || is_seen(&view.subviews, topology, at) {
+        if hosts_any(topology, at, &view.informees) || is_seen(&view.subviews, topology, at) {
             return true;
         }
     }
@@ -98,7 +90,7 @@ fn leaf_of(leaf: &KeptLeaf, shows: bool) -> Result<Leaf, AllocError>
             bytes: leaf.bytes.clone()?,
         })
     } else {
-        Ok(Leaf::Blind(leaf.digest))
+        Ok(Leaf::Blind(leaf.hash))
     }
 }
 
@@ -112,10 +104,10 @@ fn cut_into(
     above: bool,
     out: &mut VertexList,
 ) -> Result<(), AllocError>
-    ensures { OnOk result (out.new ≡ beside out.old (cut (hosts_at topology.now.hosts at) above views.now)) }
+    ensures { OnOk result (out.new ≡ beside out.old (cut_views (hosts_at topology.now.hosts at) above views.now)) }
 {
     for view in views.as_slice() {
-        let sees = above || is_hosted(topology, at, &view.informees);
+        let sees = above || hosts_any(topology, at, &view.informees);
         let vertex = cut_view(alloc, view, topology, at, sees)?;
         out.push(vertex)?;
     }
@@ -133,38 +125,38 @@ fn cut_view(
     ensures { IfOk result (λ vertex. one_vertex vertex ≡ cut_one (hosts_at topology.now.hosts at) sees (part_kept view.now) view.now.subviews) }
 {
     if !sees && !is_seen(&view.subviews, topology, at) {
-        return Ok(Vertex::Blind(view.digest));
+        return Ok(Vertex::Blind(view.hash));
     }
     let mut subviews = VertexList::new(alloc);
     cut_into(alloc, &view.subviews, topology, at, sees, &mut subviews)?;
     Ok(Vertex::Inner {
-        informees: leaf_of(&view.roles, sees)?,
-        contents: leaf_of(&view.core, sees)?,
+        informees: leaf_of(&view.informees_leaf, sees)?,
+        contents: leaf_of(&view.contents_leaf, sees)?,
         subviews,
     })
 }
 
 // Puts what the mediator gets of these views at the end.
-#[cycle(name)]
-fn name_into(alloc: Global, views: &KeptList, out: &mut VertexList) -> Result<(), AllocError>
+#[cycle(informees)]
+fn informees_into(alloc: Global, views: &KeptList, out: &mut VertexList) -> Result<(), AllocError>
     ensures { OnOk result (out.new ≡ beside out.old (cut_for_mediator views.now)) }
 {
     for view in views.as_slice() {
-        let vertex = name_view(alloc, view)?;
+        let vertex = informees_vertex(alloc, view)?;
         out.push(vertex)?;
     }
     Ok(())
 }
 
-#[cycle(name)]
-fn name_view(alloc: Global, view: &KeptView) -> Result<Vertex, AllocError>
+#[cycle(informees)]
+fn informees_vertex(alloc: Global, view: &KeptView) -> Result<Vertex, AllocError>
     ensures { IfOk result (λ vertex. one_vertex vertex ≡ cut_for_mediator (one_kept view.now)) }
 {
     let mut subviews = VertexList::new(alloc);
-    name_into(alloc, &view.subviews, &mut subviews)?;
+    informees_into(alloc, &view.subviews, &mut subviews)?;
     Ok(Vertex::Inner {
-        informees: leaf_of(&view.roles, true)?,
-        contents: leaf_of(&view.core, false)?,
+        informees: leaf_of(&view.informees_leaf, true)?,
+        contents: leaf_of(&view.contents_leaf, false)?,
         subviews,
     })
 }

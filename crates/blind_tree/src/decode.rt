@@ -6,17 +6,24 @@ ghost use Rattle.wire_form.specs.declared.wire_fault.WireFault.TheVariants as Wi
 ghost use Rattle.blind_tree.specs.declared.tree.Tree.{Tree};
 ghost use Rattle.blind_tree.specs.InRange.{IsTree};
 ghost use Rattle.blind_tree.specs.Spelling.{spell_tree};
-ghost use Rattle.blind_tree.specs.Reading.{finished, leaf_at, long_bytes_at, read_all, tagged_leaf_at, tagged_vertex_at, tree_at, vertex_at, vertices_at};
+ghost use Rattle.blind_tree.specs.Reading.{reader_answer, leaf_at, long_bytes_at, most_beside, read_all};
+ghost use Rattle.blind_tree.specs.Reading.{tagged_leaf_at, tagged_vertex_at, tree_at, vertex_at, vertices_at};
 
 use crate::leaf::Leaf;
 use crate::tree::Tree;
 use crate::vertex::{Vertex, VertexList};
 use ledger_terms::{Bytes, ListOf};
 use std::alloc::Global;
-use wire_form::{Reader, Stop, WireFault};
+use wire_form::{Reader, ReaderFault, WireFault};
 
-/// The tree that the bytes spell. A fault is at the first byte of the first field that can't be read: a vertex that stands
-/// more than 16 deep is such a field, at its tag, and so are bytes after the tree.
+/// The greatest number of levels on which vertices stand.
+pub(crate) const LEVELS_MAX: u8 = 16;
+
+/// The greatest number of vertices side by side.
+pub(crate) const VERTICES_MAX: u16 = 64;
+
+/// The tree that the bytes spell. A fault is at the first byte of the first field that can't be read: the count that announces
+/// a vertex on a seventeenth level is such a field, and so are bytes after the tree.
 pub fn decode_tree(alloc: Global, bytes: &[u8]) -> Result<Tree, WireFault>
     ensures exact { UnlessMemory WireFault.Memory result (read_all tree_at bytes.now) }
     ensures found { IfOk result (λ tree. IsTree tree × (bytes.now ≡ spell_tree tree)) }
@@ -29,36 +36,37 @@ pub fn decode_tree(alloc: Global, bytes: &[u8]) -> Result<Tree, WireFault>
 
 // What a reader of `len` bytes gave, with `left` bytes left after it: nothing may be left.
 pub(crate) fn finish<T: Drop>(
-    read: Result<T, Stop>,
+    read: Result<T, ReaderFault>,
     len: usize,
     left: usize,
 ) -> Result<T, WireFault>
-    ensures { result ≡ finished read len left }
+    ensures { result ≡ reader_answer read len left }
 {
-    match read {
-        Ok(value) => {
-            if left == 0 {
-                Ok(value)
-            } else {
-                Err(WireFault::Bad {
-                    at: len.saturating_sub(left),
-                })
-            }
+    let value = match read {
+        Ok(value) => value,
+        Err(ReaderFault::Left(at)) => {
+            return Err(WireFault::Bad {
+                at: len.saturating_sub(at),
+            });
         }
-        Err(Stop::Left(at)) => Err(WireFault::Bad {
-            at: len.saturating_sub(at),
-        }),
-        Err(Stop::Memory) => Err(WireFault::Memory),
+        Err(ReaderFault::Memory) => return Err(WireFault::Memory),
+    };
+    if left == 0 {
+        Ok(value)
+    } else {
+        Err(WireFault::Bad {
+            at: len.saturating_sub(left),
+        })
     }
 }
 
 #[tactic(auto, unfolding(crate::specs::Reading::tree_at))]
-fn read_tree(reader: &mut Reader<'_>, alloc: Global) -> Result<Tree, Stop>
+fn read_tree(reader: &mut Reader<'_>, alloc: Global) -> Result<Tree, ReaderFault>
     ensures { Gives (λ x. (x, reader.new)) result (tree_at reader.old) }
 {
     let common = read_leaf(reader, alloc)?;
     let requesters = read_leaf(reader, alloc)?;
-    let views = read_vertices(reader, alloc, 16)?;
+    let views = read_vertices(reader, alloc, LEVELS_MAX)?;
     Ok(Tree {
         common,
         requesters,
@@ -67,7 +75,7 @@ fn read_tree(reader: &mut Reader<'_>, alloc: Global) -> Result<Tree, Stop>
 }
 
 #[tactic(auto, unfolding(crate::specs::Reading::leaf_at))]
-fn read_leaf(reader: &mut Reader<'_>, alloc: Global) -> Result<Leaf, Stop>
+fn read_leaf(reader: &mut Reader<'_>, alloc: Global) -> Result<Leaf, ReaderFault>
     ensures { Gives (λ x. (x, reader.new)) result (leaf_at reader.old) }
 {
     let here = reader.len();
@@ -81,7 +89,7 @@ fn read_tagged_leaf(
     alloc: Global,
     tag: u8,
     here: usize,
-) -> Result<Leaf, Stop>
+) -> Result<Leaf, ReaderFault>
     ensures { Gives (λ x. (x, reader.new)) result (tagged_leaf_at tag reader.old here) }
 {
     match tag {
@@ -91,13 +99,13 @@ fn read_tagged_leaf(
             let bytes = read_bytes(reader, alloc)?;
             Ok(Leaf::Plain { salt, bytes })
         }
-        _ => Err(Stop::Left(here)),
+        _ => Err(ReaderFault::Left(here)),
     }
 }
 
 // Bytes behind their length.
 #[tactic(auto, unfolding(crate::specs::Reading::long_bytes_at))]
-fn read_bytes(reader: &mut Reader<'_>, alloc: Global) -> Result<Bytes, Stop>
+fn read_bytes(reader: &mut Reader<'_>, alloc: Global) -> Result<Bytes, ReaderFault>
     ensures { Gives (λ x. (x, reader.new)) result (long_bytes_at reader.old) }
 {
     let len = reader.u32()?;
@@ -107,13 +115,24 @@ fn read_bytes(reader: &mut Reader<'_>, alloc: Global) -> Result<Bytes, Stop>
     Ok(bytes)
 }
 
+// How many vertices may stand side by side, where so many levels are left.
+fn most_beside(levels: u8) -> u16
+    ensures { result ≡ most_beside levels }
+{
+    if levels == 0 { 0 } else { VERTICES_MAX }
+}
+
 // Vertices side by side, on so many levels at most.
 #[cycle(vertices)]
 #[tactic(auto, unfolding(crate::specs::Reading::vertices_at))]
-fn read_vertices(reader: &mut Reader<'_>, alloc: Global, levels: u8) -> Result<VertexList, Stop>
+fn read_vertices(
+    reader: &mut Reader<'_>,
+    alloc: Global,
+    levels: u8,
+) -> Result<VertexList, ReaderFault>
     ensures { Gives (λ x. (x, reader.new)) result (vertices_at levels reader.old) }
 {
-    let count = reader.count(64)?;
+    let count = reader.count(most_beside(levels))?;
     let vertices = read_more(reader, alloc, levels, count)?;
     Ok(VertexList::of(vertices.into_vec()))
 }
@@ -124,7 +143,7 @@ fn read_more(
     alloc: Global,
     levels: u8,
     count: u16,
-) -> Result<ListOf<Vertex>, Stop>
+) -> Result<ListOf<Vertex>, ReaderFault>
     ensures { Gives (λ x. (x, reader.new)) result (items_at any_item (vertex_at levels) count [] reader.old) }
 {
     let mut vertices = ListOf::new(alloc);
@@ -141,7 +160,7 @@ fn read_next(
     alloc: Global,
     levels: u8,
     vertices: &mut ListOf<Vertex>,
-) -> Result<(), Stop>
+) -> Result<(), ReaderFault>
     ensures { Gives (λ x. (vertices.new, reader.new)) result (one_more any_item (vertex_at levels) vertices.old reader.old) }
 {
     let vertex = read_vertex(reader, alloc, levels)?;
@@ -151,12 +170,12 @@ fn read_next(
 
 #[cycle(vertices)]
 #[tactic(auto, unfolding(crate::specs::Reading::vertex_at))]
-fn read_vertex(reader: &mut Reader<'_>, alloc: Global, levels: u8) -> Result<Vertex, Stop>
+fn read_vertex(reader: &mut Reader<'_>, alloc: Global, levels: u8) -> Result<Vertex, ReaderFault>
     ensures { Gives (λ x. (x, reader.new)) result (vertex_at levels reader.old) }
 {
     let here = reader.len();
     if levels == 0 {
-        return Err(Stop::Left(here));
+        return Err(ReaderFault::Left(here));
     }
     let tag = reader.byte()?;
     read_tagged_vertex(reader, alloc, levels - 1, tag, here)
@@ -170,7 +189,7 @@ fn read_tagged_vertex(
     levels: u8,
     tag: u8,
     here: usize,
-) -> Result<Vertex, Stop>
+) -> Result<Vertex, ReaderFault>
     ensures { Gives (λ x. (x, reader.new)) result (tagged_vertex_at (vertices_at levels) tag reader.old here) }
 {
     match tag {
@@ -185,6 +204,6 @@ fn read_tagged_vertex(
                 subviews,
             })
         }
-        _ => Err(Stop::Left(here)),
+        _ => Err(ReaderFault::Left(here)),
     }
 }

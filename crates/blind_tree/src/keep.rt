@@ -9,10 +9,12 @@ ghost use Rattle.view_split.specs.ViewLists.{part_of, view_tree};
 ghost use Rattle.blind_tree.specs.Cores.{IsSpellableCore, spell_core};
 ghost use Rattle.blind_tree.specs.LeafBytes.{AreSpellable, AreSpellableViews, IsSpellableView, common_bytes, roles_bytes};
 ghost use Rattle.blind_tree.specs.KeptLists.{one_kept};
-ghost use Rattle.blind_tree.specs.Kept.{kept, kept_digests, kept_leaf, kept_tree};
+ghost use Rattle.blind_tree.specs.Kept.{kept_views, kept_digests, kept_leaf, kept_tree};
 
 use crate::core_bytes::encode_core;
-use crate::kept::{KeptLeaf, KeptList, KeptTree, KeptView};
+use crate::kept_leaf::KeptLeaf;
+use crate::kept_list::{KeptList, KeptView};
+use crate::kept_tree::KeptTree;
 use hash_id::{leaf_hash, leaf_salt, view_hash};
 use ledger_terms::{Bytes, Hash, Name, PartySet};
 use std::alloc::{AllocError, Global};
@@ -44,12 +46,8 @@ fn keep_leaf(kind: u8, seed: &Hash, bytes: Bytes) -> KeptLeaf
     ensures { result ≡ kept_leaf sha256 kind seed.now bytes }
 {
     let salt = leaf_salt(kind, seed);
-    let digest = leaf_hash(kind, &salt, bytes.as_slice());
-    KeptLeaf {
-        salt,
-        bytes,
-        digest,
-    }
+    let hash = leaf_hash(kind, &salt, bytes.as_slice());
+    KeptLeaf { salt, bytes, hash }
 }
 
 fn spelled_head(alloc: Global, sender: Name, ledger_time: u64) -> Result<Bytes, AllocError>
@@ -93,7 +91,7 @@ fn spelled_core(alloc: Global, core: &CoreNode) -> Result<Bytes, AllocError>
 #[cycle(keep)]
 fn keep_into(alloc: Global, views: &ViewList, out: &mut KeptList) -> Result<(), AllocError>
     requires { AreSpellableViews views.now }
-    ensures { OnOk result (out.new ≡ join out.old (kept sha256 views.now)) }
+    ensures { OnOk result (out.new ≡ join out.old (kept_views sha256 views.now)) }
 {
     for view in views.as_slice() {
         let kept = keep_view(alloc, view)?;
@@ -105,19 +103,19 @@ fn keep_into(alloc: Global, views: &ViewList, out: &mut KeptList) -> Result<(), 
 #[cycle(keep)]
 fn keep_view(alloc: Global, view: &View) -> Result<KeptView, AllocError>
     requires { AreSpellableViews (view_tree view.now) }
-    ensures { IfOk result (λ one. one_kept one ≡ kept sha256 (view_tree view.now)) }
+    ensures { IfOk result (λ one. one_kept one ≡ kept_views sha256 (view_tree view.now)) }
 {
     let mut subviews = KeptList::new(alloc);
     keep_into(alloc, &view.subviews, &mut subviews)?;
     let below = hashes_of(alloc, &subviews)?;
-    let roles = keep_leaf(3, &view.core.seed, spelled_roles(alloc, view)?);
-    let core = keep_leaf(4, &view.core.seed, spelled_core(alloc, &view.core)?);
-    let digest = view_hash(&roles.digest, &core.digest, below.as_slice());
+    let informees_leaf = keep_leaf(3, &view.core.seed, spelled_roles(alloc, view)?);
+    let contents_leaf = keep_leaf(4, &view.core.seed, spelled_core(alloc, &view.core)?);
+    let hash = view_hash(&informees_leaf.hash, &contents_leaf.hash, below.as_slice());
     Ok(KeptView {
         informees: view.informees.clone()?,
-        roles,
-        core,
-        digest,
+        informees_leaf,
+        contents_leaf,
+        hash,
         subviews,
     })
 }
@@ -128,7 +126,7 @@ fn hashes_of(alloc: Global, views: &KeptList) -> Result<Vec<Hash>, AllocError>
 {
     let mut hashes = Vec::new(alloc);
     for view in views.as_slice() {
-        hashes.push(view.digest)?;
+        hashes.push(view.hash)?;
     }
     Ok(hashes)
 }

@@ -1,26 +1,39 @@
 //! Laws of trees, each the contract of a function with nothing to do.
-ghost use Rattle.std.specs.Prelude.{◌≡◌, ◌⊎◌, ◌||◌, ℕ, Bool, false, List, [], Some, None, Ok, if◌then◌else◌};
+ghost use Rattle.std.specs.Prelude.{◌≡◌, ◌⊎◌, ◌||◌, ◌<◌, ◌↔◌, ℕ, Bool, false, true, List, [], length, nat_eq, All, Contains, Some, None, Ok, if◌then◌else◌};
+ghost use Rattle.std.specs.List.{AllPairs, list_any};
 ghost use Rattle.ledger_terms.specs.Trees.{Act};
 ghost use Rattle.ledger_terms.specs.Forest.{Forest};
 ghost use Rattle.ledger_terms.specs.declared.action.Action.{Action};
+ghost use Rattle.ledger_terms.specs.Topologies.{AreApart};
 ghost use Rattle.ledger_model.specs.declared.roles.Roles.{Roles};
+ghost use Rattle.ledger_model.specs.Opening.{Transaction, is_root_path, seen_paths};
 ghost use Rattle.wire_form.specs.InRange.{IsName, IsPartySet};
 ghost use Rattle.wire_form.specs.Reading.{set_at};
 ghost use Rattle.wire_form.specs.Spelling.{spell_parties};
 ghost use Rattle.view_split.specs.Split.{split};
-ghost use Rattle.blind_tree.specs.LeafBytes.{AreSpellable};
+ghost use Rattle.view_split.specs.SplitView.{SplitView};
+ghost use Rattle.blind_tree.specs.LeafBytes.{AreSpellable, AreSpellableViews};
+ghost use Rattle.blind_tree.specs.Vertices.{IsNarrow};
+ghost use Rattle.view_split.specs.ViewLists.{view_tree};
+ghost use Rattle.view_split.specs.declared.placed_view.PlacedView.{PlacedView};
 ghost use Rattle.blind_tree.specs.Limits.{AllAmong, AreFew, KeepLimits};
 ghost use Rattle.view_split.specs.Filled.{AreFilled};
-ghost use Rattle.view_split.specs.Placed.{tops};
+ghost use Rattle.view_split.specs.Placed.{placed_forest, tops};
+ghost use Rattle.view_split.specs.Numbered.{map_forest};
+ghost use Rattle.view_split.specs.declared.opened_tree.OpenedTree.{OpenedTree};
 ghost use Rattle.view_split.specs.Seen.{seen_views};
 ghost use Rattle.ledger_terms.specs.declared.host.Host.{Host};
 ghost use Rattle.view_split.specs.declared.views.Views.{Views};
 ghost use Rattle.blind_tree.specs.declared.recipient.Recipient.{Recipient};
-ghost use Rattle.blind_tree.specs.Blind.{blind_for, blind_for_mediator, blind_to, sees_root, transaction_digest};
-ghost use Rattle.blind_tree.specs.Seen.{AreInRange, contents_shown, IsSmall, paths_seen, roles_of_all};
-ghost use Rattle.blind_tree.specs.Opening.{head_at, roles_at, told, tree_opened};
-ghost use Rattle.blind_tree.specs.CoreReading.{found_at};
-ghost use Rattle.blind_tree.specs.Leaves.{AreRoles, IsCommon, IsFound, spell_common, spell_found, spell_roles};
+ghost use Rattle.blind_tree.specs.Blind.{Salts, blind_for, blind_for_mediator, blind_to, digest_with, has_sight};
+ghost use Rattle.blind_tree.specs.Blind.{is_host_named, sees_root, shown_to, transaction_digest, tree_to, tree_to_mediator, vertices_shown};
+ghost use Rattle.blind_tree.specs.Overlay.{either, overlay};
+ghost use Rattle.blind_tree.specs.Recipients.{is_recipient, recipients_of};
+ghost use Rattle.blind_tree.specs.Seen.{AreInRange, AreViews, contents_shown, IsSmall, paths_seen, roles_of_all};
+ghost use Rattle.blind_tree.specs.Opening.{head_at, roles_at, informee_tree_of, tree_opened, views_read};
+ghost use Rattle.blind_tree.specs.CoreReading.{core_at};
+ghost use Rattle.blind_tree.specs.Cores.{spell_node};
+ghost use Rattle.blind_tree.specs.Leaves.{AreRoles, IsCommon, IsNode, spell_common, spell_roles};
 ghost use Rattle.sha2.specs.Sha256.{sha256};
 ghost use Rattle.wire_form.specs.Laws.{HasOneSpelling, IsEnoughFor, NoneBeginsAnother};
 ghost use Rattle.blind_tree.specs.declared.tree.Tree.{Tree};
@@ -43,7 +56,7 @@ pub fn leaves_have_one_spelling()
     ensures common { HasOneSpelling spell_common IsCommon head_at }
     ensures requesters { HasOneSpelling spell_parties IsPartySet set_at }
     ensures roles { HasOneSpelling spell_roles AreRoles roles_at }
-    ensures contents { HasOneSpelling spell_found IsFound found_at }
+    ensures contents { HasOneSpelling spell_node IsNode core_at }
 {}
 
 /// Two trees of one root agree on every leaf that both show, or two different strings, one hashed in each, have one hash.
@@ -52,10 +65,57 @@ pub fn one_root_one_tree()
         → AgreeTrees t u ⊎ Clash sha256 (tree_strings sha256 t) (tree_strings sha256 u) }
 {}
 
-/// All trees of one transaction have one root.
+/// All trees of one transaction have one root, also with other salts of the first two leaves than those of its seed.
 pub fn blinding_keeps_the_root()
-    ensures root { (views : Views) (sender : List ℕ) (hosts : List Host) (to : Recipient) → root_digest sha256 (blind_for sha256 views sender hosts to) ≡ transaction_digest sha256 views sender }
+    ensures root { (views : Views) (sender : List ℕ) (hosts : List Host) (to : Recipient)
+        → root_digest sha256 (blind_for sha256 views sender hosts to) ≡ transaction_digest sha256 views sender }
+    ensures participants { (salts : Salts) (sender : List ℕ) (transaction : Transaction) (views : Forest SplitView) (hosts : List ℕ → Bool) (sends : Bool)
+        → root_digest sha256 (tree_to sha256 salts sender transaction views hosts sends) ≡ digest_with sha256 salts sender transaction views }
+    ensures mediator { (salts : Salts) (sender : List ℕ) (transaction : Transaction) (views : Forest SplitView)
+        → root_digest sha256 (tree_to_mediator sha256 salts sender transaction views) ≡ digest_with sha256 salts sender transaction views }
     ensures sized { (views : Views) (sender : List ℕ) (hosts : List Host) (to : Recipient) → IsSized (blind_for sha256 views sender hosts to) }
+{}
+
+/// The words for who sees what tell one thing: a tree shows contents at the paths that the ledger's rules name, and somebody sees a
+/// view, or a root view, where one of these is a path, or the path of a root.
+pub fn sight_is_that_of_the_rules()
+    ensures paths { (roles : Action → Roles) (hosts : List ℕ → Bool) (roots : Forest Act)
+        → paths_seen hosts false [] 0 (split roles roots) ≡ seen_paths roles hosts roots }
+    ensures views { (roles : Action → Roles) (hosts : List ℕ → Bool) (roots : Forest Act)
+        → list_any (λ (path : List ℕ). true) (seen_paths roles hosts roots) ≡ has_sight hosts (split roles roots) }
+    ensures root_views { (roles : Action → Roles) (hosts : List ℕ → Bool) (roots : Forest Act)
+        → list_any is_root_path (seen_paths roles hosts roots) ≡ sees_root hosts (split roles roots) }
+{}
+
+/// The recipients of a transaction's trees are its sender and each participant that sees a view. Where no two participants have a
+/// name in common, the one with the sender's name is the sender.
+pub fn recipients_are_the_sender_and_who_sees()
+    ensures recipients { (hosts : List Host) (views : Forest SplitView) (sender p : ℕ) → sender < length hosts
+        → Contains (recipients_of hosts views sender) p ↔ (is_recipient hosts views sender p ≡ true) }
+    ensures sender { (hosts : List Host) (sender p : ℕ) (name : List ℕ) → AllPairs AreApart hosts → is_host_named hosts sender name ≡ true
+        → is_host_named hosts p name ≡ nat_eq p sender }
+{}
+
+/// What two participants' trees show together is what the tree of a host of both would show, and of what is shown whole every view
+/// is read.
+pub fn trees_together_show_what_both_see()
+    ensures together { (hosts others : List ℕ → Bool) (above below : Bool) (views : Forest SplitView)
+        → overlay (vertices_shown sha256 (shown_to hosts above views)) (vertices_shown sha256 (shown_to others below views))
+        ≡ vertices_shown sha256 (shown_to (either hosts others) (above || below) views) }
+    ensures whole { (hosts : List ℕ → Bool) (views : Forest SplitView) → AreViews views → AreFilled views
+        → views_read (vertices_shown sha256 (shown_to hosts true views)) ≡ Ok views }
+{}
+
+/// Each view of an opened tree has as many holes as views stand directly below it.
+pub fn opened_views_are_filled()
+    ensures { (tree : Tree) (opened : OpenedTree) → tree_opened tree ≡ Ok opened
+        → AreFilled (map_forest (λ (v : List ℕ × SplitView). v.1) (placed_forest opened.views)) }
+{}
+
+/// Every view of an opened tree can be encoded again, whatever bytes it was read from.
+pub fn opened_views_are_spellable()
+    ensures { (tree : Tree) (opened : OpenedTree) → IsNarrow tree.views → tree_opened tree ≡ Ok opened
+        → All (λ (placed : PlacedView). AreSpellableViews (view_tree placed.view)) opened.views }
 {}
 
 /// A participant's tree shows the contents of exactly the views that it sees, and the mediator's of none.
@@ -68,7 +128,8 @@ pub fn contents_are_shown_where_seen()
 /// A transaction's trees can be written where at most 64 of its views stand side by side and 16 one below another, and its
 /// leaves have fewer than 2^32 bytes.
 pub fn blinded_trees_are_spellable()
-    ensures { (views : Views) (sender : List ℕ) (hosts : List Host) (to : Recipient) → IsSmall sender views → IsSpellableTree (blind_for sha256 views sender hosts to) }
+    ensures { (views : Views) (sender : List ℕ) (hosts : List Host) (to : Recipient) → IsSmall sender views
+        → IsSpellableTree (blind_for sha256 views sender hosts to) }
 {}
 
 /// What a participant's tree opens are the topmost views that it sees, with all below them, where each view's holes are the
@@ -76,9 +137,14 @@ pub fn blinded_trees_are_spellable()
 pub fn trees_open_what_is_seen()
     ensures participants { (views : Views) (sender : List ℕ) (hosts : List ℕ → Bool) (is_sender : Bool) → AreInRange sender views → AreFilled views.roots
         → tree_opened (blind_to sha256 views sender hosts is_sender)
-        ≡ Ok (record { sender = sender; ledger_time = views.ledger_time; requesters = if (sees_root hosts views.roots || is_sender) then Some views.act_as else None; views = tops (seen_views hosts views.roots) }) }
+        ≡ Ok (record {
+          sender = sender;
+          ledger_time = views.ledger_time;
+          requesters = if (sees_root hosts views.roots || is_sender) then Some views.act_as else None;
+          views = tops (seen_views hosts views.roots);
+        }) }
     ensures mediator { (views : Views) (sender : List ℕ) → AreInRange sender views
-        → told (blind_for_mediator sha256 views sender) ≡ Ok (record { sender = sender; views = roles_of_all [] 0 views.roots }) }
+        → informee_tree_of (blind_for_mediator sha256 views sender) ≡ Ok (record { sender = sender; views = roles_of_all [] 0 views.roots }) }
 {}
 
 /// The views of a transaction within the limits can be blinded, and its trees can be written: with at most 64 actions, 16 of
@@ -87,5 +153,6 @@ pub fn split_views_are_within()
     ensures blinded { (roles : Action → Roles) (parties : List (List ℕ)) (views : Views) (roots : Forest Act)
         → views.roots ≡ split roles roots → IsPartySet views.act_as → KeepLimits roots → AreFew parties → AllAmong roles parties roots → AreSpellable views }
     ensures small { (roles : Action → Roles) (parties : List (List ℕ)) (views : Views) (sender : List ℕ) (roots : Forest Act)
-        → views.roots ≡ split roles roots → IsName sender → IsPartySet views.act_as → KeepLimits roots → AreFew parties → AllAmong roles parties roots → IsSmall sender views }
+        → views.roots ≡ split roles roots → IsName sender → IsPartySet views.act_as → KeepLimits roots → AreFew parties
+        → AllAmong roles parties roots → IsSmall sender views }
 {}

@@ -11,7 +11,7 @@ use crate::decode::finish;
 use crate::leaf::Leaf;
 use ledger_terms::{Bytes, Name, PartySet};
 use std::alloc::Global;
-use wire_form::{Reader, Stop, WireFault};
+use wire_form::{Reader, ReaderFault, WireFault};
 
 /// Sender and ledger time of a common leaf.
 pub(crate) fn read_head(leaf: &Leaf) -> Result<(Name, u64), WireFault>
@@ -28,7 +28,7 @@ pub(crate) fn read_head(leaf: &Leaf) -> Result<(Name, u64), WireFault>
 }
 
 #[tactic(auto, unfolding(crate::specs::Opening::head_at))]
-fn head(reader: &mut Reader<'_>) -> Result<(Name, u64), Stop>
+fn head(reader: &mut Reader<'_>) -> Result<(Name, u64), ReaderFault>
     ensures { Gives (λ x. (x, reader.new)) result (head_at reader.old) }
 {
     let sender = reader.name()?;
@@ -51,7 +51,7 @@ pub(crate) fn read_roles(alloc: Global, leaf: &Leaf) -> Result<(PartySet, PartyS
 }
 
 #[tactic(auto, unfolding(crate::specs::Opening::roles_at))]
-fn roles(reader: &mut Reader<'_>, alloc: Global) -> Result<(PartySet, PartySet), Stop>
+fn roles(reader: &mut Reader<'_>, alloc: Global) -> Result<(PartySet, PartySet), ReaderFault>
     ensures { Gives (λ x. (x, reader.new)) result (roles_at reader.old) }
 {
     let informees = reader.parties(alloc)?;

@@ -1,28 +1,30 @@
 //! Merkle trees of transactions: their hashes and bytes, what they show to whom, and what they open.
 #![tactic(auto)]
 
-pub mod blinding;
+mod blinding;
 mod core_bytes;
 mod core_read;
 mod cut;
-pub mod decode;
-pub mod encode;
-mod found_core;
-pub mod informees;
+mod decode;
+mod encode;
+mod holes;
+mod informees;
 mod keep;
-mod kept;
+mod kept_leaf;
+mod kept_list;
+mod kept_tree;
 pub mod laws;
-pub mod leaf;
+mod leaf;
 mod leaves;
-mod mark;
-pub mod opening;
-pub mod recipient;
-pub mod roles_tree;
-pub mod root;
-pub mod spellable;
-pub mod tree;
-pub mod vertex;
-pub mod view_roles;
+mod opening;
+mod recipient;
+mod roles_tree;
+mod root;
+mod sight;
+mod spellable;
+mod tree;
+mod vertex;
+mod view_roles;
 
 pub use blinding::{blind, blind_all};
 pub use decode::decode_tree;
@@ -33,6 +35,7 @@ pub use opening::opened;
 pub use recipient::{Recipient, RecipientList};
 pub use roles_tree::RolesTree;
 pub use root::{root_of, verify};
+pub use sight::sees_any_view;
 pub use spellable::{are_spellable, is_spellable};
 pub use tree::{Tree, TreeList};
 pub use vertex::{Vertex, VertexList};

@@ -10,6 +10,7 @@ ghost use Rattle.blind_tree.specs.Opening.{placed, tree_opened, view_read, views
 ghost use Rattle.blind_tree.specs.Opened.{inner_opened, opened_after, vertex_read};
 
 use crate::core_read::read_core;
+use crate::holes::hole_count;
 use crate::informees::path_below;
 use crate::leaf::Leaf;
 use crate::leaves::{are_plain, read_head, read_requesters, read_roles, shown_len};
@@ -127,8 +128,8 @@ fn read_view(
     ensures { Follows WireFault.Memory result (view_read informees.now contents.now subviews.now) }
 {
     let (informees, confirmers) = read_roles(alloc, informees)?;
-    let found = read_core(alloc, contents)?;
-    if found.holes != subviews.len() {
+    let core = read_core(alloc, contents)?;
+    if hole_count(&core.children) != subviews.len() {
         return Err(WireFault::Bad {
             at: shown_len(contents),
         });
@@ -137,7 +138,7 @@ fn read_view(
     Ok(View {
         informees,
         confirmers,
-        core: found.core,
+        core,
         subviews,
     })
 }

@@ -1,29 +1,58 @@
 //! Whether transactions and trees have room in a spelling.
-ghost use Rattle.std.specs.Prelude.{◌↔◌, ◌≤◌, IsTrue};
-ghost use Rattle.view_split.specs.CoreLists.{act_of};
+ghost use Rattle.std.specs.Prelude.{◌↔◌, ◌≤◌, ◌<◌, ◌^◌, ◌∷◌, [], ℕ, List, IsTrue};
+ghost use Rattle.wire_form.specs.InRange.{IsHash, IsName};
+ghost use Rattle.view_split.specs.Holed.{Inner, NoMore};
+ghost use Rattle.blind_tree.specs.Seen.{AreChildren, AreInRange, AreViews};
+ghost use Rattle.view_split.specs.CoreLists.{act_of, children_of};
 ghost use Rattle.view_split.specs.ViewLists.{view_tree};
-ghost use Rattle.blind_tree.specs.Cores.{AreSpellableChildren, IsSpellableChild, IsSpellableCore};
+ghost use Rattle.blind_tree.specs.Cores.{AreSpellableChildren, IsSpellableChild, IsSpellableCore, levels};
 ghost use Rattle.blind_tree.specs.LeafBytes.{AreSpellable, AreSpellableViews};
 ghost use Rattle.blind_tree.specs.InRange.{FitLevels, IsSpellableLeaf, IsSpellableTree};
 ghost use Rattle.blind_tree.specs.Vertices.{IsNarrow};
 ghost use Rattle.blind_tree.specs.VertexLists.{one_vertex};
 
+use crate::core_read::{CHILDREN_MAX, LEVELS_BELOW};
+use crate::decode::{LEVELS_MAX, VERTICES_MAX};
 use crate::leaf::Leaf;
 use crate::tree::Tree;
 use crate::vertex::{Vertex, VertexList};
+use ledger_terms::Hash;
 use view_split::{CoreChild, CoreChildList, CoreNode, View, ViewList, Views};
 use wire_form::{is_spellable_action, is_spellable_set};
 
-/// Whether a transaction can be blinded.
+// The greatest number of views side by side: a step of a path has two bytes.
+const VIEWS_MAX: usize = 65536;
+
+/// Whether a transaction can be blinded. Then what its trees show can be read again, whoever sends it.
 pub fn are_spellable(views: &Views) -> bool
-    ensures { IsTrue result ↔ AreSpellable views.now }
+    ensures exact { IsTrue result ↔ AreSpellable views.now }
+    ensures in_range { (sender : List ℕ) → IsName sender → IsTrue result → AreInRange sender views.now }
 {
-    is_spellable_set(&views.act_as) && views.roots.len() <= 65536 && are_views(&views.roots)
+    is_time(views.ledger_time)
+        && is_spellable_set(&views.act_as)
+        && views.roots.len() <= VIEWS_MAX
+        && are_views(&views.roots)
+}
+
+// The next two hold of every time and hash. They are asked so that the contracts here can say what the types keep.
+fn is_time(time: u64) -> bool
+    ensures always { IsTrue result }
+    ensures fits { time < 2 ^ 64 }
+{
+    time <= u64::MAX
+}
+
+fn is_hash(hash: &Hash) -> bool
+    ensures always { IsTrue result }
+    ensures count { IsHash hash.now }
+{
+    !hash.as_bytes().is_empty()
 }
 
 #[cycle(views)]
 fn are_views(views: &ViewList) -> bool
-    ensures { IsTrue result ↔ AreSpellableViews views.now }
+    ensures exact { IsTrue result ↔ AreSpellableViews views.now }
+    ensures in_range { IsTrue result → AreViews views.now }
 {
     for view in views.as_slice() {
         if !is_view(view) {
@@ -35,25 +64,32 @@ fn are_views(views: &ViewList) -> bool
 
 #[cycle(views)]
 fn is_view(view: &View) -> bool
-    ensures { IsTrue result ↔ AreSpellableViews (view_tree view.now) }
+    ensures exact { IsTrue result ↔ AreSpellableViews (view_tree view.now) }
+    ensures in_range { IsTrue result → AreViews (view_tree view.now) }
 {
     is_spellable_set(&view.informees)
         && is_spellable_set(&view.confirmers)
         && is_core(&view.core)
-        && view.subviews.len() <= 65536
+        && is_nested(&view.core.children, LEVELS_BELOW)
+        && view.subviews.len() <= VIEWS_MAX
         && are_views(&view.subviews)
 }
 
 #[cycle(cores)]
 fn is_core(core: &CoreNode) -> bool
-    ensures { IsTrue result ↔ IsSpellableCore (act_of core.now) core.now.children }
+    ensures exact { IsTrue result ↔ IsSpellableCore (act_of core.now) core.now.children }
+    ensures in_range { IsTrue result → AreChildren (Inner (act_of core.now) core.now.children NoMore) }
 {
-    is_spellable_action(&core.action) && core.children.len() <= 63 && are_children(&core.children)
+    is_hash(&core.seed)
+        && is_spellable_action(&core.action)
+        && core.children.len() <= CHILDREN_MAX as usize
+        && are_children(&core.children)
 }
 
 #[cycle(cores)]
 fn are_children(children: &CoreChildList) -> bool
-    ensures { IsTrue result ↔ AreSpellableChildren children.now }
+    ensures exact { IsTrue result ↔ AreSpellableChildren children.now }
+    ensures in_range { IsTrue result → AreChildren children.now }
 {
     for child in children.as_slice() {
         if !is_child(child) {
@@ -65,10 +101,34 @@ fn are_children(children: &CoreChildList) -> bool
 
 #[cycle(cores)]
 fn is_child(child: &CoreChild) -> bool
-    ensures { IsTrue result ↔ IsSpellableChild child.now }
+    ensures exact { IsTrue result ↔ IsSpellableChild child.now }
+    ensures in_range { IsTrue result → AreChildren (children_of (child.now ∷ [])) }
 {
     match child {
         CoreChild::Inner(core) => is_core(core),
+        CoreChild::Hole => true,
+    }
+}
+
+// Whether actions stand on at most so many levels.
+#[cycle(nested)]
+fn is_nested(children: &CoreChildList, most: u8) -> bool
+    ensures { IsTrue result ↔ (levels children.now ≤ most) }
+{
+    for child in children.as_slice() {
+        if !is_nested_child(child, most) {
+            return false;
+        }
+    }
+    true
+}
+
+#[cycle(nested)]
+fn is_nested_child(child: &CoreChild, most: u8) -> bool
+    ensures { IsTrue result ↔ (levels (children_of (child.now ∷ [])) ≤ most) }
+{
+    match child {
+        CoreChild::Inner(core) => most > 0 && is_nested(&core.children, most - 1),
         CoreChild::Hole => true,
     }
 }
@@ -86,8 +146,8 @@ fn is_tree(tree: &Tree) -> bool
 {
     is_leaf(&tree.common)
         && is_leaf(&tree.requesters)
-        && tree.views.len() <= 64
-        && are_vertices(&tree.views, 16)
+        && tree.views.len() <= VERTICES_MAX as usize
+        && are_vertices(&tree.views, LEVELS_MAX)
 }
 
 fn is_leaf(leaf: &Leaf) -> bool
@@ -128,7 +188,7 @@ fn is_vertex(vertex: &Vertex, levels: u8) -> bool
         } => {
             is_leaf(informees)
                 && is_leaf(contents)
-                && subviews.len() <= 64
+                && subviews.len() <= VERTICES_MAX as usize
                 && are_vertices(subviews, levels - 1)
         }
     }

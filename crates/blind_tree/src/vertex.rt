@@ -1,5 +1,5 @@
 //! Vertices of trees.
-ghost use Rattle.std.specs.Prelude.{◌≡◌, OnOk, OnErr};
+ghost use Rattle.std.specs.Prelude.{◌≡◌, ◌<◌, ◌^◌, OnOk, OnErr};
 ghost use Rattle.blind_tree.specs.Vertices.{NoVertices, beside, count};
 ghost use Rattle.blind_tree.specs.VertexLists.{vertices_of, one_vertex};
 
@@ -74,7 +74,8 @@ impl VertexList {
     /// How many vertices there are, those below them not counted.
     #[tactic(auto, using(crate::proofs::Grow::counts))]
     pub fn len(&self) -> usize
-        ensures { result ≡ count self.now }
+        ensures vertices { result ≡ count self.now }
+        ensures bound { result < 2 ^ 63 }
     {
         self.vertices.len()
     }

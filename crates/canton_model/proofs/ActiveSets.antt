@@ -11,10 +11,11 @@ use Rattle.canton_model.specs.Timeline.{timeline_of, is_approved_in}
 use Rattle.ledger_model.specs.Opening.{Transaction, roots_in}
 use Rattle.canton_model.specs.Reading.{Reading, is_recipient}
 use Rattle.canton_model.specs.Ledger.{commit_of, read_by, whole_at, commits_below}
-use Rattle.canton_model.specs.Inbox.{Item, inbox, moments, shown_by, shown_in, opened_at, is_received, is_decided_in, clean, is_informed, project_whole, OpensProjection, active_row, has_hosted_stakeholder, is_active_create, created_at_place, created_below, node_active, authentic_below, active_of}
+use Rattle.canton_model.specs.Inbox.{Item, inbox, moments, shown_by, shown_in, opened_at, is_received, is_decided_in, clean, is_informed, project_whole, OpensProjection, active_row, has_hosted_stakeholder, is_active_row, node_active, authentic_below, created_below, created_by, first_of_each, active_of}
+use Rattle.canton_model.proofs.FirstRows.{is_active_create, kept_at_place, kept_below, kept_of, IsOfContracts, first_filtered, active_below, active_by, create_below, create_by}
 use Rattle.canton_model.specs.Genuine.{Genuine, IsSealed, NoCollision}
 use Rattle.canton_model.proofs.Lawful.{Informs}
-use Rattle.ledger_model.proofs.Lists.{In, in_filter, from_filter, in_any, from_any, from_on}
+use Rattle.ledger_model.proofs.Lists.{In, in_append_left, in_append_right, in_filter, from_filter, in_any, from_any, from_on}
 use Rattle.canton_model.proofs.Gathered.{in_gather, gather_in, ledger_gathered}
 use Rattle.canton_model.proofs.HostStatus.{same_bools}
 use Rattle.ledger_model.proofs.Projected.{filter_project, in_project}
@@ -33,14 +34,14 @@ filter_agree_in test test' (x ∷ xs) h =
     let rest = filter_agree_in test test' xs (λ a i. h a (inr i)) in
     rw (first, rest) refl
 
-active_append : (reading : Reading) (p : ParticipantId) (all : List Act) (xs ys : List Commit) → active_of reading p all (xs ++ ys) ≡ active_of reading p all xs ++ active_of reading p all ys
+active_append : (reading : Reading) (p : ParticipantId) (all : List Act) (xs ys : List Commit) → kept_of reading p all (xs ++ ys) ≡ kept_of reading p all xs ++ kept_of reading p all ys
 active_append reading p all [] ys = refl
 active_append reading p all (x ∷ xs) ys =
-    ap (λ (zs : List ActiveRow). created_at_place reading p all x.place (acts x.roots) ++ zs) (active_append reading p all xs ys)
-    ∙ sym (append_assoc (created_at_place reading p all x.place (acts x.roots)) (active_of reading p all xs) (active_of reading p all ys))
+    ap (λ (zs : List ActiveRow). kept_at_place reading p all x.place (acts x.roots) ++ zs) (active_append reading p all xs ys)
+    ∙ sym (append_assoc (kept_at_place reading p all x.place (acts x.roots)) (kept_of reading p all xs) (kept_of reading p all ys))
 
 -- the commit of a place, as actions
-active_of_place : (reading : Reading) (p : ParticipantId) (all : List Act) (b : Bool) (k : ℕ) (w : Option Transaction) → active_of reading p all (commit_if b (commit_of k w)) ≡ created_at_place reading p all k (if b then acts_of (commit_of k w) else [])
+active_of_place : (reading : Reading) (p : ParticipantId) (all : List Act) (b : Bool) (k : ℕ) (w : Option Transaction) → kept_of reading p all (commit_if b (commit_of k w)) ≡ kept_at_place reading p all k (if b then acts_of (commit_of k w) else [])
 active_of_place reading p all true k None = refl
 active_of_place reading p all true k (Some t) = append-nil _
 active_of_place reading p all false k None = refl
@@ -177,25 +178,88 @@ module _ (reading : Reading) (params : Params) (log : List Entry) (lawful : Info
             | inr away ↦ rw away refl
           ]
 
-  active_upto : (m k : ℕ) → m ≤ clean params its → k ≤ m → created_below reading p its (authentic_below reading its m) k ≡ active_of reading p (ledger_part m) (commits_below reading log k)
+  active_upto : (m k : ℕ) → m ≤ clean params its → k ≤ m → kept_below reading p its (authentic_below reading its m) k ≡ kept_of reading p (ledger_part m) (commits_below reading log k)
   active_upto m zero le up = refl
   active_upto m (suc k) le up =
-      let mine = created_at_place reading p (authentic_below reading its m) k (if approved_here k then filter reading.is_authentic (acts (opened_at its k)) else []) in
-      let theirs = created_at_place reading p (ledger_part m) k (if approved k then whole_acts k else []) in
-      let before = active_of reading p (ledger_part m) (commits_below reading log k) in
-      let rest : created_below reading p its (authentic_below reading its m) k ≡ before = active_upto m k le (omega arith) in
+      let mine = kept_at_place reading p (authentic_below reading its m) k (if approved_here k then filter reading.is_authentic (acts (opened_at its k)) else []) in
+      let theirs = kept_at_place reading p (ledger_part m) k (if approved k then whole_acts k else []) in
+      let before = kept_of reading p (ledger_part m) (commits_below reading log k) in
+      let rest : kept_below reading p its (authentic_below reading its m) k ≡ before = active_upto m k le (omega arith) in
       let here : mine ≡ theirs = ap (map (active_row k)) (place_active m k le (omega arith)) in
       let place = active_of_place reading p (ledger_part m) (approved k) k (read_by reading.whole (request_at log k)) in
       let commits = active_append reading p (ledger_part m) (commits_below reading log k) (commit_if (approved k) (whole_at reading log k)) in
       ap (λ (xs : List ActiveRow). xs ++ mine) rest ∙ (ap (λ (xs : List ActiveRow). before ++ xs) (here ∙ sym place) ∙ sym commits)
 
-  mapped_sets : node_active reading p its (clean params its) ≡ active_of reading p (ledger_acts (commits_below reading log (clean params its))) (commits_below reading log (clean params its))
-  mapped_sets =
+  kept_sets : kept_below reading p its (authentic_below reading its (clean params its)) (clean params its) ≡ kept_of reading p (ledger_acts (commits_below reading log (clean params its))) (commits_below reading log (clean params its))
+  kept_sets =
       let same = ledger_gathered approved (whole_at reading log) (clean params its) in
       active_upto (clean params its) (clean params its) (le_refl _) (le_refl _)
-      ∙ ap (λ (all : List Act). active_of reading p all (commits_below reading log (clean params its))) (sym same)
+      ∙ ap (λ (all : List Act). kept_of reading p all (commits_below reading log (clean params its))) (sym same)
 
-  pub active_sets : node_active reading p (inbox reading p (take n log)) (clean params (inbox reading p (take n log))) ≡ active_of reading p (ledger_acts (commits_below reading log (clean params (inbox reading p (take n log))))) (commits_below reading log (clean params (inbox reading p (take n log))))
+  -- a row is of an action of the ledger
+  record OfLedger (r : ActiveRow) : Type 0 where
+    place : ℕ
+    act : Act
+    ok : approved place ≡ true
+    there : In act (whole_acts place)
+    same_id : r.known.id ≡ id_of act.action
+    same_instance : r.known.instance ≡ instance_of act.action
+
+  one_contract : (all : List Act) (rows : List ActiveRow) → ((r : ActiveRow) → In r rows → OfLedger r) → IsOfContracts (is_active_row reading p all) rows
+  one_contract all rows known a b i j same =
+      let x = known a i in
+      let y = known b j in
+      let on : id_of (x.act).action ≡ id_of (y.act).action = sym x.same_id ∙ (same ∙ y.same_id) in
+      let one : instance_of (x.act).action ≡ instance_of (y.act).action = one_instance reading params log lawful distinct genuine sealed opens x.place y.place x.act y.act x.ok y.ok x.there y.there on in
+      let instances : a.known.instance ≡ b.known.instance = x.same_instance ∙ (one ∙ sym y.same_instance) in
+      rw (same, instances) refl
+
+  rows_here : (r : ActiveRow) → In r (created_below reading its (clean params its)) → OfLedger r
+  rows_here r h =
+      let w = create_below reading its (clean params its) r h in
+      let here = at_place w.0 w.1 (request_at log w.0) refl in
+      elim here.1 [
+        | inl known ↦ record {
+          place = w.0;
+          act = w.3;
+          ok = sym known ∙ w.2;
+          there = shown_whole w.0 w.3 (subst (λ (x : Forest Act). In w.3 (acts x)) here.0 w.4);
+          same_id = ap (λ (x : ActiveRow). x.known.id) (sym w.5);
+          same_instance = ap (λ (x : ActiveRow). x.known.instance) (sym w.5);
+        }
+        | inr shut ↦ absurd (subst (λ (x : Forest Act). In w.3 (acts x)) shut w.4)
+      ]
+
+  rows_there : (r : ActiveRow) → In r (created_by (commits_below reading log (clean params its))) → OfLedger r
+  rows_there r h =
+      let w = create_by (commits_below reading log (clean params its)) r h in
+      let inside : In w.2 (ledger_acts (commits_below reading log (clean params its))) = in_ledger_acts (commits_below reading log (clean params its)) w.0 w.2 w.1 w.3 in
+      let gathered : In w.2 (ledger_part (clean params its)) = subst (λ (xs : List Act). In w.2 xs) (ledger_gathered approved (whole_at reading log) (clean params its)) inside in
+      let k = in_gather approved whole_acts (clean params its) w.2 gathered in
+      record {
+        place = k.0;
+        act = w.2;
+        ok = k.2;
+        there = k.3;
+        same_id = ap (λ (x : ActiveRow). x.known.id) (sym w.4);
+        same_instance = ap (λ (x : ActiveRow). x.known.instance) (sym w.4);
+      }
+    where
+      in_ledger_acts : (commits : List Commit) (c : Commit) (a : Act) → In c commits → In a (acts c.roots) → In a (ledger_acts commits)
+      in_ledger_acts [] c a i j = absurd i
+      in_ledger_acts (x ∷ xs) c a (inl same) j = in_append_left (acts x.roots) (ledger_acts xs) a (subst (λ (y : Commit). In a (acts y.roots)) (sym same) j)
+      in_ledger_acts (x ∷ xs) c a (inr t) j = in_append_right (acts x.roots) (ledger_acts xs) a (in_ledger_acts xs c a t j)
+
+  mapped_sets : node_active reading p its (clean params its) ≡ active_of reading p (commits_below reading log (clean params its))
+  mapped_sets =
+      let mine = authentic_below reading its (clean params its) in
+      let commits = commits_below reading log (clean params its) in
+      let theirs = ledger_acts commits in
+      first_filtered (is_active_row reading p mine) (created_below reading its (clean params its)) (one_contract mine _ rows_here)
+      ∙ (ap first_of_each (active_below reading p mine its (clean params its) ∙ (kept_sets ∙ sym (active_by reading p theirs commits)))
+      ∙ sym (first_filtered (is_active_row reading p theirs) (created_by commits) (one_contract theirs _ rows_there)))
+
+  pub active_sets : node_active reading p (inbox reading p (take n log)) (clean params (inbox reading p (take n log))) ≡ active_of reading p (commits_below reading log (clean params (inbox reading p (take n log))))
   active_sets =
-      subst (λ (all : List Item). node_active reading p all (clean params all) ≡ active_of reading p (ledger_acts (commits_below reading log (clean params all))) (commits_below reading log (clean params all)))
+      subst (λ (all : List Item). node_active reading p all (clean params all) ≡ active_of reading p (commits_below reading log (clean params all)))
       (sym (inbox_is_mapped reading params log p n genuine.timely)) mapped_sets

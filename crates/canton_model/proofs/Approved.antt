@@ -11,7 +11,7 @@ use Rattle.canton_model.specs.Mediation.{scan, scan_request}
 use Rattle.ledger_model.specs.Opening.{Transaction, OpenedView, Shown}
 use Rattle.canton_model.specs.Reading.{Reading}
 use Rattle.canton_model.specs.Ledger.{VerdictFits, FitsIfVerdict, commit_of, read_by, whole_at}
-use Rattle.canton_model.specs.Inbox.{Item, item_time, inbox, past_in, pending_in, OpensProjection}
+use Rattle.canton_model.specs.Inbox.{Item, item_time, inbox, status_in_inbox, is_locked_in_inbox, OpensProjection}
 use Rattle.canton_model.specs.Checks.{Check, first_shown, checks, verdict_on_view, is_confirmed_by, verdicts_on, verdicts_owed, is_requested}
 use Rattle.canton_model.specs.Genuine.{ResponseFits, FitsIfResponse, Genuine, IsSealed, IsCovered, IsRootCovered, IsReading}
 use Rattle.ledger_model.proofs.Lists.{In, in_append_left, in_append_right, in_from_Contains, contains_from_In, in_filter, in_any, in_at, in_map, in_drop_in, in_take_in}
@@ -96,7 +96,8 @@ module _ (reading : Reading) (params : Params) (log : List Entry) (genuine : Gen
 
   -- the checks of p on a view of what it is shown at place k
   abbrev pub its_checks : ℕ → ParticipantId → Shown → OpenedView → List Check
-  its_checks k p s view = checks reading params p (item_time (slice_get (items_of k p) k)) s view (past_in reading (items_of k p) k) (pending_in reading params (items_of k p) k)
+  its_checks k p s view =
+      checks reading params p (item_time (slice_get (items_of k p) k)) s view (status_in_inbox reading (items_of k p) k) (is_locked_in_inbox reading params (items_of k p) k)
 
   -- each reason fails of an action of the core of such a view
   pub unshown : (k i : ℕ) (q : Request) (p : ParticipantId) (s : Shown) (view : OpenedView) (a : Act) (c : Check) → is_approved_in k (timeline_of log) ≡ true → request_at log k ≡ Some q → reading.shown p q ≡ Some s → In view s.views → is_confirmed_by reading p view ≡ true → In (i, a) view.core → In c (its_checks k p s view) → c.is_shown_by (i, a) ≡ false

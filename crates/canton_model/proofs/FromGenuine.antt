@@ -13,7 +13,7 @@ use Rattle.canton_model.specs.Log.{Params, Entry, Request, request_at}
 use Rattle.canton_model.specs.Timeline.{timeline_of, is_approved_in}
 use Rattle.ledger_model.specs.Opening.{Transaction, OpenedView, Shown, roots_in}
 use Rattle.canton_model.specs.Reading.{Reading}
-use Rattle.canton_model.specs.Ledger.{commit_of, read_by, whole_at, opened_to, requests_of, ledger}
+use Rattle.canton_model.specs.Ledger.{commit_of, read_by, whole_at, opened_to, requests_of, ledger, is_guard}
 use Rattle.canton_model.specs.Inbox.{has_hosted_stakeholder, is_informed, project_whole, OpensProjection}
 use Rattle.canton_model.specs.Checks.{Check}
 use Rattle.canton_model.specs.Genuine.{Genuine, IsSealed, NoCollision}
@@ -57,7 +57,7 @@ some_shown (Some s) i a h = (s, refl, h)
 module _ (reading : Reading) (params : Params) (log : List Entry) (lawful : Informs reading) (distinct : NoCollision reading log) (genuine : Genuine reading params log) (sealed : (k : ℕ) (request : Request) → request_at log k ≡ Some request → IsSealed reading request) (opens : (p : ParticipantId) → OpensProjection reading p log) where
   -- p confirms a signatory of the instance that the ledger's actions on the contract carry
   abbrev pub guards : ParticipantId → Hash → Bool
-  guards p c = list_any (λ (a : Act). is_on c a && list_any (reading.confirms p) ((reading.language).signatories (instance_of a.action))) (ledger_acts (ledger reading log))
+  guards = is_guard reading log
 
   abbrev pub r : Requests
   r = requests_of reading params log guards

@@ -61,14 +61,14 @@ module _ (reading : Reading) (p : ParticipantId) (log : List Entry) where
   same_decision m request at here Tick = refl
   same_decision m request at here (VerdictMessage v) = same_told m request at here v
 
-  same_verdicts : (m : ℕ) (request : Request) → request_at log m ≡ Some request → is_recipient reading p request ≡ true → (xs : List Entry) → verdict_on m (moments (map item_of xs)) ≡ verdict_on m (timeline_of xs)
+  pub same_verdicts : (m : ℕ) (request : Request) → request_at log m ≡ Some request → is_recipient reading p request ≡ true → (xs : List Entry) → verdict_on m (moments (map item_of xs)) ≡ verdict_on m (timeline_of xs)
   same_verdicts m request at here [] = refl
   same_verdicts m request at here (x ∷ xs) =
       let first = same_decision m request at here x.message in
       let rest = same_verdicts m request at here xs in
       rw (first, rest) refl
 
-  same_past : (time : ℕ) (xs : List Entry) → is_past time (moments (map item_of xs)) ≡ is_past time (timeline_of xs)
+  pub same_past : (time : ℕ) (xs : List Entry) → is_past time (moments (map item_of xs)) ≡ is_past time (timeline_of xs)
   same_past time [] = refl
   same_past time (x ∷ xs) = let rest = same_past time xs in ap (λ (b : Bool). nat_lt time x.time || b) rest
 
@@ -100,7 +100,7 @@ module _ (reading : Reading) (p : ParticipantId) (log : List Entry) where
   none_at None e = refl
   none_at (Some entry) e = nothing_opened entry.message e
 
-  same_time : (o : Option Entry) → item_time (option_map item_of o) ≡ time_of o
+  pub same_time : (o : Option Entry) → item_time (option_map item_of o) ≡ time_of o
   same_time None = refl
   same_time (Some entry) = refl
 
@@ -289,7 +289,7 @@ module _ (reading : Reading) (params : Params) (log : List Entry) (p : Participa
   node_log_projected = parts_projected (clean params items) (le_refl (clean params items))
 
 -- lists joined by place that agree at each place
-gather_same : (keeps keeps' : ℕ → Bool) (f f' : ℕ → List Act) (k : ℕ) → ((m : ℕ) → m < k → (if keeps m then f m else []) ≡ (if keeps' m then f' m else [])) → gather keeps f k ≡ gather keeps' f' k
+pub gather_same : (keeps keeps' : ℕ → Bool) (f f' : ℕ → List Act) (k : ℕ) → ((m : ℕ) → m < k → (if keeps m then f m else []) ≡ (if keeps' m then f' m else [])) → gather keeps f k ≡ gather keeps' f' k
 gather_same keeps keeps' f f' zero h = refl
 gather_same keeps keeps' f f' (suc k) h =
     let rest = gather_same keeps keeps' f f' k (λ m lt. h m (omega arith)) in

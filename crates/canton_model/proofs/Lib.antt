@@ -9,6 +9,16 @@ pub mod Fits
 pub mod Mediated
 pub mod Approved
 pub mod FromGenuine
+pub mod FirstRows
 pub mod ActiveSets
+pub mod RejectionChecks
+pub mod HostLaw
 pub mod Rejections
 pub mod Outcomes
+pub mod LongerLogs
+pub mod InboxOutcomes
+pub mod AskedParticipants
+pub mod ExampleReading
+pub mod WorkedConforms
+pub mod WorkedSealed
+pub mod WorkedLog

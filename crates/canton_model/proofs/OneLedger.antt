@@ -4,7 +4,8 @@ use Rattle.std.specs.Prelude.{slice_get, if◌then◌else◌}
 use Rattle.std.proofs.lemmas.Bool.{cases_Bool, and_from, and_parts, and_cases, or_parts, both_ways, not_from_false, not-false}
 use Rattle.ledger_model.specs.Terms.{Act, id_of, instance_of, is_create, is_consuming, is_on, creates, consumes}
 use Rattle.ledger_model.specs.Forest.{ledger_acts}
-use Rattle.ledger_model.specs.Status.{Consumed, status_after, is_unknown, is_active}
+use Rattle.ledger_model.specs.Status.{status_after, is_unknown, is_active}
+use Rattle.ledger_model.specs.declared.status.Status.TheVariants.{Consumed}
 use Rattle.ledger_model.specs.Consistency.{Consistent, SameContract}
 use Rattle.canton_model.specs.Evidence.{Requests, acts_of, ledger_below, gather, past_at, pending_at, authentic_on, Opened, Final, Passes, Checked}
 use Rattle.ledger_model.proofs.Lists.{In, in_append_left, in_append_right, in_append_cases, in_from_Contains, contains_from_In, in_filter, from_filter, filter_append, filter_place, in_any, from_any, at_in, at_in_take, in_take_at, in_take_in, in_at, at_split, EachAfter, each_at, each_from, each_append, on_from, from_on}

@@ -10,7 +10,7 @@ use Rattle.canton_model.specs.Mediation.{is_response_of, has_responded, scan}
 use Rattle.canton_model.specs.Reading.{Reading}
 use Rattle.canton_model.specs.Inbox.{OpensProjection}
 use Rattle.canton_model.specs.Genuine.{Genuine, IsSealed, NoCollision}
-use Rattle.canton_model.specs.Causes.{has_responded_by, TimeoutHolds, ExpiryHolds, CauseOf}
+use Rattle.canton_model.specs.Causes.{has_responded_by, TimeoutHolds, ExpiryHolds, LocalCauseOf, CauseOf}
 use Rattle.canton_model.proofs.Lawful.{Informs}
 use Rattle.ledger_model.proofs.Lists.{In, in_any, from_any, in_at, at_in, at_in_take, in_take_in, in_drop_in, in_map}
 use Rattle.canton_model.proofs.Decided.{rising, slice_get_drop}
@@ -18,7 +18,8 @@ use Rattle.canton_model.proofs.InboxFacts.{slice_get_take}
 use Rattle.canton_model.proofs.HostStatus.{same_bools}
 use Rattle.canton_model.proofs.Mediated.{Late, timeout}
 use Rattle.canton_model.proofs.Approved.{response_message}
-use Rattle.canton_model.proofs.Rejections.{decided_scan, request_there, rejection_holds}
+use Rattle.canton_model.proofs.RejectionChecks.{decided_scan, request_there, rejection_stands}
+use Rattle.canton_model.proofs.Rejections.{rejection_holds}
 
 filter_same : {X : Type 0} (f g : X → Bool) (xs : List X) → ((x : X) → f x ≡ g x) → filter f xs ≡ filter g xs
 filter_same f g [] h = refl
@@ -102,13 +103,21 @@ module _ (reading : Reading) (params : Params) (log : List Entry) (genuine : Gen
   decided_by None true d h = cc
   decided_by None false d h = cc
 
-  module _ (lawful : Informs reading) (distinct : NoCollision reading log) (sealed : (k : ℕ) (request : Request) → request_at log k ≡ Some request → IsSealed reading request) (opens : (p : ParticipantId) → OpensProjection reading p log) where
-    pub cause_holds : (j : ℕ) (outcome : Outcome) → outcome_of (timeline_of log) j (decision_time_of params log j) ≡ outcome → CauseOf reading params log j outcome
-    cause_holds j Undecided h = tt
-    cause_holds j Expired h = expiry_holds j (verdict_on j (timeline_of log)) (is_past (decision_time_of params log j) (timeline_of log)) refl refl h
-    cause_holds j (Decided Approved) h = tt
-    cause_holds j (Decided (Rejected from view reason)) h = rejection_holds reading params log lawful distinct genuine sealed opens j from view reason (decided_by _ _ _ h)
-    cause_holds j (Decided (TimedOut missing)) h =
-        let scanned = decided_scan reading params log lawful distinct genuine sealed opens j (TimedOut missing) (decided_by _ _ _ h) in
-        let q = request_there reading params log lawful distinct genuine sealed opens j scanned.0 (TimedOut missing) scanned.1 scanned.2 (request_at log j) refl in
+  module _ (opens : (p : ParticipantId) → OpensProjection reading p log) where
+    pub local_cause_holds : (j : ℕ) (outcome : Outcome) → outcome_of (timeline_of log) j (decision_time_of params log j) ≡ outcome → LocalCauseOf reading params log j outcome
+    local_cause_holds j Undecided h = tt
+    local_cause_holds j Expired h = expiry_holds j (verdict_on j (timeline_of log)) (is_past (decision_time_of params log j) (timeline_of log)) refl refl h
+    local_cause_holds j (Decided Approved) h = tt
+    local_cause_holds j (Decided (Rejected from view reason)) h = rejection_stands reading params log genuine opens j from view reason (decided_by _ _ _ h)
+    local_cause_holds j (Decided (TimedOut missing)) h =
+        let scanned = decided_scan reading params log genuine j (TimedOut missing) (decided_by _ _ _ h) in
+        let q = request_there reading params log genuine j scanned.0 (TimedOut missing) scanned.1 scanned.2 (request_at log j) refl in
         timeout_holds j scanned.0 q.0 missing scanned.1 q.1 scanned.2
+
+    module _ (lawful : Informs reading) (distinct : NoCollision reading log) (sealed : (k : ℕ) (request : Request) → request_at log k ≡ Some request → IsSealed reading request) where
+      pub cause_holds : (j : ℕ) (outcome : Outcome) → outcome_of (timeline_of log) j (decision_time_of params log j) ≡ outcome → CauseOf reading params log j outcome
+      cause_holds j Undecided h = tt
+      cause_holds j Expired h = local_cause_holds j Expired h
+      cause_holds j (Decided Approved) h = tt
+      cause_holds j (Decided (Rejected from view reason)) h = rejection_holds reading params log lawful distinct genuine sealed opens j from view reason (decided_by _ _ _ h)
+      cause_holds j (Decided (TimedOut missing)) h = local_cause_holds j (Decided (TimedOut missing)) h

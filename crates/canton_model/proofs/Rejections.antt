@@ -14,18 +14,19 @@ use Rattle.canton_model.specs.Mediation.{scan}
 use Rattle.ledger_model.specs.Opening.{OpenedView, Shown, roots_in}
 use Rattle.canton_model.specs.Reading.{Reading}
 use Rattle.canton_model.specs.Ledger.{VerdictFits, FitsIfVerdict, commit_of, read_by, whole_at, opened_to}
-use Rattle.canton_model.specs.Inbox.{inbox, item_time, past_in, pending_in, has_hosted_stakeholder, is_informed, OpensProjection}
+use Rattle.canton_model.specs.Inbox.{inbox, item_time, past_in, pending_in, status_in_inbox, is_locked_in_inbox, has_hosted_stakeholder, is_informed, OpensProjection}
 use Rattle.canton_model.specs.Checks.{Check, first_shown, first_place, checks, verdict_on_view, is_confirmed_by, verdicts_on, verdicts_owed}
 use Rattle.canton_model.specs.Genuine.{Genuine, IsSealed, NoCollision}
 use Rattle.canton_model.proofs.Lawful.{Informs}
 use Rattle.canton_model.specs.Causes.{NotCreatedBefore, ReasonHolds, RejectionHolds}
-use Rattle.ledger_model.proofs.Lists.{In, contains_from_In, in_any, from_any, from_filter, in_at, at_in, in_drop_in, in_take_in, in_filter, at_split, from_on}
+use Rattle.ledger_model.proofs.Lists.{In, contains_from_In, in_from_Contains, in_any, from_any, from_filter, in_at, at_in, in_drop_in, in_take_in, in_filter, at_split, from_on}
 use Rattle.ledger_model.proofs.Projected.{filter_project, placed}
 use Rattle.canton_model.proofs.Decided.{verdict_place, entry_at, verdict_message, final_of_log}
 use Rattle.canton_model.proofs.HostStatus.{same_locked, same_status}
 use Rattle.canton_model.proofs.InboxFacts.{slice_get_take}
 use Rattle.canton_model.proofs.InboxGrows.{same_counted, same_pending, shown_here}
-use Rattle.canton_model.proofs.Mediated.{rejection}
+use Rattle.canton_model.proofs.RejectionChecks.{rejection_stands}
+use Rattle.canton_model.proofs.HostLaw.{shown as changes_shown}
 use Rattle.canton_model.proofs.FromGenuine.{guards, r, opened_is, shown_in_whole, second, checked_of_log}
 use Rattle.canton_model.proofs.Approved.{response_message, no_request}
 
@@ -83,58 +84,12 @@ hit (c ∷ rest) core reason i h not_later =
       | inr none ↦ absurd (not_later (rw none at h))
     ]
 
-from_map : {X Y : Type 0} (f : X → Y) (xs : List X) (y : Y) → In y (map f xs) → (x : X) × In x xs × (f x ≡ y)
-from_map f [] y h = absurd h
-from_map f (x ∷ xs) y (inl same) = (x, inl refl, same)
-from_map f (x ∷ xs) y (inr t) = let w = from_map f xs y t in (w.0, inr w.1, w.2)
-
 module _ (reading : Reading) (params : Params) (log : List Entry) (lawful : Informs reading) (distinct : NoCollision reading log) (genuine : Genuine reading params log) (sealed : (k : ℕ) (request : Request) → request_at log k ≡ Some request → IsSealed reading request) (opens : (p : ParticipantId) → OpensProjection reading p log) where
-  -- a request's verdict is the mediator's
-  pub decided_scan : (j : ℕ) (d : Decision) → verdict_on j (timeline_of log) ≡ Some d → (w : ℕ) × (j < w) × (scan params (take w log) j ≡ Some d)
-  decided_scan j d h =
-      let place = verdict_place j (timeline_of log) d h in
-      let entry = entry_at log place.0 place.1 place.3 in
-      let brings : verdict_of (entry.0).message ≡ Some place.2 = ap (λ (x : Moment). x.verdict) entry.2 ∙ place.4 in
-      let fit : VerdictFits params log place.0 (entry.0).time place.2 =
-      subst (FitsIfVerdict params log place.0 (entry.0).time) (verdict_message (entry.0).message place.2 brings) ((genuine.timely).verdicts place.0 entry.0 entry.1) in
-      let scanned : scan params (take place.0 log) j ≡ Some d = ap (scan params (take place.0 log)) (sym place.5) ∙ (fit.decided ∙ ap Some place.6) in
-      elim (cases_lt j place.0) [
-        | inl lt ↦ (place.0, lt, scanned)
-        | inr past ↦
-            let out : request_at (take place.0 log) j ≡ None = ap request_in (slice_get_past (take place.0 log) j (omega (arith, length-take place.0 log))) in
-            absurd (no_request params (take place.0 log) j d out scanned)
-      ]
-
-  pub request_there : (j w : ℕ) (d : Decision) → j < w → scan params (take w log) j ≡ Some d → (o : Option Request) → request_at log j ≡ o → (q : Request) × (request_at log j ≡ Some q)
-  request_there j w d lt h None e = absurd (no_request params (take w log) j d (ap request_in (slice_get_take w log j lt) ∙ e) h)
-  request_there j w d lt h (Some q) e = (q, e)
-
   -- the changes of a contract with a hosted stakeholder are shown
   shown_changes : (p j : ℕ) (q : Request) (i : ℕ) (a : Act) → request_at log j ≡ Some q → slice_get (acts (roots_in (reading.shown p q))) i ≡ Some a → reading.is_authentic a ≡ true → has_hosted_stakeholder reading p a ≡ true → IsShownChanges (r reading params log lawful distinct genuine sealed opens) (length log) p (id_of a.action)
-  shown_changes p j q i a at there real hosted = record { shows = λ k lt. by_request k (request_at log k) refl }
-    where
-      told : (k : ℕ) (b : Act) → In b (acts_of (whole_at reading log k)) → (reading.is_authentic b && (creates (id_of a.action) b || consumes (id_of a.action) b)) ≡ true → is_informed reading p b ≡ true
-      told k b h t =
-          let parts = and_parts _ _ t in
-          let a_whole = shown_in_whole reading params log lawful distinct genuine sealed opens j p q a at (at_in (acts (roots_in (reading.shown p q))) i a there) in
-          elim (or_cases _ _ parts.1) [
-            | inl made ↦
-                let m = and_parts _ _ made in
-                let one = distinct k j b a (contains_from_In _ b h) (contains_from_In _ a a_whole) parts.0 real (from_on (id_of a.action) b m.0) in
-                lawful.stakeholders_informed p b (inl m.1) (ap (λ (x : Instance). list_any (reading.hosts p) ((reading.language).signatories x ++ (reading.language).observers x)) one ∙ hosted)
-            | inr used ↦
-                let m = and_parts _ _ used in
-                let one = distinct k j b a (contains_from_In _ b h) (contains_from_In _ a a_whole) parts.0 real (from_on (id_of a.action) b m.0) in
-                lawful.stakeholders_informed p b (inr m.1) (ap (λ (x : Instance). list_any (reading.hosts p) ((reading.language).signatories x ++ (reading.language).observers x)) one ∙ hosted)
-          ]
-
-      by_request : (k : ℕ) (o : Option Request) → request_at log k ≡ o → filter (λ b. reading.is_authentic b && (creates (id_of a.action) b || consumes (id_of a.action) b)) (acts (opened_to reading p o)) ≡ filter (λ b. reading.is_authentic b && (creates (id_of a.action) b || consumes (id_of a.action) b)) (acts_of (commit_of k (read_by reading.whole o)))
-      by_request k None e = refl
-      by_request k (Some q') e =
-          let s = sealed k q' e in
-          let whole : whole_at reading log k ≡ commit_of k (Some s.transaction) = ap (λ (o : Option Request). commit_of k (read_by reading.whole o)) e ∙ ap (commit_of k) s.is_whole in
-          rw (opened_is reading params log lawful distinct genuine sealed opens k q' p s.transaction e s.is_whole, s.is_whole)
-          (filter_project (is_informed reading p) _ (s.transaction).roots (λ b h t. told k b (rw whole h) t))
+  shown_changes p j q i a at there real hosted =
+      let a_whole = shown_in_whole reading params log lawful distinct genuine sealed opens j p q a at (at_in (acts (roots_in (reading.shown p q))) i a there) in
+      changes_shown reading params log lawful distinct genuine sealed opens p j a a_whole real hosted
 
   -- none of the actions before it in the whole creates its contract
   not_created : (p j : ℕ) (q : Request) (s : Shown) (view : OpenedView) (a : ℕ × Act) → request_at log j ≡ Some q → reading.shown p q ≡ Some s → In view s.views → In a view.core → reading.is_authentic a.1 ≡ true → has_hosted_stakeholder reading p a.1 ≡ true → list_any (creates (id_of (a.1).action)) (take a.0 (acts s.roots)) ≡ false → NotCreatedBefore reading (acts_of (whole_at reading log j)) a.1
@@ -206,7 +161,9 @@ module _ (reading : Reading) (params : Params) (log : List Entry) (lawful : Info
   its_pending_is j p = same_pending reading params log p genuine.timely (opens p) j (guards reading params log lawful distinct genuine sealed opens)
 
   abbrev nine : ℕ → Shown → ParticipantId → OpenedView → List Check
-  nine j s p view = checks reading params p (item_time (slice_get (inbox reading p (take (suc j) log)) j)) s view (its_past j p) (its_pending j p)
+  nine j s p view =
+      checks reading params p (item_time (slice_get (inbox reading p (take (suc j) log)) j)) s view
+      (status_in_inbox reading (inbox reading p (take (suc j) log)) j) (is_locked_in_inbox reading params (inbox reading p (take (suc j) log)) j)
 
   reason_holds : (j : ℕ) (p : ParticipantId) (q : Request) (s : Shown) (view : OpenedView) (reason : Reason) (i : ℕ) → request_at log j ≡ Some q → reading.shown p q ≡ Some s → In view s.views → verdict_on_view reading params p (inbox reading p (take (suc j) log)) j s view ≡ Reject reason i → ReasonHolds reading params log j view.core reason
   reason_holds j p q s view IdMismatch i at is there h = tt
@@ -269,40 +226,10 @@ module _ (reading : Reading) (params : Params) (log : List Entry) (lawful : Info
       let status : status_after (its_past j p) (id_of ((a.0).1).action) ≡ _ = ap (λ (xs : List Act). status_after xs (id_of ((a.0).1).action)) (its_past_is j p) ∙ right.status unlocked in
       (a.0, contains_from_In view.core a.0 a.1, (shown.0, ap is_unknown (sym status) ∙ not-true _ shown.1))
 
-  by_shown : (j : ℕ) (from : ParticipantId) (path : Path) (reason : Reason) (q : Request) (action : ℕ) → request_at log j ≡ Some q → (o : Option Shown) → reading.shown from q ≡ o → In (record { view = path; verdict = Reject reason action }) (verdicts_on reading params from (inbox reading from (take (suc j) log)) j o) → RejectionHolds reading params log j from path reason
-  by_shown j from path reason q action at None is listed = absurd listed
-  by_shown j from path reason q action at (Some s) is listed =
-      let v = from_map _ (filter (is_confirmed_by reading from) s.views) (record { view = path; verdict = Reject reason action }) listed in
-      let passed = from_filter (is_confirmed_by reading from) s.views v.0 v.1 in
-      let check = ap (λ (x : ViewVerdict). x.verdict) v.2 in
-      record {
-        request = q;
-        there = at;
-        shown = s;
-        is_shown = is;
-        view = v.0;
-        is_opened = contains_from_In s.views v.0 passed.0;
-        has_path = ap (λ (x : ViewVerdict). x.view) v.2;
-        is_confirmed = passed.1;
-        action = action;
-        check = check;
-        holds = reason_holds j from q s v.0 reason action at is passed.0 check;
-      }
-
   pub rejection_holds : (j : ℕ) (from : ParticipantId) (path : Path) (reason : Reason) → verdict_on j (timeline_of log) ≡ Some (Rejected from path reason) → RejectionHolds reading params log j from path reason
   rejection_holds j from path reason h =
-      let scanned = decided_scan j (Rejected from path reason) h in
-      let q = request_there j scanned.0 (Rejected from path reason) scanned.1 scanned.2 (request_at log j) refl in
-      let at' : request_at (take scanned.0 log) j ≡ Some q.0 = ap request_in (slice_get_take scanned.0 log j scanned.1) ∙ q.1 in
-      let found = rejection params (take scanned.0 log) j q.0 from path reason at' scanned.2 in
-      let in_log = in_take_in log scanned.0 found.0 (in_drop_in (suc j) (take scanned.0 log) found.0 found.2) in
-      let place = in_at log found.0 in_log in
-      let fit = response_message params reading log place.0 (found.0).time (found.0).message found.1 found.3 (genuine.responses place.0 found.0 place.1) in
-      let says = found.4 in
-      let items = inbox reading from (take (suc j) log) in
-      let owed : (found.1).verdicts ≡ verdicts_owed reading params from items j =
-      fit.owed ∙ (ap (λ (x : ParticipantId). verdicts_owed reading params x (inbox reading x (take (suc (found.1).request) log)) (found.1).request) says.from
-      ∙ ap (λ (x : ℕ). verdicts_owed reading params from (inbox reading from (take (suc x) log)) x) says.to) in
-      by_shown j from path reason q.0 says.action q.1 (reading.shown from q.0) refl
-      (subst (λ (vs : List ViewVerdict). In (record { view = path; verdict = Reject reason says.action }) vs)
-      (owed ∙ ap (verdicts_on reading params from items j) (shown_here reading params log from genuine.timely (opens from) j q.0 q.1)) says.listed)
+      let s = rejection_stands reading params log genuine opens j from path reason h in
+      record {
+        stands = s;
+        holds = reason_holds j from s.request s.shown s.view reason s.action s.there s.is_shown (in_from_Contains _ s.view s.is_opened) s.check;
+      }

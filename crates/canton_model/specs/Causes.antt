@@ -32,7 +32,10 @@ pub record NotCreatedBefore (reading : Reading) (whole : List Act) (a : Act) : T
 abbrev pub ReasonHolds : Reading → Params → List Entry → (j : ℕ) → List (ℕ × Act) → Reason → Type 0
 ReasonHolds reading params log j core Locked = SomeCore core (λ a. is_locked_in reading params log j a ≡ true)
 ReasonHolds reading params log j core Inactive =
-    SomeCore core (λ a. (is_create a.action ≡ false) × (is_active (status_in reading log j (id_of a.action)) ≡ false) × NotCreatedBefore reading (acts_of (whole_at reading log j)) a)
+    SomeCore core (λ a.
+    (is_create a.action ≡ false)
+    × (is_active (status_in reading log j (id_of a.action)) ≡ false)
+    × NotCreatedBefore reading (acts_of (whole_at reading log j)) a)
 ReasonHolds reading params log j core NotFresh =
     SomeCore core (λ a. (is_create a.action ≡ true) × (is_unknown (status_in reading log j (id_of a.action)) ≡ false))
 ReasonHolds reading params log j core IdMismatch = Unit {0}
@@ -42,19 +45,23 @@ ReasonHolds reading params log j core Unordered = Unit {0}
 ReasonHolds reading params log j core NotConformant = Unit {0}
 ReasonHolds reading params log j core NotAuthorised = Unit {0}
 
--- The participant confirms the view, its check there gives the reason, and the reason is a fact of the ledger.
-pub record RejectionHolds (reading : Reading) (params : Params) (log : List Entry) (j : ℕ) (from : ParticipantId) (path : Path) (reason : Reason) : Type 0 where
+-- The participant confirms the view, and its check there gives the reason.
+pub record RejectionStands (reading : Reading) (params : Params) (log : List Entry) (j : ℕ) (p : ParticipantId) (path : Path) (reason : Reason) : Type 0 where
   pub request : Request
   pub there : request_at log j ≡ Some request
   pub shown : Shown
-  pub is_shown : reading.shown from request ≡ Some shown
+  pub is_shown : reading.shown p request ≡ Some shown
   pub view : OpenedView
   pub is_opened : Contains shown.views view
   pub has_path : view.path ≡ path
-  pub is_confirmed : is_confirmed_by reading from view ≡ true
+  pub is_confirmed : is_confirmed_by reading p view ≡ true
   pub action : ℕ
-  pub check : verdict_on_view reading params from (inbox reading from (take (suc j) log)) j shown view ≡ Reject reason action
-  pub holds : ReasonHolds reading params log j view.core reason
+  pub check : verdict_on_view reading params p (inbox reading p (take (suc j) log)) j shown view ≡ Reject reason action
+
+-- It does, and the reason is a fact of the ledger.
+pub record RejectionHolds (reading : Reading) (params : Params) (log : List Entry) (j : ℕ) (p : ParticipantId) (path : Path) (reason : Reason) : Type 0 where
+  pub stands : RejectionStands reading params log j p path reason
+  pub holds : ReasonHolds reading params log j (stands.view).core reason
 
 -- p has a response to the request at place j by this time
 abbrev pub has_responded_by : List Entry → (j time : ℕ) → ParticipantId → Bool
@@ -72,7 +79,15 @@ pub record ExpiryHolds (params : Params) (log : List Entry) (j : ℕ) : Type 0 w
   pub past : is_past (decision_time_of params log j) (timeline_of log) ≡ true
   pub unanswered : verdict_on j (timeline_of log) ≡ None
 
--- what an outcome of the request at place j says
+-- what an outcome of the request at place j says without the ledger
+abbrev pub LocalCauseOf : Reading → Params → List Entry → (j : ℕ) → Outcome → Type 0
+LocalCauseOf reading params log j (Decided Approved) = Unit {0}
+LocalCauseOf reading params log j (Decided (Rejected from view reason)) = RejectionStands reading params log j from view reason
+LocalCauseOf reading params log j (Decided (TimedOut missing)) = TimeoutHolds params log j missing
+LocalCauseOf reading params log j Expired = ExpiryHolds params log j
+LocalCauseOf reading params log j Undecided = Unit {0}
+
+-- what it says
 abbrev pub CauseOf : Reading → Params → List Entry → (j : ℕ) → Outcome → Type 0
 CauseOf reading params log j (Decided Approved) = Unit {0}
 CauseOf reading params log j (Decided (Rejected from view reason)) = RejectionHolds reading params log j from view reason

@@ -1,15 +1,17 @@
 -- The local checks of a participant on a view.
 use Rattle.std.specs.Prelude.{ℕ, suc, ◌+◌, Bool, false, List, [], ◌∷◌, Option, Some, None, take, filter, map, length, not, ◌&&◌, ◌||◌, if◌then◌else◌, slice_get, nat_eq, nat_le}
 use Rattle.std.specs.List.{list_any, list_all}
-use Rattle.ledger_model.specs.Terms.{PartySet, Action, Act, instance_of, ParticipantId}
+use Rattle.ledger_model.specs.Terms.{PartySet, Hash, Action, Act, instance_of, ParticipantId}
 use Rattle.ledger_model.specs.Forest.{Forest, NoRoots, Root, acts, roots_of, below_at}
+use Rattle.ledger_model.specs.declared.status.Status.{Status}
 use Rattle.ledger_model.specs.Status.{shows_locked, shows_inactive, shows_not_fresh, shows_unordered}
-use Rattle.ledger_model.specs.Language.{Roles, roles_of}
+use Rattle.ledger_model.specs.Language.{roles_of}
+use Rattle.ledger_model.specs.declared.roles.Roles.{Roles}
 use Rattle.ledger_model.specs.Authority.{is_authorised, authorisers_below}
 use Rattle.canton_model.specs.Log.{Params, ViewVerdict, LocalVerdict, Approve, Reject, Reason, IdMismatch, NotVetted, TimeSkew, Locked, Inactive, NotFresh, Unordered, NotConformant, NotAuthorised}
 use Rattle.ledger_model.specs.Opening.{Shown, OpenedView}
 use Rattle.canton_model.specs.Reading.{Reading}
-use Rattle.canton_model.specs.Inbox.{Item, item_time, shown_at, past_in, pending_in, has_hosted_stakeholder}
+use Rattle.canton_model.specs.Inbox.{Item, item_time, shown_at, status_in_inbox, is_locked_in_inbox, has_hosted_stakeholder}
 
 -- the place of the first that passes, and the length where none does
 abbrev pub first_place : {X : Type 0} → (X → Bool) → List X → ℕ
@@ -62,25 +64,35 @@ abbrev pub is_requested : (Action → Roles) → Shown → OpenedView → ℕ ×
 is_requested roles shown view a =
     not (is_root_view view && is_first view.core a.0) || is_authorised_by_known roles shown.requesters (a.1).action
 
--- The nine, in order, for a participant at the time of the request's entry. `past` and `pending` are those of the
--- participant at the request's place.
-abbrev pub checks : Reading → Params → ParticipantId → (time : ℕ) → Shown → OpenedView → (past pending : List Act) → List Check
-checks reading params p time shown view past pending =
+-- an action authorises its children, and the first of a root view is authorised by the requesters
+abbrev pub is_authorised_in : Reading → Shown → OpenedView → ℕ × Act → Bool
+is_authorised_in reading shown view a =
+    authorises_children (roles_of reading.language) shown a && is_requested (roles_of reading.language) shown view a
+
+-- The nine, in order, for a participant at the time of the request's entry. `status` and `locked` are what the participant
+-- knows of contracts at the request's place.
+abbrev pub checks : Reading → Params → ParticipantId → (time : ℕ) → Shown → OpenedView → (status : Hash → Status) → (locked : Hash → Bool) → List Check
+checks reading params p time shown view status locked =
     record { reason = IdMismatch; is_shown_by = λ a. not (reading.is_authentic a.1) }
     ∷ record { reason = NotVetted; is_shown_by = λ a. not (has_vetted reading p a.1) }
     ∷ record { reason = TimeSkew; is_shown_by = λ a. not (is_within params.skew shown.ledger_time time) }
-    ∷ record { reason = Locked; is_shown_by = λ a. has_hosted_stakeholder reading p a.1 && shows_locked pending a.1 }
-    ∷ record { reason = Inactive; is_shown_by = λ a. has_hosted_stakeholder reading p a.1 && shows_inactive past (take a.0 (acts shown.roots)) a.1 }
-    ∷ record { reason = NotFresh; is_shown_by = λ a. has_hosted_stakeholder reading p a.1 && shows_not_fresh past a.1 }
+    ∷ record { reason = Locked; is_shown_by = λ a. has_hosted_stakeholder reading p a.1 && shows_locked locked a.1 }
+    ∷ record { reason = Inactive; is_shown_by = λ a. has_hosted_stakeholder reading p a.1 && shows_inactive status (take a.0 (acts shown.roots)) a.1 }
+    ∷ record { reason = NotFresh; is_shown_by = λ a. has_hosted_stakeholder reading p a.1 && shows_not_fresh status a.1 }
     ∷ record { reason = Unordered; is_shown_by = λ a. has_hosted_stakeholder reading p a.1 && shows_unordered (take a.0 (acts shown.roots)) a.1 }
     ∷ record { reason = NotConformant; is_shown_by = λ a. not (reading.conforms (first_tree shown view.core)) }
-    ∷ record { reason = NotAuthorised; is_shown_by = λ a. not (authorises_children (roles_of reading.language) shown a && is_requested (roles_of reading.language) shown view a) }
+    ∷ record { reason = NotAuthorised; is_shown_by = λ a. not (is_authorised_in reading shown view a) }
     ∷ []
 
--- a participant's verdict on a view of what it is shown at place k, from the first k + 1 items of its inbox
+-- a participant's verdict on a view, by what it knows of contracts
+abbrev pub verdict_by : Reading → Params → ParticipantId → (time : ℕ) → Shown → OpenedView → (status : Hash → Status) → (locked : Hash → Bool) → LocalVerdict
+verdict_by reading params p time shown view status locked = first_shown (checks reading params p time shown view status locked) view.core
+
+-- the same of what it is shown at place k, where it knows of contracts what the first k + 1 items of its inbox say
 abbrev pub verdict_on_view : Reading → Params → ParticipantId → List Item → (k : ℕ) → Shown → OpenedView → LocalVerdict
 verdict_on_view reading params p items k shown view =
-    first_shown (checks reading params p (item_time (slice_get items k)) shown view (past_in reading items k) (pending_in reading params items k)) view.core
+    verdict_by reading params p (item_time (slice_get items k)) shown view
+    (status_in_inbox reading items k) (is_locked_in_inbox reading params items k)
 
 -- p confirms a confirmer of the view
 abbrev pub is_confirmed_by : Reading → ParticipantId → OpenedView → Bool

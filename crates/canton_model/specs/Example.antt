@@ -1,6 +1,6 @@
 -- A log of one create, its one response and its verdict.
 use Rattle.std.specs.Prelude.{Bool, true, false, List, [], ◌∷◌, Some, None, nat_eq, if◌then◌else◌, not, ◌&&◌}
-use Rattle.ledger_model.specs.Terms.{Name, Act, Action, Create, Exercise, Fetch}
+use Rattle.ledger_model.specs.Terms.{Name, Act, Action, Create, Exercise, Fetch, ParticipantId}
 use Rattle.ledger_model.specs.Language.{Language}
 use Rattle.ledger_terms.specs.declared.value.Value.TheVariants.{Party as PartyValue}
 use Rattle.ledger_model.specs.Forest.{Forest, NoRoots, Root}
@@ -45,12 +45,19 @@ is_listed NoRoots = true
 is_listed (Root act NoRoots others) = not (is_exercise act.action) && is_listed others
 is_listed (Root act (Root child below next) others) = false
 
+-- participant 0 alone
+abbrev pub is_first_alone : List ParticipantId → Bool
+is_first_alone [] = false
+is_first_alone (p ∷ []) = nat_eq p 0
+is_first_alone (p ∷ q ∷ rest) = false
+
 -- participant 0 hosts everybody, and each request is of that note
 abbrev pub reading : Reading
 reading =
     record {
       whole = λ q. Some (record { requesters = alice ∷ []; ledger_time = 0; roots = note_alone });
       shown = λ p q. if nat_eq p 0 then Some (record { ledger_time = 0; requesters = Some (alice ∷ []); roots = note_alone; views = the_view ∷ [] }) else None;
+      is_sealed = λ q. is_first_alone q.confirming;
       is_authentic = λ a. true;
       language = language;
       conforms = λ roots. is_listed roots;

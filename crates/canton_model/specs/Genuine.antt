@@ -1,17 +1,19 @@
 -- When a log is what the parts of a synchroniser make, over a reading of its requests.
-use Rattle.std.specs.Prelude.{◌↔◌, ◌≡◌, ℕ, suc, ◌≤◌, ◌<◌, Bool, true, false, take, ◌&&◌, nat_eq, List, Some, slice_get, Contains}
+use Rattle.std.specs.Prelude.{◌↔◌, ◌≡◌, ℕ, suc, ◌≤◌, ◌<◌, Bool, true, false, take, map, ◌&&◌, nat_eq, length, List, Some, slice_get, Contains}
+use Rattle.std.specs.List.Sorted.{IsStrictlyIncreasing}
+use Rattle.ledger_terms.specs.Parties.{IsRising}
 use Rattle.std.specs.List.{list_any}
 use Rattle.std.specs.Str.{bytes_eq}
 use Rattle.ledger_model.specs.Terms.{Name, PartySet, Act, id_of, instance_of, ParticipantId}
 use Rattle.ledger_model.specs.Forest.{Forest, NoRoots, Root, acts, project, below_at, trees_of, root_trees}
-use Rattle.canton_model.specs.Log.{Params, Entry, Message, RequestMessage, ResponseMessage, VerdictMessage, Tick, Request, Response, request_at, decision_time_of}
+use Rattle.canton_model.specs.Log.{Params, Entry, Message, RequestMessage, ResponseMessage, VerdictMessage, Tick, Request, Response, request_at, decision_time_of, FollowsTime, time_at_end}
 use Rattle.canton_model.specs.Mediation.{has_responded}
 use Rattle.ledger_model.specs.Conformance.{Conforms}
 use Rattle.ledger_model.specs.Opening.{OpenedView, Shown, Transaction, roots_in}
 use Rattle.canton_model.specs.Reading.{Reading}
-use Rattle.canton_model.specs.Inbox.{inbox, is_informed}
+use Rattle.canton_model.specs.Inbox.{inbox, confirms_signatory, is_informed}
 use Rattle.canton_model.specs.Checks.{verdicts_owed, is_confirmed_by, is_first, is_root_view, first_tree}
-use Rattle.canton_model.specs.Ledger.{Timely, whole_at}
+use Rattle.canton_model.specs.Ledger.{Timely, FitsIfVerdict, whole_at}
 use Rattle.canton_model.specs.Evidence.{acts_of}
 
 -- A response fits the log before it: its request stands there and names its sender as confirming, it is the first of that
@@ -51,6 +53,20 @@ pub record IsRootCovered (reading : Reading) (request : Request) (requesters : P
   pub is_root : is_root_view covered.view ≡ true
   pub known : (covered.shown).requesters ≡ Some requesters
 
+-- the participant confirms a view that it is shown
+pub record Answers (reading : Reading) (request : Request) (p : ParticipantId) : Type 0 where
+  pub shown : Shown
+  pub is_shown : reading.shown p request ≡ Some shown
+  pub view : OpenedView
+  pub is_opened : Contains shown.views view
+  pub is_confirmed : is_confirmed_by reading p view ≡ true
+
+-- What is told of ledger time and requesters is the transaction's, and the views stand in order of path.
+pub record TellsOf (transaction : Transaction) (shown : Shown) : Type 0 where
+  pub ledger_time : shown.ledger_time ≡ transaction.ledger_time
+  pub requesters : (names : PartySet) → shown.requesters ≡ Some names → names ≡ transaction.requesters
+  pub path_order : IsRising (map (λ (view : OpenedView). view.path) shown.views)
+
 -- What a sealed request has of a reading.
 pub record IsSealed (reading : Reading) (request : Request) : Type 0 where
   pub transaction : Transaction
@@ -59,13 +75,20 @@ pub record IsSealed (reading : Reading) (request : Request) : Type 0 where
   -- what is opened to a participant is the projection to its hosted parties
   pub opens : (p : ParticipantId) → roots_in (reading.shown p request) ≡ project (is_informed reading p) transaction.roots
   -- somebody confirms a signatory of each action
-  pub guarded : (a : Act) → Contains (acts transaction.roots) a → (p : ParticipantId) × (list_any (reading.confirms p) ((reading.language).signatories (instance_of a.action)) ≡ true)
+  pub guarded : (a : Act) → Contains (acts transaction.roots) a → (p : ParticipantId) × (confirms_signatory reading p a ≡ true)
   -- Who confirms a signatory of an action that is opened to it confirms a view in whose core the action stands.
-  pub viewed : (p : ParticipantId) (shown : Shown) (i : ℕ) (a : Act) → reading.shown p request ≡ Some shown → slice_get (acts shown.roots) i ≡ Some a → list_any (reading.confirms p) ((reading.language).signatories (instance_of a.action)) ≡ true → (view : OpenedView) × Contains shown.views view × Contains view.core (i, a) × (is_confirmed_by reading p view ≡ true)
+  pub viewed : (p : ParticipantId) (shown : Shown) (i : ℕ) (a : Act) → reading.shown p request ≡ Some shown
+      → slice_get (acts shown.roots) i ≡ Some a → confirms_signatory reading p a ≡ true
+      → (view : OpenedView) × Contains shown.views view × Contains view.core (i, a) × (is_confirmed_by reading p view ≡ true)
   -- a core's actions have their numbers among what is opened
-  pub numbered : (p : ParticipantId) (shown : Shown) (view : OpenedView) (i : ℕ) (a : Act) → reading.shown p request ≡ Some shown → Contains shown.views view → Contains view.core (i, a) → slice_get (acts shown.roots) i ≡ Some a
-  -- who confirms a view is asked
-  pub asked : (p : ParticipantId) (shown : Shown) (view : OpenedView) → reading.shown p request ≡ Some shown → Contains shown.views view → is_confirmed_by reading p view ≡ true → Contains request.confirming p
+  pub numbered : (p : ParticipantId) (shown : Shown) (view : OpenedView) (i : ℕ) (a : Act) → reading.shown p request ≡ Some shown
+      → Contains shown.views view → Contains view.core (i, a) → slice_get (acts shown.roots) i ≡ Some a
+  pub tells : (p : ParticipantId) (shown : Shown) → reading.shown p request ≡ Some shown → TellsOf transaction shown
+  -- Who confirms a view is asked, and nobody else is; each is named once, in the order of the participants.
+  pub confirming_order : IsStrictlyIncreasing request.confirming
+  pub answers : (p : ParticipantId) → Contains request.confirming p → Answers reading request p
+  pub asked : (p : ParticipantId) (shown : Shown) (view : OpenedView) → reading.shown p request ≡ Some shown → Contains shown.views view
+      → is_confirmed_by reading p view ≡ true → Contains request.confirming p
   -- each action and each root is covered
   pub covers : (tree : Act × Forest Act) → Contains (trees_of transaction.roots) tree → IsCovered reading request tree
   pub roots : (tree : Act × Forest Act) → Contains (root_trees transaction.roots) tree → IsRootCovered reading request transaction.requesters tree
@@ -79,7 +102,7 @@ is_request_of p command Tick = false
 
 -- A request fits the log before it: it is sealed, and the first with its sender and command.
 pub record RequestFits (reading : Reading) (log : List Entry) (k : ℕ) (request : Request) : Type 0 where
-  pub sealed : IsSealed reading request
+  pub is_sealed : reading.is_sealed request ≡ true
   pub first : list_any (λ (entry : Entry). is_request_of request.sender request.command entry.message) (take k log) ≡ false
 
 abbrev pub FitsIfRequest : Reading → List Entry → (k : ℕ) → Message → Type 0
@@ -93,10 +116,18 @@ pub record Genuine (reading : Reading) (params : Params) (log : List Entry) : Ty
   pub requests : (k : ℕ) (entry : Entry) → slice_get log k ≡ Some entry → FitsIfRequest reading log k entry.message
   pub responses : (k : ℕ) (entry : Entry) → slice_get log k ≡ Some entry → FitsIfResponse reading params log k entry.time entry.message
 
+-- An entry fits the log before it: its time follows that of the last entry there, and its message fits.
+pub record EntryFits (reading : Reading) (params : Params) (log : List Entry) (entry : Entry) : Type 0 where
+  pub time : FollowsTime entry.message (time_at_end log) entry.time
+  pub verdict : FitsIfVerdict params log (length log) entry.time entry.message
+  pub request : FitsIfRequest reading log (length log) entry.message
+  pub response : FitsIfResponse reading params log (length log) entry.time entry.message
+
 -- what holds of every reading
 pub record IsReading (reading : Reading) : Type 0 where
   pub confirms_hosted : (p : ParticipantId) (name : Name) → reading.confirms p name ≡ true → reading.hosts p name ≡ true
   pub conforms_is : (roots : Forest Act) → (reading.conforms roots ≡ true) ↔ Conforms reading.language roots
+  pub sealed_facts : (request : Request) → reading.is_sealed request ≡ true → IsSealed reading request
 
 -- No two authentic actions of the requests of this log are on one contract and carry different instances. (Of all actions
 -- that there could be this is false, whatever the hash.)

@@ -1,12 +1,14 @@
 -- What one participant learns of a log, and what it concludes from that.
-use Rattle.std.specs.Prelude.{◌≡◌, ℕ, zero, suc, ◌+◌, ◌<◌, ◌≤◌, Bool, true, false, List, [], ◌∷◌, ◌++◌, Option, Some, None, length, map, filter, take, slice_get, not, if◌then◌else◌, ◌&&◌}
+use Rattle.std.specs.Prelude.{◌≡◌, ℕ, zero, suc, ◌+◌, ◌<◌, ◌≤◌, Bool, true, false, List, [], ◌∷◌, ◌++◌, Option, Some, None, length, map, filter, flat_map, take, slice_get, not, if◌then◌else◌, ◌&&◌}
 use Rattle.std.specs.List.{list_any}
-use Rattle.ledger_model.specs.Terms.{Hash, Act, ActiveRow, id_of, instance_of, is_create, consumes, ParticipantId}
-use Rattle.ledger_model.specs.Forest.{Forest, NoRoots, Root, Commit, acts, project}
-use Rattle.ledger_model.specs.Status.{Status, status_after, is_locked_by}
+use Rattle.std.specs.Str.{bytes_eq}
+use Rattle.ledger_model.specs.Terms.{Hash, Act, ActiveRow, Instance, id_of, instance_of, is_create, consumes, ParticipantId}
+use Rattle.ledger_model.specs.Forest.{Forest, NoRoots, Root, Commit, acts, ledger_acts, project}
+use Rattle.ledger_model.specs.Status.{status_after, is_locked_by}
+use Rattle.ledger_model.specs.declared.status.Status.{Status}
 use Rattle.canton_model.specs.Evidence.{gather}
 use Rattle.canton_model.specs.Log.{Params, Entry, Message, RequestMessage, ResponseMessage, VerdictMessage, Tick, Request, Verdict, request_at}
-use Rattle.canton_model.specs.Timeline.{Moment, is_decided_at, is_approved_in}
+use Rattle.canton_model.specs.Timeline.{Moment, Outcome, is_decided_at, is_approved_in, outcome_of}
 use Rattle.ledger_model.specs.Opening.{Transaction, Shown, roots_in}
 use Rattle.canton_model.specs.Reading.{Reading, is_recipient}
 use Rattle.ledger_model.specs.Language.{informees_of}
@@ -83,8 +85,16 @@ shown_at items m = shown_in (slice_get items m)
 abbrev pub opened_at : List Item → ℕ → Forest Act
 opened_at items m = roots_in (shown_at items m)
 
+-- the decision time of the request at a place
+abbrev pub decision_time_in : Params → List Item → ℕ → ℕ
+decision_time_in params items m = item_time (slice_get items m) + params.response_timeout + params.reaction_timeout
+
 abbrev pub is_decided_in : Params → List Item → (request place : ℕ) → Bool
-is_decided_in params items m k = is_decided_at (moments items) m (item_time (slice_get items m) + params.response_timeout + params.reaction_timeout) k
+is_decided_in params items m k = is_decided_at (moments items) m (decision_time_in params items m) k
+
+-- the outcome of the request at a place, over all items
+abbrev pub outcome_in : Params → List Item → ℕ → Outcome
+outcome_in params items m = outcome_of (moments items) m (decision_time_in params items m)
 
 -- what counts for the status of contracts at a place
 abbrev pub past_in : Reading → List Item → ℕ → List Act
@@ -133,7 +143,8 @@ parts_below items (suc k) = parts_below items k ++ part_if (is_approved_in k (mo
 -- at most the number of items, and every request received below is decided over all of them
 pub record IsClean (params : Params) (items : List Item) (n : ℕ) : Type 0 where
   pub within : n ≤ length items
-  pub decided : (m : ℕ) (item : Item) → m < n → slice_get items m ≡ Some item → is_received item.content ≡ true → is_decided_in params items m (length items) ≡ true
+  pub decided : (m : ℕ) (item : Item) → m < n → slice_get items m ≡ Some item → is_received item.content ≡ true
+      → is_decided_in params items m (length items) ≡ true
 
 -- the time of the item before the clean place
 abbrev pub clean_time : Params → List Item → ℕ
@@ -152,34 +163,48 @@ abbrev pub authentic_below : Reading → List Item → ℕ → List Act
 authentic_below reading items n =
     gather (λ m. is_approved_in m (moments items)) (λ m. filter reading.is_authentic (acts (opened_at items m))) n
 
+-- the participant confirms a signatory of the contract
+abbrev pub confirms_signatory : Reading → ParticipantId → Act → Bool
+confirms_signatory reading p act = list_any (reading.confirms p) ((reading.language).signatories (instance_of act.action))
+
+-- the participant hosts a signatory or an observer of the contract
+abbrev pub is_stakeholder_hosted : Reading → ParticipantId → Instance → Bool
+is_stakeholder_hosted reading p instance = list_any (reading.hosts p) ((reading.language).signatories instance ++ (reading.language).observers instance)
+
 abbrev pub has_hosted_stakeholder : Reading → ParticipantId → Act → Bool
-has_hosted_stakeholder reading p act =
-    list_any (reading.hosts p) ((reading.language).signatories (instance_of act.action) ++ (reading.language).observers (instance_of act.action))
+has_hosted_stakeholder reading p act = is_stakeholder_hosted reading p (instance_of act.action)
 
--- a Create of a contract with a hosted stakeholder that none of these actions consumes
-abbrev pub is_active_create : Reading → ParticipantId → (all : List Act) → Act → Bool
-is_active_create reading p all act =
-    is_create act.action && (has_hosted_stakeholder reading p act && not (list_any (consumes (id_of act.action)) all))
+-- the rows of the contracts that the actions of the request at a place create
+abbrev pub created_at_place : (place : ℕ) → List Act → List ActiveRow
+created_at_place place actions = map (active_row place) (filter (λ (act : Act). is_create act.action) actions)
 
--- such contracts among the actions of the request at a place
-abbrev pub created_at_place : Reading → ParticipantId → (all : List Act) → (place : ℕ) → List Act → List ActiveRow
-created_at_place reading p all place creators =
-    map (active_row place) (filter (is_active_create reading p all) creators)
+abbrev pub created_below : Reading → List Item → ℕ → List ActiveRow
+created_below reading items zero = []
+created_below reading items (suc k) =
+    created_below reading items k
+    ++ created_at_place k (if is_approved_in k (moments items) then filter reading.is_authentic (acts (opened_at items k)) else [])
 
-abbrev pub created_below : Reading → ParticipantId → List Item → (all : List Act) → ℕ → List ActiveRow
-created_below reading p items all zero = []
-created_below reading p items all (suc k) =
-    created_below reading p items all k
-    ++ created_at_place reading p all k (if is_approved_in k (moments items) then filter reading.is_authentic (acts (opened_at items k)) else [])
+-- the first row of each contract
+abbrev pub first_of_each : List ActiveRow → List ActiveRow
+first_of_each [] = []
+first_of_each (row ∷ rows) = row ∷ filter (λ (later : ActiveRow). not (bytes_eq later.known.id row.known.id)) (first_of_each rows)
 
--- the contracts with a hosted stakeholder that approved requests below n create and none consumes, in order of creation
+-- a row of a contract with a hosted stakeholder that none of these actions consumes
+abbrev pub is_active_row : Reading → ParticipantId → (all : List Act) → ActiveRow → Bool
+is_active_row reading p all row = is_stakeholder_hosted reading p row.known.instance && not (list_any (consumes row.known.id) all)
+
+-- The contracts with a hosted stakeholder that approved requests below n create and none consumes, in order of creation,
+-- each as it was created first.
 abbrev pub node_active : Reading → ParticipantId → List Item → ℕ → List ActiveRow
-node_active reading p items n = created_below reading p items (authentic_below reading items n) n
+node_active reading p items n =
+    filter (is_active_row reading p (authentic_below reading items n)) (first_of_each (created_below reading items n))
 
 -- the same of commits, taken whole
-abbrev pub active_of : Reading → ParticipantId → (all : List Act) → List Commit → List ActiveRow
-active_of reading p all [] = []
-active_of reading p all (commit ∷ rest) = created_at_place reading p all commit.place (acts commit.roots) ++ active_of reading p all rest
+abbrev pub created_by : List Commit → List ActiveRow
+created_by commits = flat_map (λ (commit : Commit). created_at_place commit.place (acts commit.roots)) commits
+
+abbrev pub active_of : Reading → ParticipantId → List Commit → List ActiveRow
+active_of reading p commits = filter (is_active_row reading p (ledger_acts commits)) (first_of_each (created_by commits))
 
 -- an action with an informee that the participant hosts
 abbrev pub is_informed : Reading → ParticipantId → Act → Bool
@@ -191,7 +216,8 @@ project_whole reading p (Some transaction) = project (is_informed reading p) tra
 
 -- What is opened of a request to a participant is its projection to the hosted parties.
 pub record OpensProjection (reading : Reading) (p : ParticipantId) (log : List Entry) : Type 0 where
-  pub projected : (k : ℕ) (request : Request) → request_at log k ≡ Some request → roots_in (reading.shown p request) ≡ project_whole reading p (reading.whole request)
+  pub projected : (k : ℕ) (request : Request) → request_at log k ≡ Some request
+      → roots_in (reading.shown p request) ≡ project_whole reading p (reading.whole request)
 
 -- the projected commits, without the empty ones
 abbrev pub project_ledger : (Act → Bool) → List Commit → List Part

@@ -1,8 +1,10 @@
 -- The ledger of a log, and what it says of contracts.
-use Rattle.std.specs.Prelude.{◌≡◌, ℕ, ◌≤◌, Bool, List, Option, Some, None, length, take, slice_get}
-use Rattle.ledger_model.specs.Terms.{Hash, Act, ParticipantId}
+use Rattle.std.specs.Prelude.{◌≡◌, ℕ, ◌≤◌, Bool, ◌&&◌, List, Option, Some, None, length, take, slice_get}
+use Rattle.std.specs.List.{list_any}
+use Rattle.ledger_model.specs.Terms.{Hash, Act, ParticipantId, instance_of, is_on}
 use Rattle.ledger_model.specs.Forest.{Forest, NoRoots, acts, Commit, ledger_acts}
-use Rattle.ledger_model.specs.Status.{Status, status_after}
+use Rattle.ledger_model.specs.Status.{status_after}
+use Rattle.ledger_model.specs.declared.status.Status.{Status}
 use Rattle.canton_model.specs.Evidence.{Requests, ledger_below}
 use Rattle.canton_model.specs.Log.{Params, Entry, Message, RequestMessage, ResponseMessage, VerdictMessage, Tick, Verdict, Request, request_at, decision_time_of, TimesFrom}
 use Rattle.canton_model.specs.Timeline.{timeline_of, is_decided_at, is_approved_in, verdict_on}
@@ -47,6 +49,12 @@ ledger reading log = commits_below reading log (length log)
 
 abbrev pub status_in : Reading → List Entry → ℕ → Hash → Status
 status_in reading log k c = status_after (ledger_acts (commits_below reading log k)) c
+
+-- the participant confirms a signatory of the instance that the ledger's actions on the contract carry
+abbrev pub is_guard : Reading → List Entry → ParticipantId → Hash → Bool
+is_guard reading log p c =
+    list_any (λ (a : Act). is_on c a && list_any (reading.confirms p) ((reading.language).signatories (instance_of a.action)))
+    (ledger_acts (ledger reading log))
 
 -- A verdict fits the log before it: it is the mediator's decision, the first on its request, and not too late.
 pub record VerdictFits (params : Params) (log : List Entry) (k time : ℕ) (verdict : Verdict) : Type 0 where

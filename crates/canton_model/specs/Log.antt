@@ -1,20 +1,20 @@
 -- The sequencer's log: its messages and their times.
 use Rattle.std.specs.Prelude.{◌≡◌, ℕ, ◌+◌, ◌<◌, List, [], ◌∷◌, Option, Some, None, slice_get}
 pub use Rattle.ledger_terms.specs.declared.params.Params.{Params}
-pub use Rattle.canton_model.specs.declared.message.Envelope.{Envelope}
-pub use Rattle.canton_model.specs.declared.message.Request.{Request}
-pub use Rattle.canton_model.specs.declared.check.Reason.{Reason}
-pub use Rattle.canton_model.specs.declared.check.Reason.TheVariants.{IdMismatch, NotVetted, TimeSkew, Locked, Inactive, NotFresh, Unordered, NotConformant, NotAuthorised}
-pub use Rattle.canton_model.specs.declared.check.LocalVerdict.{LocalVerdict}
-pub use Rattle.canton_model.specs.declared.check.LocalVerdict.TheVariants.{Approve, Reject}
-pub use Rattle.canton_model.specs.declared.check.ViewVerdict.{ViewVerdict}
-pub use Rattle.canton_model.specs.declared.message.Response.{Response}
-pub use Rattle.canton_model.specs.declared.message.Decision.{Decision}
-pub use Rattle.canton_model.specs.declared.message.Decision.TheVariants.{Approved, Rejected, TimedOut}
-pub use Rattle.canton_model.specs.declared.message.Verdict.{Verdict}
+pub use Rattle.canton_model.specs.declared.envelope.Envelope.{Envelope}
+pub use Rattle.canton_model.specs.declared.request.Request.{Request}
+pub use Rattle.canton_model.specs.declared.reason.Reason.{Reason}
+pub use Rattle.canton_model.specs.declared.reason.Reason.TheVariants.{IdMismatch, NotVetted, TimeSkew, Locked, Inactive, NotFresh, Unordered, NotConformant, NotAuthorised}
+pub use Rattle.canton_model.specs.declared.local_verdict.LocalVerdict.{LocalVerdict}
+pub use Rattle.canton_model.specs.declared.local_verdict.LocalVerdict.TheVariants.{Approve, Reject}
+pub use Rattle.canton_model.specs.declared.view_verdict.ViewVerdict.{ViewVerdict}
+pub use Rattle.canton_model.specs.declared.response.Response.{Response}
+pub use Rattle.canton_model.specs.declared.decision.Decision.{Decision}
+pub use Rattle.canton_model.specs.declared.decision.Decision.TheVariants.{Approved, Rejected, TimedOut}
+pub use Rattle.canton_model.specs.declared.verdict.Verdict.{Verdict}
 pub use Rattle.canton_model.specs.declared.message.Message.{Message}
 pub use Rattle.canton_model.specs.declared.message.Message.TheVariants.{Request as RequestMessage, Response as ResponseMessage, Verdict as VerdictMessage, Tick}
-pub use Rattle.canton_model.specs.declared.message.Entry.{Entry}
+pub use Rattle.canton_model.specs.declared.entry.Entry.{Entry}
 
 abbrev pub request_of : Message → Option Request
 request_of (RequestMessage request) = Some request
@@ -45,6 +45,12 @@ FollowsTime Tick before time = before < time
 FollowsTime (RequestMessage request) before time = time ≡ before + 1
 FollowsTime (ResponseMessage response) before time = time ≡ before + 1
 FollowsTime (VerdictMessage verdict) before time = time ≡ before + 1
+
+-- the time of the last entry, and 0 where there is none
+abbrev pub time_at_end : List Entry → ℕ
+time_at_end [] = 0
+time_at_end (entry ∷ []) = entry.time
+time_at_end (entry ∷ next ∷ rest) = time_at_end (next ∷ rest)
 
 -- the times of a log whose entry before the first has this time
 abbrev pub TimesFrom : ℕ → List Entry → Type 0

@@ -1,11 +1,18 @@
 -- Worked examples, over three participants that host Bank, Alice and Carol, and contracts whose id is 9 and the salt.
-use Rattle.std.specs.Prelude.{ℕ, Bool, true, List, [], ◌∷◌, Some, None, nat_eq, if◌then◌else◌, ◌+◌, ◌&&◌, ◌||◌}
+use Rattle.std.specs.Prelude.{ℕ, zero, suc, ◌+◌, Bool, true, false, List, [], ◌∷◌, ◌++◌, Option, Some, take, nat_eq, if◌then◌else◌, ◌&&◌, ◌||◌}
 use Rattle.std.specs.Str.{bytes_eq}
+use Rattle.std.specs.Cmp.Lexicographic.{pointwise}
+use Rattle.ledger_terms.specs.contracts.value.ValuePartialEq.TheImpl as value_eq
+use Rattle.ledger_terms.specs.contracts.template_name.TemplateNamePartialEq.TheImpl as template_eq
 use Rattle.ledger_terms.specs.declared.value.Value.TheVariants.{Party as PartyValue, Unit as UnitValue}
 use Rattle.ledger_model.specs.Terms.{Name, PartySet, Value, Instance, Action, Act, Create, Exercise, Fetch, Hash, id_of}
 use Rattle.ledger_model.specs.Forest.{Forest, NoRoots, Root}
 use Rattle.ledger_model.specs.Language.{Language}
-use Rattle.canton_model.specs.Log.{Params, Entry, ViewVerdict, LocalVerdict, Approve, Reject, Locked, Decision, Approved, Rejected, TimedOut, RequestMessage, ResponseMessage, VerdictMessage, Tick}
+use Rattle.ledger_model.specs.declared.step.ChoiceCall.{ChoiceCall}
+use Rattle.ledger_model.specs.declared.step.Seen.{Seen}
+use Rattle.ledger_model.specs.declared.step.Step.{Step}
+use Rattle.ledger_model.specs.declared.step.Step.TheVariants.{Create as CreateNext, Done}
+use Rattle.canton_model.specs.Log.{Params, Entry, Request, ViewVerdict, LocalVerdict, Approve, Reject, Locked, Decision, Approved, Rejected, TimedOut, RequestMessage, ResponseMessage, VerdictMessage, Tick}
 use Rattle.ledger_model.specs.Opening.{Transaction, shown_of, confirming_of}
 use Rattle.canton_model.specs.Reading.{Reading}
 
@@ -19,8 +26,10 @@ abbrev pub carol : Name
 carol = 67 ∷ []
 
 abbrev pub hosts : ℕ → Name → Bool
-hosts p name =
-    (nat_eq p 0 && bytes_eq name bank) || ((nat_eq p 1 && bytes_eq name alice) || (nat_eq p 2 && bytes_eq name carol))
+hosts zero name = bytes_eq name bank
+hosts (suc zero) name = bytes_eq name alice
+hosts (suc (suc zero)) name = bytes_eq name carol
+hosts (suc (suc (suc p))) name = false
 
 -- issuer and owner
 abbrev pub contract : Name → Name → Instance
@@ -38,6 +47,14 @@ abbrev pub second_field : List Value → PartySet
 second_field [] = []
 second_field (v ∷ vs) = first_field vs
 
+-- the transfer's body: it creates a contract of the issuer with its argument, and gives unit
+abbrev pub transferred : ChoiceCall → List Value
+transferred call = take 1 call.instance.fields ++ call.args
+
+abbrev pub next : ChoiceCall → List Seen → Option Step
+next call [] = Some (CreateNext (call.instance).template (transferred call))
+next call (seen ∷ more) = Some (Done UnitValue)
+
 abbrev pub language : Language
 language =
     record {
@@ -48,17 +65,49 @@ language =
       has_kinds = λ i. true;
       is_creatable = λ i. true;
       is_exercisable = λ call actors consuming result. true;
-      next = λ call seen. None;
+      next = next;
     }
+
+-- the test of conformance
+abbrev pub is_transferred : ChoiceCall → Action → Bool
+is_transferred call (Create id instance) =
+    template_eq.ghosts.eq instance.template (call.instance).template && pointwise value_eq.ghosts.eq instance.fields (transferred call)
+is_transferred call (Exercise id salt instance choice args actors consuming result) = false
+is_transferred call (Fetch id salt instance actors) = false
+
+abbrev pub follows_body : ChoiceCall → (result : Value) → Forest Act → Bool
+follows_body call result NoRoots = false
+follows_body call result (Root act NoRoots NoRoots) = is_transferred call act.action && value_eq.ghosts.eq UnitValue result
+follows_body call result (Root act (Root child below next) others) = false
+follows_body call result (Root act NoRoots (Root other below next)) = false
+
+abbrev pub is_alone : Forest Act → Bool
+is_alone NoRoots = true
+is_alone (Root act below others) = false
+
+abbrev pub is_followed : Action → Forest Act → Bool
+is_followed (Create id instance) consequences = is_alone consequences
+is_followed (Exercise id salt instance choice args actors consuming result) consequences =
+    follows_body (record { id = id; instance = instance; choice = choice; args = args }) result consequences
+is_followed (Fetch id salt instance actors) consequences = is_alone consequences
+
+abbrev pub conforms : Forest Act → Bool
+conforms NoRoots = true
+conforms (Root act consequences others) = is_followed act.action consequences && conforms others
 
 abbrev pub create : (seed : ℕ) → Instance → Act
 create seed instance = record { seed = seed ∷ []; action = Create (9 ∷ seed ∷ []) instance }
 
 -- the transfer of the contract of seed 1, with the seed of what it creates
+abbrev pub transfer_act : (seed : ℕ) → Act
+transfer_act seed =
+    record {
+      seed = (100 + seed) ∷ [];
+      action = Exercise (9 ∷ 1 ∷ []) (1 ∷ []) (contract bank alice) (84 ∷ []) (PartyValue carol ∷ []) (alice ∷ []) true UnitValue;
+    }
+
 abbrev pub transfer : (seed : ℕ) → Forest Act → Forest Act
-transfer seed others =
-    Root (record { seed = (100 + seed) ∷ []; action = Exercise (9 ∷ 1 ∷ []) (1 ∷ []) (contract bank alice) (84 ∷ []) (PartyValue carol ∷ []) (alice ∷ []) true UnitValue })
-    (Root (create seed (contract bank carol)) NoRoots NoRoots) others
+transfer seed others = Root (transfer_act seed) (Root (create seed (contract bank carol)) NoRoots NoRoots) others
 
 abbrev pub fetch : (id salt : Hash) → Act
 fetch id salt = record { seed = 50 ∷ []; action = Fetch id salt (contract bank alice) (alice ∷ []) }
@@ -66,11 +115,23 @@ fetch id salt = record { seed = 50 ∷ []; action = Fetch id salt (contract bank
 abbrev pub of_alice : Forest Act → Transaction
 of_alice roots = record { requesters = alice ∷ []; ledger_time = 0; roots = roots }
 
+abbrev pub issue : Transaction
+issue = record { requesters = bank ∷ []; ledger_time = 0; roots = Root (create 1 (contract bank alice)) NoRoots NoRoots }
+
+-- a create of Alice's own at this time by her clock
+abbrev pub alone_at : (ledger_time : ℕ) → Transaction
+alone_at ledger_time = record { requesters = alice ∷ []; ledger_time = ledger_time; roots = Root (create 5 (contract alice alice)) NoRoots NoRoots }
+
+-- a contract of Alice's own of another package
+abbrev pub foreign : Instance
+foreign = record { template = record { «package» = 88 ∷ []; name = [] }; fields = PartyValue alice ∷ PartyValue alice ∷ [] }
+
 -- the transactions by their command: 1 the issue, 2 and 3 two transfers, 4 a fetch, 5 a create of Alice's own, 6 a
--- forged and 7 an invented fetch, 8 a transfer and a fetch, 9 a create that Bank didn't ask for, 10 two creates
+-- forged and 7 an invented fetch, 8 a transfer and a fetch, 9 a create that Bank didn't ask for, 10 two creates, 11 and 12
+-- creates ahead of time, 13 a create of a package that nobody vetted, 14 a transfer that creates nothing
 abbrev pub transaction_of : ℕ → Transaction
 transaction_of n =
-    if nat_eq n 1 then record { requesters = bank ∷ []; ledger_time = 0; roots = Root (create 1 (contract bank alice)) NoRoots NoRoots }
+    if nat_eq n 1 then issue
     else if nat_eq n 2 then of_alice (transfer 2 NoRoots)
     else if nat_eq n 3 then of_alice (transfer 3 NoRoots)
     else if nat_eq n 4 then of_alice (Root (fetch (9 ∷ 1 ∷ []) (1 ∷ [])) NoRoots NoRoots)
@@ -79,6 +140,10 @@ transaction_of n =
     else if nat_eq n 7 then of_alice (Root (fetch (9 ∷ 0 ∷ []) (0 ∷ [])) NoRoots NoRoots)
     else if nat_eq n 8 then of_alice (transfer 8 (Root (fetch (9 ∷ 1 ∷ []) (1 ∷ [])) NoRoots NoRoots))
     else if nat_eq n 9 then of_alice (Root (create 9 (contract bank alice)) NoRoots NoRoots)
+    else if nat_eq n 11 then alone_at 60000001
+    else if nat_eq n 12 then alone_at 60000002
+    else if nat_eq n 13 then of_alice (Root (create 13 foreign) NoRoots NoRoots)
+    else if nat_eq n 14 then of_alice (Root (transfer_act 14) NoRoots NoRoots)
     else of_alice (Root (create 10 (contract alice alice)) NoRoots (Root (create 11 (contract bank alice)) NoRoots NoRoots))
 
 abbrev pub number_of : Name → ℕ
@@ -93,17 +158,43 @@ salt_in seed (Fetch id salt instance actors) = salt
 abbrev pub salt_of : Act → Hash
 salt_of act = salt_in act.seed act.action
 
+-- the request of a transaction by its command, which asks those that confirm one of its views
+abbrev pub request_for : (sender n : ℕ) → Request
+request_for sender n =
+    record {
+      sender = sender;
+      command = n ∷ [];
+      confirming = confirming_of language hosts (0 ∷ 1 ∷ 2 ∷ []) (transaction_of n).roots;
+      mediator = [];
+      envelopes = [];
+    }
+
+abbrev pub is_empty : {X : Type 0} → List X → Bool
+is_empty [] = true
+is_empty (x ∷ xs) = false
+
+-- the request is this one, which has no bytes
+abbrev pub is_that : Request → Request → Bool
+is_that this q =
+    nat_eq q.sender this.sender
+    && (bytes_eq q.command this.command && (bytes_eq q.confirming this.confirming && (is_empty q.mediator && is_empty q.envelopes)))
+
+-- the three requests of the two spends
+abbrev pub is_sealed : Request → Bool
+is_sealed q = is_that (request_for 0 1) q || (is_that (request_for 1 2) q || is_that (request_for 1 3) q)
+
 abbrev pub reading : Reading
 reading =
     record {
       whole = λ q. Some (transaction_of (number_of q.command));
       shown = λ p q. shown_of language (hosts p) (nat_eq p q.sender) (transaction_of (number_of q.command));
+      is_sealed = is_sealed;
       is_authentic = λ a. bytes_eq (id_of a.action) (9 ∷ salt_of a);
       language = language;
-      conforms = λ roots. true;
+      conforms = conforms;
       hosts = hosts;
       confirms = hosts;
-      has_vetted = λ p name. true;
+      has_vetted = λ p name. is_empty name;
     }
 
 abbrev pub params : Params
@@ -111,11 +202,11 @@ params = record { response_timeout = 30000000; reaction_timeout = 30000000; skew
 
 -- entries
 abbrev pub request : (time sender n : ℕ) → Entry
-request time sender n =
-    record { time = time; message = RequestMessage (record { sender = sender; command = n ∷ []; confirming = confirming_of language hosts (0 ∷ 1 ∷ 2 ∷ []) (transaction_of n).roots; mediator = []; envelopes = [] }) }
+request time sender n = record { time = time; message = RequestMessage (request_for sender n) }
 
 abbrev pub response : (time from k : ℕ) → List ViewVerdict → Entry
-response time from k verdicts = record { time = time; message = ResponseMessage (record { from = from; request = k; verdicts = verdicts }) }
+response time from k verdicts =
+    record { time = time; message = ResponseMessage (record { from = from; request = k; verdicts = verdicts }) }
 
 abbrev pub verdict : (time k : ℕ) → Decision → Entry
 verdict time k decision = record { time = time; message = VerdictMessage (record { request = k; decision = decision }) }
@@ -204,3 +295,11 @@ asked n = after_b (request 4 1 n ∷ [])
 
 abbrev pub alone : ℕ → List Entry
 alone n = request 1 1 n ∷ []
+
+-- the issue once more
+abbrev pub issued_again : List Entry
+issued_again = after_b (request 4 0 1 ∷ [])
+
+-- a request of Alice's at a time
+abbrev pub late : (time : ℕ) → List Entry
+late time = tick time ∷ request (time + 1) 1 5 ∷ []

@@ -1,30 +1,34 @@
 //! The laws of the protocol's definitions, as the clauses of functions that do nothing.
-ghost use Rattle.std.specs.Prelude.{◌≡◌, ◌++◌, ◌∷◌, [], Some, ◌<◌, ◌≤◌, take, ℕ, Bool, List, true, false, length, None};
-ghost use Rattle.ledger_model.specs.Terms.{Hash, ParticipantId};
+ghost use Rattle.std.specs.Prelude.{◌≡◌, ◌++◌, ◌∷◌, [], Some, ◌<◌, ◌≤◌, take, ℕ, Bool, List, true, false, length, None, suc, Contains};
+ghost use Rattle.ledger_model.specs.Terms.{Hash, ParticipantId, Act, id_of};
 ghost use Rattle.canton_model.specs.Example;
 ghost use Rattle.canton_model.specs.Worked;
-ghost use Rattle.canton_model.specs.Worked.{v0, v00, v1, two_spends, fetch_of_locked, timeout, early_tick, past_decision_time, clean_behind, asked, alone};
+ghost use Rattle.canton_model.specs.Worked.{v0, v00, v1, two_spends, fetch_of_locked, timeout, early_tick, past_decision_time, clean_behind, asked, alone, issued_again, late};
 ghost use Rattle.canton_model.specs.Mediation.{scan};
 ghost use Rattle.canton_model.specs.Checks.{verdicts_owed};
-ghost use Rattle.canton_model.specs.Log.{Approve, Reject, Approved, TimedOut, Locked, Inactive, Unordered, IdMismatch, NotAuthorised, Rejected, Params, Entry, decision_time_of};
+ghost use Rattle.canton_model.specs.Log.{Approve, Reject, Approved, TimedOut, Locked, Inactive, NotFresh, NotVetted, TimeSkew, Unordered, IdMismatch, NotConformant, NotAuthorised, Rejected, Params, Entry, Request, Decision, decision_time_of, request_at};
 ghost use Rattle.ledger_model.specs.Language.{roles_of};
-ghost use Rattle.canton_model.specs.Reading.{Reading};
+ghost use Rattle.canton_model.specs.Reading.{Reading, is_recipient};
 ghost use Rattle.ledger_model.specs.Authority.{is_commit_authorised};
 ghost use Rattle.ledger_model.specs.Conformance.{Conforms};
 ghost use Rattle.canton_model.specs.Inbox;
-ghost use Rattle.canton_model.specs.Inbox.{Item, IsClean, item_after, active_of, active_row, clean, inbox, is_informed, node_active, node_log, project_ledger};
-ghost use Rattle.canton_model.specs.Ledger.{whole_at, commits_below, Timely, requests_of, ledger};
-ghost use Rattle.canton_model.specs.Genuine.{Genuine, IsReading, NoCollision};
-ghost use Rattle.canton_model.specs.Causes.{CauseOf};
-ghost use Rattle.canton_model.specs.Timeline.{is_approved_in, timeline_of, outcome_of};
+ghost use Rattle.canton_model.specs.Inbox.{Item, IsClean, item_after, active_of, active_row, clean, inbox, is_informed, node_active, node_log, project_ledger, has_hosted_stakeholder, is_locked_in_inbox, status_in_inbox, is_decided_in, outcome_in};
+ghost use Rattle.canton_model.specs.Ledger.{whole_at, commits_below, Timely, requests_of, ledger, status_in, is_guard};
+ghost use Rattle.canton_model.specs.Genuine.{Genuine, EntryFits, IsReading, IsSealed, NoCollision};
+ghost use Rattle.canton_model.specs.Causes.{CauseOf, LocalCauseOf, is_locked_in};
+ghost use Rattle.canton_model.specs.Timeline.{is_approved_in, is_decided_at, timeline_of, outcome_of};
 ghost use Rattle.ledger_model.specs.Consistency.{Consistent};
-ghost use Rattle.ledger_model.specs.Forest.{Commit, ledger_acts};
+ghost use Rattle.ledger_model.specs.Forest.{Commit, acts, ledger_acts};
 ghost use Rattle.ledger_model.specs.Status.{is_locked_by, status_after};
-ghost use Rattle.canton_model.specs.Evidence.{IsShownApprovedChanges, IsShownChanges, is_locked_at, past_at, pending_at, status_at, Requests, Opened, Final, Checked, ledger_below};
+ghost use Rattle.canton_model.specs.Evidence.{acts_of, IsShownApprovedChanges, IsShownChanges, is_locked_at, past_at, pending_at, status_at, Requests, Opened, Final, Checked, ledger_below};
 
 /// The approved requests of a log, in order, are a consistent ledger, whatever requests are.
 pub fn one_ledger()
-    ensures consistent { (r : Requests) (end : ℕ) → Opened r end → Final r end → Checked r end → Consistent (ledger_acts (ledger_below r.is_approved r.whole end)) }
+    ensures consistent { (r : Requests) (end : ℕ)
+        → Opened r end
+        → Final r end
+        → Checked r end
+        → Consistent (ledger_acts (ledger_below r.is_approved r.whole end)) }
 {}
 
 /// In a log with its times and verdicts in order, a request that is decided stays as it is.
@@ -66,6 +70,7 @@ pub fn status_is_shared()
 /// A participant's log up to its clean place is the ledger's projection to its hosted parties.
 pub fn node_log_is_projection()
     ensures { (reading : Reading) (params : Params) (log : List Entry) (p : ParticipantId) (n : ℕ)
+        → IsReading reading
         → Genuine reading params log
         → n ≤ length log
         → node_log params (inbox reading p (take n log))
@@ -106,7 +111,7 @@ pub fn active_sets_are_exact()
         → Genuine reading params log
         → n ≤ length log
         → node_active reading p (inbox reading p (take n log)) (clean params (inbox reading p (take n log)))
-        ≡ active_of reading p (ledger_acts (commits_below reading log (clean params (inbox reading p (take n log))))) (commits_below reading log (clean params (inbox reading p (take n log)))) }
+        ≡ active_of reading p (commits_below reading log (clean params (inbox reading p (take n log)))) }
 {}
 
 /// The premises of `one_ledger_of_genuine_log` can be met, and the definitions compute.
@@ -120,8 +125,17 @@ pub fn example()
     ensures unsettled { clean Example.params (inbox Example.reading 0 (take 2 Example.log)) ≡ 0 }
 {}
 
-/// What a rejection, a timeout or an expiry says is so.
+/// What a rejection, a timeout or an expiry says is so, whether hashes collide or not: the check of the participant that
+/// rejects gives the reason that is told.
 pub fn each_outcome_has_its_cause()
+    ensures { (reading : Reading) (params : Params) (log : List Entry) (j : ℕ)
+        → IsReading reading
+        → Genuine reading params log
+        → LocalCauseOf reading params log j (outcome_of (timeline_of log) j (decision_time_of params log j)) }
+{}
+
+/// Where none collide, a rejection for a contract's lock or status tells what the ledger says of the contract.
+pub fn each_rejection_holds_of_the_ledger()
     ensures { (reading : Reading) (params : Params) (log : List Entry) (j : ℕ)
         → IsReading reading
         → NoCollision reading log
@@ -129,10 +143,98 @@ pub fn each_outcome_has_its_cause()
         → CauseOf reading params log j (outcome_of (timeline_of log) j (decision_time_of params log j)) }
 {}
 
+/// Who hosts a stakeholder of a contract counts the contract as locked exactly where it is, and where it isn't gives it the
+/// ledger's status, at every place of the log.
+pub fn hosts_agree_with_the_ledger()
+    ensures locked { (reading : Reading) (params : Params) (log : List Entry) (p j k : ℕ) (a : Act)
+        → IsReading reading
+        → NoCollision reading log
+        → Genuine reading params log
+        → Contains (acts_of (whole_at reading log j)) a
+        → reading.is_authentic a ≡ true
+        → has_hosted_stakeholder reading p a ≡ true
+        → k < length log
+        → is_locked_in_inbox reading params (inbox reading p (take (suc k) log)) k (id_of a.action) ≡ is_locked_in reading params log k a }
+    ensures status { (reading : Reading) (params : Params) (log : List Entry) (p j k : ℕ) (a : Act)
+        → IsReading reading
+        → NoCollision reading log
+        → Genuine reading params log
+        → Contains (acts_of (whole_at reading log j)) a
+        → reading.is_authentic a ≡ true
+        → has_hosted_stakeholder reading p a ≡ true
+        → k < length log
+        → is_locked_in_inbox reading params (inbox reading p (take (suc k) log)) k (id_of a.action) ≡ false
+        → status_in_inbox reading (inbox reading p (take (suc k) log)) k (id_of a.action) ≡ status_in reading log k (id_of a.action) }
+{}
+
 /// The clean place is the greatest below which every request is decided.
 pub fn clean_is_greatest()
     ensures clean { (params : Params) (items : List Item) → IsClean params items (Inbox.clean params items) }
     ensures greatest { (params : Params) (items : List Item) (n : ℕ) → IsClean params items n → n ≤ Inbox.clean params items }
+{}
+
+/// Every beginning of a genuine log is genuine, and a genuine log with one entry more that fits it is.
+pub fn genuine_logs_grow()
+    ensures beginning { (reading : Reading) (params : Params) (log : List Entry) (n : ℕ) → Genuine reading params log → Genuine reading params (take n log) }
+    ensures next { (reading : Reading) (params : Params) (log : List Entry) (entry : Entry)
+        → Genuine reading params log
+        → EntryFits reading params log entry
+        → Genuine reading params (log ++ entry ∷ []) }
+{}
+
+/// What the mediator decides over a log it decides over every longer one.
+pub fn decisions_stay()
+    ensures { (params : Params) (log more : List Entry) (j : ℕ) (decision : Decision)
+        → scan params log j ≡ Some decision
+        → scan params (log ++ more) j ≡ Some decision }
+{}
+
+/// What a participant knows of contracts at a place, and the verdicts that it owes there, depend on the items up to that
+/// place alone.
+pub fn later_items_change_nothing()
+    ensures status { (reading : Reading) (items : List Item) (k : ℕ) (c : Hash)
+        → status_in_inbox reading (take (suc k) items) k c ≡ status_in_inbox reading items k c }
+    ensures locked { (reading : Reading) (params : Params) (items : List Item) (k : ℕ) (c : Hash)
+        → is_locked_in_inbox reading params (take (suc k) items) k c ≡ is_locked_in_inbox reading params items k c }
+    ensures owed { (reading : Reading) (params : Params) (p : ParticipantId) (items : List Item) (k : ℕ)
+        → verdicts_owed reading params p (take (suc k) items) k ≡ verdicts_owed reading params p items k }
+{}
+
+/// A recipient of a request learns by its inbox whether and how the request was decided.
+pub fn recipients_learn_outcomes()
+    ensures decided { (reading : Reading) (params : Params) (p : ParticipantId) (log : List Entry) (k : ℕ) (request : Request)
+        → Timely params log
+        → request_at log k ≡ Some request
+        → is_recipient reading p request ≡ true
+        → is_decided_in params (inbox reading p log) k (length (inbox reading p log))
+        ≡ is_decided_at (timeline_of log) k (decision_time_of params log k) (length log) }
+    ensures outcome { (reading : Reading) (params : Params) (p : ParticipantId) (log : List Entry) (k : ℕ) (request : Request)
+        → Timely params log
+        → request_at log k ≡ Some request
+        → is_recipient reading p request ≡ true
+        → outcome_in params (inbox reading p log) k ≡ outcome_of (timeline_of log) k (decision_time_of params log k) }
+{}
+
+/// A genuine log without collisions has what one ledger rests on.
+pub fn genuine_logs_are_evidence()
+    ensures opened { (reading : Reading) (params : Params) (log : List Entry)
+        → IsReading reading
+        → NoCollision reading log
+        → Genuine reading params log
+        → Opened (requests_of reading params log (is_guard reading log)) (length log) }
+    ensures checked { (reading : Reading) (params : Params) (log : List Entry)
+        → IsReading reading
+        → NoCollision reading log
+        → Genuine reading params log
+        → Checked (requests_of reading params log (is_guard reading log)) (length log) }
+{}
+
+/// A sealed request with an action asks somebody.
+pub fn sealed_requests_ask_somebody()
+    ensures { (reading : Reading) (request : Request) (facts : IsSealed reading request) (a : Act)
+        → IsReading reading
+        → Contains (acts (facts.transaction).roots) a
+        → (p : ParticipantId) × Contains request.confirming p }
 {}
 
 /// An inbox grows by one item with each entry.
@@ -154,6 +256,13 @@ pub fn worked_decisions()
     ensures clean_behind_ledger { length (node_log Worked.params (inbox Worked.reading 1 clean_behind)) ≡ 1 }
 {}
 
+/// The log of two spends, by three participants, meets the premises of the other laws.
+pub fn worked_log_is_genuine()
+    ensures reading { IsReading Worked.reading }
+    ensures distinct { NoCollision Worked.reading two_spends }
+    ensures genuine { Genuine Worked.reading Worked.params two_spends }
+{}
+
 /// The responses of worked examples.
 pub fn worked_checks()
     ensures transfer_bank { verdicts_owed Worked.reading Worked.params 0 (inbox Worked.reading 0 (take 4 two_spends)) 3 ≡ v0 Approve ∷ v00 Approve ∷ [] }
@@ -168,6 +277,13 @@ pub fn worked_checks()
     ensures used_after_bank { verdicts_owed Worked.reading Worked.params 0 (inbox Worked.reading 0 (asked 8)) 3 ≡ v0 Approve ∷ v00 Approve ∷ v1 (Reject Unordered 0) ∷ [] }
     ensures used_after_alice { verdicts_owed Worked.reading Worked.params 1 (inbox Worked.reading 1 (asked 8)) 3 ≡ v0 Approve ∷ v1 (Reject Unordered 0) ∷ [] }
     ensures no_authority { verdicts_owed Worked.reading Worked.params 0 (inbox Worked.reading 0 (alone 9)) 0 ≡ v0 (Reject NotAuthorised 0) ∷ [] }
+    ensures not_fresh { verdicts_owed Worked.reading Worked.params 0 (inbox Worked.reading 0 issued_again) 3 ≡ v0 (Reject NotFresh 0) ∷ [] }
+    ensures not_vetted { verdicts_owed Worked.reading Worked.params 1 (inbox Worked.reading 1 (alone 13)) 0 ≡ v0 (Reject NotVetted 0) ∷ [] }
+    ensures not_conformant { verdicts_owed Worked.reading Worked.params 0 (inbox Worked.reading 0 (asked 14)) 3 ≡ v0 (Reject NotConformant 0) ∷ [] }
+    ensures just_early { verdicts_owed Worked.reading Worked.params 1 (inbox Worked.reading 1 (alone 11)) 0 ≡ v0 Approve ∷ [] }
+    ensures too_early { verdicts_owed Worked.reading Worked.params 1 (inbox Worked.reading 1 (alone 12)) 0 ≡ v0 (Reject TimeSkew 0) ∷ [] }
+    ensures just_late { verdicts_owed Worked.reading Worked.params 1 (inbox Worked.reading 1 (late 59999999)) 1 ≡ v0 Approve ∷ [] }
+    ensures too_late { verdicts_owed Worked.reading Worked.params 1 (inbox Worked.reading 1 (late 60000000)) 1 ≡ v0 (Reject TimeSkew 0) ∷ [] }
     ensures foreign_root_bank { verdicts_owed Worked.reading Worked.params 0 (inbox Worked.reading 0 (alone 10)) 0 ≡ v1 (Reject NotAuthorised 0) ∷ [] }
     ensures foreign_root_alice { verdicts_owed Worked.reading Worked.params 1 (inbox Worked.reading 1 (alone 10)) 0 ≡ v0 Approve ∷ [] }
 {}

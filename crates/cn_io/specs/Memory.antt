@@ -10,9 +10,11 @@ pub record Supply : Type 0 where
   pub calls : ℕ
   pub faults : ℕ
 
--- A sink in memory: the bytes held, how many a call takes at most, the calls that fail, and the calls and faults so far.
+-- A sink in memory: the bytes held, how many more need no memory, how many a call takes at most, the calls that fail, and the
+-- calls and faults so far.
 pub record Store : Type 0 where
   pub held : List ℕ
+  pub room : ℕ
   pub piece : ℕ
   pub fails : List ℕ
   pub calls : ℕ

@@ -3,9 +3,9 @@ use Rattle.std.specs.Prelude.{◌≡◌, ℕ, ◌≤◌, List, take, length, Opt
 use Rattle.std.specs.Io.KnownBytes.{Keeps, Consumes, IsAtEnd}
 use Rattle.cn_io.specs.Faults.{Rose}
 
--- A take moved the first n of the bytes left to the front of the buffer, and none only where none is left. A refusal
--- moved none, and was counted.
+-- A take moved the first n of the bytes left to the front of the buffer, and none only where none is left; the count of
+-- faults stayed. A refusal moved none, and was counted.
 abbrev pub Takes : {E : Type 0} → Option (List ℕ) → Option (List ℕ) → ℕ → ℕ → Result ℕ E → List ℕ → Type 0
 Takes left left' faults faults' result into = MatchResult result
-    (λ n. (n ≤ length into) × Consumes left left' (take n into) × (n ≡ 0 → IsAtEnd left'))
+    (λ n. (n ≤ length into) × Consumes left left' (take n into) × (n ≡ 0 → IsAtEnd left') × (faults' ≡ faults))
     (λ _. Keeps left left' × Rose faults faults')

@@ -1,16 +1,16 @@
 //! Where bytes come from and where they go, each with a count of its faults.
 #![tactic(auto)]
 
-pub mod failed;
-pub mod mem_sink;
-pub mod mem_source;
-pub mod read_source;
-pub mod sink;
-pub mod source;
-pub mod sure_sink;
-pub mod sure_source;
-pub mod whole;
-pub mod write_sink;
+mod failed;
+mod mem_sink;
+mod mem_source;
+mod read_source;
+mod sink;
+mod source;
+mod sure_sink;
+mod sure_source;
+mod whole;
+mod write_sink;
 
 pub use failed::Failed;
 pub use mem_sink::MemSink;

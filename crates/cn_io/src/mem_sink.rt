@@ -1,19 +1,19 @@
 //! A sink in memory that fails where it is told to.
-ghost use Rattle.std.specs.Prelude.{◌≡◌, ◌<◌, ◌≤◌, [], IsTrue, IsErr, IfOk, Some, min, length};
+ghost use Rattle.std.specs.Prelude.{◌≡◌, ◌<◌, ◌≤◌, [], IsTrue, IsErr, IfOk, OnOk, OnErr, Some, min, length};
 ghost use Rattle.cn_io.specs.Faults.{counted};
 ghost use Rattle.cn_io.specs.Sink.{Puts, TakesAll};
 ghost use Rattle.cn_io.specs.Memory.{is_listed};
 
 use crate::failed::Failed;
 use crate::sink::Sink;
-use ledger_terms::{Bytes, U64List};
-use std::alloc::Global;
+use ledger_terms::U64List;
+use std::alloc::{AllocError, Global};
 use std::marker::Model;
 
 /// A sink that takes at most so many bytes a call and fails at the calls listed, and where it finds no memory.
 #[derive(Drop)]
 pub struct MemSink {
-    bytes: Bytes,
+    bytes: Vec<u8>,
     piece: usize,
     fails: U64List,
     calls: u64,
@@ -21,13 +21,14 @@ pub struct MemSink {
 }
 
 impl Model for MemSink {
-    ghost use Rattle.std.specs.Prelude.{◌<◌};
+    ghost use Rattle.std.specs.Prelude.{◌<◌, ◌-◌, vec_len, vec_capacity};
     ghost use Rattle.cn_io.specs.Memory.{Store};
 
     ghost Value = { Store };
 
     ghost view = { λ s. record {
-      held = s.bytes;
+      held = s.bytes.items;
+      room = vec_capacity s.bytes - vec_len s.bytes;
       piece = s.piece;
       fails = s.fails;
       calls = s.calls;
@@ -41,15 +42,24 @@ impl MemSink {
     /// An empty sink that was not called yet. `fails` lists calls by their number, from 1.
     pub fn new(alloc: Global, piece: usize, fails: U64List) -> MemSink
         requires { 0 < piece }
-        ensures { result ≡ record { held = []; piece = piece; fails = fails; calls = 0; faults = 0 } }
+        ensures { result ≡ record { held = []; room = 0; piece = piece; fails = fails; calls = 0; faults = 0 } }
     {
         MemSink {
-            bytes: Bytes::new(alloc),
+            bytes: Vec::new(alloc),
             piece,
             fails,
             calls: 0,
             faults: 0,
         }
+    }
+
+    /// Makes room for at least `n` more bytes.
+    pub fn reserve(&mut self, n: usize) -> Result<(), AllocError>
+        ensures room { OnOk result (n ≤ self.new.room) }
+        ensures same { self.new ≡ record self.old { room = self.new.room } }
+        ensures err { OnErr result (self.new ≡ self.old) }
+    {
+        self.bytes.reserve(n)
     }
 
     /// What was taken.
@@ -74,13 +84,14 @@ impl Sink for MemSink {
         ensures sure { length from.now ≤ 0 → TakesAll self.old.faults self.new.faults 0 0 result from.now }
         ensures call { self.new.calls ≡ counted self.old.calls }
         ensures fails { IsTrue (is_listed self.new.calls self.old.fails) → IsErr result }
+        ensures only { min (length from.now) self.old.piece ≤ self.old.room → IsErr result → IsTrue (is_listed self.new.calls self.old.fails) }
         ensures piece { IfOk result (λ n. n ≡ min (length from.now) self.old.piece) }
         ensures same { (self.new.piece ≡ self.old.piece) × (self.new.fails ≡ self.old.fails) }
     {
         self.calls = self.calls.saturating_add(1);
         let count = from.len().min(self.piece);
         if !self.fails.as_slice().contains(&self.calls)
-            && self.bytes.extend(&from[..count]).is_ok()
+            && self.bytes.extend_from_slice(&from[..count]).is_ok()
         {
             return Ok(count);
         }

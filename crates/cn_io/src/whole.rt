@@ -1,5 +1,5 @@
 //! Whole texts in and out.
-ghost use Rattle.std.specs.Prelude.{◌≡◌, ℕ, ◌≤◌, take, length, IfOk, IfErr, IsOk, OnOk, OnErr, IsErrOf};
+ghost use Rattle.std.specs.Prelude.{◌≡◌, ℕ, ◌≤◌, ◌⊎◌, take, length, IfOk, IfErr, IsOk, OnOk, OnErr, IsErrOf};
 ghost use Rattle.std.specs.Io.KnownBytes.{Appends, Consumes, IsAtEnd};
 ghost use Rattle.cn_io.specs.Faults.{Rose};
 ghost use Rattle.cn_io.specs.Whole.{StoppedAfter};
@@ -37,6 +37,8 @@ pub fn read_all<S: Source>(alloc: Global, source: &mut S, limit: usize) -> Resul
     ensures stopped { IfErr result (λ fault.
         StoppedAfter limit (S.left source.old) (S.left source.new) (fault ≡ ReadFault.TooLong)) }
     ensures count { S.faults source.old ≤ S.faults source.new }
+    ensures kept { IfOk result (λ _. S.faults source.new ≡ S.faults source.old) }
+    ensures kept_at_fault { IfErr result (λ fault. (fault ≡ ReadFault.Failed) ⊎ (S.faults source.new ≡ S.faults source.old)) }
 {
     let mut bytes = Bytes::new(alloc);
     let mut piece = [0u8; PIECE];
@@ -67,6 +69,7 @@ pub fn write_all<K: Sink>(sink: &mut K, bytes: &[u8]) -> Result<(), Failed>
         × ((n : ℕ) × Appends (K.held sink.old) (K.held sink.new) (take n bytes.now))) }
     ensures sure { length bytes.now ≤ K.room sink.old → IsOk result × (K.faults sink.new ≡ K.faults sink.old) }
     ensures count { K.faults sink.old ≤ K.faults sink.new }
+    ensures kept { OnOk result (K.faults sink.new ≡ K.faults sink.old) }
 {
     let mut at = 0;
     'pieces: while at < bytes.len() {

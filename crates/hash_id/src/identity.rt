@@ -9,7 +9,7 @@ use ledger_terms::{Hash, Name};
 use sha2::{Digest, Sha256};
 
 /// The id of the contract that a create with this salt makes. `instance_bytes` is the spelling of its instance.
-pub fn contract_id(salt: &Hash, instance_bytes: &[u8]) -> Hash
+pub fn contract_id_of_bytes(salt: &Hash, instance_bytes: &[u8]) -> Hash
     ensures { result ≡ sha256 (contract_id_string salt.now instance_bytes.now) }
 {
     let mut hasher = Tag::ContractId.hasher();

@@ -2,10 +2,10 @@
 //! (FIPS 180-4) of a string that begins with the byte of its tag, so no two kinds share a string.
 #![tactic(auto)]
 
-pub mod identity;
-pub mod merkle;
-pub mod tag;
+mod identity;
+mod merkle;
+mod tag;
 
-pub use identity::{child_seed, contract_id, root_seed};
+pub use identity::{child_seed, contract_id_of_bytes, root_seed};
 pub use merkle::{leaf_hash, leaf_salt, tree_hash, view_hash};
 pub use tag::Tag;

@@ -1,14 +1,14 @@
 -- The bytes of actions as numbers of the machine.
 use Rattle.std.proofs.Common.{◌≡◌, ℕ, ◌+◌, ◌-◌, ◌^◌, Bool, true, false, length, refl, arith}
 use Rattle.std.specs.Prelude.{◌&&◌, ◌↔◌, IsTrue}
-use Rattle.ledger_terms.specs.Deciding.{both, both_true}
+use Rattle.ledger_terms.proofs.Deciding.{both, both_true}
 use Rattle.ledger_terms.specs.declared.action.Action.{Action}
 use Rattle.ledger_terms.specs.declared.action.Action.TheVariants.{Create, Exercise, Fetch}
 use Rattle.wire_form.specs.Lengths.{capped}
 use Rattle.wire_form.specs.Spelling.{spell_action}
 use Rattle.wire_form.specs.Spellable.{IsSpellableAction}
 use Rattle.interpret.specs.Sizes.{are_spelled, is_spelled_set, is_spelled_value}
-use Rattle.interpret.specs.Encoded.{is_spelled_action, action_bytes}
+use Rattle.wire_form.specs.Encoded.{is_spelled_action, action_bytes}
 use Rattle.interpret.proofs.Spelled.{same_bool, le_test, le_fact, values_spelled, values_spellable, value_spelled, value_spellable}
 
 pub action_spelled : (a : Action) → IsSpellableAction a → is_spelled_action a ≡ true
@@ -30,7 +30,8 @@ action_spellable (Fetch id salt i actors) h =
 pub action_is : (b : Bool) (a : Action) → IsTrue b ↔ IsSpellableAction a → b ≡ is_spelled_action a
 action_is b a h = same_bool b (is_spelled_action a) (λ t. action_spelled a (h.0 t)) (λ t. h.1 (action_spellable a t))
 
-pub spelled_bytes : (b : Bool) (a : Action) (n m : ℕ) → b ≡ is_spelled_action a → b ≡ true → n ≡ capped (length (spell_action a)) → m ≡ capped (n + 32) → m ≡ capped (action_bytes a)
+pub spelled_bytes : (b : Bool) (a : Action) (n m : ℕ) → b ≡ is_spelled_action a → b ≡ true → n ≡ capped (length (spell_action a))
+    → m ≡ capped (n + 32) → m ≡ capped (action_bytes a)
 unfolding action_bytes
 spelled_bytes b a n m is true_is len sum =
     let far : m ≡ capped (32 + length (spell_action a)) = omega (arith, len, sum) in

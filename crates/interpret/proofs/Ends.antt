@@ -16,9 +16,9 @@ use Rattle.wire_form.specs.Lengths.{capped}
 use Rattle.interpret.specs.declared.command_fault.CommandFault.{CommandFault}
 use Rattle.interpret.specs.declared.command_fault.CommandFault.TheVariants.{TooBig, Memory}
 use Rattle.interpret.specs.Ids.{Hash}
-use Rattle.interpret.specs.Act.{Followed, on, act, most_children}
+use Rattle.interpret.specs.Act.{BodyRun, on, act, most_children}
 use Rattle.interpret.specs.Commands.{commands_source}
-use Rattle.interpret.specs.Encoded.{encoded_bytes}
+use Rattle.wire_form.specs.Encoded.{encoded_bytes}
 use Rattle.interpret.specs.Interpreted.{interp, run_commands, if_small, nothing_done}
 use Rattle.interpret.specs.Wanted.{Wanted, IsWanted}
 use Rattle.interpret.specs.Stops.{StopsWith}
@@ -32,7 +32,8 @@ module _ (packages : Packages) (known : List Known) (seed : Hash) (by : PartyNam
   err_is : (x y : CommandFault) → (let r : Result Actions CommandFault = Err x in r ≡ Err y) → x ≡ y
   err_is x y h = cc
 
-  big : (forest : Actions) → Wanted packages known 16 (commands_source packages known commands) UnitValue by [] seed [] 0 nothing_done forest → if_small forest ≡ Err fault → StopsWith packages known seed by commands fault
+  big : (forest : Actions) → Wanted packages known 16 (commands_source packages known commands) UnitValue by [] seed [] 0 nothing_done forest
+      → if_small forest ≡ Err fault → StopsWith packages known seed by commands fault
   big forest w h =
       elim (cases_Bool (nat_le (encoded_bytes forest) 32768)) [
         | inl b ↦ let no : Ok forest ≡ Err fault = rw b at h in absurd cc
@@ -42,17 +43,23 @@ module _ (packages : Packages) (known : List Known) (seed : Hash) (by : PartyNam
             inr (forest, w, more, sym (err_is (TooBig (capped (encoded_bytes forest))) fault e))
       ]
 
-  whole : (f : Followed) → run_commands packages known seed by commands ≡ Ok f → if_small f.children ≡ Err fault → StopsWith packages known seed by commands fault
+  whole : (f : BodyRun) → run_commands packages known seed by commands ≡ Ok f → if_small f.children ≡ Err fault
+      → StopsWith packages known seed by commands fault
   whole f ran h =
-      let rest = follow_law packages known 16 (act 16 packages known) (act_law packages known 16) (commands_source packages known commands) by seed [] f most_children nothing_done [] NoRoots 0 ran in
+      let rest = follow_law packages known 16 (act 16 packages known) (act_law packages known 16) (commands_source packages known commands) by seed
+      [] f most_children nothing_done [] NoRoots 0 ran in
       let unit : f.result ≡ UnitValue = roots_end packages known commands 16 f.result by [] seed [] 0 nothing_done rest.rest rest.wanted in
-      big rest.rest (subst (λ (v : Value). Wanted packages known 16 (commands_source packages known commands) v by [] seed [] 0 nothing_done rest.rest) unit rest.wanted)
+      big rest.rest (subst (λ (v : Value). Wanted packages known 16 (commands_source packages known commands) v by [] seed [] 0 nothing_done
+      rest.rest) unit rest.wanted)
       (subst (λ (g : Actions). if_small g ≡ Err fault) rest.joins h)
 
-  ran_case : (r : Result Followed CommandFault) → run_commands packages known seed by commands ≡ r → on (on r (λ f. Ok f.children)) if_small ≡ Err fault → StopsWith packages known seed by commands fault
+  ran_case : (r : Result BodyRun CommandFault) → run_commands packages known seed by commands ≡ r
+      → on (on r (λ f. Ok f.children)) if_small ≡ Err fault → StopsWith packages known seed by commands fault
   ran_case (Ok f) ran h = whole f ran h
   ran_case (Err e) ran h =
-      inl (follow_stop packages known 16 (act 16 packages known) (commands_source packages known commands) by seed [] fault (act_law packages known 16) (act_stop packages known 16) most_children nothing_done [] NoRoots 0 (omega (arith, most_is)) (omega arith) (ran ∙ ap (λ (e : CommandFault). Err e) (err_is e fault h)))
+      inl (follow_stop packages known 16 (act 16 packages known) (commands_source packages known commands) by seed [] fault
+      (act_law packages known 16) (act_stop packages known 16) most_children nothing_done [] NoRoots 0 (omega (arith, most_is)) (omega arith)
+      (ran ∙ ap (λ (e : CommandFault). Err e) (err_is e fault h)))
 
   pub given_stops : interp packages known seed by commands ≡ Err fault → StopsWith packages known seed by commands fault
   unfolding interp
@@ -61,18 +68,22 @@ module _ (packages : Packages) (known : List Known) (seed : Hash) (by : PartyNam
   pub stop_is_given : StopsWith packages known seed by commands fault → interp packages known seed by commands ≡ Err fault
   unfolding interp
   stop_is_given (inl s) =
-      let ran = follow_halts packages known 16 (act 16 packages known) (commands_source packages known commands) by seed [] fault (act_done packages known 16) (act_halts packages known 16) s.0 most_children nothing_done [] NoRoots 0 (omega (arith, most_is)) (omega arith) s.1 in
+      let ran = follow_halts packages known 16 (act 16 packages known) (commands_source packages known commands) by seed [] fault
+      (act_done packages known 16) (act_halts packages known 16) s.0 most_children nothing_done [] NoRoots 0 (omega (arith, most_is)) (omega arith) s.1 in
       rw ran refl
   stop_is_given (inr s) =
-      let ran = follow_done packages known 16 (act 16 packages known) (act_done packages known 16) (commands_source packages known commands) UnitValue by seed [] s.0 most_children nothing_done [] NoRoots 0 (omega (arith, most_is)) (omega arith) s.1 in
+      let ran = follow_done packages known 16 (act 16 packages known) (act_done packages known 16) (commands_source packages known commands)
+      UnitValue by seed [] s.0 most_children nothing_done [] NoRoots 0 (omega (arith, most_is)) (omega arith) s.1 in
       let many : nat_le (encoded_bytes s.0) 32768 ≡ false = grind (arith, nat_tests, s.2) in
       rw (ran, many) (ap (λ (f : CommandFault). Err f) (sym s.3))
 
 module _ (packages : Packages) (known : List Known) (seed : Hash) (by : PartyNames) (commands : List Command) where
-  pub wanted_answer : (r : Result Actions CommandFault) → UnlessMemory Memory r (interp packages known seed by commands) → IfOk r (λ forest. IsWanted packages known seed by commands forest)
+  pub wanted_answer : (r : Result Actions CommandFault) → UnlessMemory Memory r (interp packages known seed by commands)
+      → IfOk r (λ forest. IsWanted packages known seed by commands forest)
   wanted_answer (Ok forest) h = given_is_wanted packages known seed by commands forest (sym (h (λ e. cc)))
   wanted_answer (Err e) h = tt
 
-  pub stop_answer : (r : Result Actions CommandFault) → UnlessMemory Memory r (interp packages known seed by commands) → IfErr r (λ fault. fault ≢ Memory → StopsWith packages known seed by commands fault)
+  pub stop_answer : (r : Result Actions CommandFault) → UnlessMemory Memory r (interp packages known seed by commands)
+      → IfErr r (λ fault. fault ≢ Memory → StopsWith packages known seed by commands fault)
   stop_answer (Ok forest) h = tt
   stop_answer (Err e) h = λ fresh. given_stops packages known seed by commands e (sym (h (λ m. fresh cc)))

@@ -1,7 +1,7 @@
 -- The stakeholders among the authorisers are authorised, and a set of them is put together in one way.
 use Rattle.std.proofs.Common.{◌≡◌, ℕ, Bool, true, false, List, [], ◌∷◌, refl, sym, ◌∙◌}
 use Rattle.std.specs.Prelude.{◌||◌}
-use Rattle.ledger_terms.specs.Deciding.{both_true, bytes_decide}
+use Rattle.ledger_terms.proofs.Deciding.{both_true, bytes_decide}
 use Rattle.ledger_terms.specs.Parties.{same_name, has_party, is_subset, set_of}
 use Rattle.ledger_terms.proofs.Members.{has_party-set_of}
 use Rattle.ledger_model.specs.Authority.{same_members}
@@ -23,4 +23,5 @@ subset_by b (x ∷ c) g = both_true _ _ (g x (first_in x c)) (subset_by b c (λ 
 
 pub set_members : (names : PartyNames) → same_members (set_of names) names ≡ true
 set_members names =
-    both_true _ _ (subset_by names (set_of names) (λ p h. sym (has_party-set_of names p) ∙ h)) (subset_by (set_of names) names (λ p h. has_party-set_of names p ∙ h))
+    both_true _ _ (subset_by names (set_of names) (λ p h. sym (has_party-set_of names p) ∙ h))
+    (subset_by (set_of names) names (λ p h. has_party-set_of names p ∙ h))

@@ -6,31 +6,36 @@ use Rattle.std.proofs.Math.ListN.{drop_of_length-le}
 use Rattle.ledger_terms.specs.declared.arg.Arg.{Arg}
 use Rattle.ledger_terms.specs.declared.field_decl.FieldDecl.{FieldDecl}
 use Rattle.ledger_terms.specs.contracts.kind.KindPartialEq.TheImpl as kind_eq
-use Rattle.interpret.specs.Commands.{kind_of_arg, handed_have_kinds}
+use Rattle.interpret.specs.Commands.{kind_of_arg, args_have_kinds}
 
 right_false : (a b : Bool) → b ≡ false → (a && b) ≡ false
 right_false true b h = h
 right_false false b h = refl
 
-pub kinds_other : (vs : List Arg) (ds : List FieldDecl) → (length vs ≡ length ds → ⊥) → handed_have_kinds vs ds ≡ false
+pub kinds_other : (vs : List Arg) (ds : List FieldDecl) → (length vs ≡ length ds → ⊥) → args_have_kinds vs ds ≡ false
 kinds_other [] [] h = absurd (h refl)
 kinds_other [] (d ∷ ds) h = refl
 kinds_other (v ∷ vs) [] h = refl
 kinds_other (v ∷ vs) (d ∷ ds) h = right_false (kind_eq.ghosts.eq (kind_of_arg v) d.kind) _ (kinds_other vs ds (λ e. h (ap suc e)))
 
-kinds_next : (vs : List Arg) (ds : List FieldDecl) (n : ℕ) (v : Arg) (d : FieldDecl) → n < length vs → n < length ds → v ≡ get_or vs n v → d ≡ get_or ds n d → handed_have_kinds (drop n vs) (drop n ds) ≡ (kind_eq.ghosts.eq (kind_of_arg v) d.kind && handed_have_kinds (drop (n + 1) vs) (drop (n + 1) ds))
+kinds_next : (vs : List Arg) (ds : List FieldDecl) (n : ℕ) (v : Arg) (d : FieldDecl) → n < length vs → n < length ds → v ≡ get_or vs n v
+    → d ≡ get_or ds n d → args_have_kinds (drop n vs) (drop n ds)
+    ≡ (kind_eq.ghosts.eq (kind_of_arg v) d.kind && args_have_kinds (drop (n + 1) vs) (drop (n + 1) ds))
 kinds_next vs ds n v d p q e f = rw (drop_more vs n v p, drop_more ds n d q, ← e, ← f) refl
 
 -- The test of the whole is false at the first value of another kind, and goes on where there is none.
-pub kinds_stop : (all : Bool) (vs : List Arg) (ds : List FieldDecl) (n : ℕ) (v : Arg) (d : FieldDecl) → n < length vs → n < length ds → v ≡ get_or vs n v → d ≡ get_or ds n d → kind_eq.ghosts.eq (kind_of_arg v) d.kind ≡ false → handed_have_kinds (drop n vs) (drop n ds) ≡ all → false ≡ all
+pub kinds_stop : (all : Bool) (vs : List Arg) (ds : List FieldDecl) (n : ℕ) (v : Arg) (d : FieldDecl) → n < length vs → n < length ds
+    → v ≡ get_or vs n v → d ≡ get_or ds n d → kind_eq.ghosts.eq (kind_of_arg v) d.kind ≡ false → args_have_kinds (drop n vs) (drop n ds) ≡ all → false ≡ all
 kinds_stop all vs ds n v d p q e f other before =
     let next = kinds_next vs ds n v d p q e f in
     rw other at (sym next) ∙ before
 
-pub kinds_step : (all : Bool) (vs : List Arg) (ds : List FieldDecl) (n : ℕ) (v : Arg) (d : FieldDecl) → n < length vs → n < length ds → v ≡ get_or vs n v → d ≡ get_or ds n d → kind_eq.ghosts.eq (kind_of_arg v) d.kind ≡ true → handed_have_kinds (drop n vs) (drop n ds) ≡ all → handed_have_kinds (drop (n + 1) vs) (drop (n + 1) ds) ≡ all
+pub kinds_step : (all : Bool) (vs : List Arg) (ds : List FieldDecl) (n : ℕ) (v : Arg) (d : FieldDecl) → n < length vs → n < length ds
+    → v ≡ get_or vs n v → d ≡ get_or ds n d → kind_eq.ghosts.eq (kind_of_arg v) d.kind ≡ true → args_have_kinds (drop n vs) (drop n ds) ≡ all
+    → args_have_kinds (drop (n + 1) vs) (drop (n + 1) ds) ≡ all
 kinds_step all vs ds n v d p q e f same before =
     let next = kinds_next vs ds n v d p q e f in
     rw same at (sym next) ∙ before
 
-pub kinds_end : (vs : List Arg) (ds : List FieldDecl) (n : ℕ) → length vs ≡ length ds → length vs ≤ n → handed_have_kinds (drop n vs) (drop n ds) ≡ true
+pub kinds_end : (vs : List Arg) (ds : List FieldDecl) (n : ℕ) → length vs ≡ length ds → length vs ≤ n → args_have_kinds (drop n vs) (drop n ds) ≡ true
 kinds_end vs ds n e h = let past : length ds ≤ n = omega arith in rw (drop_of_length-le vs h, drop_of_length-le ds past) refl

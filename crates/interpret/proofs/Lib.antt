@@ -1,9 +1,10 @@
 pub mod Spelled
 pub mod Tried
 pub mod Within
-pub mod Resolving
+pub mod NamedValues
 pub mod Encoding
 pub mod Steps
+pub mod Exercises
 pub mod Handed
 pub mod Facts
 pub mod Found
@@ -17,3 +18,11 @@ pub mod Ends
 pub mod NoMemory
 pub mod PlainFaults
 pub mod FilledLists
+pub mod DraftActions
+pub mod DraftTests
+pub mod DraftLaw
+pub mod Used
+pub mod Authenticity
+pub mod PartyArgs
+pub mod PartyLaw
+pub mod PartyDrafts

@@ -76,7 +76,8 @@ mutual
   val_plain (Both a b) names = with_plain (val a names) _ (val_plain a names) (λ x. both_plain x (val b names) (val_plain b names))
   val_plain (Either a b) names = with_plain (val a names) _ (val_plain a names) (λ x. either_plain x (val b names) (val_plain b names))
   val_plain (Negate a) names = with_plain (val a names) _ (val_plain a names) (λ x. λ h. cc)
-  val_plain (Cond c a b) names = with_plain (val c names) _ (val_plain c names) (λ v. cond_plain (is_true v) (val a names) (val b names) (val_plain a names) (val_plain b names))
+  val_plain (Cond c a b) names = with_plain (val c names) _ (val_plain c names)
+      (λ v. cond_plain (is_true v) (val a names) (val b names) (val_plain a names) (val_plain b names))
   val_plain (Cat a b) names = with_plain (val a names) _ (val_plain a names) (λ x. with_plain (val b names) _ (val_plain b names) (λ y. text_plain x y))
   val_plain (SetOf es) names = with_plain (vals es names) _ (vals_plain es names) (λ vs. λ h. cc)
   val_plain (Union a b) names = with_plain (val a names) _ (val_plain a names) (λ x. with_plain (val b names) _ (val_plain b names) (λ y. λ h. cc))
@@ -102,22 +103,26 @@ some_plain (a ∷ s) = λ h. cc
 
 contract_plain : (t : TemplateForm) (i : Instance) → Plain (contract_parties_of t i)
 contract_plain t i =
-    with_plain (parties_of t.signatories (this_names t i)) _ (parties_plain t.signatories (this_names t i)) (λ s. with_plain (some_parties s) _ (some_plain s) (λ s.
+    with_plain (parties_of t.signatories (this_names t i)) _ (parties_plain t.signatories (this_names t i))
+    (λ s. with_plain (some_parties s) _ (some_plain s) (λ s.
     with_plain (parties_of t.observers (this_names t i)) _ (parties_plain t.observers (this_names t i)) (λ o. λ h. cc)))
 
 created_of_plain : (t : TemplateForm) (i : Instance) → Plain (created_parties_of t i)
-created_of_plain t i = with_plain (truth t.ensure (this_names t i)) _ (truth_plain t.ensure (this_names t i)) (λ b. cond_plain b (contract_parties_of t i) (Err Ensure) (contract_plain t i) (λ h. cc))
+created_of_plain t i = with_plain (truth t.ensure (this_names t i)) _ (truth_plain t.ensure (this_names t i))
+    (λ b. cond_plain b (contract_parties_of t i) (Err Ensure) (contract_plain t i) (λ h. cc))
 
 choice_of_plain : (t : TemplateForm) (c : ChoiceForm) (call : ChoiceCall) → Plain (choice_parties_of t c call)
 choice_of_plain t c call =
     with_plain (parties_of c.controllers (call_names t c call)) _ (parties_plain c.controllers (call_names t c call)) (λ s.
     with_plain (parties_of c.observers (call_names t c call)) _ (parties_plain c.observers (call_names t c call)) (λ o. λ h. cc))
 
-template_plain : {A : Type 0} (o : Option TemplateForm) (go : TemplateForm → Result A EvalFault) → ((t : TemplateForm) → Plain (go t)) → Plain (on_template o go)
+template_plain : {A : Type 0} (o : Option TemplateForm) (go : TemplateForm → Result A EvalFault) → ((t : TemplateForm) → Plain (go t))
+    → Plain (on_template o go)
 template_plain None go p = λ h. cc
 template_plain (Some t) go p = p t
 
-calls_plain : {A : Type 0} (o : Option TemplateForm) (c : Option ChoiceForm) (go : TemplateForm → ChoiceForm → Result A EvalFault) → ((t : TemplateForm) (c : ChoiceForm) → Plain (go t c)) → Plain (on_choice o c go)
+calls_plain : {A : Type 0} (o : Option TemplateForm) (c : Option ChoiceForm) (go : TemplateForm → ChoiceForm → Result A EvalFault)
+    → ((t : TemplateForm) (c : ChoiceForm) → Plain (go t c)) → Plain (on_choice o c go)
 calls_plain None c go p = λ h. cc
 calls_plain (Some t) None go p = λ h. cc
 calls_plain (Some t) (Some c) go p = p t c
@@ -128,7 +133,8 @@ created_plain packages i = template_plain (template_in i.template packages) _ (�
 
 pub choice_plain : (packages : Packages) (call : ChoiceCall) → Plain (parties_of_choice packages call)
 unfolding parties_of_choice
-choice_plain packages call = calls_plain (template_in call.instance.template packages) (choice_in call.instance.template call.choice packages) _ (λ t c. choice_of_plain t c call)
+choice_plain packages call = calls_plain (template_in call.instance.template packages) (choice_in call.instance.template call.choice packages) _
+    (λ t c. choice_of_plain t c call)
 
 -- statements stop with a step that is no want of memory
 abbrev PlainRan : Ran → Type 0
@@ -158,7 +164,8 @@ asserted_ran : (b : Bool) (r : Ran) → PlainRan r → PlainRan (asserted b r)
 asserted_ran true r p = p
 asserted_ran false r p = λ h. cc
 
-then_ran : (r : Ran) (rest : Names → List Seen → Ran) → PlainRan r → ((names : Names) (seen : List Seen) → PlainRan (rest names seen)) → PlainRan (then_on r rest)
+then_ran : (r : Ran) (rest : Names → List Seen → Ran) → PlainRan r → ((names : Names) (seen : List Seen) → PlainRan (rest names seen))
+    → PlainRan (then_on r rest)
 then_ran (Stopped step) rest p q = p
 then_ran (Went names seen) rest p q = q names seen
 
@@ -175,21 +182,26 @@ mutual
       taken_ran _ _ seen (with_plain (id_of e names) _ (id_of_plain e names) (λ id. with_plain (vals args names) _ (vals_plain args names) (λ vs. λ h. cc)))
   ran_plain (Fetch x t e) packages names seen = taken_ran _ _ seen (with_plain (id_of e names) _ (id_of_plain e names) (λ id. λ h. cc))
   ran_plain (When e first second) packages names seen =
-      value_ran (truth e names) _ (truth_plain e names) (λ b. closed_ran names _ (side_ran b _ _ (all_plain first packages names seen) (all_plain second packages names seen)))
+      value_ran (truth e names) _ (truth_plain e names)
+      (λ b. closed_ran names _ (side_ran b _ _ (all_plain first packages names seen) (all_plain second packages names seen)))
 
   all_plain : (ss : StmtForms) (packages : Packages) (names : Names) (seen : List Seen) → PlainRan (ran_all ss packages names seen)
   all_plain NoStmts packages names seen = tt
-  all_plain (MoreStmts s ss) packages names seen = then_ran (ran s packages names seen) _ (ran_plain s packages names seen) (λ names seen. all_plain ss packages names seen)
+  all_plain (MoreStmts s ss) packages names seen = then_ran (ran s packages names seen) _ (ran_plain s packages names seen)
+      (λ names seen. all_plain ss packages names seen)
 
 ended_plain : (c : ChoiceForm) (r : Ran) → PlainRan r → Plain (ended c r)
 ended_plain c (Stopped step) p = p
 ended_plain c (Went names seen) p = with_plain (val c.result names) _ (val_plain c.result names) (λ v. λ h. cc)
 
-in_plain : (o : Option TemplateForm) (c : Option ChoiceForm) (packages : Packages) (call : ChoiceCall) (seen : List Seen) → Plain (next_in o c packages call seen)
+in_plain : (o : Option TemplateForm) (c : Option ChoiceForm) (packages : Packages) (call : ChoiceCall) (seen : List Seen)
+    → Plain (next_in o c packages call seen)
 in_plain None c packages call seen = λ h. cc
 in_plain (Some t) None packages call seen = λ h. cc
-in_plain (Some t) (Some c) packages call seen = ended_plain c (ran_all c.body packages (names_of t c call) seen) (all_plain c.body packages (names_of t c call) seen)
+in_plain (Some t) (Some c) packages call seen = ended_plain c (ran_all c.body packages (names_of t c call) seen)
+    (all_plain c.body packages (names_of t c call) seen)
 
 pub next_plain : (packages : Packages) (call : ChoiceCall) (seen : List Seen) → Plain (next packages call seen)
 unfolding next
-next_plain packages call seen = in_plain (template_in call.instance.template packages) (choice_in call.instance.template call.choice packages) packages call seen
+next_plain packages call seen = in_plain (template_in call.instance.template packages) (choice_in call.instance.template call.choice packages)
+    packages call seen

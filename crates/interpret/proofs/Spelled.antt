@@ -4,7 +4,7 @@ use Rattle.std.specs.Prelude.{◌&&◌, ◌↔◌, IsTrue, nat_le}
 use Rattle.std.specs.List.{list_all, AllByRecursion}
 use Rattle.std.proofs.lemmas.Bool.Decides.{nat_tests}
 use Rattle.std.proofs.lemmas.List.Elements.{recursion_from_All, All-from_recursion}
-use Rattle.ledger_terms.specs.Deciding.{both, both_true}
+use Rattle.ledger_terms.proofs.Deciding.{both, both_true}
 use Rattle.ledger_terms.specs.declared.value.Value.{Value}
 use Rattle.ledger_terms.specs.declared.value.Value.TheVariants.{Unit as UnitValue, Int, Bool as BoolValue, Text, Party, Contract, Parties}
 use Rattle.wire_form.specs.Lengths.{capped}

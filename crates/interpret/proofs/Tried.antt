@@ -2,8 +2,8 @@
 use Rattle.std.proofs.Common.{◌≡◌, ℕ, Bool, true, List, [], ◌∷◌, ◌++◌, Result, Ok, Err, refl, ap}
 use Rattle.std.specs.Prelude.{◌&&◌, Some, IfOk}
 use Rattle.std.specs.Bool.{Decides}
-use Rattle.ledger_terms.specs.Deciding.{both, both_true, bytes_decide, lists_decide}
-use Rattle.ledger_terms.specs.SameValues.{value_decides, template_decides}
+use Rattle.ledger_terms.proofs.Deciding.{both, both_true, bytes_decide, lists_decide}
+use Rattle.ledger_terms.proofs.SameValues.{value_decides, template_decides}
 use Rattle.ledger_terms.specs.declared.value.Value.{Value}
 use Rattle.ledger_terms.specs.declared.action.Action.{Action}
 use Rattle.ledger_terms.specs.declared.action.Action.TheVariants.{Create, Exercise, Fetch}
@@ -96,23 +96,34 @@ module _ (packages : Packages) where
   pub rest_from_test : (f : Actions) (body : Body) (seen : List Seen) → are_rest packages body seen f ≡ true → AreRest (the_language packages) body seen f
   rest_from_test NoRoots body seen h = (ended body seen).0 h
   rest_from_test (Root act consequences others) body seen h =
-      let p = both (continues packages body seen act.action && (is_possible packages act.action && are_rest packages (body_of act.action) [] consequences)) (are_rest packages body (seen ++ seen_of act.action ∷ []) others) h in
+      let p = both (continues packages body seen act.action
+      && (is_possible packages act.action && are_rest packages (body_of act.action) [] consequences))
+      (are_rest packages body (seen ++ seen_of act.action ∷ []) others) h in
       let q = both (continues packages body seen act.action) (is_possible packages act.action && are_rest packages (body_of act.action) [] consequences) p.0 in
-      let r = both (is_possible packages act.action) (are_rest packages (body_of act.action) [] consequences) q.1 in
-      ((continued body seen act.action).0 q.0, (possible act.action).0 r.0, rest_from_test consequences (body_of act.action) [] r.1, rest_from_test others body (seen ++ seen_of act.action ∷ []) p.1)
+      let r = both (is_possible packages act.action) (are_rest packages (body_of act.action) [] consequences) q.1 in (
+        (continued body seen act.action).0 q.0,
+        (possible act.action).0 r.0,
+        rest_from_test consequences (body_of act.action) [] r.1,
+        rest_from_test
+            others body (seen ++ seen_of act.action ∷ []) p.1,
+      )
 
   pub test_from_rest : (f : Actions) (body : Body) (seen : List Seen) → AreRest (the_language packages) body seen f → are_rest packages body seen f ≡ true
   test_from_rest NoRoots body seen h = (ended body seen).1 h
   test_from_rest (Root act consequences others) body seen h =
-      both_true _ _ (both_true _ _ ((continued body seen act.action).1 h.0) (both_true _ _ ((possible act.action).1 h.1) (test_from_rest consequences (body_of act.action) [] h.2)))
+      both_true _ _ (both_true _ _ ((continued body seen act.action).1 h.0)
+      (both_true _ _ ((possible act.action).1 h.1) (test_from_rest consequences (body_of act.action) [] h.2)))
       (test_from_rest others body (seen ++ seen_of act.action ∷ []) h.3)
 
-  pub tree_decides : (a : Action) (consequences : Actions) (s : List ℕ) → Decides (is_tree_possible packages a consequences) (Conforms (the_language packages) (Root (record { seed = s; action = a }) consequences NoRoots))
+  pub tree_decides : (a : Action) (consequences : Actions) (s : List ℕ)
+      → Decides (is_tree_possible packages a consequences) (Conforms (the_language packages) (Root (record { seed = s; action = a }) consequences NoRoots))
   tree_decides a consequences s = (
-    λ h. let p = both (is_possible packages a) (are_rest packages (body_of a) [] consequences) h in ((possible a).0 p.0, rest_from_test consequences (body_of a) [] p.1, tt),
+    λ h. let p = both (is_possible packages a) (are_rest packages (body_of a) [] consequences) h in
+        ((possible a).0 p.0, rest_from_test consequences (body_of a) [] p.1, tt),
     λ h. both_true _ _ ((possible a).1 h.0) (test_from_rest consequences (body_of a) [] h.1),
   )
 
-  pub answer_decides : {E : Type 0} → (node : ActionNode) (r : Result Bool E) → IfOk r (λ b. b ≡ is_tree_possible packages node.action node.children) → IfOk r (λ b. Decides b (Conforms (the_language packages) (tree_of node)))
+  pub answer_decides : {E : Type 0} → (node : ActionNode) (r : Result Bool E) → IfOk r (λ b. b ≡ is_tree_possible packages node.action node.children)
+      → IfOk r (λ b. Decides b (Conforms (the_language packages) (tree_of node)))
   answer_decides node (Ok b) h = rw h (tree_decides node.action node.children node.seed)
   answer_decides node (Err e) h = tt

@@ -23,6 +23,8 @@ use Rattle.lang_eval.specs.Next.{next}
 use Rattle.lang_eval.specs.Parts.{PartyNames, is_consuming_call}
 use Rattle.interpret.specs.declared.command_fault.CommandFault.{CommandFault}
 use Rattle.interpret.specs.declared.command_fault.CommandFault.TheVariants.{ContractUnknown, Eval, TooDeep, TooMany, Unauthorised}
+use Rattle.interpret.specs.declared.demand.Demand.{Demand}
+use Rattle.interpret.specs.declared.demand.Demand.TheVariants.{Create as CreateDemand, Exercise as ExerciseDemand, Fetch as FetchDemand}
 use Rattle.interpret.specs.declared.progress.Progress.{Progress}
 use Rattle.interpret.specs.Ids.{Hash, child_seed, contract_id}
 use Rattle.interpret.specs.Sizes.{is_small_result}
@@ -39,8 +41,8 @@ at_path path (Ok v) = Ok v
 at_path path (Err e) = Err (Eval path e)
 
 -- what a transaction did, with one more action, contract or consumption
-abbrev pub counted : Progress → Progress
-counted p = record { created = p.created; spent = p.spent; count = p.count + 1 }
+abbrev pub with_action : Progress → Progress
+with_action p = record { created = p.created; spent = p.spent; count = p.count + 1 }
 
 abbrev pub with_created : Known → Progress → Progress
 with_created k p = record { created = p.created ++ k ∷ []; spent = p.spent; count = p.count }
@@ -48,15 +50,21 @@ with_created k p = record { created = p.created ++ k ∷ []; spent = p.spent; co
 abbrev pub with_spent : Bool → Hash → Progress → Progress
 with_spent consuming id p = record { created = p.created; spent = cond consuming (p.spent ++ id ∷ []) p.spent; count = p.count }
 
--- What runs one action: at this progress, path and seed, authorised by these, the action that a step asks for.
+-- an action that is asked for, as the next step of a body
+abbrev pub step_of : Demand → Step
+step_of (CreateDemand t fields) = CreateNext t fields
+step_of (ExerciseDemand t id choice args) = ExerciseNext t id choice args
+step_of (FetchDemand t id) = FetchNext t id
+
+-- What runs one action: at this progress, path and seed, authorised by these, the action that is asked for.
 abbrev pub Runner : Type 0
-Runner = Progress → List ℕ → Hash → PartyNames → Step → Result (ActionNode × Progress) CommandFault
+Runner = Progress → List ℕ → Hash → PartyNames → Demand → Result (ActionNode × Progress) CommandFault
 
 -- what comes next: a fault, the end with a result, or a child
 pub data Turn : Type 0 where
   Stop : CommandFault → Turn
   End : Value → Turn
-  Child : Step → Turn
+  Child : Demand → Turn
 
 -- What asks for actions one after another: what comes at an index after what was learnt, and what is learnt of an action.
 pub record Source : Type 0 where
@@ -64,22 +72,22 @@ pub record Source : Type 0 where
   pub learn : List Seen → Action → List Seen
 
 -- the children of an action, its result, and the progress after them
-pub record Followed : Type 0 where
+pub record BodyRun : Type 0 where
   pub children : Actions
   pub result : Value
   pub progress : Progress
 
-abbrev pub turned : {A : Type 0} → Turn → (Value → Result A CommandFault) → (Step → Result A CommandFault) → Result A CommandFault
-turned (Stop e) done child = Err e
-turned (End v) done child = done v
-turned (Child s) done child = child s
+abbrev pub by_turn : {A : Type 0} → Turn → (Value → Result A CommandFault) → (Demand → Result A CommandFault) → Result A CommandFault
+by_turn (Stop e) done child = Err e
+by_turn (End v) done child = done v
+by_turn (Child s) done child = child s
 
 -- the rest of what a source asks for, after these children, in so many turns
-unfoldable pub follow : ℕ → Source → Runner → Hash → List ℕ → PartyNames → Progress → List Seen → Actions → ℕ → Result Followed CommandFault
+unfoldable pub follow : ℕ → Source → Runner → Hash → List ℕ → PartyNames → Progress → List Seen → Actions → ℕ → Result BodyRun CommandFault
 follow zero source run seed path by progress seen children index = Err (TooMany path)
 follow (suc turns) source run seed path by progress seen children index =
-    turned (source.turn index seen) (λ v. Ok (record { children = children; result = v; progress = progress })) (λ step.
-    on (run progress (path ++ index ∷ []) (child_seed seed index) by step) (λ x.
+    by_turn (source.turn index seen) (λ v. Ok (record { children = children; result = v; progress = progress })) (λ demand.
+    on (run progress (path ++ index ∷ []) (child_seed seed index) by demand) (λ x.
     follow turns source run seed path by x.1 (source.learn seen x.0.action) (join children (tree_of x.0)) (index + 1)))
 
 -- one more than a transaction may have
@@ -89,9 +97,9 @@ most_children = 65
 -- A body ends with a result that keeps its limit, or goes on.
 abbrev pub step_turn : List ℕ → Step → Turn
 step_turn path (Done v) = cond (is_small_result v) (End v) (Stop (Eval path TooLarge))
-step_turn path (CreateNext t fields) = Child (CreateNext t fields)
-step_turn path (ExerciseNext t id choice args) = Child (ExerciseNext t id choice args)
-step_turn path (FetchNext t id) = Child (FetchNext t id)
+step_turn path (CreateNext t fields) = Child (CreateDemand t fields)
+step_turn path (ExerciseNext t id choice args) = Child (ExerciseDemand t id choice args)
+step_turn path (FetchNext t id) = Child (FetchDemand t id)
 
 abbrev pub turn_of : List ℕ → Result Step EvalFault → Turn
 turn_of path (Ok s) = step_turn path s
@@ -120,22 +128,28 @@ do_create packages progress path seed by i =
 abbrev pub call_of : Known → List ℕ → List Value → ChoiceCall
 call_of k choice args = record { id = k.id; instance = k.instance; choice = choice; args = args }
 
-abbrev pub exercised_node : Hash → Known → ChoiceCall → PartyNames → Bool → Followed → ActionNode
-exercised_node seed k call actors consuming f =
-    record { seed = seed; action = Exercise k.id k.salt k.instance call.choice call.args actors consuming f.result; children = f.children }
+-- the action of a call on a contract with that salt, and its consequences
+abbrev pub exercised_node : Hash → Hash → ChoiceCall → PartyNames → Bool → BodyRun → ActionNode
+exercised_node seed salt call actors consuming f =
+    record {
+      seed = seed;
+      action = Exercise call.id salt call.instance call.choice call.args actors consuming f.result;
+      children = f.children;
+    }
 
 -- A consuming Exercise consumes before its body runs.
-abbrev pub exercise_on : Packages → Runner → Progress → List ℕ → Hash → PartyNames → Known → List ℕ → List Value → Result (ActionNode × Progress) CommandFault
-exercise_on packages run progress path seed by k choice args =
-    on (at_path path (call_controllers packages (call_of k choice args))) (λ actors. cond (are_authorised actors by)
-    (on (follow most_children (body_source packages (call_of k choice args) path) run seed path (authorisers packages k.instance actors)
-    (with_spent (is_consuming_call packages (call_of k choice args)) k.id progress) [] NoRoots 0) (λ f.
-    Ok (exercised_node seed k (call_of k choice args) actors (is_consuming_call packages (call_of k choice args)) f, f.progress)))
+abbrev pub exercise_on : Packages → Runner → Progress → List ℕ → Hash → PartyNames → Hash → ChoiceCall → Result (ActionNode × Progress) CommandFault
+exercise_on packages run progress path seed by salt call =
+    on (at_path path (call_controllers packages call)) (λ actors. cond (are_authorised actors by)
+    (on (follow most_children (body_source packages call path) run seed path (authorisers packages call.instance actors)
+    (with_spent (is_consuming_call packages call) call.id progress) [] NoRoots 0) (λ f.
+    Ok (exercised_node seed salt call actors (is_consuming_call packages call) f, f.progress)))
     (Err (Unauthorised path)))
 
-abbrev pub do_exercise : Packages → Runner → Progress → List ℕ → Hash → PartyNames → Option Known → List ℕ → List Value → Result (ActionNode × Progress) CommandFault
+abbrev pub do_exercise : Packages → Runner → Progress → List ℕ → Hash → PartyNames → Option Known → List ℕ → List Value
+    → Result (ActionNode × Progress) CommandFault
 do_exercise packages run progress path seed by None choice args = Err (ContractUnknown path)
-do_exercise packages run progress path seed by (Some k) choice args = exercise_on packages run (counted progress) path seed by k choice args
+do_exercise packages run progress path seed by (Some k) choice args = exercise_on packages run (with_action progress) path seed by k.salt (call_of k choice args)
 
 abbrev pub fetched_node : Hash → Known → PartyNames → ActionNode
 fetched_node seed k actors = record { seed = seed; action = Fetch k.id k.salt k.instance actors; children = NoRoots }
@@ -144,30 +158,30 @@ abbrev pub do_fetch : Packages → Progress → List ℕ → Hash → PartyNames
 do_fetch packages progress path seed by None = Err (ContractUnknown path)
 do_fetch packages progress path seed by (Some k) =
     cond (is_empty (fetchers packages k.instance by)) (Err (Unauthorised path))
-    (Ok (fetched_node seed k (fetchers packages k.instance by), counted progress))
+    (Ok (fetched_node seed k (fetchers packages k.instance by), with_action progress))
 
--- the end of a body is no action, and nobody asks for it as one
-abbrev pub do_step : Packages → List Known → Runner → Runner
-do_step packages known run progress path seed by (CreateNext t fields) = do_create packages (counted progress) path seed by (record { template = t; fields = fields })
-do_step packages known run progress path seed by (ExerciseNext t id choice args) = do_exercise packages run progress path seed by (usable packages known progress id t) choice args
-do_step packages known run progress path seed by (FetchNext t id) = do_fetch packages progress path seed by (usable packages known progress id t)
-do_step packages known run progress path seed by (Done v) = Err (Unauthorised path)
+abbrev pub do_demand : Packages → List Known → Runner → Runner
+do_demand packages known run progress path seed by (CreateDemand t fields) = do_create packages (with_action progress) path seed by
+    (record { template = t; fields = fields })
+do_demand packages known run progress path seed by (ExerciseDemand t id choice args) = do_exercise packages run progress path seed by
+    (usable packages known progress id t) choice args
+do_demand packages known run progress path seed by (FetchDemand t id) = do_fetch packages progress path seed by (usable packages known progress id t)
 
 -- one action, where its children are run so
 abbrev pub level : Packages → List Known → Runner → Runner
-level packages known run progress path seed by step =
-    cond (nat_le 64 progress.count) (Err (TooMany path)) (do_step packages known run progress path seed by step)
+level packages known run progress path seed by demand =
+    cond (nat_le 64 progress.count) (Err (TooMany path)) (do_demand packages known run progress path seed by demand)
 
 -- an action with so many levels left
 unfoldable pub act : ℕ → Packages → List Known → Runner
-act zero packages known = λ progress path seed by step. Err (TooDeep path)
+act zero packages known = λ progress path seed by demand. Err (TooDeep path)
 act (suc left) packages known = level packages known (act left packages known)
 
 -- what the code answers
-abbrev pub acted : Result ActionNode CommandFault → Progress → Result (ActionNode × Progress) CommandFault
-acted (Ok node) progress = Ok (node, progress)
-acted (Err e) progress = Err e
+abbrev pub action_answer : Result ActionNode CommandFault → Progress → Result (ActionNode × Progress) CommandFault
+action_answer (Ok node) progress = Ok (node, progress)
+action_answer (Err e) progress = Err e
 
-abbrev pub followed : Result Value CommandFault → Actions → Progress → Result Followed CommandFault
-followed (Ok v) children progress = Ok (record { children = children; result = v; progress = progress })
-followed (Err e) children progress = Err e
+abbrev pub body_answer : Result Value CommandFault → Actions → Progress → Result BodyRun CommandFault
+body_answer (Ok v) children progress = Ok (record { children = children; result = v; progress = progress })
+body_answer (Err e) children progress = Err e

@@ -26,7 +26,7 @@ use Rattle.interpret.specs.Ids.{Hash, child_seed, contract_id, label_seed}
 use Rattle.interpret.specs.Sizes.{are_spelled}
 use Rattle.interpret.specs.Usable.{find_known, find_salt}
 use Rattle.interpret.specs.Act.{on}
-use Rattle.interpret.specs.Commands.{all_resolved, referred, resolved, where_there}
+use Rattle.interpret.specs.Commands.{referenced_values, referenced_id, referenced_value, where_there}
 use Rattle.interpret.specs.Interpreted.{if_small}
 use Rattle.interpret.specs.Stops.{is_zero}
 
@@ -71,7 +71,7 @@ id_of salt i = cond (are_spelled i.fields) (contract_id salt i) salt
 
 abbrev pub forged_id : List Known → Option ContractRef → Hash → Instance → Option Hash
 forged_id known None salt i = Some (id_of salt i)
-forged_id known (Some r) salt i = referred known r
+forged_id known (Some r) salt i = referenced_id known r
 
 abbrev pub with_fields : Option (List Value) → (List Value → Option Known) → Option Known
 with_fields None go = None
@@ -84,33 +84,33 @@ with_id salt i (Some id) = Some (record { id = id; salt = salt; instance = i })
 abbrev pub instance_of : TemplateName → List Value → Instance
 instance_of template values = record { template = template; fields = values }
 
-abbrev pub forged_of : List Known → Option ContractRef → Hash → TemplateName → List Arg → Option Known
-forged_of known id salt template fields =
-    with_fields (all_resolved known fields) (λ values. with_id salt (instance_of template values) (forged_id known id salt (instance_of template values)))
+abbrev pub forged_contract : List Known → Option ContractRef → Hash → TemplateName → List Arg → Option Known
+forged_contract known id salt template fields =
+    with_fields (referenced_values known fields) (λ values. with_id salt (instance_of template values) (forged_id known id salt (instance_of template values)))
 
 -- what an input stands for: a known contract whatever the tree does, or what is handed in
 abbrev pub input_of : List Known → Input → Option Known
 input_of known (KnownInput r) = known_of known r
-input_of known (Forged id salt template fields) = forged_of known id salt template fields
+input_of known (Forged id salt template fields) = forged_contract known id salt template fields
 
 abbrev pub there : {A B : Type 0} → Option A → (A → Option B) → Option B
 there None go = None
 there (Some x) go = go x
 
-abbrev pub exercised_action : List Known → Input → List ℕ → List Arg → List (List ℕ) → Bool → Arg → Option Action
-exercised_action known input choice args actors consuming result =
-    there (input_of known input) (λ k. there (all_resolved known args) (λ values. there (resolved known result) (λ v.
+abbrev pub exercise_of_draft : List Known → Input → List ℕ → List Arg → List (List ℕ) → Bool → Arg → Option Action
+exercise_of_draft known input choice args actors consuming result =
+    there (input_of known input) (λ k. there (referenced_values known args) (λ values. there (referenced_value known result) (λ v.
     Some (Exercise k.id k.salt k.instance choice values actors consuming v))))
 
-abbrev pub fetched_action : List Known → Input → List (List ℕ) → Option Action
-fetched_action known input actors = there (input_of known input) (λ k. Some (Fetch k.id k.salt k.instance actors))
+abbrev pub fetch_of_draft : List Known → Input → List (List ℕ) → Option Action
+fetch_of_draft known input actors = there (input_of known input) (λ k. Some (Fetch k.id k.salt k.instance actors))
 
 -- the action of a draft with its seed, where the contracts that it names are known
 abbrev pub filled_action : List Known → Hash → DraftAction → Option Action
 filled_action known seed (DraftCreate template fields) =
-    there (all_resolved known fields) (λ values. Some (Create (id_of seed (instance_of template values)) (instance_of template values)))
-filled_action known seed (DraftExercise input choice args actors consuming result) = exercised_action known input choice args actors consuming result
-filled_action known seed (DraftFetch input actors) = fetched_action known input actors
+    there (referenced_values known fields) (λ values. Some (Create (id_of seed (instance_of template values)) (instance_of template values)))
+filled_action known seed (DraftExercise input choice args actors consuming result) = exercise_of_draft known input choice args actors consuming result
+filled_action known seed (DraftFetch input actors) = fetch_of_draft known input actors
 
 -- one tree: depth, number and contract are tried, and then what stands below
 abbrev pub fill_one : List Known → ℕ → List ℕ → Hash → ℕ → DraftAction → (ℕ → Result (Actions × ℕ) CommandFault) → Result (Actions × ℕ) CommandFault
@@ -133,13 +133,13 @@ fill_tree known left path seed count NoRoots = Ok (NoRoots, count)
 fill_tree known left path seed count (Root d children others) = fill_one known left path seed count d (λ n. fill_all known (left - 1) seed path 0 n children)
 
 -- what the code answers
-abbrev pub filled_node : Result ActionNode CommandFault → ℕ → Result (Actions × ℕ) CommandFault
-filled_node (Ok n) count = Ok (tree_of n, count)
-filled_node (Err e) count = Err e
+abbrev pub node_answer : Result ActionNode CommandFault → ℕ → Result (Actions × ℕ) CommandFault
+node_answer (Ok n) count = Ok (tree_of n, count)
+node_answer (Err e) count = Err e
 
-abbrev pub filled_list : Result Actions CommandFault → ℕ → Result (Actions × ℕ) CommandFault
-filled_list (Ok f) count = Ok (f, count)
-filled_list (Err e) count = Err e
+abbrev pub list_answer : Result Actions CommandFault → ℕ → Result (Actions × ℕ) CommandFault
+list_answer (Ok f) count = Ok (f, count)
+list_answer (Err e) count = Err e
 
 -- trees behind others
 abbrev pub behind : Actions → Result (Actions × ℕ) CommandFault → Result (Actions × ℕ) CommandFault
@@ -163,9 +163,9 @@ fill_roots known seed index count (Root d children others) =
     on (fill_roots known seed (index + 1) x.1 others) (λ y. Ok (join x.0 y.0, y.1))))
     (Err (ContractUnknown (index ∷ [])))
 
-abbrev pub roots_filled : List Known → Hash → Drafts → Result Actions CommandFault
-roots_filled known seed drafts = on (fill_roots known seed 0 0 drafts) (λ x. Ok x.0)
+abbrev pub filled_roots : List Known → Hash → Drafts → Result Actions CommandFault
+filled_roots known seed drafts = on (fill_roots known seed 0 0 drafts) (λ x. Ok x.0)
 
 -- the last test is that of the encoded bytes
-unfoldable pub filled : List Known → Hash → Drafts → Result Actions CommandFault
-filled known seed drafts = on (roots_filled known seed drafts) if_small
+unfoldable pub filling : List Known → Hash → Drafts → Result Actions CommandFault
+filling known seed drafts = on (filled_roots known seed drafts) if_small

@@ -11,16 +11,16 @@ use Rattle.interpret.specs.declared.command_fault.CommandFault.{CommandFault}
 use Rattle.interpret.specs.declared.command_fault.CommandFault.TheVariants.{TooBig}
 use Rattle.interpret.specs.declared.progress.Progress.{Progress}
 use Rattle.interpret.specs.Ids.{Hash}
-use Rattle.interpret.specs.Act.{Followed, act, follow, most_children, on}
+use Rattle.interpret.specs.Act.{BodyRun, act, follow, most_children, on}
 use Rattle.interpret.specs.Commands.{commands_source}
-use Rattle.interpret.specs.Encoded.{encoded_bytes}
+use Rattle.wire_form.specs.Encoded.{encoded_bytes}
 
 -- nothing was done yet
 abbrev pub nothing_done : Progress
 nothing_done = record { created = []; spent = []; count = 0 }
 
 -- the roots, 16 levels deep at most
-abbrev pub run_commands : Packages → List Known → Hash → PartyNames → List Command → Result Followed CommandFault
+abbrev pub run_commands : Packages → List Known → Hash → PartyNames → List Command → Result BodyRun CommandFault
 run_commands packages known seed by commands =
     follow most_children (commands_source packages known commands) (act 16 packages known) seed [] by nothing_done [] NoRoots 0
 

@@ -1,6 +1,7 @@
 -- What a transaction keeps.
-use Rattle.std.specs.Prelude.{◌≡◌, ℕ, suc, ◌≤◌, true, max}
-use Rattle.ledger_terms.specs.Forest.{NoRoots, Root, size}
+use Rattle.std.specs.Prelude.{◌≡◌, ◌≤◌, true}
+use Rattle.ledger_terms.specs.Depth.{depth}
+use Rattle.ledger_terms.specs.Forest.{size}
 use Rattle.ledger_terms.specs.Trees.{Actions}
 use Rattle.ledger_model.specs.Language.{roles_of}
 use Rattle.ledger_model.specs.Conformance.{Conforms}
@@ -8,12 +9,7 @@ use Rattle.ledger_model.specs.Authority.{is_forest_authorised}
 use Rattle.lang_eval.specs.Found.{Packages}
 use Rattle.lang_eval.specs.Parts.{PartyNames}
 use Rattle.interpret.specs.Language.{the_language}
-use Rattle.interpret.specs.Encoded.{encoded_bytes}
-
--- how many stand above one another at most
-abbrev pub depth : Actions → ℕ
-depth NoRoots = 0
-depth (Root act consequences others) = max (suc (depth consequences)) (depth others)
+use Rattle.wire_form.specs.Encoded.{encoded_bytes}
 
 -- It conforms, it is authorised by these requesters, and it keeps its limits.
 pub record KeepsRules (packages : Packages) (act_as : PartyNames) (forest : Actions) : Type 0 where

@@ -6,7 +6,6 @@ pub mod Usable
 pub mod Tested
 pub mod Act
 pub mod Commands
-pub mod Encoded
 pub mod Interpreted
 pub mod Shown
 pub mod Wanted
@@ -14,3 +13,5 @@ pub mod Keeping
 pub mod Stops
 pub mod Plain
 pub mod Filled
+pub mod FilledTree
+pub mod NamedParties

@@ -9,49 +9,50 @@ use Rattle.ledger_terms.specs.Trees.{Actions}
 use Rattle.ledger_terms.specs.Parties.{is_subset}
 use Rattle.ledger_model.specs.Parties.{is_empty}
 use Rattle.ledger_model.specs.declared.step.Seen.{Seen}
-use Rattle.ledger_model.specs.declared.step.Step.{Step}
-use Rattle.ledger_model.specs.declared.step.Step.TheVariants.{Create as CreateNext, Exercise as ExerciseNext, Fetch as FetchNext, Done}
 use Rattle.wire_form.specs.Lengths.{capped}
 use Rattle.lang_eval.specs.declared.eval_fault.EvalFault.{EvalFault}
 use Rattle.lang_eval.specs.Found.{Packages}
 use Rattle.lang_eval.specs.Parts.{PartyNames, is_consuming_call}
 use Rattle.interpret.specs.declared.command_fault.CommandFault.{CommandFault}
 use Rattle.interpret.specs.declared.command_fault.CommandFault.TheVariants.{ContractUnknown, Eval, TooDeep, TooMany, Unauthorised, TooBig}
+use Rattle.interpret.specs.declared.demand.Demand.{Demand}
+use Rattle.interpret.specs.declared.demand.Demand.TheVariants.{Create as CreateDemand, Exercise as ExerciseDemand, Fetch as FetchDemand}
 use Rattle.interpret.specs.declared.progress.Progress.{Progress}
 use Rattle.interpret.specs.Ids.{Hash, child_seed}
 use Rattle.interpret.specs.Usable.{usable}
 use Rattle.interpret.specs.Tested.{created_signatories, call_controllers, are_authorised, authorisers, fetchers}
-use Rattle.interpret.specs.Act.{Source, Stop, Child, body_source, call_of, counted, with_spent}
+use Rattle.interpret.specs.Act.{Source, Stop, Child, body_source, call_of, with_action, with_spent}
 use Rattle.interpret.specs.Commands.{commands_source}
-use Rattle.interpret.specs.Encoded.{encoded_bytes}
+use Rattle.wire_form.specs.Encoded.{encoded_bytes}
 use Rattle.interpret.specs.Interpreted.{nothing_done}
 use Rattle.interpret.specs.Wanted.{IsTree, Wanted, one_less, progress_with}
 
 -- a test that fails gives its fault, and one that passes leaves the others
-abbrev pub failed : Bool → CommandFault → Option CommandFault → Option CommandFault
-failed true fault others = Some fault
-failed false fault others = others
+abbrev pub fault_where : Bool → CommandFault → Option CommandFault → Option CommandFault
+fault_where true fault others = Some fault
+fault_where false fault others = others
 
-abbrev pub evaluated : {A : Type 0} → List ℕ → Result A EvalFault → (A → Option CommandFault) → Option CommandFault
-evaluated path (Err e) others = Some (Eval path e)
-evaluated path (Ok a) others = others a
+abbrev pub evaluation_fault : {A : Type 0} → List ℕ → Result A EvalFault → (A → Option CommandFault) → Option CommandFault
+evaluation_fault path (Err e) others = Some (Eval path e)
+evaluation_fault path (Ok a) others = others a
 
 -- the first test of an Exercise that fails before its body
 abbrev pub exercise_fault : Packages → List ℕ → PartyNames → Option Known → List ℕ → List Value → Option CommandFault
 exercise_fault packages path by None choice args = Some (ContractUnknown path)
 exercise_fault packages path by (Some k) choice args =
-    evaluated path (call_controllers packages (call_of k choice args)) (λ actors. failed (not (are_authorised actors by)) (Unauthorised path) None)
+    evaluation_fault path (call_controllers packages (call_of k choice args)) (λ actors. fault_where (not (are_authorised actors by)) (Unauthorised path) None)
 
 abbrev pub fetch_fault : Packages → List ℕ → PartyNames → Option Known → Option CommandFault
 fetch_fault packages path by None = Some (ContractUnknown path)
-fetch_fault packages path by (Some k) = failed (is_empty (fetchers packages k.instance by)) (Unauthorised path) None
+fetch_fault packages path by (Some k) = fault_where (is_empty (fetchers packages k.instance by)) (Unauthorised path) None
 
-abbrev pub step_fault : Packages → List Known → Progress → List ℕ → PartyNames → Step → Option CommandFault
-step_fault packages known progress path by (CreateNext t fields) =
-    evaluated path (created_signatories packages (record { template = t; fields = fields })) (λ s. failed (not (is_subset s by)) (Unauthorised path) None)
-step_fault packages known progress path by (ExerciseNext t id choice args) = exercise_fault packages path by (usable packages known progress id t) choice args
-step_fault packages known progress path by (FetchNext t id) = fetch_fault packages path by (usable packages known progress id t)
-step_fault packages known progress path by (Done v) = Some (Unauthorised path)
+abbrev pub demand_fault : Packages → List Known → Progress → List ℕ → PartyNames → Demand → Option CommandFault
+demand_fault packages known progress path by (CreateDemand t fields) =
+    evaluation_fault path (created_signatories packages (record { template = t; fields = fields }))
+    (λ s. fault_where (not (is_subset s by)) (Unauthorised path) None)
+demand_fault packages known progress path by (ExerciseDemand t id choice args) = exercise_fault packages path by
+    (usable packages known progress id t) choice args
+demand_fault packages known progress path by (FetchDemand t id) = fetch_fault packages path by (usable packages known progress id t)
 
 abbrev pub is_zero : ℕ → Bool
 is_zero zero = true
@@ -59,9 +60,9 @@ is_zero (suc n) = false
 
 -- The first test that fails of an action that is asked for, of an Exercise before its body: the depth, the number of
 -- actions, the contract, the evaluations, the authority.
-abbrev pub first_fault : Packages → List Known → ℕ → Progress → List ℕ → PartyNames → Step → Option CommandFault
-first_fault packages known left progress path by step =
-    failed (is_zero left) (TooDeep path) (failed (nat_le 64 progress.count) (TooMany path) (step_fault packages known progress path by step))
+abbrev pub first_fault : Packages → List Known → ℕ → Progress → List ℕ → PartyNames → Demand → Option CommandFault
+first_fault packages known left progress path by demand =
+    fault_where (is_zero left) (TooDeep path) (fault_where (nat_le 64 progress.count) (TooMany path) (demand_fault packages known progress path by demand))
 
 -- What stands before the place of the stop. It is next; or the next action is a whole tree, with what follows; or it is an
 -- Exercise that was begun by these actors, and the stop is inside.
@@ -70,47 +71,52 @@ pub data Before : Type 0 where
   Past : ActionNode → Before → Before
   Inside : Known → (choice : List ℕ) (args : List Value) (actors : PartyNames) → Before → Before
 
--- an Exercise that a step asks for passes all tests before its body
-pub record IsBegun (packages : Packages) (known : List Known) (left : ℕ) (progress : Progress) (by : PartyNames) (step : Step) (k : Known) (choice : List ℕ) (args : List Value) (actors : PartyNames) : Type 0 where
+-- an Exercise that is asked for passes all tests before its body
+pub record IsBegun (packages : Packages) (known : List Known) (left : ℕ) (progress : Progress) (by : PartyNames) (demand : Demand) (k : Known)
+    (choice : List ℕ) (args : List Value) (actors : PartyNames) : Type 0 where
   pub some : 0 < left
   pub room : progress.count < 64
-  pub asked : step ≡ ExerciseNext k.instance.template k.id choice args
+  pub asked : demand ≡ ExerciseDemand k.instance.template k.id choice args
   pub found : usable packages known progress k.id k.instance.template ≡ Some k
   pub entered : call_controllers packages (call_of k choice args) ≡ Ok actors
   pub authorised : are_authorised actors by ≡ true
 
 -- a consuming Exercise has consumed its contract when its body runs
 abbrev pub progress_inside : Packages → Progress → Known → List ℕ → List Value → Progress
-progress_inside packages progress k choice args = with_spent (is_consuming_call packages (call_of k choice args)) k.id (counted progress)
+progress_inside packages progress k choice args = with_spent (is_consuming_call packages (call_of k choice args)) k.id (with_action progress)
 
 -- What a source asks for stops there, with that fault: the source itself has it, or the action that it asks for fails that
 -- test first.
 abbrev pub Stops : Packages → List Known → ℕ → Source → PartyNames → List Seen → Hash → List ℕ → ℕ → Progress → Before → CommandFault → Type 0
 Stops packages known left source by seen seed path index progress Here fault =
     (source.turn index seen ≡ Stop fault)
-    ⊎ ((step : Step) × (source.turn index seen ≡ Child step) × (first_fault packages known left progress (path ++ index ∷ []) by step ≡ Some fault))
+    ⊎ ((demand : Demand) × (source.turn index seen ≡ Child demand) × (first_fault packages known left progress (path ++ index ∷ []) by demand ≡ Some fault))
 Stops packages known left source by seen seed path index progress (Past node more) fault =
-    (step : Step) × (source.turn index seen ≡ Child step) × IsTree packages known left progress (path ++ index ∷ []) (child_seed seed index) by step node
+    (demand : Demand) × (source.turn index seen ≡ Child demand) × IsTree packages known left progress (path ++ index ∷ [])
+    (child_seed seed index) by demand node
     × Stops packages known left source by (source.learn seen node.action) seed path (index + 1) (progress_with progress node) more fault
 Stops packages known left source by seen seed path index progress (Inside k choice args actors more) fault =
-    (step : Step) × (source.turn index seen ≡ Child step) × IsBegun packages known left progress by step k choice args actors
-    × Stops packages known (one_less left) (body_source packages (call_of k choice args) (path ++ index ∷ [])) (authorisers packages k.instance actors) [] (child_seed seed index) (path ++ index ∷ []) 0
+    (demand : Demand) × (source.turn index seen ≡ Child demand) × IsBegun packages known left progress by demand k choice args actors
+    × Stops packages known (one_less left) (body_source packages (call_of k choice args) (path ++ index ∷ []))
+    (authorisers packages k.instance actors) [] (child_seed seed index) (path ++ index ∷ []) 0
     (progress_inside packages progress k choice args) more fault
 
 -- an Exercise that passes all tests before its body stops inside
-pub record IsInside (packages : Packages) (known : List Known) (left : ℕ) (progress : Progress) (path : List ℕ) (seed : Hash) (by : PartyNames) (step : Step) (fault : CommandFault) : Type 0 where
+pub record IsInside (packages : Packages) (known : List Known) (left : ℕ) (progress : Progress) (path : List ℕ) (seed : Hash) (by : PartyNames)
+    (demand : Demand) (fault : CommandFault) : Type 0 where
   pub k : Known
   pub choice : List ℕ
   pub args : List Value
   pub actors : PartyNames
   pub more : Before
-  pub begun : IsBegun packages known left progress by step k choice args actors
-  pub stops : Stops packages known (one_less left) (body_source packages (call_of k choice args) path) (authorisers packages k.instance actors) [] seed path 0 (progress_inside packages progress k choice args) more fault
+  pub begun : IsBegun packages known left progress by demand k choice args actors
+  pub stops : Stops packages known (one_less left) (body_source packages (call_of k choice args) path) (authorisers packages k.instance actors) []
+      seed path 0 (progress_inside packages progress k choice args) more fault
 
 -- an action that is refused fails a test itself, or stops inside
-abbrev pub IsRefused : Packages → List Known → ℕ → Progress → List ℕ → Hash → PartyNames → Step → CommandFault → Type 0
-IsRefused packages known left progress path seed by step fault =
-    (first_fault packages known left progress path by step ≡ Some fault) ⊎ IsInside packages known left progress path seed by step fault
+abbrev pub IsRefused : Packages → List Known → ℕ → Progress → List ℕ → Hash → PartyNames → Demand → CommandFault → Type 0
+IsRefused packages known left progress path seed by demand fault =
+    (first_fault packages known left progress path by demand ≡ Some fault) ⊎ IsInside packages known left progress path seed by demand fault
 
 -- Commands stop with a fault: at a place, or after all of them, where the encoded actions exceed their limit.
 abbrev pub StopsWith : Packages → List Known → Hash → PartyNames → List Command → CommandFault → Type 0

@@ -13,18 +13,18 @@ use Rattle.ledger_model.specs.Language.{roles_of}
 use Rattle.ledger_model.specs.Conformance.{Demands, Possible}
 use Rattle.ledger_model.specs.Authority.{is_authorised, authorisers_below}
 use Rattle.ledger_model.specs.declared.step.Seen.{Seen}
-use Rattle.ledger_model.specs.declared.step.Step.{Step}
 use Rattle.lang_eval.specs.Found.{Packages}
 use Rattle.lang_eval.specs.Parts.{PartyNames}
+use Rattle.interpret.specs.declared.demand.Demand.{Demand}
 use Rattle.interpret.specs.declared.progress.Progress.{Progress}
 use Rattle.interpret.specs.Ids.{Hash, child_seed, contract_id}
 use Rattle.interpret.specs.Language.{the_language}
 use Rattle.interpret.specs.Tested.{fetchers}
 use Rattle.interpret.specs.Usable.{usable}
-use Rattle.interpret.specs.Act.{Source, End, Child, body_source, counted, with_created, with_spent}
+use Rattle.interpret.specs.Act.{Source, End, Child, body_source, step_of, with_action, with_created, with_spent}
 use Rattle.interpret.specs.Commands.{commands_source}
 use Rattle.interpret.specs.Interpreted.{nothing_done}
-use Rattle.interpret.specs.Encoded.{encoded_bytes}
+use Rattle.wire_form.specs.Encoded.{encoded_bytes}
 
 -- The contract of an action: a Create has the id of its seed and instance, and what another uses is known, or was created
 -- before, and wasn't consumed before.
@@ -50,9 +50,9 @@ pub record IsSound (packages : Packages) (known : List Known) (progress : Progre
 
 -- what a transaction did, with one more action
 abbrev pub after_action : Progress → Hash → Action → Progress
-after_action p seed (Create id i) = with_created (record { id = id; salt = seed; instance = i }) (counted p)
-after_action p seed (Exercise id salt i choice args actors consuming result) = with_spent consuming id (counted p)
-after_action p seed (Fetch id salt i actors) = counted p
+after_action p seed (Create id i) = with_created (record { id = id; salt = seed; instance = i }) (with_action p)
+after_action p seed (Exercise id salt i choice args actors consuming result) = with_spent consuming id (with_action p)
+after_action p seed (Fetch id salt i actors) = with_action p
 
 abbrev pub after : Progress → Act → Progress
 after p act = after_action p act.seed act.action
@@ -87,14 +87,15 @@ result_of (Fetch id salt i actors) = UnitValue
 abbrev pub Wanted : Packages → List Known → ℕ → Source → Value → PartyNames → List Seen → Hash → List ℕ → ℕ → Progress → Actions → Type 0
 Wanted packages known left source result by seen seed path index progress NoRoots = source.turn index seen ≡ End result
 Wanted packages known left source result by seen seed path index progress (Root act consequences others) =
-    ((step : Step) × (source.turn index seen ≡ Child step) × Demands (Some step) act.action)
+    ((demand : Demand) × (source.turn index seen ≡ Child demand) × Demands (Some (step_of demand)) act.action)
     × (0 < left)
     × (progress.count < 64)
     × (act.seed ≡ child_seed seed index)
     × IsSound packages known progress by act.seed act.action
     × Wanted packages known (one_less left) (source_of packages (path ++ index ∷ []) act.action) (result_of act.action)
     (authorisers_below (roles_of (the_language packages)) act.action) [] act.seed (path ++ index ∷ []) 0 (after progress act) consequences
-    × Wanted packages known left source result by (source.learn seen act.action) seed path (index + 1) (after_all (after progress act) (preorder consequences)) others
+    × Wanted packages known left source result by (source.learn seen act.action) seed path (index + 1)
+    (after_all (after progress act) (preorder consequences)) others
 
 -- The transaction that commands ask for: its roots answer the commands in order, 16 levels deep at most, and its encoded
 -- actions keep their limit.
@@ -102,14 +103,16 @@ pub record IsWanted (packages : Packages) (known : List Known) (seed : Hash) (ac
   pub roots : Wanted packages known 16 (commands_source packages known commands) UnitValue act_as [] seed [] 0 nothing_done forest
   pub small : encoded_bytes forest ≤ 32768
 
--- a whole tree is what a step asks for, and as wanted
-pub record IsTree (packages : Packages) (known : List Known) (left : ℕ) (progress : Progress) (path : List ℕ) (seed : Hash) (by : PartyNames) (step : Step) (node : ActionNode) : Type 0 where
+-- a whole tree is what is asked for, and as wanted
+pub record IsTree (packages : Packages) (known : List Known) (left : ℕ) (progress : Progress) (path : List ℕ) (seed : Hash) (by : PartyNames)
+    (demand : Demand) (node : ActionNode) : Type 0 where
   pub some : 0 < left
   pub room : progress.count < 64
   pub seeded : node.seed ≡ seed
-  pub demanded : Demands (Some step) node.action
+  pub demanded : Demands (Some (step_of demand)) node.action
   pub sound : IsSound packages known progress by node.seed node.action
-  pub children : Wanted packages known (one_less left) (source_of packages path node.action) (result_of node.action) (authorisers_below (roles_of (the_language packages)) node.action) [] node.seed path 0 (after_action progress node.seed node.action) node.children
+  pub children : Wanted packages known (one_less left) (source_of packages path node.action) (result_of node.action)
+      (authorisers_below (roles_of (the_language packages)) node.action) [] node.seed path 0 (after_action progress node.seed node.action) node.children
 
 abbrev pub progress_with : Progress → ActionNode → Progress
 progress_with p n = after_all (after_action p n.seed n.action) (preorder n.children)

@@ -1,10 +1,10 @@
 //! Why commands or drafts give no transaction.
-ghost use Rattle.std.specs.Prelude.{◌≡◌, ◌≢◌, IfOk};
+ghost use Rattle.std.specs.Prelude.{◌≡◌, ◌≢◌, ◌∷◌, [], IfOk};
 ghost use Rattle.interpret.specs.declared.command_fault.CommandFault.TheVariants.{Eval, Memory};
 
 use lang_eval::EvalFault;
 use ledger_terms::Path;
-use std::alloc::AllocError;
+use std::alloc::{AllocError, Global};
 
 /// Why commands or drafts give no transaction. `root` counts commands from 0, and `path` leads to the action that would
 /// have been the next.
@@ -59,4 +59,13 @@ pub(crate) fn eval_fault(path: &Path, fault: EvalFault) -> CommandFault
             Err(_) => CommandFault::Memory,
         },
     }
+}
+
+/// The path of a root action.
+pub(crate) fn root_path(alloc: Global, root: u16) -> Result<Path, AllocError>
+    ensures { IfOk result (λ p. p ≡ root ∷ []) }
+{
+    let mut path = Path::new(alloc);
+    path.push(root)?;
+    Ok(path)
 }

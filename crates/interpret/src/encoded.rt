@@ -1,8 +1,10 @@
 //! The encoded bytes of a transaction.
 ghost use Rattle.std.specs.Prelude.{◌≡◌};
 ghost use Rattle.wire_form.specs.Lengths.{capped};
-ghost use Rattle.interpret.specs.Encoded.{action_bytes, encoded_bytes};
+ghost use Rattle.wire_form.specs.Encoded.{action_bytes, encoded_bytes};
+ghost use Rattle.interpret.specs.Interpreted.{if_small};
 
+use crate::command_fault::CommandFault;
 use ledger_terms::{Action, ActionNodeList};
 use wire_form::{action_len, is_spellable_action};
 
@@ -27,4 +29,15 @@ pub fn encoded_bytes(forest: &ActionNodeList) -> u64
             .saturating_add(encoded_bytes(&node.children));
     }
     bytes
+}
+
+/// The last test of a transaction: its encoded bytes.
+pub(crate) fn if_small(forest: ActionNodeList) -> Result<ActionNodeList, CommandFault>
+    ensures { result ≡ if_small forest }
+{
+    let bytes = encoded_bytes(&forest);
+    if bytes > 32768 {
+        return Err(CommandFault::TooBig { bytes });
+    }
+    Ok(forest)
 }

@@ -1,9 +1,11 @@
 //! Seeds and ids.
 ghost use Rattle.std.specs.Prelude.{◌≡◌, IfOk};
+ghost use Rattle.std.specs.Str.{bytes_eq};
+ghost use Rattle.ledger_model.specs.Terms.{instance_of};
 ghost use Rattle.wire_form.specs.Spellable.{IsSpellableInstance};
-ghost use Rattle.interpret.specs.Ids.{child_seed, contract_id, label_seed, root_seed};
+ghost use Rattle.interpret.specs.Ids.{child_seed, contract_id, is_authentic, label_seed, root_seed};
 
-use ledger_terms::{Bytes, Hash, Instance, Label, Name};
+use ledger_terms::{Action, Bytes, Hash, Instance, Label, Name};
 use std::alloc::{AllocError, Global};
 use wire_form::encode_instance;
 
@@ -15,19 +17,19 @@ pub fn contract_id(alloc: Global, salt: &Hash, instance: &Instance) -> Result<Ha
 {
     let mut bytes = Bytes::new(alloc);
     encode_instance(instance, &mut bytes)?;
-    Ok(hash_id::contract_id(salt, bytes.as_slice()))
+    Ok(hash_id::contract_id_of_bytes(salt, bytes.as_slice()))
 }
 
 /// The seed of the child that stands at an index.
 #[tactic(auto, unfolding(crate::specs::Ids::child_seed))]
-pub(crate) fn child_seed(seed: &Hash, index: u16) -> Hash
+pub(crate) fn seed_of_child(seed: &Hash, index: u16) -> Hash
     ensures { result ≡ child_seed seed.now index }
 {
     hash_id::child_seed(seed, index as u32)
 }
 
 #[tactic(auto, unfolding(crate::specs::Ids::root_seed))]
-fn root_seed(participant: Name, command: Name) -> Hash
+fn seed_of_command(participant: Name, command: Name) -> Hash
     ensures { result ≡ root_seed participant command }
 {
     hash_id::root_seed(participant, command)
@@ -37,9 +39,39 @@ fn root_seed(participant: Name, command: Name) -> Hash
 pub fn label_seed(label: &Label) -> Hash
     ensures { result ≡ label_seed label.now }
 {
-    let mut seed = root_seed(label.participant, label.command);
+    let mut seed = seed_of_command(label.participant, label.command);
     for index in label.path.as_slice() {
-        seed = child_seed(&seed, *index);
+        seed = seed_of_child(&seed, *index);
     }
     seed
+}
+
+fn is_id_of(alloc: Global, id: &Hash, salt: &Hash, instance: &Instance) -> Result<bool, AllocError>
+    requires { IsSpellableInstance instance.now }
+    ensures { IfOk result (λ b. b ≡ bytes_eq id.now (contract_id salt.now instance.now)) }
+{
+    let own = contract_id(alloc, salt, instance)?;
+    Ok(*id == own)
+}
+
+/// Whether the contract of an action with that seed has the id of its salt and instance.
+pub fn is_authentic(alloc: Global, seed: &Hash, action: &Action) -> Result<bool, AllocError>
+    requires { IsSpellableInstance (instance_of action.now) }
+    ensures { IfOk result (λ b. b ≡ is_authentic (record { seed = seed.now; action = action.now })) }
+{
+    match action {
+        Action::Create { id, instance } => is_id_of(alloc, id, seed, instance),
+        Action::Exercise {
+            id,
+            salt,
+            instance,
+            ..
+        } => is_id_of(alloc, id, salt, instance),
+        Action::Fetch {
+            id,
+            salt,
+            instance,
+            ..
+        } => is_id_of(alloc, id, salt, instance),
+    }
 }

@@ -1,25 +1,29 @@
 //! Commands become trees of actions, and trees of actions are tried by running them again.
 #![tactic(auto)]
 
-mod act;
-pub mod command_fault;
-pub mod encoded;
-pub mod filling;
-pub mod ids;
-pub mod interpretation;
+mod command_fault;
+mod demand;
+mod encoded;
+mod filler;
+mod ids;
+mod interpretation;
+mod interpreter;
+mod labels;
 pub mod laws;
-pub mod progress;
-pub mod replay;
-mod resolve;
+mod place;
+mod progress;
+mod references;
+mod replay;
 mod seen_of;
-pub mod sizes;
+mod sizes;
 mod tested;
 mod turn;
 
 pub use command_fault::CommandFault;
+pub use demand::Demand;
 pub use encoded::encoded_bytes;
-pub use filling::fill;
-pub use ids::{contract_id, label_seed};
+pub use filler::fill;
+pub use ids::{contract_id, is_authentic, label_seed};
 pub use interpretation::interpret;
 pub use progress::{HashList, Progress};
 pub use replay::reexecute;

@@ -21,7 +21,14 @@ use ledger_terms::{
 };
 use std::alloc::{AllocError, Global};
 
-fn demanded(step: &Step, action: &Action) -> bool
+/// What tries trees of actions: the packages.
+#[derive(Drop)]
+struct Replay<'a> {
+    alloc: Global,
+    checked: &'a Checked,
+}
+
+fn is_demanded(step: &Step, action: &Action) -> bool
     ensures { result ≡ is_demanded step.now action.now }
 {
     match (step, action) {
@@ -60,46 +67,12 @@ fn demanded(step: &Step, action: &Action) -> bool
     }
 }
 
-fn done(step: &Step, wanted: &Value) -> bool
+fn is_done(step: &Step, wanted: &Value) -> bool
     ensures { result ≡ is_done step.now wanted.now }
 {
     match step {
         Step::Done(value) => *value == *wanted,
         _ => false,
-    }
-}
-
-/// Whether the body asks for the action next.
-fn asked(
-    alloc: Global,
-    checked: &Checked,
-    call: &ChoiceCall,
-    seen: &SeenList,
-    action: &Action,
-) -> Result<bool, AllocError>
-    ensures { IfOk result (λ b. b ≡ asks (next checked.now call.now seen.now) action.now) }
-{
-    match next_step(alloc, checked, call, seen) {
-        Ok(step) => Ok(demanded(&step, action)),
-        Err(EvalFault::Memory) => Err(AllocError),
-        Err(_) => Ok(false),
-    }
-}
-
-/// Whether the body is done, with that result.
-fn ended(
-    alloc: Global,
-    checked: &Checked,
-    call: &ChoiceCall,
-    seen: &SeenList,
-    wanted: &Value,
-) -> Result<bool, AllocError>
-    ensures { IfOk result (λ b. b ≡ gives (next checked.now call.now seen.now) wanted.now) }
-{
-    match next_step(alloc, checked, call, seen) {
-        Ok(step) => Ok(done(&step, wanted)),
-        Err(EvalFault::Memory) => Err(AllocError),
-        Err(_) => Ok(false),
     }
 }
 
@@ -120,174 +93,201 @@ pub(crate) fn call_of(
     })
 }
 
-#[tactic(auto, unfolding(crate::specs::Language::is_creatable))]
-fn creatable(alloc: Global, checked: &Checked, instance: &Instance) -> Result<bool, AllocError>
-    ensures { IfOk result (λ b. b ≡ is_creatable checked.now instance.now) }
-{
-    if !is_small_instance(instance) {
-        return Ok(false);
-    }
-    match parties_of_created(alloc, checked, instance) {
-        Ok(_) => Ok(true),
-        Err(EvalFault::Memory) => Err(AllocError),
-        Err(_) => Ok(false),
-    }
-}
-
-fn controlled(
-    alloc: Global,
-    checked: &Checked,
-    call: &ChoiceCall,
-    actors: &PartySet,
-) -> Result<bool, AllocError>
-    ensures { IfOk result (λ b. b ≡ are_controllers (parties_of_choice checked.now call.now) actors.now) }
-{
-    match parties_of_choice(alloc, checked, call) {
-        Ok(parties) => Ok(parties.controllers == *actors),
-        Err(EvalFault::Memory) => Err(AllocError),
-        Err(_) => Ok(false),
-    }
-}
-
-#[tactic(auto, unfolding(crate::specs::Language::is_exercisable))]
-fn exercisable(
-    alloc: Global,
-    checked: &Checked,
-    call: &ChoiceCall,
-    actors: &PartySet,
-    consuming: bool,
-    value: &Value,
-) -> Result<bool, AllocError>
-    ensures { IfOk result (λ b. b ≡ is_exercisable checked.now call.now actors.now consuming value.now) }
-{
-    if !call_has_kinds(checked, call) {
-        return Ok(false);
-    }
-    if !are_small_args(&call.args) {
-        return Ok(false);
-    }
-    if !is_small_result(value) {
-        return Ok(false);
-    }
-    if is_consuming_call(checked, call) != consuming {
-        return Ok(false);
-    }
-    controlled(alloc, checked, call, actors)
-}
-
-/// Whether an action is possible by itself.
-fn possible(alloc: Global, checked: &Checked, action: &Action) -> Result<bool, AllocError>
-    ensures { IfOk result (λ b. b ≡ is_possible checked.now action.now) }
-{
-    match action {
-        Action::Create { id: _, instance } => {
-            if !has_kinds(checked, instance) {
-                return Ok(false);
-            }
-            creatable(alloc, checked, instance)
-        }
-        Action::Exercise {
-            id,
-            salt: _,
-            instance,
-            choice,
-            args,
-            actors,
-            consuming,
-            result,
-        } => {
-            if !has_kinds(checked, instance) {
-                return Ok(false);
-            }
-            let call = call_of(id, instance, *choice, args)?;
-            exercisable(alloc, checked, &call, actors, *consuming, result)
-        }
-        Action::Fetch {
-            id: _,
-            salt: _,
-            instance,
-            actors: _,
-        } => Ok(has_kinds(checked, instance)),
-    }
-}
-
-fn none(children: &ActionNodeList) -> bool
+fn has_none(children: &ActionNodeList) -> bool
     ensures { result ≡ has_none children.now }
 {
     children.as_slice().is_empty()
 }
 
-/// Whether the consequences of an action are what its choice does.
-#[cycle(rest)]
-#[tactic(auto, using(crate::proofs::Tried::no_body))]
-fn rest_below(alloc: Global, checked: &Checked, node: &ActionNode) -> Result<bool, AllocError>
-    ensures { IfOk result (λ b. b ≡ are_rest checked.now (body_of node.now.action) [] node.now.children) }
-{
-    match &node.action {
-        Action::Exercise {
-            id,
-            instance,
-            choice,
-            args,
-            result,
-            ..
-        } => {
-            let call = call_of(id, instance, *choice, args)?;
-            follows(alloc, checked, &call, result, &node.children)
+impl Replay<'_> {
+    /// Whether the body asks for the action next.
+    fn asks_for(
+        &self,
+        call: &ChoiceCall,
+        seen: &SeenList,
+        action: &Action,
+    ) -> Result<bool, AllocError>
+        ensures { IfOk result (λ b. b ≡ asks (next self.now.checked.now call.now seen.now) action.now) }
+    {
+        match next_step(self.alloc, self.checked, call, seen) {
+            Ok(step) => Ok(is_demanded(&step, action)),
+            Err(EvalFault::Memory) => Err(AllocError),
+            Err(_) => Ok(false),
         }
-        Action::Create { id: _, instance: _ } => Ok(none(&node.children)),
-        Action::Fetch { .. } => Ok(none(&node.children)),
     }
-}
 
-/// Whether an action is possible with all below it.
-#[cycle(rest)]
-fn tree_possible(alloc: Global, checked: &Checked, node: &ActionNode) -> Result<bool, AllocError>
-    ensures { IfOk result (λ b. b ≡ is_tree_possible checked.now node.now.action node.now.children) }
-{
-    if !possible(alloc, checked, &node.action)? {
-        return Ok(false);
+    /// Whether the body is done, with that result.
+    fn ends_with(
+        &self,
+        call: &ChoiceCall,
+        seen: &SeenList,
+        wanted: &Value,
+    ) -> Result<bool, AllocError>
+        ensures { IfOk result (λ b. b ≡ gives (next self.now.checked.now call.now seen.now) wanted.now) }
+    {
+        match next_step(self.alloc, self.checked, call, seen) {
+            Ok(step) => Ok(is_done(&step, wanted)),
+            Err(EvalFault::Memory) => Err(AllocError),
+            Err(_) => Ok(false),
+        }
     }
-    rest_below(alloc, checked, node)
-}
 
-/// Whether a child is the next that the body asks for, and possible with all below it.
-#[cycle(rest)]
-fn child_follows(
-    alloc: Global,
-    checked: &Checked,
-    call: &ChoiceCall,
-    seen: &SeenList,
-    node: &ActionNode,
-) -> Result<bool, AllocError>
-    ensures { IfOk result (λ b. b ≡ (asks (next checked.now call.now seen.now) node.now.action && is_tree_possible checked.now node.now.action node.now.children)) }
-{
-    if !asked(alloc, checked, call, seen, &node.action)? {
-        return Ok(false);
-    }
-    tree_possible(alloc, checked, node)
-}
-
-/// Whether these trees are what the call's choice does, to that result. A tree is tried whole before the body goes on
-/// after it, so no body runs on a contract whose fields have other kinds than its template's.
-#[cycle(rest)]
-fn follows(
-    alloc: Global,
-    checked: &Checked,
-    call: &ChoiceCall,
-    wanted: &Value,
-    children: &ActionNodeList,
-) -> Result<bool, AllocError>
-    ensures { IfOk result (λ b. b ≡ are_rest checked.now (BodyOf call.now wanted.now) [] children.now) }
-{
-    let mut seen = SeenList::new(alloc);
-    for node in children.as_slice() {
-        if !child_follows(alloc, checked, call, &seen, node)? {
+    #[tactic(auto, unfolding(crate::specs::Language::is_creatable))]
+    fn is_creatable(&self, instance: &Instance) -> Result<bool, AllocError>
+        ensures { IfOk result (λ b. b ≡ is_creatable self.now.checked.now instance.now) }
+    {
+        if !is_small_instance(instance) {
             return Ok(false);
         }
-        seen.push(what_is_seen(&node.action)?)?;
+        match parties_of_created(self.alloc, self.checked, instance) {
+            Ok(_) => Ok(true),
+            Err(EvalFault::Memory) => Err(AllocError),
+            Err(_) => Ok(false),
+        }
     }
-    ended(alloc, checked, call, &seen, wanted)
+
+    fn has_controllers(&self, call: &ChoiceCall, actors: &PartySet) -> Result<bool, AllocError>
+        ensures { IfOk result (λ b. b ≡ are_controllers (parties_of_choice self.now.checked.now call.now) actors.now) }
+    {
+        match parties_of_choice(self.alloc, self.checked, call) {
+            Ok(parties) => Ok(parties.controllers == *actors),
+            Err(EvalFault::Memory) => Err(AllocError),
+            Err(_) => Ok(false),
+        }
+    }
+
+    #[tactic(auto, unfolding(crate::specs::Language::is_exercisable))]
+    fn is_exercisable(
+        &self,
+        call: &ChoiceCall,
+        actors: &PartySet,
+        consuming: bool,
+        value: &Value,
+    ) -> Result<bool, AllocError>
+        ensures { IfOk result (λ b. b ≡ is_exercisable self.now.checked.now call.now actors.now consuming value.now) }
+    {
+        if !call_has_kinds(self.checked, call) {
+            return Ok(false);
+        }
+        if !are_small_args(&call.args) {
+            return Ok(false);
+        }
+        if !is_small_result(value) {
+            return Ok(false);
+        }
+        if is_consuming_call(self.checked, call) != consuming {
+            return Ok(false);
+        }
+        self.has_controllers(call, actors)
+    }
+
+    /// Whether an action is possible by itself.
+    fn is_possible(&self, action: &Action) -> Result<bool, AllocError>
+        ensures { IfOk result (λ b. b ≡ is_possible self.now.checked.now action.now) }
+    {
+        match action {
+            Action::Create { id: _, instance } => {
+                if !has_kinds(self.checked, instance) {
+                    return Ok(false);
+                }
+                self.is_creatable(instance)
+            }
+            Action::Exercise {
+                id,
+                salt: _,
+                instance,
+                choice,
+                args,
+                actors,
+                consuming,
+                result,
+            } => {
+                if !has_kinds(self.checked, instance) {
+                    return Ok(false);
+                }
+                let call = call_of(id, instance, *choice, args)?;
+                self.is_exercisable(&call, actors, *consuming, result)
+            }
+            Action::Fetch {
+                id: _,
+                salt: _,
+                instance,
+                actors: _,
+            } => Ok(has_kinds(self.checked, instance)),
+        }
+    }
+
+    /// Whether the consequences of an action are what its choice does.
+    #[cycle(rest)]
+    #[tactic(auto, using(crate::proofs::Tried::no_body))]
+    fn rest_below(&self, node: &ActionNode) -> Result<bool, AllocError>
+        ensures { IfOk result (λ b. b ≡ are_rest self.now.checked.now (body_of node.now.action) [] node.now.children) }
+    {
+        match &node.action {
+            Action::Exercise {
+                id,
+                instance,
+                choice,
+                args,
+                result,
+                ..
+            } => {
+                let call = call_of(id, instance, *choice, args)?;
+                self.follows(&call, result, &node.children)
+            }
+            Action::Create { id: _, instance: _ } => Ok(has_none(&node.children)),
+            Action::Fetch { .. } => Ok(has_none(&node.children)),
+        }
+    }
+
+    /// Whether an action is possible with all below it.
+    #[cycle(rest)]
+    fn is_tree_possible(&self, node: &ActionNode) -> Result<bool, AllocError>
+        ensures { IfOk result (λ b. b ≡ is_tree_possible self.now.checked.now node.now.action node.now.children) }
+    {
+        if !self.is_possible(&node.action)? {
+            return Ok(false);
+        }
+        self.rest_below(node)
+    }
+
+    /// Whether a child is the next that the body asks for, and possible with all below it.
+    #[cycle(rest)]
+    fn child_follows(
+        &self,
+        call: &ChoiceCall,
+        seen: &SeenList,
+        node: &ActionNode,
+    ) -> Result<bool, AllocError>
+        ensures { IfOk result (λ b. b ≡
+            (asks (next self.now.checked.now call.now seen.now) node.now.action && is_tree_possible self.now.checked.now node.now.action node.now.children)) }
+    {
+        if !self.asks_for(call, seen, &node.action)? {
+            return Ok(false);
+        }
+        self.is_tree_possible(node)
+    }
+
+    /// Whether these trees are what the call's choice does, to that result. A tree is tried whole before the body goes on
+    /// after it, so no body runs on a contract whose fields have other kinds than its template's.
+    #[cycle(rest)]
+    fn follows(
+        &self,
+        call: &ChoiceCall,
+        wanted: &Value,
+        children: &ActionNodeList,
+    ) -> Result<bool, AllocError>
+        ensures { IfOk result (λ b. b ≡ are_rest self.now.checked.now (BodyOf call.now wanted.now) [] children.now) }
+    {
+        let mut seen = SeenList::new(self.alloc);
+        for node in children.as_slice() {
+            if !self.child_follows(call, &seen, node)? {
+                return Ok(false);
+            }
+            seen.push(what_is_seen(&node.action)?)?;
+        }
+        self.ends_with(call, &seen, wanted)
+    }
 }
 
 /// Whether a tree of actions is possible in the model (Ledger Model: conformance): its root is possible by itself, and the
@@ -296,5 +296,6 @@ fn follows(
 pub fn reexecute(alloc: Global, checked: &Checked, root: &ActionNode) -> Result<bool, AllocError>
     ensures { IfOk result (λ b. Decides b (Conforms (the_language checked.now) (tree_of root.now))) }
 {
-    tree_possible(alloc, checked, root)
+    let replay = Replay { alloc, checked };
+    replay.is_tree_possible(root)
 }

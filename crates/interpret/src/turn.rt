@@ -1,10 +1,10 @@
 //! What comes next where actions are asked for one after another.
-use ledger_model::Step;
+use crate::demand::Demand;
 use ledger_terms::Value;
 
 /// The end with a result, or an action.
 #[derive(Drop)]
 pub(crate) enum Turn {
     End(Value),
-    Child(Step),
+    Child(Demand),
 }

@@ -15,7 +15,7 @@ use crate::nameable::Nameable;
 use crate::scope::Scope;
 use crate::statements::check_stmts;
 use crate::stop::Stop;
-use lang_eval::note::archive_name;
+use lang_eval::archive_name;
 use ledger_terms::{Choice, Expr, FieldDecl, Kind, Name, NameList, Pointer, Template, Text};
 use std::alloc::{AllocError, Global};
 

@@ -34,7 +34,8 @@ or_none true h = refl
 or_none false h = h
 
 -- the members of two sets are members of those with more behind each
-wider : (a b c d : PartyNames) (p : List ℕ) → (has_party a p ≡ true → has_party c p ≡ true) → (has_party b p ≡ true → has_party d p ≡ true) → has_party (set_of (a ++ b)) p ≡ true → has_party (set_of (c ++ d)) p ≡ true
+wider : (a b c d : PartyNames) (p : List ℕ) → (has_party a p ≡ true → has_party c p ≡ true) → (has_party b p ≡ true → has_party d p ≡ true)
+    → has_party (set_of (a ++ b)) p ≡ true → has_party (set_of (c ++ d)) p ≡ true
 wider a b c d p f g h =
     let before = sym (has_party-append a b p) ∙ (sym (has_party-set_of (a ++ b) p) ∙ h) in
     has_party-set_of (c ++ d) p ∙ (has_party-append c d p ∙ or_weaker (has_party a p) (has_party b p) (has_party c p) (has_party d p) f g before)
@@ -49,15 +50,19 @@ told false s o p h = h
 none_there : (p : List ℕ) (d : PartyNames) → has_party [] p ≡ true → has_party d p ≡ true
 none_there p d h = cc
 
-pub confirmers_informed : (packages : Packages) (action : Action) (p : List ℕ) → has_party (roles_in packages action).confirmers p ≡ true → has_party (roles_in packages action).informees p ≡ true
+pub confirmers_informed : (packages : Packages) (action : Action) (p : List ℕ) → has_party (roles_in packages action).confirmers p ≡ true
+    → has_party (roles_in packages action).informees p ≡ true
 confirmers_informed packages (Create id i) p h =
-    wider (signatories_in (parties_if_typed packages i)) [] (signatories_in (parties_if_typed packages i)) (observers_in (parties_if_typed packages i)) p (λ k. k) (none_there p _) h
+    wider (signatories_in (parties_if_typed packages i)) [] (signatories_in (parties_if_typed packages i)) (observers_in (parties_if_typed packages i)) p
+    (λ k. k) (none_there p _) h
 confirmers_informed packages (Exercise id salt i choice args actors consuming result) p h =
-    wider (signatories_in (parties_if_typed packages i)) actors _ (actors ++ set_given (observers_if_typed packages (record { id = id; instance = i; choice = choice; args = args }))) p
+    wider (signatories_in (parties_if_typed packages i)) actors _
+    (actors ++ set_given (observers_if_typed packages (record { id = id; instance = i; choice = choice; args = args }))) p
     (told consuming (signatories_in (parties_if_typed packages i)) (observers_in (parties_if_typed packages i)) p) (more actors _ p) h
 confirmers_informed packages (Fetch id salt i actors) p h = h
 
-pub no_size : (packages : Packages) (creatable : Instance → Bool) (exercisable : ChoiceCall → PartyNames → Bool → Value → Bool) (action : Action) → roles_of (language_of packages creatable exercisable) action ≡ roles_in packages action
+pub no_size : (packages : Packages) (creatable : Instance → Bool) (exercisable : ChoiceCall → PartyNames → Bool → Value → Bool) (action : Action)
+    → roles_of (language_of packages creatable exercisable) action ≡ roles_in packages action
 no_size packages creatable exercisable (Create id i) = refl
 no_size packages creatable exercisable (Exercise id salt i choice args actors consuming result) = refl
 no_size packages creatable exercisable (Fetch id salt i actors) = refl

@@ -4,3 +4,8 @@ pub mod Runs
 pub mod RoleLaws
 pub mod NamesEnd
 pub mod Informed
+pub mod Known
+pub mod NamedValues
+pub mod NamedSteps
+pub mod NamedRoles
+pub mod Archived

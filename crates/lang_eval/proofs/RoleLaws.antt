@@ -24,16 +24,44 @@ set_of-append-append a b c = with_parties-append a (b ++ c) [] ∙ with_parties-
 
 pub ruleset joined_sets = (set_of-append, set_of-append-append)
 
-create_are : (r : Result ContractParties RoleFault) → on_parties r (λ p. Ok (with_actors p [] (stakeholders_in p))) ≡ (if is_given r then Ok (record { signatories = signatories_in r; observers = observers_in r; actors = []; informees = set_of (signatories_in r ++ observers_in r); confirmers = set_of (signatories_in r ++ []) }) else Err NoRoles)
+create_are : (r : Result ContractParties RoleFault) → on_parties r
+    (λ p. Ok (with_actors p [] (stakeholders_in p))) ≡ (if is_given r then Ok
+    (record {
+      signatories = signatories_in r;
+      observers = observers_in r;
+      actors = [];
+      informees = set_of (signatories_in r ++ observers_in r);
+      confirmers =
+          set_of (signatories_in r ++ []);
+    }) else Err NoRoles)
 create_are (Ok p) = refl
 create_are (Err e) = refl
 
-exercise_are : (r : Result ContractParties RoleFault) (o : Result PartyNames RoleFault) (actors : PartyNames) (consuming : Bool) → on_parties r (λ p. on_parties o (λ s. Ok (with_actors p actors (set_of (told_first p consuming ++ (actors ++ s)))))) ≡ (if (is_given r && is_given o) then Ok (record { signatories = signatories_in r; observers = observers_in r; actors = actors; informees = set_of ((if consuming then set_of (signatories_in r ++ observers_in r) else signatories_in r) ++ (actors ++ set_given o)); confirmers = set_of (signatories_in r ++ actors) }) else Err NoRoles)
+exercise_are : (r : Result ContractParties RoleFault) (o : Result PartyNames RoleFault) (actors : PartyNames) (consuming : Bool)
+    → on_parties r (λ p. on_parties o (λ s. Ok (with_actors p actors (set_of (told_first p consuming ++ (actors ++ s)))))) ≡ (if (is_given r && is_given o)
+    then Ok (record {
+      signatories = signatories_in r;
+      observers = observers_in r;
+      actors = actors;
+      informees = set_of
+          ((if consuming then set_of (signatories_in r ++ observers_in r) else signatories_in r) ++ (actors ++ set_given o));
+      confirmers = set_of
+          (signatories_in r ++ actors);
+    }) else Err NoRoles)
 exercise_are (Ok p) (Ok s) actors consuming = refl
 exercise_are (Ok p) (Err e) actors consuming = refl
 exercise_are (Err e) o actors consuming = refl
 
-fetch_are : (r : Result ContractParties RoleFault) (actors : PartyNames) → on_parties r (λ p. Ok (with_actors p actors (set_of (p.signatories ++ actors)))) ≡ (if is_given r then Ok (record { signatories = signatories_in r; observers = observers_in r; actors = actors; informees = set_of (signatories_in r ++ actors); confirmers = set_of (signatories_in r ++ actors) }) else Err NoRoles)
+fetch_are : (r : Result ContractParties RoleFault) (actors : PartyNames)
+    → on_parties r (λ p. Ok (with_actors p actors (set_of (p.signatories ++ actors)))) ≡ (if is_given r then Ok
+    (record {
+      signatories = signatories_in r;
+      observers = observers_in r;
+      actors = actors;
+      informees = set_of (signatories_in r ++ actors);
+      confirmers =
+          set_of (signatories_in r ++ actors);
+    }) else Err NoRoles)
 fetch_are (Ok p) actors = refl
 fetch_are (Err e) actors = refl
 

@@ -23,17 +23,22 @@ behind-next vs v (Ok ws) = ap (λ (l : List Value). Ok l) (sym (append_assoc vs 
 behind-next vs v (Err e) = refl
 
 -- A loop over expressions puts the next value behind the others.
-pub values_step : (all : Result (List Value) EvalFault) (vs new : List Value) (v : Value) (es : List Expr) (i : ℕ) (e : Expr) (names : Names) → i < length es → e ≡ get_or es i e → Ok v ≡ val (expr_form e) names → new ≡ vs ++ v ∷ [] → behind vs (vals (exprs_of (drop i es)) names) ≡ all → behind new (vals (exprs_of (drop (i + 1) es)) names) ≡ all
+pub values_step : (all : Result (List Value) EvalFault) (vs new : List Value) (v : Value) (es : List Expr) (i : ℕ) (e : Expr) (names : Names) → i < length es
+    → e ≡ get_or es i e → Ok v ≡ val (expr_form e) names → new ≡ vs ++ v ∷ [] → behind vs (vals (exprs_of (drop i es)) names) ≡ all
+    → behind new (vals (exprs_of (drop (i + 1) es)) names) ≡ all
 values_step all vs new v es i e names within at is grown before =
-    let next : vals (exprs_of (drop i es)) names ≡ with_value (vals (exprs_of (drop (i + 1) es)) names) (λ ws. Ok (v ∷ ws)) = rw (drop_more es i e within, ← at, ← is) refl in
+    let next : vals (exprs_of (drop i es)) names ≡ with_value (vals (exprs_of (drop (i + 1) es)) names) (λ ws. Ok (v ∷ ws)) = rw
+    (drop_more es i e within, ← at, ← is) refl in
     rw grown (sym (behind-next vs v (vals (exprs_of (drop (i + 1) es)) names)) ∙ (ap (behind vs) (sym next) ∙ before))
 
-pub values_end : (all : Result (List Value) EvalFault) (vs : List Value) (es : List Expr) (i : ℕ) (names : Names) → length es ≤ i → behind vs (vals (exprs_of (drop i es)) names) ≡ all → Ok vs ≡ all
+pub values_end : (all : Result (List Value) EvalFault) (vs : List Value) (es : List Expr) (i : ℕ) (names : Names) → length es ≤ i
+    → behind vs (vals (exprs_of (drop i es)) names) ≡ all → Ok vs ≡ all
 values_end all vs es i names past before =
     ap (λ (l : List Value). Ok l) (sym (append-nil vs)) ∙ (rw (drop_of_length-le es past) at before)
 
 -- Its first fault is that of the whole.
-pub values_fault : (all : Result (List Value) EvalFault) (vs : List Value) (f : EvalFault) (es : List Expr) (i : ℕ) (e : Expr) (names : Names) → i < length es → e ≡ get_or es i e → Err f ≡ val (expr_form e) names → behind vs (vals (exprs_of (drop i es)) names) ≡ all → Err f ≡ all
+pub values_fault : (all : Result (List Value) EvalFault) (vs : List Value) (f : EvalFault) (es : List Expr) (i : ℕ) (e : Expr) (names : Names)
+    → i < length es → e ≡ get_or es i e → Err f ≡ val (expr_form e) names → behind vs (vals (exprs_of (drop i es)) names) ≡ all → Err f ≡ all
 values_fault all vs f es i e names within at is before =
     let next : vals (exprs_of (drop i es)) names ≡ Err f = rw (drop_more es i e within, ← at, ← is) refl in
     ap (behind vs) (sym next) ∙ before

@@ -1,5 +1,7 @@
+pub mod FaultNames
 pub mod Names
 pub mod Value
+pub mod Operation
 pub mod Found
 pub mod Next
 pub mod Shown
@@ -10,3 +12,4 @@ pub mod Typed
 pub mod Checking
 pub mod Language
 pub mod RoleSets
+pub mod Named

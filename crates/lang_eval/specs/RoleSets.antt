@@ -3,7 +3,9 @@ use Rattle.std.specs.Prelude.{Bool, if◌then◌else◌, [], ◌++◌, Result, O
 use Rattle.ledger_terms.specs.Parties.{set_of}
 use Rattle.ledger_terms.specs.declared.action.Action.{Action}
 use Rattle.ledger_terms.specs.declared.action.Action.TheVariants.{Create, Exercise, Fetch}
+use Rattle.ledger_terms.specs.declared.instance.Instance.{Instance}
 use Rattle.ledger_model.specs.declared.roles.Roles.{Roles}
+use Rattle.ledger_model.specs.declared.step.ChoiceCall.{ChoiceCall}
 use Rattle.lang_eval.specs.declared.role_fault.RoleFault.{RoleFault}
 use Rattle.lang_eval.specs.declared.role_fault.RoleFault.TheVariants.{NoRoles}
 use Rattle.lang_eval.specs.declared.contract_parties.ContractParties.{ContractParties}
@@ -32,10 +34,20 @@ with_actors p actors informees =
 abbrev pub told_first : ContractParties → Bool → PartyNames
 told_first p consuming = if consuming then stakeholders_in p else p.signatories
 
-abbrev pub roles_after : Packages → Action → Result Roles RoleFault
-roles_after packages (Create id i) = on_parties (parties_if_typed packages i) (λ p. Ok (with_actors p [] (stakeholders_in p)))
-roles_after packages (Exercise id salt i choice args actors consuming result) =
-    on_parties (parties_if_typed packages i) (λ p.
-    on_parties (observers_if_typed packages (record { id = id; instance = i; choice = choice; args = args })) (λ o.
+abbrev pub create_roles : Packages → Instance → Result Roles RoleFault
+create_roles packages i = on_parties (parties_if_typed packages i) (λ p. Ok (with_actors p [] (stakeholders_in p)))
+
+abbrev pub exercise_roles : Packages → ChoiceCall → (actors : PartyNames) → (consuming : Bool) → Result Roles RoleFault
+exercise_roles packages call actors consuming =
+    on_parties (parties_if_typed packages call.instance) (λ p.
+    on_parties (observers_if_typed packages call) (λ o.
     Ok (with_actors p actors (set_of (told_first p consuming ++ (actors ++ o))))))
-roles_after packages (Fetch id salt i actors) = on_parties (parties_if_typed packages i) (λ p. Ok (with_actors p actors (set_of (p.signatories ++ actors))))
+
+abbrev pub fetch_roles : Packages → Instance → (actors : PartyNames) → Result Roles RoleFault
+fetch_roles packages i actors = on_parties (parties_if_typed packages i) (λ p. Ok (with_actors p actors (set_of (p.signatories ++ actors))))
+
+abbrev pub roles_after : Packages → Action → Result Roles RoleFault
+roles_after packages (Create id i) = create_roles packages i
+roles_after packages (Exercise id salt i choice args actors consuming result) =
+    exercise_roles packages (record { id = id; instance = i; choice = choice; args = args }) actors consuming
+roles_after packages (Fetch id salt i actors) = fetch_roles packages i actors

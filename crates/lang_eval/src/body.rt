@@ -1,11 +1,12 @@
 //! What a choice's body does next.
 ghost use Rattle.std.specs.Prelude.{◌≡◌, ◌≢◌, ◌++◌, [], Err, OnOk, IfOk, codes};
 ghost use Rattle.ledger_terms.specs.Answers.{UnlessMemory};
-ghost use Rattle.ledger_terms.specs.ExprForms.{expr_form};
+ghost use Rattle.ledger_terms.specs.ExprForms.{expr_form, list_form};
 ghost use Rattle.ledger_terms.specs.StmtForms.{stmt_form, stmt_list_form};
 ghost use Rattle.lang_eval.specs.Names.{bound_to, with_fields, with_this};
 ghost use Rattle.lang_eval.specs.Found.{template_in, fields_of};
-ghost use Rattle.lang_eval.specs.Next.{ran, ran_all, next, next_of, names_of, closed, id_of, value_seen, fields_seen};
+ghost use Rattle.lang_eval.specs.Next.{Stopped, Went, on_value, asserted, create_step, exercise_step, fetch_step, ran, ran_all, next, next_of, names_of, closed, id_of, value_seen, fields_seen};
+ghost use Rattle.lang_eval.specs.Value.{val, vals, truth};
 ghost use Rattle.lang_eval.specs.Shown.{shown};
 
 use crate::bindings::Bindings;
@@ -15,8 +16,8 @@ use crate::evaluate::{eval_expr, eval_list, eval_test};
 use crate::run::Run;
 use ledger_model::{ChoiceCall, Seen, SeenList, Step};
 use ledger_terms::{
-    Choice, Expr, FieldDecl, Hash, Instance, Name, Stmt, StmtList, Template, TemplateName, Text,
-    Value, copy_value,
+    Choice, Expr, ExprList, FieldDecl, Hash, Instance, Name, Stmt, StmtList, Template,
+    TemplateName, Text, Value, copy_value,
 };
 use std::alloc::{AllocError, Global};
 
@@ -28,7 +29,7 @@ fn bind(names: &mut Bindings, name: Name, value: Value) -> Result<(), AllocError
     Ok(())
 }
 
-fn dotted(alloc: Global, first: &str, name: Name) -> Result<Text, AllocError>
+fn field_name(alloc: Global, first: &str, name: Name) -> Result<Text, AllocError>
     ensures { IfOk result (λ t. t ≡ first.now ++ codes "." ++ name) }
 {
     let mut text = Text::of(alloc, first)?;
@@ -48,7 +49,7 @@ pub(crate) fn bind_fields(
 {
     let mut at = 0;
     while at < decls.len() && at < values.len() {
-        let name = dotted(*names.allocator(), first, decls[at].name)?;
+        let name = field_name(*names.allocator(), first, decls[at].name)?;
         let value = copy_value(&values[at])?;
         names.bind(name, value)?;
         at += 1;
@@ -93,6 +94,100 @@ fn eval_id(contract: &Expr, names: &Bindings) -> Result<Hash, EvalFault>
     }
 }
 
+fn run_bind<'s>(
+    name: Name,
+    value: &Expr,
+    names: &mut Bindings,
+    seen: &'s [Seen],
+) -> Result<Run<'s>, EvalFault>
+    ensures { result ≢ Err EvalFault.Memory
+        → shown result names.new ≡ on_value (val (expr_form value.now) names.old) (λ v. Went (bound_to name v names.old) seen.now) }
+{
+    let value = eval_expr(value, names)?;
+    bind(names, name, value)?;
+    Ok(Run::Went(seen))
+}
+
+fn run_assert<'s>(test: &Expr, names: &Bindings, seen: &'s [Seen]) -> Result<Run<'s>, EvalFault>
+    ensures { result ≢ Err EvalFault.Memory
+        → shown result names.now ≡ on_value (truth (expr_form test.now) names.now) (λ b. asserted b (Went names.now seen.now)) }
+{
+    if eval_test(test, names)? {
+        Ok(Run::Went(seen))
+    } else {
+        Err(EvalFault::Assert)
+    }
+}
+
+/// After a child that gave a value, which is bound.
+fn run_value<'s>(
+    name: Name,
+    child: &Seen,
+    rest: &'s [Seen],
+    names: &mut Bindings,
+) -> Result<Run<'s>, EvalFault>
+    ensures { result ≢ Err EvalFault.Memory → shown result names.new ≡ Went (bound_to name (value_seen child.now) names.old) rest.now }
+{
+    bind(names, name, seen_value(child)?)?;
+    Ok(Run::Went(rest))
+}
+
+/// After a child that gave a contract, whose fields are bound.
+fn run_fields<'s>(
+    name: Name,
+    decls: &[FieldDecl],
+    child: &Seen,
+    rest: &'s [Seen],
+    names: &mut Bindings,
+) -> Result<Run<'s>, EvalFault>
+    ensures { result ≢ Err EvalFault.Memory → shown result names.new ≡ Went (with_fields name decls.now (fields_seen child.now) names.old) rest.now }
+{
+    bind_fields(names, name.as_str(), decls, seen_fields(child))?;
+    Ok(Run::Went(rest))
+}
+
+fn next_create<'s>(
+    template: TemplateName,
+    fields: &ExprList,
+    names: &Bindings,
+) -> Result<Run<'s>, EvalFault>
+    ensures { result ≢ Err EvalFault.Memory → shown result names.now ≡ Stopped (create_step template (vals (list_form fields.now) names.now)) }
+{
+    let fields = eval_list(fields, names)?;
+    Ok(Run::Stopped(Step::Create { template, fields }))
+}
+
+fn next_exercise<'s>(
+    template: TemplateName,
+    contract: &Expr,
+    choice: Name,
+    args: &ExprList,
+    names: &Bindings,
+) -> Result<Run<'s>, EvalFault>
+    ensures { result ≢ Err EvalFault.Memory
+        → shown result names.now ≡ Stopped (exercise_step template choice (id_of (expr_form contract.now) names.now) (vals (list_form args.now) names.now)) }
+{
+    let id = eval_id(contract, names)?;
+    let args = eval_list(args, names)?;
+    Ok(Run::Stopped(Step::Exercise {
+        template,
+        id,
+        choice,
+        args,
+    }))
+}
+
+fn next_fetch<'s>(
+    template: TemplateName,
+    contract: &Expr,
+    names: &Bindings,
+) -> Result<Run<'s>, EvalFault>
+    ensures { result ≢ Err EvalFault.Memory → shown result names.now ≡ Stopped (fetch_step template (id_of (expr_form contract.now) names.now)) }
+{
+    let id = eval_id(contract, names)?;
+    Ok(Run::Stopped(Step::Fetch { template, id }))
+}
+
 #[cycle(run)]
 fn run_stmt<'s>(
     stmt: &Stmt,
@@ -103,34 +198,15 @@ fn run_stmt<'s>(
     ensures { result ≢ Err EvalFault.Memory → shown result names.new ≡ ran (stmt_form stmt.now) checked.now names.old seen.now }
 {
     match stmt {
-        Stmt::Bind { name, value } => {
-            let value = eval_expr(value, names)?;
-            bind(names, *name, value)?;
-            Ok(Run::Went(seen))
-        }
-        Stmt::Assert(test) => {
-            if eval_test(test, names)? {
-                Ok(Run::Went(seen))
-            } else {
-                Err(EvalFault::Assert)
-            }
-        }
+        Stmt::Bind { name, value } => run_bind(*name, value, names, seen),
+        Stmt::Assert(test) => run_assert(test, names, seen),
         Stmt::Create {
             bind: name,
             template,
             fields,
         } => match seen.split_first() {
-            Some((first, rest)) => {
-                bind(names, *name, seen_value(first)?)?;
-                Ok(Run::Went(rest))
-            }
-            None => {
-                let fields = eval_list(fields, names)?;
-                Ok(Run::Stopped(Step::Create {
-                    template: *template,
-                    fields,
-                }))
-            }
+            Some((child, rest)) => run_value(*name, child, rest, names),
+            None => next_create(*template, fields, names),
         },
         Stmt::Exercise {
             bind: name,
@@ -139,42 +215,18 @@ fn run_stmt<'s>(
             choice,
             args,
         } => match seen.split_first() {
-            Some((first, rest)) => {
-                bind(names, *name, seen_value(first)?)?;
-                Ok(Run::Went(rest))
-            }
-            None => {
-                let id = eval_id(contract, names)?;
-                let args = eval_list(args, names)?;
-                Ok(Run::Stopped(Step::Exercise {
-                    template: *template,
-                    id,
-                    choice: *choice,
-                    args,
-                }))
-            }
+            Some((child, rest)) => run_value(*name, child, rest, names),
+            None => next_exercise(*template, contract, *choice, args, names),
         },
         Stmt::Fetch {
             bind: name,
             template,
             contract,
         } => match seen.split_first() {
-            Some((first, rest)) => {
-                bind_fields(
-                    names,
-                    name.as_str(),
-                    fields(checked, *template),
-                    seen_fields(first),
-                )?;
-                Ok(Run::Went(rest))
+            Some((child, rest)) => {
+                run_fields(*name, fields(checked, *template), child, rest, names)
             }
-            None => {
-                let id = eval_id(contract, names)?;
-                Ok(Run::Stopped(Step::Fetch {
-                    template: *template,
-                    id,
-                }))
-            }
+            None => next_fetch(*template, contract, names),
         },
         Stmt::When { test, yes, no } => {
             if eval_test(test, names)? {

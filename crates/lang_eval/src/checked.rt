@@ -1,5 +1,5 @@
 //! Packages that are well typed.
-ghost use Rattle.std.specs.Prelude.{◌≡◌, ◌∷◌, [], find, IfOk, option_copied};
+ghost use Rattle.std.specs.Prelude.{◌≡◌, ◌∷◌, [], find, IfOk, OnOk, option_copied};
 ghost use Rattle.ledger_terms.specs.ExprForms.{expr_form};
 ghost use Rattle.ledger_terms.specs.Parties.{same_name};
 ghost use Rattle.lang_eval.specs.Found.{template_in, choice_in};
@@ -70,40 +70,26 @@ fn archive(alloc: Global, signatories: &Expr) -> Result<Choice, AllocError>
     })
 }
 
-fn template_with_archive(alloc: Global, template: Template) -> Result<Template, AllocError>
-    ensures { IfOk result (λ t. t ≡ with_archive template) }
+fn add_archive(alloc: Global, template: &mut Template) -> Result<(), AllocError>
+    ensures { OnOk result (template.new ≡ with_archive template.old) }
 {
-    let Template {
-        name,
-        fields,
-        ensure,
-        signatories,
-        observers,
-        mut choices,
-    } = template;
-    choices.push(archive(alloc, &signatories)?)?;
-    Ok(Template {
-        name,
-        fields,
-        ensure,
-        signatories,
-        observers,
-        choices,
-    })
+    let archive = archive(alloc, &template.signatories)?;
+    template.choices.push(archive)?;
+    Ok(())
 }
 
 fn package_with_archives(alloc: Global, given: Package) -> Result<Package, AllocError>
     ensures { IfOk result (λ p. p ≡ with_archives given) }
 {
-    let Package {
-        name,
-        templates: without,
-    } = given;
-    let mut templates = TemplateList::new(alloc);
-    for template in without.into_vec() {
-        templates.push(template_with_archive(alloc, template)?)?;
+    let Package { name, templates } = given;
+    let mut templates = templates.into_vec();
+    for i in 0..templates.len() {
+        add_archive(alloc, &mut templates[i])?;
     }
-    Ok(Package { name, templates })
+    Ok(Package {
+        name,
+        templates: TemplateList::of(templates),
+    })
 }
 
 impl Checked {

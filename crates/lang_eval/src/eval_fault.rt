@@ -1,7 +1,9 @@
 //! Why an evaluation ends without a value.
 ghost use Rattle.std.specs.Prelude.{◌≡◌};
+ghost use Rattle.lang_eval.specs.FaultNames.{eval_fault_name};
 
 use std::alloc::AllocError;
+use std::fmt;
 
 /// A fault of the contract language, or want of memory.
 #[derive(Clone, Copy, PartialEq, Eq)]
@@ -17,6 +19,33 @@ pub enum EvalFault {
     /// A text, an instance, arguments or a result is longer than its limit.
     TooLarge,
     Memory,
+}
+
+impl EvalFault {
+    /// The fault's word, as results spell it.
+    pub fn as_str(&self) -> &'static str
+        ensures { result.now ≡ eval_fault_name self.now }
+    {
+        match self {
+            EvalFault::Overflow => "Overflow",
+            EvalFault::Assert => "Assert",
+            EvalFault::Ensure => "Ensure",
+            EvalFault::NoSignatory => "NoSignatory",
+            EvalFault::TooLarge => "TooLarge",
+            EvalFault::Memory => "",
+        }
+    }
+}
+
+impl fmt::Display for EvalFault {
+    ghost use Rattle.std.specs.Prelude.{Some};
+    ghost use Rattle.lang_eval.specs.FaultNames.{eval_fault_name};
+
+    ghost output = { λ f. Some (eval_fault_name f) };
+
+    fn fmt<W: fmt::Write>(&self, f: &mut fmt::Formatter<W>) -> fmt::Result {
+        f.write_str(self.as_str())
+    }
 }
 
 impl From<AllocError> for EvalFault {

@@ -1,13 +1,26 @@
 //! The values of expressions.
-ghost use Rattle.std.specs.Prelude.{◌≡◌};
+ghost use Rattle.std.specs.Prelude.{◌≡◌, IfOk};
 ghost use Rattle.ledger_terms.specs.Answers.{UnlessMemory};
 ghost use Rattle.ledger_terms.specs.ExprForms.{expr_form, list_form};
-ghost use Rattle.lang_eval.specs.Value.{val, vals, truth};
+ghost use Rattle.lang_eval.specs.Names.{binding_of};
+ghost use Rattle.lang_eval.specs.Operation.{operation};
+ghost use Rattle.lang_eval.specs.Value.{Answer, val, vals, truth, value_in, with_value};
 
 use crate::bindings::Bindings;
 use crate::eval_fault::EvalFault;
-use crate::operators::{add, cat, has, less, less_eq, multiply, negate, set, subtract, union};
-use ledger_terms::{Expr, ExprList, Value, ValueList, copy_value};
+use crate::operator::Operator;
+use crate::operators::{apply, negate, set};
+use ledger_terms::{Expr, ExprList, Text, Value, ValueList, copy_value};
+use std::alloc::AllocError;
+
+fn named_value(name: &Text, names: &Bindings) -> Result<Value, AllocError>
+    ensures { IfOk result (λ v. v ≡ value_in (binding_of name.now names.now)) }
+{
+    match names.find(name) {
+        Some(binding) => copy_value(&binding.value),
+        None => Ok(Value::Unit),
+    }
+}
 
 /// The values of expressions in order, or the first fault from the left.
 #[cycle(eval)]
@@ -21,6 +34,23 @@ pub fn eval_list(exprs: &ExprList, names: &Bindings) -> Result<ValueList, EvalFa
     Ok(values)
 }
 
+/// An operator applied to what was evaluated first and to a second expression.
+#[cycle(eval)]
+fn eval_operation(
+    operator: Operator,
+    first: Result<Value, EvalFault>,
+    second: &Expr,
+    names: &Bindings,
+) -> Result<Value, EvalFault>
+    ensures { (answer : Answer)
+        → UnlessMemory EvalFault.Memory first answer
+        → UnlessMemory EvalFault.Memory result (with_value answer (λ x. with_value (val (expr_form second.now) names.now) (λ y. operation operator x y))) }
+{
+    let first = first?;
+    let second = eval_expr(second, names)?;
+    apply(*names.allocator(), operator, &first, &second)
+}
+
 /// The value of an expression, or the first fault from the left. Operands of another kind than their operator's, which no
 /// well-typed expression has, give Unit.
 #[cycle(eval)]
@@ -30,40 +60,13 @@ pub fn eval_expr(expr: &Expr, names: &Bindings) -> Result<Value, EvalFault>
 {
     match expr {
         Expr::Literal(value) => Ok(copy_value(value)?),
-        Expr::Var(name) => match names.find(name) {
-            Some(binding) => Ok(copy_value(&binding.value)?),
-            None => Ok(Value::Unit),
-        },
-        Expr::Add(a, b) => {
-            let a = eval_expr(a, names)?;
-            let b = eval_expr(b, names)?;
-            add(&a, &b)
-        }
-        Expr::Sub(a, b) => {
-            let a = eval_expr(a, names)?;
-            let b = eval_expr(b, names)?;
-            subtract(&a, &b)
-        }
-        Expr::Mul(a, b) => {
-            let a = eval_expr(a, names)?;
-            let b = eval_expr(b, names)?;
-            multiply(&a, &b)
-        }
-        Expr::Less(a, b) => {
-            let a = eval_expr(a, names)?;
-            let b = eval_expr(b, names)?;
-            Ok(less(&a, &b))
-        }
-        Expr::LessEq(a, b) => {
-            let a = eval_expr(a, names)?;
-            let b = eval_expr(b, names)?;
-            Ok(less_eq(&a, &b))
-        }
-        Expr::Equal(a, b) => {
-            let a = eval_expr(a, names)?;
-            let b = eval_expr(b, names)?;
-            Ok(Value::Bool(a == b))
-        }
+        Expr::Var(name) => Ok(named_value(name, names)?),
+        Expr::Add(a, b) => eval_operation(Operator::Add, eval_expr(a, names), b, names),
+        Expr::Sub(a, b) => eval_operation(Operator::Subtract, eval_expr(a, names), b, names),
+        Expr::Mul(a, b) => eval_operation(Operator::Multiply, eval_expr(a, names), b, names),
+        Expr::Less(a, b) => eval_operation(Operator::Less, eval_expr(a, names), b, names),
+        Expr::LessEq(a, b) => eval_operation(Operator::LessEq, eval_expr(a, names), b, names),
+        Expr::Equal(a, b) => eval_operation(Operator::Equal, eval_expr(a, names), b, names),
         Expr::Both(a, b) => match eval_expr(a, names)? {
             Value::Bool(true) => eval_expr(b, names),
             value => Ok(value),
@@ -80,25 +83,13 @@ pub fn eval_expr(expr: &Expr, names: &Bindings) -> Result<Value, EvalFault>
             Value::Bool(true) => eval_expr(first, names),
             _ => eval_expr(second, names),
         },
-        Expr::Cat(a, b) => {
-            let a = eval_expr(a, names)?;
-            let b = eval_expr(b, names)?;
-            cat(*names.allocator(), &a, &b)
-        }
+        Expr::Cat(a, b) => eval_operation(Operator::Cat, eval_expr(a, names), b, names),
         Expr::SetOf(parties) => {
             let parties = eval_list(parties, names)?;
             Ok(set(*names.allocator(), parties.as_slice())?)
         }
-        Expr::Union(a, b) => {
-            let a = eval_expr(a, names)?;
-            let b = eval_expr(b, names)?;
-            Ok(union(&a, &b)?)
-        }
-        Expr::Has(a, b) => {
-            let a = eval_expr(a, names)?;
-            let b = eval_expr(b, names)?;
-            Ok(has(&a, &b))
-        }
+        Expr::Union(a, b) => eval_operation(Operator::Union, eval_expr(a, names), b, names),
+        Expr::Has(a, b) => eval_operation(Operator::Has, eval_expr(a, names), b, names),
     }
 }
 

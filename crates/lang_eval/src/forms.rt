@@ -1,11 +1,21 @@
 //! Small forms of the language, for packages that are made here.
-ghost use Rattle.std.specs.Prelude.{◌≡◌, IfOk};
+ghost use Rattle.std.specs.Prelude.{◌≡◌, IfOk, Ok};
 ghost use Rattle.ledger_terms.specs.ExprForms.{expr_form};
 ghost use Rattle.ledger_terms.specs.Syntax.{Var, SetOf, NoExprs};
 ghost use Rattle.lang_eval.specs.Builtin.{one_party, declared};
 
 use ledger_terms::{Expr, ExprList, FieldDecl, Kind, Name, Text};
 use std::alloc::{AllocError, Global};
+
+/// Two things that are made, or want of memory where one of them wants it.
+pub(crate) fn both<A: Drop, B: Drop>(
+    first: Result<A, AllocError>,
+    second: Result<B, AllocError>,
+) -> Result<(A, B), AllocError>
+    ensures { IfOk result (λ p. (first ≡ Ok p.0) × (second ≡ Ok p.1)) }
+{
+    Ok((first?, second?))
+}
 
 /// A variable.
 pub(crate) fn variable(alloc: Global, name: &str) -> Result<Expr, AllocError>

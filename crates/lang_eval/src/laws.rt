@@ -1,5 +1,6 @@
 //! The laws of the language's definitions, as the clauses of functions that do nothing.
 ghost use Rattle.std.specs.Prelude.{◌≡◌, ℕ, Bool, List, true, Ok};
+ghost use Rattle.std.specs.List.{flat_map};
 ghost use Rattle.ledger_terms.specs.Syntax.{ExprForm, StmtForms, When, NoStmts};
 ghost use Rattle.ledger_terms.specs.Packages.{TemplateForm, ChoiceForm};
 ghost use Rattle.ledger_terms.specs.Parties.{has_party};
@@ -9,14 +10,18 @@ ghost use Rattle.ledger_terms.specs.declared.value.Value.TheVariants.{Unit as Un
 ghost use Rattle.ledger_terms.specs.declared.action.Action.{Action};
 ghost use Rattle.ledger_model.specs.declared.step.ChoiceCall.{ChoiceCall};
 ghost use Rattle.ledger_model.specs.declared.step.Seen.{Seen};
+ghost use Rattle.ledger_model.specs.declared.step.Step.{Step};
 ghost use Rattle.ledger_model.specs.declared.step.Step.TheVariants.{Done};
 ghost use Rattle.ledger_model.specs.Language.{roles_of};
 ghost use Rattle.lang_eval.specs.Names.{Names};
 ghost use Rattle.lang_eval.specs.Value.{val, with_value};
 ghost use Rattle.lang_eval.specs.Found.{Packages};
-ghost use Rattle.lang_eval.specs.Next.{Went, ran, next_of, names_of};
-ghost use Rattle.lang_eval.specs.Builtin.{archive_of};
-ghost use Rattle.lang_eval.specs.Parts.{PartyNames};
+ghost use Rattle.lang_eval.specs.Next.{Went, ran, next, next_of, names_of};
+ghost use Rattle.lang_eval.specs.Builtin.{archive_of, checked_packages};
+ghost use Rattle.lang_eval.specs.Parts.{PartyNames, parties_of_contract, parties_of_created, parties_of_choice, observers_of_choice};
+ghost use Rattle.lang_eval.specs.Named.{AreKnown, parties_in_value, parties_in_names, parties_in_expr, parties_in_instance, parties_in_packages, parties_in_call, parties_in_seen, parties_in_step, parties_in_action, parties_in_roles, stakeholder_names, choice_party_names};
+ghost use Rattle.lang_eval.specs.declared.contract_parties.ContractParties.{ContractParties};
+ghost use Rattle.lang_eval.specs.declared.choice_parties.ChoiceParties.{ChoiceParties};
 ghost use Rattle.lang_eval.specs.Language.{language_of, roles_in};
 
 /// A body that asks for nothing ends with its result.
@@ -40,6 +45,61 @@ pub fn confirmers_are_informed()
     ensures { (packages : Packages) (action : Action) (party : List ℕ)
         → has_party (roles_in packages action).confirmers party ≡ true
         → has_party (roles_in packages action).informees party ≡ true }
+{}
+
+/// An evaluation names no party beyond those of the literals and of the values that are bound, and a body none beyond those of
+/// the packages, of the contract and the arguments, and of what its children gave.
+pub fn evaluations_name_no_other_parties()
+    ensures value { (known : List ℕ → Bool) (e : ExprForm) (names : Names) (v : Value)
+        → AreKnown known (parties_in_expr e)
+        → AreKnown known (parties_in_names names)
+        → val e names ≡ Ok v
+        → AreKnown known (parties_in_value v) }
+    ensures step { (known : List ℕ → Bool) (packages : Packages) (call : ChoiceCall) (seen : List Seen) (step : Step)
+        → AreKnown known (parties_in_packages packages)
+        → AreKnown known (parties_in_call call)
+        → AreKnown known (flat_map parties_in_seen seen)
+        → next packages call seen ≡ Ok step
+        → AreKnown known (parties_in_step step) }
+{}
+
+/// The parties of a contract and of a call are among those that the packages and the contract or the call name.
+pub fn parties_are_named()
+    ensures contract { (known : List ℕ → Bool) (packages : Packages) (i : Instance) (parties : ContractParties)
+        → AreKnown known (parties_in_packages packages)
+        → AreKnown known (parties_in_instance i)
+        → parties_of_contract packages i ≡ Ok parties
+        → AreKnown known (stakeholder_names parties) }
+    ensures created { (known : List ℕ → Bool) (packages : Packages) (i : Instance) (parties : ContractParties)
+        → AreKnown known (parties_in_packages packages)
+        → AreKnown known (parties_in_instance i)
+        → parties_of_created packages i ≡ Ok parties
+        → AreKnown known (stakeholder_names parties) }
+    ensures choice { (known : List ℕ → Bool) (packages : Packages) (call : ChoiceCall) (parties : ChoiceParties)
+        → AreKnown known (parties_in_packages packages)
+        → AreKnown known (parties_in_call call)
+        → parties_of_choice packages call ≡ Ok parties
+        → AreKnown known (choice_party_names parties) }
+    ensures observers { (known : List ℕ → Bool) (packages : Packages) (call : ChoiceCall) (observers : PartyNames)
+        → AreKnown known (parties_in_packages packages)
+        → AreKnown known (parties_in_call call)
+        → observers_of_choice packages call ≡ Ok observers
+        → AreKnown known observers }
+{}
+
+/// The five sets of an action's roles have no party beyond those that the packages and the action name.
+pub fn roles_are_named()
+    ensures { (known : List ℕ → Bool) (packages : Packages) (action : Action)
+        → AreKnown known (parties_in_packages packages)
+        → AreKnown known (parties_in_action action)
+        → AreKnown known (parties_in_roles (roles_in packages action)) }
+{}
+
+/// What is built in names no party.
+pub fn built_in_packages_name_no_party()
+    ensures { (known : List ℕ → Bool) (given : Packages)
+        → AreKnown known (parties_in_packages given)
+        → AreKnown known (parties_in_packages (checked_packages given)) }
 {}
 
 /// Roles hang on no size.

@@ -1,22 +1,23 @@
 //! The meaning of the contract language: values of expressions, what a choice's body does next, and who is involved in an action.
 #![tactic(auto)]
 
-pub mod binding;
-pub mod bindings;
-pub mod body;
-pub mod checked;
-pub mod choice_parties;
-pub mod contract_parties;
-pub mod eval_fault;
-pub mod evaluate;
+mod binding;
+mod bindings;
+mod body;
+mod checked;
+mod choice_parties;
+mod contract_parties;
+mod eval_fault;
+mod evaluate;
 mod forms;
-pub mod kinds;
+mod kinds;
 pub mod laws;
-pub mod note;
+mod note;
+mod operator;
 mod operators;
-pub mod parties;
-pub mod role_fault;
-pub mod role_sets;
+mod parties;
+mod role_fault;
+mod role_sets;
 mod run;
 
 pub use binding::Binding;
@@ -27,9 +28,9 @@ pub use choice_parties::ChoiceParties;
 pub use contract_parties::ContractParties;
 pub use eval_fault::EvalFault;
 pub use evaluate::{eval_expr, eval_list, eval_test};
-pub use kinds::{call_has_kinds, has_kinds};
+pub use kinds::{call_has_kinds, has_kinds, have_kinds, kind_of};
 pub use ledger_model::{ChoiceCall, Roles, Seen, SeenList, Step};
-pub use note::{note_package, note_template};
+pub use note::{archive_name, note_name, note_package, note_template};
 pub use parties::{
     is_consuming_call, observers_of_choice, parties_of_choice, parties_of_contract,
     parties_of_created,

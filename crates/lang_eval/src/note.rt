@@ -1,12 +1,12 @@
 //! The built-in package Note.
-ghost use Rattle.std.specs.Prelude.{◌≡◌, ℕ, List, IfOk, codes};
+ghost use Rattle.std.specs.Prelude.{◌≡◌, ◌∷◌, [], ℕ, List, IfOk, codes};
 ghost use Rattle.ledger_terms.specs.ExprForms.{expr_form, list_form};
 ghost use Rattle.ledger_terms.specs.StmtForms.{stmt_form, stmt_list_form};
 ghost use Rattle.ledger_terms.specs.Syntax.{Var, NoExprs, MoreExprs, Literal, Create, Exercise};
 ghost use Rattle.ledger_terms.specs.declared.value.Value.TheVariants.{Text as TextValue};
 ghost use Rattle.lang_eval.specs.Builtin.{archive_name, note_form, note_fields, note_template_form, flash_form, flash_body, one_party, note_template};
 
-use crate::forms::{field, no_parties, one_party, variable};
+use crate::forms::{both, field, no_parties, one_party, variable};
 use ledger_terms::{
     Choice, ChoiceList, Expr, ExprList, FieldDeclList, Kind, Name, Package, Stmt, StmtList,
     Template, TemplateList, TemplateName, Text, Value,
@@ -48,7 +48,8 @@ fn note_fields(alloc: Global) -> Result<FieldDeclList, AllocError>
 }
 
 fn flash_create(alloc: Global) -> Result<Stmt, AllocError>
-    ensures { IfOk result (λ s. stmt_form s ≡ Create (codes "x") note_template (MoreExprs (Var (codes "this.owner")) (MoreExprs (Var (codes "this.reader")) (MoreExprs (Literal (TextValue (codes "flash"))) NoExprs)))) }
+    ensures { IfOk result (λ s. stmt_form s ≡ Create (codes "x") note_template
+        (MoreExprs (Var (codes "this.owner")) (MoreExprs (Var (codes "this.reader")) (MoreExprs (Literal (TextValue (codes "flash"))) NoExprs)))) }
 {
     let mut fields = ExprList::new(alloc);
     fields.push(variable(alloc, "this.owner")?)?;
@@ -85,29 +86,43 @@ fn flash_body(alloc: Global) -> Result<StmtList, AllocError>
 fn flash(alloc: Global) -> Result<Choice, AllocError>
     ensures { IfOk result (λ c. c ≡ flash_form) }
 {
+    let (controllers, body) = both(one_party(alloc, "this.owner"), flash_body(alloc))?;
     Ok(Choice {
         name: Name::read("Flash").unwrap(),
         consuming: false,
         params: FieldDeclList::new(alloc),
-        controllers: one_party(alloc, "this.owner")?,
+        controllers,
         observers: no_parties(alloc),
         returns: Kind::Unit,
-        body: flash_body(alloc)?,
+        body,
         result: Expr::Literal(Value::Unit),
     })
+}
+
+fn note_choices(alloc: Global) -> Result<ChoiceList, AllocError>
+    ensures { IfOk result (λ c. c ≡ flash_form ∷ []) }
+{
+    let mut choices = ChoiceList::new(alloc);
+    choices.push(flash(alloc)?)?;
+    Ok(choices)
 }
 
 fn note(alloc: Global) -> Result<Template, AllocError>
     ensures { IfOk result (λ t. t ≡ note_template_form) }
 {
-    let mut choices = ChoiceList::new(alloc);
-    choices.push(flash(alloc)?)?;
+    let ((signatories, observers), (fields, choices)) = both(
+        both(
+            one_party(alloc, "this.owner"),
+            one_party(alloc, "this.reader"),
+        ),
+        both(note_fields(alloc), note_choices(alloc)),
+    )?;
     Ok(Template {
         name: note_name(),
-        fields: note_fields(alloc)?,
+        fields,
         ensure: Expr::Literal(Value::Bool(true)),
-        signatories: one_party(alloc, "this.owner")?,
-        observers: one_party(alloc, "this.reader")?,
+        signatories,
+        observers,
         choices,
     })
 }

@@ -4,15 +4,17 @@ ghost use Rattle.ledger_terms.specs.declared.value.Value.TheVariants.{Parties};
 ghost use Rattle.ledger_terms.specs.Answers.{UnlessMemory};
 ghost use Rattle.ledger_terms.specs.Parties.{set_of};
 ghost use Rattle.lang_eval.specs.Value.{sum_of, difference_of, product_of, is_less, is_less_eq, negation_of, text_of, union_of, has_member, parties_among};
+ghost use Rattle.lang_eval.specs.Operation.{operation};
 
 use crate::eval_fault::EvalFault;
+use crate::operator::Operator;
 use ledger_terms::{PartySet, Text, Value};
 use std::alloc::{AllocError, Global};
 
 /// The most bytes of a text.
 pub const TEXT_MAX: usize = 256;
 
-pub(crate) fn add(a: &Value, b: &Value) -> Result<Value, EvalFault>
+fn add(a: &Value, b: &Value) -> Result<Value, EvalFault>
     ensures { result ≡ sum_of a.now b.now }
 {
     match (a, b) {
@@ -24,7 +26,7 @@ pub(crate) fn add(a: &Value, b: &Value) -> Result<Value, EvalFault>
     }
 }
 
-pub(crate) fn subtract(a: &Value, b: &Value) -> Result<Value, EvalFault>
+fn subtract(a: &Value, b: &Value) -> Result<Value, EvalFault>
     ensures { result ≡ difference_of a.now b.now }
 {
     match (a, b) {
@@ -36,7 +38,7 @@ pub(crate) fn subtract(a: &Value, b: &Value) -> Result<Value, EvalFault>
     }
 }
 
-pub(crate) fn multiply(a: &Value, b: &Value) -> Result<Value, EvalFault>
+fn multiply(a: &Value, b: &Value) -> Result<Value, EvalFault>
     ensures { result ≡ product_of a.now b.now }
 {
     match (a, b) {
@@ -48,7 +50,7 @@ pub(crate) fn multiply(a: &Value, b: &Value) -> Result<Value, EvalFault>
     }
 }
 
-pub(crate) fn less(a: &Value, b: &Value) -> Value
+fn less(a: &Value, b: &Value) -> Value
     ensures { result ≡ is_less a.now b.now }
 {
     match (a, b) {
@@ -57,7 +59,7 @@ pub(crate) fn less(a: &Value, b: &Value) -> Value
     }
 }
 
-pub(crate) fn less_eq(a: &Value, b: &Value) -> Value
+fn less_eq(a: &Value, b: &Value) -> Value
     ensures { result ≡ is_less_eq a.now b.now }
 {
     match (a, b) {
@@ -75,7 +77,7 @@ pub(crate) fn negate(a: &Value) -> Value
     }
 }
 
-fn joined(alloc: Global, a: &Text, b: &Text) -> Result<Text, AllocError>
+fn text_join(alloc: Global, a: &Text, b: &Text) -> Result<Text, AllocError>
     ensures { IfOk result (λ t. t ≡ a.now ++ b.now) }
 {
     let mut text = Text::of(alloc, a.as_str())?;
@@ -83,12 +85,12 @@ fn joined(alloc: Global, a: &Text, b: &Text) -> Result<Text, AllocError>
     Ok(text)
 }
 
-pub(crate) fn cat(alloc: Global, a: &Value, b: &Value) -> Result<Value, EvalFault>
+fn cat(alloc: Global, a: &Value, b: &Value) -> Result<Value, EvalFault>
     ensures { UnlessMemory EvalFault.Memory result (text_of a.now b.now) }
 {
     match (a, b) {
         (Value::Text(a), Value::Text(b)) => {
-            let text = joined(alloc, a, b)?;
+            let text = text_join(alloc, a, b)?;
             if text.len() <= TEXT_MAX {
                 Ok(Value::Text(text))
             } else {
@@ -99,7 +101,7 @@ pub(crate) fn cat(alloc: Global, a: &Value, b: &Value) -> Result<Value, EvalFaul
     }
 }
 
-pub(crate) fn union(a: &Value, b: &Value) -> Result<Value, AllocError>
+fn union(a: &Value, b: &Value) -> Result<Value, AllocError>
     ensures { IfOk result (λ v. v ≡ union_of a.now b.now) }
 {
     match (a, b) {
@@ -108,7 +110,7 @@ pub(crate) fn union(a: &Value, b: &Value) -> Result<Value, AllocError>
     }
 }
 
-pub(crate) fn has(a: &Value, b: &Value) -> Value
+fn has(a: &Value, b: &Value) -> Value
     ensures { result ≡ has_member a.now b.now }
 {
     match (a, b) {
@@ -128,4 +130,26 @@ pub(crate) fn set(alloc: Global, values: &[Value]) -> Result<Value, AllocError>
         }
     }
     Ok(Value::Parties(set))
+}
+
+/// What an operator gives of two values.
+pub(crate) fn apply(
+    alloc: Global,
+    operator: Operator,
+    a: &Value,
+    b: &Value,
+) -> Result<Value, EvalFault>
+    ensures { UnlessMemory EvalFault.Memory result (operation operator a.now b.now) }
+{
+    match operator {
+        Operator::Add => add(a, b),
+        Operator::Subtract => subtract(a, b),
+        Operator::Multiply => multiply(a, b),
+        Operator::Less => Ok(less(a, b)),
+        Operator::LessEq => Ok(less_eq(a, b)),
+        Operator::Equal => Ok(Value::Bool(*a == *b)),
+        Operator::Cat => cat(alloc, a, b),
+        Operator::Union => Ok(union(a, b)?),
+        Operator::Has => Ok(has(a, b)),
+    }
 }

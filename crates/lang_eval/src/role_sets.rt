@@ -3,7 +3,7 @@ ghost use Rattle.std.specs.Prelude.{◌≡◌, ◌++◌, IfOk};
 ghost use Rattle.ledger_terms.specs.Answers.{UnlessMemory};
 ghost use Rattle.ledger_terms.specs.Parties.{set_of};
 ghost use Rattle.lang_eval.specs.Language.{parties_if_typed, observers_if_typed, roles};
-ghost use Rattle.lang_eval.specs.RoleSets.{stakeholders_in, told_first, with_actors, roles_after};
+ghost use Rattle.lang_eval.specs.RoleSets.{stakeholders_in, told_first, with_actors, create_roles, exercise_roles, fetch_roles};
 
 use crate::checked::Checked;
 use crate::contract_parties::ContractParties;
@@ -48,7 +48,7 @@ fn observers_if_typed(
 
 /// The parties of either set.
 #[tactic(auto, using(crate::proofs::RoleLaws::joined_sets))]
-fn joined(alloc: Global, first: &PartySet, second: &PartySet) -> Result<PartySet, AllocError>
+fn union_of_two(alloc: Global, first: &PartySet, second: &PartySet) -> Result<PartySet, AllocError>
     ensures { IfOk result (λ s. s ≡ set_of (first.now ++ second.now)) }
 {
     let none = PartySet::new(alloc);
@@ -59,7 +59,7 @@ fn joined(alloc: Global, first: &PartySet, second: &PartySet) -> Result<PartySet
 
 /// The parties of each of three sets.
 #[tactic(auto, using(crate::proofs::RoleLaws::joined_sets))]
-fn joined_three(
+fn union_of_three(
     alloc: Global,
     first: &PartySet,
     second: &PartySet,
@@ -83,7 +83,7 @@ fn told_first(
     ensures { IfOk result (λ s. s ≡ told_first parties.now consuming) }
 {
     if consuming {
-        joined(alloc, &parties.signatories, &parties.observers)
+        union_of_two(alloc, &parties.signatories, &parties.observers)
     } else {
         parties.signatories.clone()
     }
@@ -97,7 +97,7 @@ fn with_actors(
 ) -> Result<Roles, AllocError>
     ensures { IfOk result (λ r. r ≡ with_actors parties actors informees) }
 {
-    let confirmers = joined(alloc, &parties.signatories, &actors)?;
+    let confirmers = union_of_two(alloc, &parties.signatories, &actors)?;
     Ok(Roles {
         signatories: parties.signatories,
         observers: parties.observers,
@@ -123,43 +123,41 @@ fn call_of(
     })
 }
 
-fn roles_after(alloc: Global, checked: &Checked, action: &Action) -> Result<Roles, RoleFault>
-    ensures { UnlessMemory RoleFault.Memory result (roles_after checked.now action.now) }
+fn create_roles(alloc: Global, checked: &Checked, instance: &Instance) -> Result<Roles, RoleFault>
+    ensures { UnlessMemory RoleFault.Memory result (create_roles checked.now instance.now) }
 {
-    match action {
-        Action::Create { id: _, instance } => {
-            let parties = parties_if_typed(alloc, checked, instance)?;
-            let informees = joined(alloc, &parties.signatories, &parties.observers)?;
-            Ok(with_actors(alloc, parties, PartySet::new(alloc), informees)?)
-        }
-        Action::Exercise {
-            id,
-            salt: _,
-            instance,
-            choice,
-            args,
-            actors,
-            consuming,
-            result: _,
-        } => {
-            let parties = parties_if_typed(alloc, checked, instance)?;
-            let call = call_of(*id, instance, *choice, args)?;
-            let observers = observers_if_typed(alloc, checked, &call)?;
-            let told = told_first(alloc, &parties, *consuming)?;
-            let informees = joined_three(alloc, &told, actors, &observers)?;
-            Ok(with_actors(alloc, parties, actors.clone()?, informees)?)
-        }
-        Action::Fetch {
-            id: _,
-            salt: _,
-            instance,
-            actors,
-        } => {
-            let parties = parties_if_typed(alloc, checked, instance)?;
-            let informees = joined(alloc, &parties.signatories, actors)?;
-            Ok(with_actors(alloc, parties, actors.clone()?, informees)?)
-        }
-    }
+    let parties = parties_if_typed(alloc, checked, instance)?;
+    let informees = union_of_two(alloc, &parties.signatories, &parties.observers)?;
+    Ok(with_actors(alloc, parties, PartySet::new(alloc), informees)?)
+}
+
+fn exercise_roles(
+    alloc: Global,
+    checked: &Checked,
+    call: &ChoiceCall,
+    actors: &PartySet,
+    consuming: bool,
+) -> Result<Roles, RoleFault>
+    ensures { UnlessMemory RoleFault.Memory result (exercise_roles checked.now call.now actors.now consuming) }
+{
+    let parties = parties_if_typed(alloc, checked, &call.instance)?;
+    let observers = observers_if_typed(alloc, checked, call)?;
+    let told = told_first(alloc, &parties, consuming)?;
+    let informees = union_of_three(alloc, &told, actors, &observers)?;
+    Ok(with_actors(alloc, parties, actors.clone()?, informees)?)
+}
+
+fn fetch_roles(
+    alloc: Global,
+    checked: &Checked,
+    instance: &Instance,
+    actors: &PartySet,
+) -> Result<Roles, RoleFault>
+    ensures { UnlessMemory RoleFault.Memory result (fetch_roles checked.now instance.now actors.now) }
+{
+    let parties = parties_if_typed(alloc, checked, instance)?;
+    let informees = union_of_two(alloc, &parties.signatories, actors)?;
+    Ok(with_actors(alloc, parties, actors.clone()?, informees)?)
 }
 
 /// The parties of an action (Ledger Model: informees): the informees of a Create are the stakeholders, of a consuming
@@ -172,5 +170,26 @@ fn roles_after(alloc: Global, checked: &Checked, action: &Action) -> Result<Role
 pub fn roles(alloc: Global, checked: &Checked, action: &Action) -> Result<Roles, RoleFault>
     ensures { UnlessMemory RoleFault.Memory result (roles checked.now action.now) }
 {
-    roles_after(alloc, checked, action)
+    match action {
+        Action::Create { id: _, instance } => create_roles(alloc, checked, instance),
+        Action::Exercise {
+            id,
+            salt: _,
+            instance,
+            choice,
+            args,
+            actors,
+            consuming,
+            result: _,
+        } => {
+            let call = call_of(*id, instance, *choice, args)?;
+            exercise_roles(alloc, checked, &call, actors, *consuming)
+        }
+        Action::Fetch {
+            id: _,
+            salt: _,
+            instance,
+            actors,
+        } => fetch_roles(alloc, checked, instance, actors),
+    }
 }

@@ -15,6 +15,7 @@ mod simple_stmt;
 mod stmt;
 mod template;
 
+pub use expr::read_expr;
 pub use literal::{is_parties_form, is_party_form, read_parties_value, read_party_value};
 pub use package::read_package;
 pub use parties::{is_hosted, read_parties, read_party};

@@ -1,6 +1,8 @@
 //! What a transaction does to contracts.
 ghost use Rattle.std.specs.Prelude.{◌≡◌, IfOk};
+ghost use Rattle.ledger_terms.specs.Actions.{id_of, instance_of, is_create, is_consuming};
 
+use crate::exact::Exact;
 use crate::hash::Hash;
 use crate::instance::Instance;
 use crate::name::Name;
@@ -34,10 +36,62 @@ pub enum Action {
     },
 }
 
+impl Action {
+    /// The id of the contract that the action is on.
+    pub fn id(&self) -> Hash
+        ensures { result ≡ id_of self.now }
+    {
+        match self {
+            Action::Create { id, .. } => *id,
+            Action::Exercise { id, .. } => *id,
+            Action::Fetch { id, .. } => *id,
+        }
+    }
+
+    /// What the contract says that the action is on.
+    pub fn instance(&self) -> &Instance
+        ensures { result.now ≡ instance_of self.now }
+    {
+        match self {
+            Action::Create { instance, .. } => instance,
+            Action::Exercise { instance, .. } => instance,
+            Action::Fetch { instance, .. } => instance,
+        }
+    }
+
+    /// Whether the action is a Create.
+    pub fn is_create(&self) -> bool
+        ensures { result ≡ is_create self.now }
+    {
+        match self {
+            Action::Create { .. } => true,
+            Action::Exercise { .. } => false,
+            Action::Fetch { .. } => false,
+        }
+    }
+
+    /// Whether the action consumes its contract, as a consuming Exercise does.
+    pub fn is_consuming(&self) -> bool
+        ensures { result ≡ is_consuming self.now }
+    {
+        match self {
+            Action::Create { .. } => false,
+            Action::Exercise { consuming, .. } => *consuming,
+            Action::Fetch { .. } => false,
+        }
+    }
+}
+
 /// Another action that is equal.
-#[tactic(auto, using(std::proofs::lemmas::List::Elements::same_from_all_zip))]
 pub fn copy_action(action: &Action) -> Result<Action, AllocError>
     ensures { IfOk result (λ a. a ≡ action.now) }
 {
-    action.clone()
+    action.copied()
+}
+
+impl Exact for Action {
+    ghost use Rattle.std.proofs.Common.{rules};
+    ghost use Rattle.std.proofs.lemmas.List.Elements.{same_from_all_zip};
+
+    ghost same = { Prim.search (rules, same_from_all_zip) };
 }

@@ -4,7 +4,8 @@ ghost use Rattle.ledger_terms.specs.Forest.{NoRoots, join};
 ghost use Rattle.ledger_terms.specs.Grown.{forest_of, tree_of};
 ghost use Rattle.ledger_terms.specs.Roots.{tree_at, trees_count};
 
-use crate::action::{Action, copy_action};
+use crate::action::Action;
+use crate::exact::Exact;
 use crate::hash::Hash;
 use std::alloc::{AllocError, Global};
 use std::marker::Model;
@@ -40,7 +41,7 @@ impl Model for ActionNodeList {
 
     ghost size = { node_count };
 
-    ghost use Rattle.ledger_terms.specs.Falls.{falls};
+    ghost use Rattle.ledger_terms.specs.proofs.Falls.{falls};
 
     ghost size_decreases = { λ l h. falls l };
 }
@@ -122,7 +123,7 @@ impl Clone for ActionNodeList {
             nodes: Vec::new(*self.nodes.allocator()),
         };
         for node in self.as_slice() {
-            let action = copy_action(&node.action)?;
+            let action = node.action.copied()?;
             let children = node.children.clone()?;
             copy.push(ActionNode {
                 seed: node.seed,
@@ -140,8 +141,16 @@ impl Clone for ActionNode {
     fn clone(&self) -> Result<ActionNode, AllocError> {
         Ok(ActionNode {
             seed: self.seed,
-            action: copy_action(&self.action)?,
+            action: self.action.copied()?,
             children: self.children.clone()?,
         })
     }
+}
+
+impl Exact for ActionNode {
+    ghost same = { λ a b h. h };
+}
+
+impl Exact for ActionNodeList {
+    ghost same = { λ a b h. h };
 }

@@ -1,6 +1,7 @@
 //! Bytes, which contracts see as a list.
 ghost use Rattle.std.specs.Prelude.{◌≡◌, ◌↔◌, ◌<◌, ◌^◌, ◌++◌, ◌∷◌, [], length, IsTrue, OnOk, OnErr};
 
+use crate::exact::Exact;
 use std::alloc::{AllocError, Global};
 use std::marker::Model;
 
@@ -104,4 +105,8 @@ impl PartialEq for Bytes {
     fn eq(&self, other: &Bytes) -> bool {
         self.as_slice() == other.as_slice()
     }
+}
+
+impl Exact for Bytes {
+    ghost same = { λ a b h. h };
 }

@@ -4,8 +4,9 @@ ghost use Rattle.ledger_terms.specs.Syntax.{NoExprs};
 ghost use Rattle.ledger_terms.specs.SyntaxLists.{exprs_count, exprs_join, one_expr};
 ghost use Rattle.ledger_terms.specs.ExprForms.{expr_form, exprs_in, list_form};
 
+use crate::exact::Exact;
 use crate::text::Text;
-use crate::value::{Value, copy_value};
+use crate::value::Value;
 use std::alloc::{AllocError, Global};
 use std::boxed::Box;
 
@@ -114,7 +115,7 @@ fn copy_expr(expr: &Expr) -> Result<Expr, AllocError>
     ensures { IfOk result (λ e. expr_form e ≡ expr_form expr.now) }
 {
     match expr {
-        Expr::Literal(value) => Ok(Expr::Literal(copy_value(value)?)),
+        Expr::Literal(value) => Ok(Expr::Literal(value.copied()?)),
         Expr::Var(name) => Ok(Expr::Var(name.clone()?)),
         Expr::Add(a, b) => Ok(Expr::Add(copy_boxed(a)?, copy_boxed(b)?)),
         Expr::Sub(a, b) => Ok(Expr::Sub(copy_boxed(a)?, copy_boxed(b)?)),

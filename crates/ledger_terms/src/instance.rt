@@ -1,8 +1,9 @@
 //! What a contract says.
 ghost use Rattle.std.specs.Prelude.{◌≡◌, IfOk};
 
+use crate::exact::Exact;
 use crate::template_name::TemplateName;
-use crate::value::{ValueList, copy_values};
+use crate::value::ValueList;
 use std::alloc::AllocError;
 
 /// A contract's template and the values of its fields, in the order in which the template declares them.
@@ -16,8 +17,12 @@ pub struct Instance {
 pub fn copy_instance(instance: &Instance) -> Result<Instance, AllocError>
     ensures { IfOk result (λ i. i ≡ instance.now) }
 {
-    Ok(Instance {
-        template: instance.template,
-        fields: copy_values(&instance.fields)?,
-    })
+    instance.copied()
+}
+
+impl Exact for Instance {
+    ghost use Rattle.std.proofs.Common.{rules};
+    ghost use Rattle.std.proofs.lemmas.List.Elements.{same_from_all_zip};
+
+    ghost same = { Prim.search (rules, same_from_all_zip) };
 }

@@ -1,4 +1,5 @@
 //! Which participant.
+use crate::exact::Exact;
 use crate::list::ListOf;
 use std::marker::Model;
 
@@ -18,3 +19,7 @@ impl Model for ParticipantId {
 
 /// Participants.
 pub type ParticipantIdList = ListOf<ParticipantId>;
+
+impl Exact for ParticipantId {
+    ghost same = { λ a b h. h };
+}

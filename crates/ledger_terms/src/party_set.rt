@@ -2,6 +2,7 @@
 ghost use Rattle.std.specs.Prelude.{◌≡◌, ◌++◌, ◌∷◌, ◌||◌, ◌↔◌, [], ℕ, IsTrue, List, length, IfOk, OnOk, OnErr, cond};
 ghost use Rattle.ledger_terms.specs.Parties.{with_party, with_parties, set_of, has_party, is_subset, meets_set, stands_above, IsRising};
 
+use crate::exact::Exact;
 use crate::name::{Name, NameList};
 use std::alloc::{AllocError, Global};
 use std::marker::Model;
@@ -188,4 +189,8 @@ impl PartialEq for PartySet {
     fn eq(&self, other: &PartySet) -> bool {
         self.names == other.names
     }
+}
+
+impl Exact for PartySet {
+    ghost same = { λ a b h. h };
 }

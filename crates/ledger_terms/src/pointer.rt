@@ -3,8 +3,10 @@ ghost use Rattle.std.specs.Prelude.{◌≡◌, ◌++◌, [], IfOk, OnOk};
 ghost use Rattle.std.specs.List.{flat_map};
 ghost use Rattle.ledger_terms.specs.Pointers.{is_reserved, escape_of, token_byte, at_member, at_item};
 
+use crate::exact::Exact;
 use crate::text::Text;
 use std::alloc::{AllocError, Global};
+use std::fmt;
 use std::marker::Model;
 
 /// A place in a JSON value (RFC 6901), which contracts see as the bytes of its text. The whole value is the empty text.
@@ -110,5 +112,19 @@ impl PartialEq for Pointer {
 
     fn eq(&self, other: &Pointer) -> bool {
         self.as_str() == other.as_str()
+    }
+}
+
+impl Exact for Pointer {
+    ghost same = { λ a b h. h };
+}
+
+impl fmt::Display for Pointer {
+    ghost use Rattle.std.specs.Prelude.{Some};
+
+    ghost output = { λ t. Some t };
+
+    fn fmt<W: fmt::Write>(&self, f: &mut fmt::Formatter<W>) -> fmt::Result {
+        f.write_str(self.as_str())
     }
 }

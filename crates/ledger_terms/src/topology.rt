@@ -1,11 +1,13 @@
 //! The participants of a synchroniser and whom they host.
-ghost use Rattle.std.specs.Prelude.{◌≡◌, ◌≤◌, length};
-ghost use Rattle.ledger_terms.specs.Hosting.{host_of, hosts_at};
+ghost use Rattle.std.specs.Prelude.{◌≡◌, ◌≤◌, length, option_copied, slice_get};
+ghost use Rattle.std.specs.List.{list_any};
+ghost use Rattle.ledger_terms.specs.Hosting.{host_of, hosts_at, confirms_at};
 
-use crate::host::HostList;
+use crate::host::{Host, HostList};
 use crate::name::Name;
 use crate::params::Params;
 use crate::participant_id::ParticipantId;
+use crate::party_set::PartySet;
 
 /// The participants, in order, and the times.
 #[derive(Drop)]
@@ -30,20 +32,50 @@ impl Topology {
         None
     }
 
+    /// The participant at an index, where there is one.
+    pub fn host(&self, at: ParticipantId) -> Option<&Host>
+        ensures { option_copied result ≡ slice_get self.now.hosts at }
+    {
+        self.hosts.get(at.0 as usize)
+    }
+
     /// Whether a participant hosts the party.
     pub fn hosts(&self, at: ParticipantId, party: Name) -> bool
         ensures { result ≡ hosts_at self.now.hosts at party }
     {
-        match self.hosts.get(at.0 as usize) {
+        match self.host(at) {
             Some(host) => host.parties.contains(party),
             None => false,
         }
     }
 
+    /// Whether a participant hosts one of the parties.
+    pub fn hosts_any(&self, at: ParticipantId, parties: &PartySet) -> bool
+        ensures { result ≡ list_any (hosts_at self.now.hosts at) parties.now }
+    {
+        parties
+            .as_slice()
+            .iter()
+            .any(|party| self.hosts(at, *party))
+    }
+
     /// Whether a participant confirms for the party.
     pub fn confirms(&self, at: ParticipantId, party: Name) -> bool
-        ensures { result ≡ hosts_at self.now.hosts at party }
+        ensures { result ≡ confirms_at self.now.hosts at party }
     {
-        self.hosts(at, party)
+        match self.host(at) {
+            Some(host) => host.parties.contains(party),
+            None => false,
+        }
+    }
+
+    /// Whether a participant confirms for one of the parties.
+    pub fn confirms_any(&self, at: ParticipantId, parties: &PartySet) -> bool
+        ensures { result ≡ list_any (confirms_at self.now.hosts at) parties.now }
+    {
+        parties
+            .as_slice()
+            .iter()
+            .any(|party| self.confirms(at, *party))
     }
 }

@@ -5,10 +5,10 @@ use Rattle.std.specs.List.{list_any}
 use Rattle.std.proofs.lemmas.List.Folds.{list_any-append}
 use Rattle.ledger_terms.specs.declared.host.Host.{Host}
 use Rattle.ledger_terms.specs.Parties.{is_subset}
-use Rattle.canton_model.specs.declared.check.LocalVerdict.{LocalVerdict}
-use Rattle.canton_model.specs.declared.check.LocalVerdict.TheVariants.{Approve, Reject}
-use Rattle.canton_model.specs.declared.check.Reason.{Reason}
-use Rattle.canton_model.specs.declared.check.Reason.TheVariants.{IdMismatch, NotVetted, TimeSkew, Locked, Inactive, NotFresh, Unordered, NotConformant, NotAuthorised}
+use Rattle.canton_model.specs.declared.local_verdict.LocalVerdict.{LocalVerdict}
+use Rattle.canton_model.specs.declared.local_verdict.LocalVerdict.TheVariants.{Approve, Reject}
+use Rattle.canton_model.specs.declared.reason.Reason.{Reason}
+use Rattle.canton_model.specs.declared.reason.Reason.TheVariants.{IdMismatch, NotVetted, TimeSkew, Locked, Inactive, NotFresh, Unordered, NotConformant, NotAuthorised}
 use Rattle.ledger_model.specs.Terms.{ParticipantId}
 use Rattle.canton_model.specs.Log.{Params}
 use Rattle.ledger_model.specs.Status.{is_unknown}

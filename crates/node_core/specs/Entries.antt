@@ -1,10 +1,10 @@
 -- What an entry is to a participant, from its own inbox alone.
 use Rattle.std.specs.Prelude.{List, Option, is_some, if◌then◌else◌}
-use Rattle.canton_model.specs.declared.message.Request.{Request}
-use Rattle.canton_model.specs.declared.message.Verdict.{Verdict}
+use Rattle.canton_model.specs.declared.request.Request.{Request}
+use Rattle.canton_model.specs.declared.verdict.Verdict.{Verdict}
 use Rattle.canton_model.specs.declared.message.Message.{Message}
 use Rattle.canton_model.specs.declared.message.Message.TheVariants.{Request as RequestMessage, Response as ResponseMessage, Verdict as VerdictMessage, Tick}
-use Rattle.canton_model.specs.declared.message.Entry.{Entry}
+use Rattle.canton_model.specs.declared.entry.Entry.{Entry}
 use Rattle.ledger_model.specs.Terms.{ParticipantId}
 use Rattle.ledger_model.specs.Opening.{Shown}
 use Rattle.canton_model.specs.Reading.{Reading}

@@ -1,8 +1,8 @@
 -- What a participant finds about the one view of a plain form.
 use Rattle.std.specs.Prelude.{not, if◌then◌else◌}
-use Rattle.canton_model.specs.declared.check.LocalVerdict.{LocalVerdict}
-use Rattle.canton_model.specs.declared.check.LocalVerdict.TheVariants.{Approve, Reject}
-use Rattle.canton_model.specs.declared.check.Reason.TheVariants.{IdMismatch, NotVetted, TimeSkew, Locked, NotFresh, NotConformant, NotAuthorised}
+use Rattle.canton_model.specs.declared.local_verdict.LocalVerdict.{LocalVerdict}
+use Rattle.canton_model.specs.declared.local_verdict.LocalVerdict.TheVariants.{Approve, Reject}
+use Rattle.canton_model.specs.declared.reason.Reason.TheVariants.{IdMismatch, NotVetted, TimeSkew, Locked, NotFresh, NotConformant, NotAuthorised}
 use Rattle.node_core.specs.declared.findings.Findings.{Findings}
 
 -- the first reason to reject it

@@ -1,8 +1,8 @@
 -- Which requests a participant has to check, and what comes of it.
 use Rattle.std.specs.Prelude.{ℕ, suc, Bool, not, ◌&&◌, List, [], ◌∷◌, ◌++◌, Option, Result, Ok, Err, length, take, nat_eq, unwrap_or, if◌then◌else◌}
 use Rattle.std.specs.List.{list_any}
-use Rattle.canton_model.specs.declared.check.ViewVerdict.{ViewVerdict}
-use Rattle.canton_model.specs.declared.message.Response.{Response}
+use Rattle.canton_model.specs.declared.view_verdict.ViewVerdict.{ViewVerdict}
+use Rattle.canton_model.specs.declared.response.Response.{Response}
 use Rattle.ledger_model.specs.Terms.{ParticipantId}
 use Rattle.ledger_model.specs.Opening.{Shown, views_in}
 use Rattle.canton_model.specs.Reading.{Reading}

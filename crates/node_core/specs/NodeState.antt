@@ -5,7 +5,7 @@ use Rattle.ledger_model.specs.Terms.{ParticipantId}
 use Rattle.canton_model.specs.Log.{Params}
 use Rattle.canton_model.specs.Reading.{Reading}
 use Rattle.canton_model.specs.Inbox.{Item}
-use Rattle.canton_model.specs.declared.message.Response.{Response}
+use Rattle.canton_model.specs.declared.response.Response.{Response}
 use Rattle.proto_model.specs.PlainReading.{plain_reading}
 
 -- The participants and times of the synchroniser, which of them it is, its inbox, the places of the requests that it has

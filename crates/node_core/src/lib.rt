@@ -2,19 +2,25 @@
 #![tactic(auto)]
 
 mod check;
-pub mod content;
+mod content;
 mod copies;
 mod findings;
-pub mod finish_fault;
-pub mod finished;
+mod finish_fault;
+mod finished;
 mod inbox;
-pub mod item;
-pub mod node;
+mod item;
+mod node;
+mod node_view;
 mod opening;
 mod stores;
+mod submit_fault;
+mod submit_result;
 
 pub use content::Content;
 pub use finish_fault::FinishFault;
 pub use finished::Finished;
 pub use item::Item;
 pub use node::Node;
+pub use node_view::{NodeView, NodeViewList};
+pub use submit_fault::SubmitFault;
+pub use submit_result::{SubmitResult, SubmitResultList};

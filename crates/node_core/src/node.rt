@@ -2,7 +2,7 @@
 ghost use Rattle.std.specs.Prelude.{◌≡◌, ◌<◌, ◌++◌, ◌∷◌, [], List, length, drop, option_map, option_copied, slice_get, IfOk, IfSome, OnOk, OnErr};
 ghost use Rattle.ledger_terms.specs.Answers.{UnlessMemory};
 ghost use Rattle.node_core.specs.declared.finish_fault.FinishFault.TheVariants as FinishFault;
-ghost use Rattle.canton_model.specs.declared.message.Entry.{Entry as EntryValue};
+ghost use Rattle.canton_model.specs.declared.entry.Entry.{Entry as EntryValue};
 ghost use Rattle.canton_model.specs.Inbox.{inbox, clean, clean_time, node_log, node_active, is_decided_in, moments, status_in_inbox, is_locked_in_inbox};
 ghost use Rattle.canton_model.specs.Timeline.{is_approved_in};
 ghost use Rattle.node_core.specs.NodeState.{reading_of, begun, with_item, with_claimed, with_outbox};

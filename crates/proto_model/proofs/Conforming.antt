@@ -1,7 +1,7 @@
 -- The test of conformance decides it.
 use Rattle.std.proofs.Common.{◌≡◌, Bool, refl}
 use Rattle.std.specs.Bool.{Decides, one_answer}
-use Rattle.ledger_terms.specs.Deciding.{both, both_true}
+use Rattle.ledger_terms.proofs.Deciding.{both, both_true}
 use Rattle.ledger_model.specs.Terms.{Act}
 use Rattle.ledger_model.specs.Forest.{Forest, NoRoots, Root}
 use Rattle.ledger_model.specs.Conformance.{Conforms}

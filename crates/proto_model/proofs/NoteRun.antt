@@ -7,7 +7,7 @@ use Rattle.ledger_terms.specs.Hosting.{hosts_at}
 use Rattle.ledger_terms.specs.Names.{is_name, is_spelled}
 use Rattle.ledger_terms.specs.declared.params.Params.{Params}
 use Rattle.ledger_terms.specs.declared.value.Value.TheVariants.{Unit as UnitValue}
-use Rattle.canton_model.specs.declared.check.LocalVerdict.TheVariants.{Approve}
+use Rattle.canton_model.specs.declared.local_verdict.LocalVerdict.TheVariants.{Approve}
 use Rattle.ledger_model.specs.Language.{roles_of}
 use Rattle.ledger_model.specs.Opening.{Shown}
 use Rattle.canton_model.specs.Reading.{Reading}

@@ -4,9 +4,9 @@ use Rattle.std.specs.Prelude.{slice_get}
 use Rattle.std.proofs.lemmas.Bool.Decides.{nat_tests}
 use Rattle.std.proofs.lemmas.Option.{same_Some, none-some}
 use Rattle.ledger_terms.specs.declared.params.Params.{Params}
-use Rattle.canton_model.specs.declared.message.Entry.{Entry}
-use Rattle.canton_model.specs.declared.message.Decision.TheVariants.{Approved}
-use Rattle.canton_model.specs.declared.check.LocalVerdict.TheVariants.{Approve}
+use Rattle.canton_model.specs.declared.entry.Entry.{Entry}
+use Rattle.canton_model.specs.declared.decision.Decision.TheVariants.{Approved}
+use Rattle.canton_model.specs.declared.local_verdict.LocalVerdict.TheVariants.{Approve}
 use Rattle.ledger_model.specs.Terms.{Act, instance_of}
 use Rattle.ledger_model.specs.Forest.{acts}
 use Rattle.canton_model.specs.Mediation.{scan}

@@ -12,7 +12,7 @@ use Rattle.std.proofs.lemmas.Option.{same_Some, none-some}
 use Rattle.ledger_terms.specs.Hosting.{hosts_at}
 use Rattle.ledger_terms.specs.Parties.{name_below, same_name, set_of}
 use Rattle.ledger_terms.specs.declared.host.Host.{Host}
-use Rattle.canton_model.specs.declared.message.Request.{Request}
+use Rattle.canton_model.specs.declared.request.Request.{Request}
 use Rattle.ledger_model.specs.Terms.{Act, instance_of}
 use Rattle.ledger_model.specs.Forest.{Forest, NoRoots, acts, project, trees_of, root_trees}
 use Rattle.ledger_model.specs.Opening.{OpenedView, Shown, roots_in}

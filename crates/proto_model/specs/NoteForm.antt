@@ -4,7 +4,7 @@ use Rattle.sha2.specs.Sha256.{sha256}
 use Rattle.hash_id.specs.Strings.{root_seed_string, child_seed_string}
 use Rattle.ledger_terms.specs.declared.value.Value.TheVariants.{Party, Text}
 use Rattle.ledger_terms.specs.declared.instance.Instance.{Instance}
-use Rattle.canton_model.specs.declared.message.Request.{Request}
+use Rattle.canton_model.specs.declared.request.Request.{Request}
 use Rattle.lang_eval.specs.Builtin.{note_template}
 use Rattle.proto_model.specs.Plain.{spell_plain}
 use Rattle.interpret.specs.Ids.{contract_id}

@@ -2,12 +2,12 @@
 use Rattle.std.specs.Prelude.{ℕ, ◌≤◌, List, [], ◌∷◌}
 use Rattle.ledger_terms.specs.declared.host.Host.{Host}
 use Rattle.ledger_terms.specs.declared.params.Params.{Params}
-use Rattle.canton_model.specs.declared.message.Request.{Request}
-use Rattle.canton_model.specs.declared.message.Entry.{Entry}
+use Rattle.canton_model.specs.declared.request.Request.{Request}
+use Rattle.canton_model.specs.declared.entry.Entry.{Entry}
 use Rattle.canton_model.specs.declared.message.Message.TheVariants.{Request as RequestMessage, Response as ResponseMessage, Verdict as VerdictMessage}
-use Rattle.canton_model.specs.declared.message.Decision.TheVariants.{Approved}
-use Rattle.canton_model.specs.declared.check.LocalVerdict.TheVariants.{Approve}
-use Rattle.canton_model.specs.declared.check.ViewVerdict.{ViewVerdict}
+use Rattle.canton_model.specs.declared.decision.Decision.TheVariants.{Approved}
+use Rattle.canton_model.specs.declared.local_verdict.LocalVerdict.TheVariants.{Approve}
+use Rattle.canton_model.specs.declared.view_verdict.ViewVerdict.{ViewVerdict}
 use Rattle.proto_model.specs.Note.{note_name}
 
 -- the one view is approved

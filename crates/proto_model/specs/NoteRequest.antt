@@ -2,7 +2,7 @@
 use Rattle.std.specs.Prelude.{◌≡◌, ℕ, true, List, [], ◌∷◌, Some, None, Contains, nat_eq, if◌then◌else◌}
 use Rattle.ledger_terms.specs.Hosting.{hosts_at}
 use Rattle.ledger_terms.specs.declared.host.Host.{Host}
-use Rattle.canton_model.specs.declared.message.Request.{Request}
+use Rattle.canton_model.specs.declared.request.Request.{Request}
 use Rattle.proto_model.specs.BuiltIn.{built_in_language}
 use Rattle.proto_model.specs.PlainReading.{plain_to, root_of}
 use Rattle.proto_model.specs.declared.plain_form.PlainForm.{PlainForm}

@@ -7,8 +7,8 @@ use Rattle.ledger_terms.specs.declared.host.Host.{Host}
 use Rattle.ledger_terms.specs.declared.action.Action.TheVariants.{Create, Exercise, Fetch}
 use Rattle.ledger_model.specs.Terms.{Act, Action, Instance, id_of, instance_of}
 use Rattle.ledger_model.specs.Forest.{Forest, NoRoots, Root}
-use Rattle.canton_model.specs.declared.message.Envelope.{Envelope}
-use Rattle.canton_model.specs.declared.message.Request.{Request}
+use Rattle.canton_model.specs.declared.envelope.Envelope.{Envelope}
+use Rattle.canton_model.specs.declared.request.Request.{Request}
 use Rattle.ledger_model.specs.Language.{roles_of}
 use Rattle.ledger_model.specs.Opening.{Transaction, OpenedView, Shown}
 use Rattle.canton_model.specs.Reading.{Reading}

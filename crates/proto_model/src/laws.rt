@@ -1,7 +1,7 @@
 //! Laws of the plain form's reading, each the contract of a function with nothing to do.
 ghost use Rattle.std.specs.Prelude.{◌≡◌, ◌∷◌, [], List, ℕ};
 ghost use Rattle.ledger_terms.specs.declared.host.Host.{Host};
-ghost use Rattle.canton_model.specs.declared.message.Request.{Request};
+ghost use Rattle.canton_model.specs.declared.request.Request.{Request};
 ghost use Rattle.ledger_terms.specs.declared.params.Params.{Params};
 ghost use Rattle.canton_model.specs.Checks.{verdicts_owed};
 ghost use Rattle.canton_model.specs.Genuine.{Genuine, IsReading, IsSealed, NoCollision};

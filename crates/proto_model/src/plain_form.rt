@@ -6,7 +6,7 @@ ghost use Rattle.proto_model.specs.Plain.{IsPlain, spell_plain, parts_at, plain_
 
 use ledger_terms::{Action, Bytes, Hash, Instance, PartySet};
 use std::alloc::{AllocError, Global};
-use wire_form::{Reader, Stop, encode_hash, encode_instance, encode_parties, encode_u64};
+use wire_form::{Reader, ReaderFault, encode_hash, encode_instance, encode_parties, encode_u64};
 
 /// What an envelope of the plain form says: who requests a transaction and at what ledger time (in microseconds), the seeds
 /// of the transaction and of its one root, and that root, the Create of a contract.
@@ -49,7 +49,7 @@ pub fn encode_plain(form: &PlainForm, out: &mut Bytes) -> Result<(), AllocError>
 }
 
 #[tactic(auto, unfolding(crate::specs::Plain::parts_at))]
-fn read_parts(alloc: Global, reader: &mut Reader<'_>) -> Result<PlainParts, Stop>
+fn read_parts(alloc: Global, reader: &mut Reader<'_>) -> Result<PlainParts, ReaderFault>
     ensures { Gives (λ p. (((((p.requesters, p.ledger_time), p.seed), p.root_seed), p.root), reader.new)) result (parts_at reader.old) }
 {
     let requesters = reader.parties(alloc)?;
@@ -104,7 +104,7 @@ pub fn decode_plain(alloc: Global, bytes: &[u8]) -> Result<Option<PlainForm>, Al
             }
             Ok(form_of_parts(parts))
         }
-        Err(Stop::Left(_)) => Ok(None),
-        Err(Stop::Memory) => Err(AllocError),
+        Err(ReaderFault::Left(_)) => Ok(None),
+        Err(ReaderFault::Memory) => Err(AllocError),
     }
 }

@@ -2,16 +2,16 @@
 use Rattle.std.specs.Prelude.{ℕ, ◌+◌, ◌||◌, nat_eq, Bool, if◌then◌else◌, List, [], ◌∷◌, ◌++◌, codes, decimal, slice_get, Option, Some, None}
 use Rattle.std.specs.List.{flat_map, list_any}
 use Rattle.ledger_terms.specs.declared.host.Host.{Host}
-use Rattle.canton_model.specs.declared.message.Envelope.{Envelope}
-use Rattle.canton_model.specs.declared.message.Request.{Request}
-use Rattle.canton_model.specs.declared.check.LocalVerdict.{LocalVerdict}
-use Rattle.canton_model.specs.declared.check.LocalVerdict.TheVariants.{Approve, Reject}
-use Rattle.canton_model.specs.declared.check.ViewVerdict.{ViewVerdict}
-use Rattle.canton_model.specs.declared.message.Decision.{Decision}
-use Rattle.canton_model.specs.declared.message.Decision.TheVariants.{Approved, Rejected, TimedOut}
+use Rattle.canton_model.specs.declared.envelope.Envelope.{Envelope}
+use Rattle.canton_model.specs.declared.request.Request.{Request}
+use Rattle.canton_model.specs.declared.local_verdict.LocalVerdict.{LocalVerdict}
+use Rattle.canton_model.specs.declared.local_verdict.LocalVerdict.TheVariants.{Approve, Reject}
+use Rattle.canton_model.specs.declared.view_verdict.ViewVerdict.{ViewVerdict}
+use Rattle.canton_model.specs.declared.decision.Decision.{Decision}
+use Rattle.canton_model.specs.declared.decision.Decision.TheVariants.{Approved, Rejected, TimedOut}
 use Rattle.canton_model.specs.declared.message.Message.{Message}
 use Rattle.canton_model.specs.declared.message.Message.TheVariants.{Request as RequestMessage, Response as ResponseMessage, Verdict as VerdictMessage, Tick}
-use Rattle.canton_model.specs.declared.message.Entry.{Entry}
+use Rattle.canton_model.specs.declared.entry.Entry.{Entry}
 use Rattle.canton_model.specs.ReasonNames.{reason_name}
 use Rattle.report_text.specs.Values.{between}
 

@@ -2,7 +2,7 @@
 use Rattle.std.specs.Prelude.{ℕ, ◌+◌, if◌then◌else◌, is_some, List, [], ◌∷◌, ◌++◌, codes, decimal}
 use Rattle.ledger_terms.specs.declared.host.Host.{Host}
 use Rattle.ledger_terms.specs.declared.topology.Topology.{Topology}
-use Rattle.canton_model.specs.declared.message.Entry.{Entry}
+use Rattle.canton_model.specs.declared.entry.Entry.{Entry}
 use Rattle.canton_model.specs.Log.{request_of, decision_time_of}
 use Rattle.canton_model.specs.Timeline.{Outcome, Decided, Expired, Undecided, outcome_of, timeline_of}
 use Rattle.report_text.specs.Entries.{decision_text}

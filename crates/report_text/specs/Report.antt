@@ -3,9 +3,9 @@ use Rattle.std.specs.Prelude.{ℕ, List, ◌++◌, codes, decimal, length}
 use Rattle.std.specs.List.{flat_map, zip}
 use Rattle.ledger_terms.specs.declared.submission.Submission.{Submission}
 use Rattle.ledger_terms.specs.declared.topology.Topology.{Topology}
-use Rattle.canton_model.specs.declared.message.Entry.{Entry}
-use Rattle.report_text.specs.declared.node_view.NodeView.{NodeView}
-use Rattle.report_text.specs.declared.submit_result.SubmitResult.{SubmitResult}
+use Rattle.canton_model.specs.declared.entry.Entry.{Entry}
+use Rattle.node_core.specs.declared.node_view.NodeView.{NodeView}
+use Rattle.node_core.specs.declared.submit_result.SubmitResult.{SubmitResult}
 use Rattle.report_text.specs.Entries.{entry_lines}
 use Rattle.report_text.specs.Results.{result_lines}
 use Rattle.report_text.specs.Outcomes.{outcome_lines}

@@ -10,14 +10,14 @@ use Rattle.ledger_terms.specs.declared.template_name.TemplateName.{TemplateName}
 use Rattle.ledger_terms.specs.declared.topology.Topology.{Topology}
 use Rattle.ledger_terms.specs.declared.value.Value.{Value}
 use Rattle.ledger_terms.specs.declared.value.Value.TheVariants.{Int}
-use Rattle.canton_model.specs.declared.message.Entry.{Entry}
-use Rattle.canton_model.specs.declared.message.Outcome.{Outcome}
-use Rattle.canton_model.specs.declared.message.Outcome.TheVariants.{Approved, Rejected, TimedOut, Expired, Undecided}
+use Rattle.canton_model.specs.declared.entry.Entry.{Entry}
+use Rattle.canton_model.specs.declared.outcome.Outcome.{Outcome}
+use Rattle.canton_model.specs.declared.outcome.Outcome.TheVariants.{Approved, Rejected, TimedOut, Expired, Undecided}
 use Rattle.canton_model.specs.Log.{request_of, decision_time_of}
 use Rattle.canton_model.specs.Timeline.{kind_of, outcome_of, timeline_of}
-use Rattle.report_text.specs.declared.node_view.NodeView.{NodeView}
-use Rattle.report_text.specs.declared.submit_result.SubmitResult.{SubmitResult}
-use Rattle.report_text.specs.declared.submit_result.SubmitResult.TheVariants.{Sent, Refused}
+use Rattle.node_core.specs.declared.node_view.NodeView.{NodeView}
+use Rattle.node_core.specs.declared.submit_result.SubmitResult.{SubmitResult}
+use Rattle.node_core.specs.declared.submit_result.SubmitResult.TheVariants.{Sent, Refused}
 
 -- how the request at a place ended
 abbrev pub kind_at : Topology → List Entry → ℕ → Outcome

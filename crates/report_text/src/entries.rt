@@ -4,7 +4,10 @@ ghost use Rattle.std.specs.List.{flat_map};
 ghost use Rattle.report_text.specs.Entries.{host_text, hosts_text, is_addressed, is_recipient, recipients_text, path_text, view_text, decision_text, message_text, entry_line, entry_lines};
 
 use crate::values::put_number;
-use canton_model::{Decision, Entry, EntryList, Envelope, EnvelopeList, LocalVerdict, Message, Request, ViewVerdict, ViewVerdictList};
+use canton_model::{
+    Decision, Entry, EntryList, Envelope, EnvelopeList, LocalVerdict, Message, Request,
+    ViewVerdict, ViewVerdictList,
+};
 use ledger_terms::{HostList, ParticipantId, ParticipantIdList, Path};
 use std::alloc::AllocError;
 

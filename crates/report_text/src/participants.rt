@@ -4,10 +4,10 @@ ghost use Rattle.std.specs.List.{flat_map, zip};
 ghost use Rattle.report_text.specs.Participants.{commit_lines, active_line, participant_line, participant_lines};
 
 use crate::actions::put_trees;
-use crate::node_view::{NodeView, NodeViewList};
 use crate::values::{put_instance, put_number};
 use ledger_model::{Commit, CommitList};
 use ledger_terms::{ActiveRow, ActiveRowList, Host, HostList};
+use node_core::{NodeView, NodeViewList};
 use std::alloc::AllocError;
 
 fn put_commit(out: &mut String, commit: &Commit) -> Result<(), AllocError>

@@ -6,10 +6,9 @@ ghost use Rattle.report_text.specs.Results.{fault_text, answer_text, result_line
 use crate::entries::put_host;
 use crate::fault_names::{command_fault_name, split_fault_name};
 use crate::round_submissions::RoundSubmissionList;
-use crate::submit_fault::SubmitFault;
-use crate::submit_result::{SubmitResult, SubmitResultList};
 use crate::values::put_number;
 use ledger_terms::{HostList, Submission, SubmissionList};
+use node_core::{SubmitFault, SubmitResult, SubmitResultList};
 use std::alloc::AllocError;
 
 fn put_fault(out: &mut String, fault: &SubmitFault) -> Result<(), AllocError>

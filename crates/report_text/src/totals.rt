@@ -3,14 +3,13 @@ ghost use Rattle.std.specs.Prelude.{◌≡◌, ◌++◌, ℤ, pos, OnOk, IfOk, s
 ghost use Rattle.std.specs.List.{flat_map, zip};
 ghost use Rattle.report_text.specs.Totals.{kind_at, kinds_from, is_same, count_line, count_lines, is_refused, is_iou, third_number, amount_of, amounts_onto, active_total_line, summary_of};
 
-use crate::node_view::{NodeView, NodeViewList};
 use crate::outcomes::{has_passed, is_request, verdict_in};
-use crate::submit_result::{SubmitResult, SubmitResultList};
 use crate::values::put_number;
 use canton_model::{Decision, EntryList, Outcome};
 use ledger_terms::{
     ActiveRow, Host, HostList, Instance, ListOf, TemplateName, Text, Topology, Value,
 };
+use node_core::{NodeView, NodeViewList, SubmitResult, SubmitResultList};
 use std::alloc::{AllocError, Global};
 
 /// How the request at the place ended.

@@ -3,15 +3,14 @@ ghost use Rattle.std.specs.Prelude.{◌≡◌, IfOk};
 ghost use Rattle.report_text.specs.Report.{report_of};
 
 use crate::entries::put_entries;
-use crate::node_view::NodeViewList;
 use crate::outcomes::put_outcomes;
 use crate::participants::put_participants;
 use crate::results::put_results;
 use crate::round_submissions::RoundSubmissionList;
-use crate::submit_result::SubmitResultList;
 use crate::values::put_number;
 use canton_model::EntryList;
 use ledger_terms::{Text, Topology};
+use node_core::{NodeViewList, SubmitResultList};
 use std::alloc::{AllocError, Global};
 
 /// The text of a run: its log, then the results of the submissions, which stand in script order, the outcomes of the

@@ -1,5 +1,5 @@
 -- A core's children, one at a time.
-use Rattle.std.proofs.Common.{◌≡◌, ℕ, zero, suc, ◌+◌, ◌<◌, ◌≤◌, List, [], ◌∷◌, length, get_or, drop, refl, sym, ◌∙◌, ap, arith}
+use Rattle.std.proofs.Common.{◌≡◌, ℕ, zero, suc, ◌+◌, ◌<◌, ◌≤◌, List, [], ◌∷◌, length, get_or, drop, refl, sym, ◌∙◌, ap, subst, arith}
 use Rattle.std.proofs.lemmas.List.{drop_more}
 use Rattle.std.proofs.Math.ListN.{drop_of_length-le}
 use Rattle.ledger_terms.specs.Forest.{NoRoots, Root, join}
@@ -85,6 +85,16 @@ step_empty cs i c out trees rest all left h at is same none keeps =
       (λ k. join out (fill more (none k))) ∙ ((λ k. join out (fill (holed.Hole more) (sym empty k))) ∙ ((λ k. join out (fill (sym next k) trees)) ∙ keeps.0)),
       ap (after_holes more) none ∙ (after_none more ∙ (ap (after_holes (holed.Hole more)) (sym empty) ∙ (ap (λ (x : Holed Act). after_holes x trees) (sym next) ∙ keeps.1))),
     )
+
+-- what a hole takes, if anything is left
+pub step_next : (cs : List CoreChild) (i : ℕ) (c : CoreChild) (out new trees rest all left : Actions)
+    → i < length cs → c ≡ get_or cs i c → c ≡ Hole
+    → new ≡ join out (fill (holed.Hole NoMore) trees) → rest ≡ after_holes (holed.Hole NoMore) trees
+    → Keeps cs i out trees all left → Keeps cs (i + 1) new rest all left
+step_next cs i c out new NoRoots rest all left h at is grown taken keeps =
+    subst (λ (o : Actions). Keeps cs (i + 1) o rest all left) (sym (grown ∙ join-end out)) (step_empty cs i c out NoRoots rest all left h at is (sym taken) taken keeps)
+step_next cs i c out new (Root label below more) rest all left h at is grown taken keeps =
+    step_hole cs i c label below out new (Root label below more) rest all left h at is (ap (Root label below) (sym taken)) grown keeps
 
 pub filled_end : (cs : List CoreChild) (i : ℕ) (out trees all left : Actions) → length cs ≤ i → Keeps cs i out trees all left → out ≡ all
 filled_end cs i out trees all left past keeps =

@@ -15,3 +15,6 @@ pub mod Roots
 pub mod Tops
 pub mod Signed
 pub mod Holes
+pub mod Subtrees
+mod Children
+mod InPlace

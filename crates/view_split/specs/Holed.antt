@@ -1,5 +1,5 @@
 -- What stands below an action of a view's core: actions, and holes for the views below.
-use Rattle.std.specs.Prelude.{◌≡◌, ℕ, suc, ◌+◌, List, [], ◌∷◌, ◌++◌, Option, Some, None, refl}
+use Rattle.std.specs.Prelude.{◌≡◌, ℕ, suc, ◌+◌, drop, List, [], ◌∷◌, ◌++◌, Option, Some, None, refl}
 use Rattle.std.proofs.Common.{◌∙◌, ap}
 use Rattle.std.specs.Coded.{Coded, code_by, coded_list, coded_option}
 use Rattle.ledger_terms.specs.Forest.{Forest, NoRoots, Root}
@@ -49,6 +49,13 @@ module _ {A : Type 0} where
   fill (Hole others) NoRoots = fill others NoRoots
   fill (Hole others) (Root root below more) = Root root below (fill others more)
 
+  -- What stands side by side, where each hole in pre-order takes the next of these.
+  abbrev pub children_with : Holed A → List A → List A
+  children_with NoMore firsts = []
+  children_with (Inner root below others) firsts = root ∷ children_with others (drop (holes below) firsts)
+  children_with (Hole others) [] = children_with others []
+  children_with (Hole others) (first ∷ firsts) = first ∷ children_with others firsts
+
   -- It as a list of marks (nothing, a hole, an action), what stands below and after before the mark, and back.
   abbrev pub marks : Holed A → List (Option (Option A)) → List (Option (Option A))
   marks NoMore after = None ∷ after
@@ -76,4 +83,5 @@ module _ {A : Type 0} where
 
   abbrev pub coded_holed : Coded A → Coded (Holed A)
   coded_holed c =
-      code_by (List (Option (Option A))) (coded_list (coded_option (coded_option c))) (λ h. marks h []) (λ l. first_or_none (unmarked l [])) (λ h. ap first_or_none (unmarked-marks h [] []))
+      code_by (List (Option (Option A))) (coded_list (coded_option (coded_option c))) (λ h. marks h [])
+      (λ l. first_or_none (unmarked l [])) (λ h. ap first_or_none (unmarked-marks h [] []))

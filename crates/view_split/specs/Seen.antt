@@ -27,6 +27,10 @@ put_back placed = assembled (map_forest (λ (view : Path × SplitView). view.1) 
 abbrev pub placed_numbered : Forest (Path × SplitView) → Forest ((Path × SplitView) × List (ℕ × Act))
 placed_numbered placed = with_cores (λ (view : Path × SplitView). (view.1).below) placed (number_from 0 (put_back placed))
 
+-- the views alone
+abbrev pub without_numbers : Forest ((Path × SplitView) × List (ℕ × Act)) → Forest (Path × SplitView)
+without_numbers placed = map_forest (λ (view : (Path × SplitView) × List (ℕ × Act)). view.0) placed
+
 abbrev pub opened_as : (Path × SplitView) × List (ℕ × Act) → OpenedView
 opened_as view = record { path = (view.0).0; confirmers = ((view.0).1).confirmers; core = view.1 }
 

@@ -2,7 +2,7 @@
 ghost use Rattle.std.specs.Prelude.{◌≡◌, IfOk, OnOk};
 ghost use Rattle.ledger_terms.specs.Forest.{join};
 ghost use Rattle.ledger_terms.specs.Grown.{tree_of};
-ghost use Rattle.view_split.specs.Holed.{fill, after_holes};
+ghost use Rattle.view_split.specs.Holed.{Hole, NoMore, fill, after_holes};
 ghost use Rattle.view_split.specs.ViewLists.{view_tree};
 ghost use Rattle.view_split.specs.Split.{assembled};
 
@@ -12,7 +12,7 @@ use crate::view::{View, ViewList};
 use ledger_terms::{ActionNode, ActionNodeList, copy_action};
 use std::alloc::{AllocError, Global};
 
-/// Puts a core's children at the end, with a tree in the place of each hole.
+// Puts a core's children at the end, with a tree in the place of each hole.
 fn fill_into(
     alloc: Global,
     core: &CoreChildList,
@@ -33,12 +33,19 @@ fn fill_into(
                     children,
                 })?;
             }
-            CoreChild::Hole => {
-                if let Some(tree) = trees.pop() {
-                    out.push(tree)?;
-                }
-            }
+            CoreChild::Hole => put_next(trees, out)?,
         }
+    }
+    Ok(())
+}
+
+// Puts the next tree at the end, where one is left.
+fn put_next(trees: &mut Trees, out: &mut ActionNodeList) -> Result<(), AllocError>
+    ensures filled { OnOk result (out.new ≡ join out.old (fill (Hole NoMore) trees.old)) }
+    ensures left { OnOk result (trees.new ≡ after_holes (Hole NoMore) trees.old) }
+{
+    if let Some(tree) = trees.pop() {
+        out.push(tree)?;
     }
     Ok(())
 }

@@ -1,17 +1,17 @@
 //! The views of a transaction: how it is split into them, and how they are put back.
 #![tactic(auto)]
 
-pub mod assembling;
+mod assembling;
 mod begun;
-pub mod core_node;
+mod core_node;
 pub mod laws;
-pub mod opened_tree;
-pub mod placed_view;
-pub mod split_fault;
-pub mod splitting;
+mod opened_tree;
+mod placed_view;
+mod split_fault;
+mod splitting;
 mod trees;
-pub mod view;
-pub mod views;
+mod view;
+mod views;
 
 pub use assembling::assemble;
 pub use core_node::{CoreChild, CoreChildList, CoreNode};

@@ -43,7 +43,8 @@ fn roles_at(
     action: &Action,
     path: &Path,
 ) -> Result<Roles, SplitFault>
-    ensures { MatchResult result (λ r. (has_roles checked.now action.now ≡ true) × (r ≡ roles_in checked.now action.now)) (λ e. IsFault (roleless_at checked.now path.now action.now) e) }
+    ensures { MatchResult result (λ r. (has_roles checked.now action.now ≡ true) × (r ≡ roles_in checked.now action.now))
+        (λ e. IsFault (roleless_at checked.now path.now action.now) e) }
 {
     match roles(alloc, checked, action) {
         Ok(roles) => Ok(roles),
@@ -104,7 +105,8 @@ fn start_view(
 ) -> Result<View, SplitFault>
     requires { roles ≡ roles_in checked.now node.now.action }
     ensures view { IfOk result (λ v. view_tree v ≡ split (roles_in checked.now) (tree_of node.now)) }
-    ensures fault { MatchResult result (λ _. fault_from checked.now path.now 0 node.now.children ≡ None) (λ e. IsFault (fault_from checked.now path.now 0 node.now.children) e) }
+    ensures fault { MatchResult result (λ _. fault_from checked.now path.now 0 node.now.children ≡ None)
+        (λ e. IsFault (fault_from checked.now path.now 0 node.now.children) e) }
 {
     let mut begun = Begun {
         informees: roles.informees,
@@ -166,7 +168,8 @@ fn split_children(
     children: &mut CoreChildList,
 ) -> Result<(), SplitFault>
     ensures walked { OnOk result (IsWalked (roles_in checked.now) nodes.now view.old view.new children.old children.new) }
-    ensures fault { MatchResult result (λ _. fault_from checked.now above.now 0 nodes.now ≡ None) (λ e. IsFault (fault_from checked.now above.now 0 nodes.now) e) }
+    ensures fault { MatchResult result (λ _. fault_from checked.now above.now 0 nodes.now ≡ None)
+        (λ e. IsFault (fault_from checked.now above.now 0 nodes.now) e) }
 {
     let nodes = nodes.as_slice();
     for at in 0..nodes.len() {

@@ -1,8 +1,8 @@
 -- Reading the items of a list one after another, as a loop does: items_at admits item n so_far bytes is what a loop that
 -- has n items to go must give.
 use Rattle.std.proofs.Common.{◌≡◌, ℕ, suc, ◌-◌, ◌+◌, ◌≤◌, ◌<◌, Bool, List, Result, Ok, Err, refl, sym, ◌∙◌, arith}
-use Rattle.wire_form.specs.declared.stop.Stop.{Stop}
-use Rattle.wire_form.specs.declared.stop.Stop.TheVariants as stops
+use Rattle.wire_form.specs.declared.reader_fault.ReaderFault.{ReaderFault}
+use Rattle.wire_form.specs.declared.reader_fault.ReaderFault.TheVariants as faults
 use Rattle.wire_form.specs.Formats.{Fails, Reading, one_more, items_at}
 
 module _ {A : Type 0} (admits : List A → A → Bool) (item : Reading A) where
@@ -16,11 +16,11 @@ module _ {A : Type 0} (admits : List A → A → Bool) (item : Reading A) where
       sym one ∙ before
 
   -- an item could not be read
-  pub ends : (e : Stop) (count i : ℕ) (so_far : List A) (bytes : List ℕ) (total : Result (List A × List ℕ) ℕ) → i < count → Fails e (one_more admits item so_far bytes)
+  pub ends : (e : ReaderFault) (count i : ℕ) (so_far : List A) (bytes : List ℕ) (total : Result (List A × List ℕ) ℕ) → i < count → Fails e (one_more admits item so_far bytes)
       → items_at admits item (count - i) so_far bytes ≡ total → Fails e total
   unfolding items_at
-  ends stops.Memory count i so_far bytes total lt h before = tt
-  ends (stops.Left n) count i so_far bytes total lt h before =
+  ends faults.Memory count i so_far bytes total lt h before = tt
+  ends (faults.Left n) count i so_far bytes total lt h before =
       let k : count - i ≡ suc (count - (i + 1)) = omega arith in
       let one : items_at admits item (count - i) so_far bytes ≡ Err n = rw (k, h) refl in
       sym before ∙ one

@@ -7,3 +7,4 @@ pub mod PartyLaws
 pub mod ValueLaws
 pub mod PlacedLaws
 pub mod RangeLaws
+pub mod Bounded

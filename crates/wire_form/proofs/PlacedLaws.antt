@@ -6,8 +6,8 @@ use Rattle.std.proofs.lemmas.List.Elements.{All-get_or}
 use Rattle.std.proofs.lemmas.Bool.{cases_lt}
 use Rattle.std.proofs.Common.{inl, inr}
 use Rattle.wire_form.specs.declared.decoded.Decoded.{Decoded}
-use Rattle.wire_form.specs.declared.stop.Stop.{Stop}
-use Rattle.wire_form.specs.declared.stop.Stop.TheVariants as stops
+use Rattle.wire_form.specs.declared.reader_fault.ReaderFault.{ReaderFault}
+use Rattle.wire_form.specs.declared.reader_fault.ReaderFault.TheVariants as faults
 use Rattle.wire_form.specs.declared.wire_fault.WireFault.{WireFault}
 use Rattle.wire_form.specs.declared.wire_fault.WireFault.TheVariants.{Memory}
 use Rattle.wire_form.specs.Formats.{Reading, Gives}
@@ -16,11 +16,11 @@ use Rattle.wire_form.specs.Laws.{NoneBeginsAnother, HasOneSpelling}
 use Rattle.wire_form.proofs.FormatLaws.{IsBytes, IsBytes-drop, Reads, ok_is}
 
 -- what a reader gave, with places
-pub given_is_read : {A : Type 0} (read : Reading A) (bytes : List ℕ) (at : ℕ) (r : Result A Stop) (rest : List ℕ) → Gives (λ x. (x, rest)) r (read (drop at bytes))
+pub given_is_read : {A : Type 0} (read : Reading A) (bytes : List ℕ) (at : ℕ) (r : Result A ReaderFault) (rest : List ℕ) → Gives (λ x. (x, rest)) r (read (drop at bytes))
     → IsRead read bytes at (answer_of (length bytes) (length rest) r)
 given_is_read read bytes at (Ok x) rest h other = ap (placed (length bytes)) (sym h)
-given_is_read read bytes at (Err (stops.Left n)) rest h other = ap (placed (length bytes)) (sym h)
-given_is_read read bytes at (Err stops.Memory) rest h other = absurd (other refl)
+given_is_read read bytes at (Err (faults.Left n)) rest h other = ap (placed (length bytes)) (sym h)
+given_is_read read bytes at (Err faults.Memory) rest h other = absurd (other refl)
 
 module _ {A : Type 0} (s : A → List ℕ) (F : A → Type 0) (read : Reading A) (r : Reads s F read) where
   abbrev Answer : Type 0
@@ -73,7 +73,7 @@ module _ {A : Type 0} (s : A → List ℕ) (F : A → Type 0) (read : Reading A)
     pub only : FindsAll s F bytes at a
 
   -- a decoder that reads from its place on
-  pub decodes : (bytes : List ℕ) (at : ℕ) (from : List ℕ) (got : Result A Stop) (rest : List ℕ) (left : ℕ) (a : Answer) → IsBytes bytes → at ≤ length bytes
+  pub decodes : (bytes : List ℕ) (at : ℕ) (from : List ℕ) (got : Result A ReaderFault) (rest : List ℕ) (left : ℕ) (a : Answer) → IsBytes bytes → at ≤ length bytes
       → from ≡ take (length bytes - at) (drop at bytes) → Gives (λ x. (x, rest)) got (read from) → left ≡ length rest → a ≡ answer_of (length bytes) left got → Decodes bytes at a
   decodes bytes at from got rest left a fits within begins h at_left is =
       let whole : a ≡ answer_of (length bytes) (length rest) got = is ∙ ap (λ (k : ℕ). answer_of (length bytes) k got) at_left in

@@ -15,3 +15,7 @@ pub record HasOneSpelling {A : Type 0} (spell : A → List ℕ) (InRange : A →
 -- What the first says of a value, the second follows from.
 abbrev pub IsEnoughFor : {A : Type 0} → (A → Type 0) → (A → Type 0) → Type 0
 IsEnoughFor {A} First Second = (x : A) → First x → Second x
+
+-- Whatever a reading gives is so.
+abbrev pub IsGivenBy : {A : Type 0} → Reading A → (A → Type 0) → Type 0
+IsGivenBy {A} read Is = (bytes : List ℕ) (x : A) (rest : List ℕ) → read bytes ≡ Ok (x, rest) → Is x

@@ -7,3 +7,4 @@ pub mod InRange
 pub mod Placed
 pub mod Lengths
 pub mod Laws
+pub mod Encoded

@@ -2,8 +2,8 @@
 use Rattle.std.specs.Prelude.{◌≡◌, ℕ, ◌+◌, ◌-◌, ◌≤◌, List, ◌++◌, length, drop, Result, Ok, Err, IfOk}
 use Rattle.ledger_terms.specs.Answers.{UnlessMemory}
 use Rattle.wire_form.specs.declared.decoded.Decoded.{Decoded}
-use Rattle.wire_form.specs.declared.stop.Stop.{Stop}
-use Rattle.wire_form.specs.declared.stop.Stop.TheVariants as stops
+use Rattle.wire_form.specs.declared.reader_fault.ReaderFault.{ReaderFault}
+use Rattle.wire_form.specs.declared.reader_fault.ReaderFault.TheVariants as faults
 use Rattle.wire_form.specs.declared.wire_fault.WireFault.{WireFault}
 use Rattle.wire_form.specs.declared.wire_fault.WireFault.TheVariants.{Bad, Memory}
 use Rattle.wire_form.specs.Formats.{Reading}
@@ -14,10 +14,10 @@ placed len (Ok x) = Ok (record { value = x.0; next = len - length x.1 })
 placed len (Err left) = Err (Bad (len - left))
 
 -- what a reader gave, with so many bytes left after it
-abbrev pub answer_of : {A : Type 0} → ℕ → ℕ → Result A Stop → Result (Decoded A) WireFault
+abbrev pub answer_of : {A : Type 0} → ℕ → ℕ → Result A ReaderFault → Result (Decoded A) WireFault
 answer_of len left (Ok x) = Ok (record { value = x; next = len - left })
-answer_of len left (Err (stops.Left n)) = Err (Bad (len - n))
-answer_of len left (Err stops.Memory) = Err Memory
+answer_of len left (Err (faults.Left n)) = Err (Bad (len - n))
+answer_of len left (Err faults.Memory) = Err Memory
 
 -- The answer is what reading gives at the place, with the first field that can't be read, unless memory runs out.
 abbrev pub IsRead : {A : Type 0} → Reading A → List ℕ → ℕ → Result (Decoded A) WireFault → Type 0

@@ -3,24 +3,26 @@ ghost use Rattle.std.specs.Prelude.{◌≡◌, [], length};
 ghost use Rattle.ledger_terms.specs.Parties.{stands_above};
 ghost use Rattle.wire_form.specs.Formats.{Gives, items_at, one_more, any_item};
 ghost use Rattle.wire_form.specs.Fields.{name_at};
-ghost use Rattle.wire_form.specs.Reading.{set_at, tagged_value_at, value_at, values_at, instance_at, create_at, exercise_at, fetch_at, tagged_action_at, action_at};
+ghost use Rattle.wire_form.specs.Reading.{set_at, tagged_value_at, value_at, values_at, instance_at};
+ghost use Rattle.wire_form.specs.Reading.{create_at, exercise_at, fetch_at, tagged_action_at, action_at};
 
+use crate::limits::{PARTIES_MAX, VALUES_MAX};
 use crate::reader::Reader;
-use crate::stop::Stop;
+use crate::reader_fault::ReaderFault;
 use ledger_terms::{Action, Instance, PartySet, TemplateName, Value, ValueList};
 use std::alloc::Global;
 
 impl<'a> Reader<'a> {
     /// A set of parties.
     #[tactic(auto, unfolding(crate::specs::Reading::set_at))]
-    pub fn parties(&mut self, alloc: Global) -> Result<PartySet, Stop>
+    pub fn parties(&mut self, alloc: Global) -> Result<PartySet, ReaderFault>
         ensures { Gives (λ x. (x, self.new)) result (set_at self.old) }
     {
-        let count = self.count(128)?;
+        let count = self.count(PARTIES_MAX)?;
         self.names(alloc, count)
     }
 
-    fn names(&mut self, alloc: Global, count: u16) -> Result<PartySet, Stop>
+    fn names(&mut self, alloc: Global, count: u16) -> Result<PartySet, ReaderFault>
         ensures { Gives (λ x. (x, self.new)) result (items_at stands_above name_at count [] self.old) }
     {
         let mut names = PartySet::new(alloc);
@@ -31,7 +33,7 @@ impl<'a> Reader<'a> {
     }
 
     // Puts the next name at the end of those before it, where it stands above them.
-    fn next_name(&mut self, names: &mut PartySet) -> Result<(), Stop>
+    fn next_name(&mut self, names: &mut PartySet) -> Result<(), ReaderFault>
         ensures { Gives (λ x. (names.new, self.new)) result (one_more stands_above name_at names.old self.old) }
     {
         let here = self.len();
@@ -39,13 +41,13 @@ impl<'a> Reader<'a> {
         if names.push_above(name)? {
             Ok(())
         } else {
-            Err(Stop::Left(here))
+            Err(ReaderFault::Left(here))
         }
     }
 
     /// A value.
     #[tactic(auto, unfolding(crate::specs::Reading::value_at))]
-    pub fn value(&mut self, alloc: Global) -> Result<Value, Stop>
+    pub fn value(&mut self, alloc: Global) -> Result<Value, ReaderFault>
         ensures { Gives (λ x. (x, self.new)) result (value_at self.old) }
     {
         let here = self.len();
@@ -54,7 +56,7 @@ impl<'a> Reader<'a> {
     }
 
     #[tactic(auto, unfolding(crate::specs::Reading::tagged_value_at))]
-    fn tagged_value(&mut self, alloc: Global, tag: u8, here: usize) -> Result<Value, Stop>
+    fn tagged_value(&mut self, alloc: Global, tag: u8, here: usize) -> Result<Value, ReaderFault>
         ensures { Gives (λ x. (x, self.new)) result (tagged_value_at tag self.old here) }
     {
         match tag {
@@ -65,20 +67,20 @@ impl<'a> Reader<'a> {
             4 => Ok(Value::Party(self.name()?)),
             5 => Ok(Value::Contract(self.hash()?)),
             6 => Ok(Value::Parties(self.parties(alloc)?)),
-            _ => Err(Stop::Left(here)),
+            _ => Err(ReaderFault::Left(here)),
         }
     }
 
     /// A list of values.
     #[tactic(auto, unfolding(crate::specs::Reading::values_at))]
-    pub fn values(&mut self, alloc: Global) -> Result<ValueList, Stop>
+    pub fn values(&mut self, alloc: Global) -> Result<ValueList, ReaderFault>
         ensures { Gives (λ x. (x, self.new)) result (values_at self.old) }
     {
-        let count = self.small_count(12)?;
+        let count = self.small_count(VALUES_MAX)?;
         self.more_values(alloc, count)
     }
 
-    fn more_values(&mut self, alloc: Global, count: u8) -> Result<ValueList, Stop>
+    fn more_values(&mut self, alloc: Global, count: u8) -> Result<ValueList, ReaderFault>
         ensures { Gives (λ x. (x, self.new)) result (items_at any_item value_at count [] self.old) }
     {
         let mut values = ValueList::new(alloc);
@@ -88,7 +90,7 @@ impl<'a> Reader<'a> {
         Ok(values)
     }
 
-    fn next_value(&mut self, alloc: Global, values: &mut ValueList) -> Result<(), Stop>
+    fn next_value(&mut self, alloc: Global, values: &mut ValueList) -> Result<(), ReaderFault>
         ensures { Gives (λ x. (values.new, self.new)) result (one_more any_item value_at values.old self.old) }
     {
         let value = self.value(alloc)?;
@@ -98,7 +100,7 @@ impl<'a> Reader<'a> {
 
     /// An instance.
     #[tactic(auto, unfolding(crate::specs::Reading::instance_at))]
-    pub fn instance(&mut self, alloc: Global) -> Result<Instance, Stop>
+    pub fn instance(&mut self, alloc: Global) -> Result<Instance, ReaderFault>
         ensures { Gives (λ x. (x, self.new)) result (instance_at self.old) }
     {
         let package = self.name()?;
@@ -110,7 +112,7 @@ impl<'a> Reader<'a> {
 
     /// An action.
     #[tactic(auto, unfolding(crate::specs::Reading::action_at))]
-    pub fn action(&mut self, alloc: Global) -> Result<Action, Stop>
+    pub fn action(&mut self, alloc: Global) -> Result<Action, ReaderFault>
         ensures { Gives (λ x. (x, self.new)) result (action_at self.old) }
     {
         let here = self.len();
@@ -119,19 +121,19 @@ impl<'a> Reader<'a> {
     }
 
     #[tactic(auto, unfolding(crate::specs::Reading::tagged_action_at))]
-    fn tagged_action(&mut self, alloc: Global, tag: u8, here: usize) -> Result<Action, Stop>
+    fn tagged_action(&mut self, alloc: Global, tag: u8, here: usize) -> Result<Action, ReaderFault>
         ensures { Gives (λ x. (x, self.new)) result (tagged_action_at tag self.old here) }
     {
         match tag {
             1 => self.create(alloc),
             2 => self.exercise(alloc),
             3 => self.fetch(alloc),
-            _ => Err(Stop::Left(here)),
+            _ => Err(ReaderFault::Left(here)),
         }
     }
 
     #[tactic(auto, unfolding(crate::specs::Reading::create_at))]
-    fn create(&mut self, alloc: Global) -> Result<Action, Stop>
+    fn create(&mut self, alloc: Global) -> Result<Action, ReaderFault>
         ensures { Gives (λ x. (x, self.new)) result (create_at self.old) }
     {
         let id = self.hash()?;
@@ -140,7 +142,7 @@ impl<'a> Reader<'a> {
     }
 
     #[tactic(auto, unfolding(crate::specs::Reading::exercise_at, crate::specs::Reading::input_at))]
-    fn exercise(&mut self, alloc: Global) -> Result<Action, Stop>
+    fn exercise(&mut self, alloc: Global) -> Result<Action, ReaderFault>
         ensures { Gives (λ x. (x, self.new)) result (exercise_at self.old) }
     {
         let id = self.hash()?;
@@ -164,7 +166,7 @@ impl<'a> Reader<'a> {
     }
 
     #[tactic(auto, unfolding(crate::specs::Reading::fetch_at, crate::specs::Reading::input_at))]
-    fn fetch(&mut self, alloc: Global) -> Result<Action, Stop>
+    fn fetch(&mut self, alloc: Global) -> Result<Action, ReaderFault>
         ensures { Gives (λ x. (x, self.new)) result (fetch_at self.old) }
     {
         let id = self.hash()?;

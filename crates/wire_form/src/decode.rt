@@ -1,18 +1,16 @@
 //! Reading spellings at a place in bytes. A fault names the first byte of the first field that can't be read: a tag, a
 //! number, a hash, a name with its byte of length, or the bytes that a length announces; a name that doesn't ascend in its
 //! set is such a field.
-ghost use Rattle.std.specs.Prelude.{◌≡◌, ◌<◌, ◌≤◌, ◌^◌, length};
-ghost use Rattle.std.specs.Int.{w32, w64, to_be_bytes};
-ghost use Rattle.wire_form.specs.Fields.{hash_at, name_at, number_at};
-ghost use Rattle.wire_form.specs.Reading.{action_at, instance_at, set_at, value_at, values_at};
-ghost use Rattle.wire_form.specs.Spelling.{spell_action, spell_instance, spell_name, spell_parties, spell_value, spell_values};
-ghost use Rattle.wire_form.specs.InRange.{AreInRange, IsAction, IsHash, IsInRange, IsInstance, IsName, IsPartySet};
+ghost use Rattle.std.specs.Prelude.{◌≤◌, length};
+ghost use Rattle.wire_form.specs.Reading.{action_at, instance_at, set_at, value_at};
+ghost use Rattle.wire_form.specs.Spelling.{spell_action, spell_instance, spell_parties, spell_value};
+ghost use Rattle.wire_form.specs.InRange.{IsAction, IsInRange, IsInstance, IsPartySet};
 ghost use Rattle.wire_form.specs.Placed.{FindsAll, IsFound, IsRead};
 
 use crate::decoded::{Decoded, placed};
 use crate::reader::Reader;
 use crate::wire_fault::WireFault;
-use ledger_terms::{Action, Hash, Instance, Name, PartySet, Value, ValueList};
+use ledger_terms::{Action, Instance, PartySet, Value};
 use std::alloc::Global;
 
 /// A value that stands at a place in the bytes.
@@ -24,22 +22,6 @@ pub fn decode_value(alloc: Global, bytes: &[u8], at: usize) -> Result<Decoded<Va
 {
     let mut reader = Reader::new(&bytes[at..]);
     let read = reader.value(alloc);
-    placed(bytes.len(), reader.len(), read)
-}
-
-/// A list of at most 12 values that stands at a place in the bytes.
-pub fn decode_values(
-    alloc: Global,
-    bytes: &[u8],
-    at: usize,
-) -> Result<Decoded<ValueList>, WireFault>
-    requires { at ≤ length bytes.now }
-    ensures exact { IsRead values_at bytes.now at result }
-    ensures found { IsFound spell_values AreInRange bytes.now at result }
-    ensures only { FindsAll spell_values AreInRange bytes.now at result }
-{
-    let mut reader = Reader::new(&bytes[at..]);
-    let read = reader.values(alloc);
     placed(bytes.len(), reader.len(), read)
 }
 
@@ -84,53 +66,5 @@ pub fn decode_action(alloc: Global, bytes: &[u8], at: usize) -> Result<Decoded<A
 {
     let mut reader = Reader::new(&bytes[at..]);
     let read = reader.action(alloc);
-    placed(bytes.len(), reader.len(), read)
-}
-
-/// A name that stands at a place in the bytes.
-pub fn decode_name(bytes: &[u8], at: usize) -> Result<Decoded<Name>, WireFault>
-    requires { at ≤ length bytes.now }
-    ensures exact { IsRead name_at bytes.now at result }
-    ensures found { IsFound spell_name IsName bytes.now at result }
-    ensures only { FindsAll spell_name IsName bytes.now at result }
-{
-    let mut reader = Reader::new(&bytes[at..]);
-    let read = reader.name();
-    placed(bytes.len(), reader.len(), read)
-}
-
-/// The 32 bytes of a hash that stands at a place in the bytes.
-pub fn decode_hash(bytes: &[u8], at: usize) -> Result<Decoded<Hash>, WireFault>
-    requires { at ≤ length bytes.now }
-    ensures exact { IsRead hash_at bytes.now at result }
-    ensures found { IsFound (λ h. h) IsHash bytes.now at result }
-    ensures only { FindsAll (λ h. h) IsHash bytes.now at result }
-{
-    let mut reader = Reader::new(&bytes[at..]);
-    let read = reader.hash();
-    placed(bytes.len(), reader.len(), read)
-}
-
-/// A number of eight bytes, high byte first that stands at a place in the bytes.
-pub fn decode_u64(bytes: &[u8], at: usize) -> Result<Decoded<u64>, WireFault>
-    requires { at ≤ length bytes.now }
-    ensures exact { IsRead (number_at w64) bytes.now at result }
-    ensures found { IsFound (to_be_bytes w64) (λ n. n < 2 ^ 64) bytes.now at result }
-    ensures only { FindsAll (to_be_bytes w64) (λ n. n < 2 ^ 64) bytes.now at result }
-{
-    let mut reader = Reader::new(&bytes[at..]);
-    let read = reader.u64();
-    placed(bytes.len(), reader.len(), read)
-}
-
-/// A number of four bytes, high byte first that stands at a place in the bytes.
-pub fn decode_u32(bytes: &[u8], at: usize) -> Result<Decoded<u32>, WireFault>
-    requires { at ≤ length bytes.now }
-    ensures exact { IsRead (number_at w32) bytes.now at result }
-    ensures found { IsFound (to_be_bytes w32) (λ n. n < 2 ^ 32) bytes.now at result }
-    ensures only { FindsAll (to_be_bytes w32) (λ n. n < 2 ^ 32) bytes.now at result }
-{
-    let mut reader = Reader::new(&bytes[at..]);
-    let read = reader.u32();
     placed(bytes.len(), reader.len(), read)
 }

@@ -2,7 +2,7 @@
 ghost use Rattle.std.specs.Prelude.{◌≡◌};
 ghost use Rattle.wire_form.specs.Placed.{answer_of};
 
-use crate::stop::Stop;
+use crate::reader_fault::ReaderFault;
 use crate::wire_fault::WireFault;
 
 /// What was read, and the place after it.
@@ -16,7 +16,7 @@ pub struct Decoded<T> {
 pub(crate) fn placed<T: Drop>(
     len: usize,
     left: usize,
-    read: Result<T, Stop>,
+    read: Result<T, ReaderFault>,
 ) -> Result<Decoded<T>, WireFault>
     ensures { result ≡ answer_of len left read }
 {
@@ -25,9 +25,9 @@ pub(crate) fn placed<T: Drop>(
             value,
             next: len.saturating_sub(left),
         }),
-        Err(Stop::Left(at)) => Err(WireFault::Bad {
+        Err(ReaderFault::Left(at)) => Err(WireFault::Bad {
             at: len.saturating_sub(at),
         }),
-        Err(Stop::Memory) => Err(WireFault::Memory),
+        Err(ReaderFault::Memory) => Err(WireFault::Memory),
     }
 }

@@ -1,5 +1,5 @@
 //! Laws of the formats, each the contract of a function with nothing to do.
-ghost use Rattle.wire_form.specs.Laws.{HasOneSpelling, IsEnoughFor, NoneBeginsAnother};
+ghost use Rattle.wire_form.specs.Laws.{HasOneSpelling, IsEnoughFor, IsGivenBy, NoneBeginsAnother};
 ghost use Rattle.wire_form.specs.Reading.{action_at, instance_at, set_at, value_at, values_at};
 ghost use Rattle.wire_form.specs.Spelling.{spell_action, spell_instance, spell_parties, spell_value, spell_values};
 ghost use Rattle.wire_form.specs.Spellable.{AreSpellable, IsSpellable, IsSpellableAction, IsSpellableInstance, IsSpellableSet};
@@ -30,4 +30,13 @@ pub fn in_range_is_spellable()
     ensures sets { IsEnoughFor IsPartySet IsSpellableSet }
     ensures instances { IsEnoughFor IsInstance IsSpellableInstance }
     ensures actions { IsEnoughFor IsAction IsSpellableAction }
+{}
+
+/// What is read of any bytes can be encoded.
+pub fn what_is_read_is_spellable()
+    ensures values { IsGivenBy value_at IsSpellable }
+    ensures lists { IsGivenBy values_at AreSpellable }
+    ensures sets { IsGivenBy set_at IsSpellableSet }
+    ensures instances { IsGivenBy instance_at IsSpellableInstance }
+    ensures actions { IsGivenBy action_at IsSpellableAction }
 {}

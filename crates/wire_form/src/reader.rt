@@ -4,7 +4,8 @@ ghost use Rattle.std.specs.Int.{w32, w64};
 ghost use Rattle.wire_form.specs.Formats.{Gives};
 ghost use Rattle.wire_form.specs.Fields.{byte_at, bytes_at, number_at, count_at, small_count_at, hash_at, name_at, truth_at, text_at, int_at};
 
-use crate::stop::Stop;
+use crate::limits::TEXT_MAX;
+use crate::reader_fault::ReaderFault;
 use ledger_terms::{Hash, Name, Text};
 use std::alloc::Global;
 use std::marker::Model;
@@ -40,11 +41,11 @@ impl<'a> Reader<'a> {
     }
 
     /// The next byte.
-    pub fn byte(&mut self) -> Result<u8, Stop>
+    pub fn byte(&mut self) -> Result<u8, ReaderFault>
         ensures { Gives (λ x. (x, self.new)) result (byte_at self.old) }
     {
         match self.rest {
-            [] => Err(Stop::Left(0)),
+            [] => Err(ReaderFault::Left(0)),
             [first, rest @ ..] => {
                 self.rest = rest;
                 Ok(*first)
@@ -53,12 +54,12 @@ impl<'a> Reader<'a> {
     }
 
     /// The next bytes, so many, as one field.
-    pub fn bytes(&mut self, count: usize) -> Result<&'a [u8], Stop>
+    pub fn bytes(&mut self, count: usize) -> Result<&'a [u8], ReaderFault>
         ensures field { Gives (λ x. (x.now, self.new)) result (bytes_at count self.old) }
         ensures len { IfOk result (λ front. length front.now ≡ count) }
     {
         if self.rest.len() < count {
-            return Err(Stop::Left(self.rest.len()));
+            return Err(ReaderFault::Left(self.rest.len()));
         }
         let (front, rest) = self.rest.split_at(count);
         self.rest = rest;
@@ -67,7 +68,7 @@ impl<'a> Reader<'a> {
 
     /// A number of four bytes, high first.
     #[tactic(auto, unfolding(crate::specs::Fields::number_at))]
-    pub fn u32(&mut self) -> Result<u32, Stop>
+    pub fn u32(&mut self) -> Result<u32, ReaderFault>
         ensures { Gives (λ x. (x, self.new)) result (number_at w32 self.old) }
     {
         let front = self.bytes(4)?;
@@ -76,7 +77,7 @@ impl<'a> Reader<'a> {
 
     /// A number of eight bytes, high first.
     #[tactic(auto, unfolding(crate::specs::Fields::number_at))]
-    pub fn u64(&mut self) -> Result<u64, Stop>
+    pub fn u64(&mut self) -> Result<u64, ReaderFault>
         ensures { Gives (λ x. (x, self.new)) result (number_at w64 self.old) }
     {
         let front = self.bytes(8)?;
@@ -87,7 +88,7 @@ impl<'a> Reader<'a> {
 
     /// A whole number of eight bytes in two's complement, high first.
     #[tactic(auto, unfolding(crate::specs::Fields::int_at))]
-    pub fn int(&mut self) -> Result<i64, Stop>
+    pub fn int(&mut self) -> Result<i64, ReaderFault>
         ensures { Gives (λ x. (x, self.new)) result (int_at self.old) }
     {
         let front = self.bytes(8)?;
@@ -98,7 +99,7 @@ impl<'a> Reader<'a> {
 
     /// A count of two bytes, at most `limit`.
     #[tactic(auto, unfolding(crate::specs::Fields::count_at))]
-    pub fn count(&mut self, limit: u16) -> Result<u16, Stop>
+    pub fn count(&mut self, limit: u16) -> Result<u16, ReaderFault>
         ensures { Gives (λ x. (x, self.new)) result (count_at limit self.old) }
     {
         let here = self.rest.len();
@@ -107,13 +108,13 @@ impl<'a> Reader<'a> {
         if count <= limit {
             Ok(count)
         } else {
-            Err(Stop::Left(here))
+            Err(ReaderFault::Left(here))
         }
     }
 
     /// A count of one byte, at most `limit`.
     #[tactic(auto, unfolding(crate::specs::Fields::small_count_at))]
-    pub fn small_count(&mut self, limit: u8) -> Result<u8, Stop>
+    pub fn small_count(&mut self, limit: u8) -> Result<u8, ReaderFault>
         ensures { Gives (λ x. (x, self.new)) result (small_count_at limit self.old) }
     {
         let here = self.rest.len();
@@ -121,13 +122,13 @@ impl<'a> Reader<'a> {
         if count <= limit {
             Ok(count)
         } else {
-            Err(Stop::Left(here))
+            Err(ReaderFault::Left(here))
         }
     }
 
     /// A hash.
     #[tactic(auto, unfolding(crate::specs::Fields::hash_at))]
-    pub fn hash(&mut self) -> Result<Hash, Stop>
+    pub fn hash(&mut self) -> Result<Hash, ReaderFault>
         ensures { Gives (λ x. (x, self.new)) result (hash_at self.old) }
     {
         let front = self.bytes(32)?;
@@ -138,46 +139,46 @@ impl<'a> Reader<'a> {
 
     /// A name with its byte of length, as one field.
     #[tactic(auto, unfolding(crate::specs::Fields::name_at))]
-    pub fn name(&mut self) -> Result<Name, Stop>
+    pub fn name(&mut self) -> Result<Name, ReaderFault>
         ensures { Gives (λ x. (x, self.new)) result (name_at self.old) }
     {
         let here = self.rest.len();
         let len = self.byte()? as usize;
         if self.rest.len() < len {
-            return Err(Stop::Left(here));
+            return Err(ReaderFault::Left(here));
         }
         let (text, rest) = self.rest.split_at(len);
         self.rest = rest;
         match Name::of_bytes(text) {
             Some(name) => Ok(name),
-            None => Err(Stop::Left(here)),
+            None => Err(ReaderFault::Left(here)),
         }
     }
 
     /// A truth value.
     #[tactic(auto, unfolding(crate::specs::Fields::truth_at))]
-    pub fn truth(&mut self) -> Result<bool, Stop>
+    pub fn truth(&mut self) -> Result<bool, ReaderFault>
         ensures { Gives (λ x. (x, self.new)) result (truth_at self.old) }
     {
         let here = self.rest.len();
         match self.byte()? {
             0 => Ok(false),
             1 => Ok(true),
-            _ => Err(Stop::Left(here)),
+            _ => Err(ReaderFault::Left(here)),
         }
     }
 
     /// A text of at most 256 bytes.
     #[tactic(auto, unfolding(crate::specs::Fields::text_at))]
-    pub fn text(&mut self, alloc: Global) -> Result<Text, Stop>
+    pub fn text(&mut self, alloc: Global) -> Result<Text, ReaderFault>
         ensures { Gives (λ x. (x, self.new)) result (text_at self.old) }
     {
-        let len = self.count(256)?;
+        let len = self.count(TEXT_MAX)?;
         let here = self.rest.len();
         let bytes = self.bytes(len as usize)?;
         match Text::of_bytes(alloc, bytes)? {
             Some(text) => Ok(text),
-            None => Err(Stop::Left(here)),
+            None => Err(ReaderFault::Left(here)),
         }
     }
 }

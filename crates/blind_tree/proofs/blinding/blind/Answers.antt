@@ -2,7 +2,7 @@ use Rattle.std.proofs.Common.{ap, ◌∙◌}
 use Rattle.std.proofs.lemmas.Result.{IfOk-weaker}
 use Rattle.sha2.specs.Sha256.{sha256}
 use Rattle.blind_tree.specs.Kept.{cut_tree}
-use Rattle.blind_tree.specs.declared.kept.KeptTree.{KeptTree}
+use Rattle.blind_tree.specs.declared.kept_tree.KeptTree.{KeptTree}
 use Rattle.blind_tree.proofs.KeptLaws.{cut_is_for}
 use Rattle.blind_tree.proofs.blinding.blind.Goals as goal
 

@@ -2,7 +2,7 @@ use Rattle.std.proofs.Common.{ap, ◌∙◌}
 use Rattle.sha2.specs.Sha256.{sha256}
 use Rattle.blind_tree.specs.Blind.{blind_for}
 use Rattle.blind_tree.specs.Kept.{cut_tree}
-use Rattle.blind_tree.specs.declared.kept.KeptTree.{KeptTree}
+use Rattle.blind_tree.specs.declared.kept_tree.KeptTree.{KeptTree}
 use Rattle.blind_tree.proofs.KeptLaws.{cut_is_for, map_step}
 use Rattle.blind_tree.proofs.blinding.blind_all.Goals as goal
 

@@ -18,7 +18,7 @@ cut_into-loop-view-preserved t c =
     let sees : c.if-above.sees ≡ (c.args.above || list_any (hosts_at c.args.topology.now.hosts c.args.at) c.view-item.result.informees) =
     elim c.if-above.branch [
       | cut_into-then-above w ↦ rw w.if-above.true (w.sees-is ∙ w.if-above.true)
-      | cut_into-else-above w ↦ rw w.if-above.false (w.sees-is ∙ w.is_hosted-sees.ensures)
+      | cut_into-else-above w ↦ rw w.if-above.false (w.sees-is ∙ w.hosts_any-sees.ensures)
     ] in
     cut_step (hosts_at c.args.topology.now.hosts c.args.at) c.args.above _ _ _ _ _ _ _ _ c.loop-view-test.true c.view-item.is sees c.in_ok-vertex.ensures c.in_ok-push.ensures.ok c.loop-view.invariant
 

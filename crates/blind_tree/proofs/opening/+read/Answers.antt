@@ -1,7 +1,8 @@
 use Rattle.std.proofs.Common.{◌≤◌, arith}
+use Rattle.std.proofs.lemmas.Result.{err_from_is_err_and}
 use Rattle.blind_tree.specs.VertexLists.{one_vertex, vertex_count}
 use Rattle.blind_tree.proofs.Grow.{one_at}
-use Rattle.blind_tree.proofs.OpenedLaws.{read_start}
+use Rattle.blind_tree.proofs.OpenedLaws.{read_start, view_fault, view_is}
 use Rattle.blind_tree.proofs.opening.+read.Goals as goal
 
 pub read_views-read_vertex-requires : goal.read_views-read_vertex-requires
@@ -12,3 +13,17 @@ read_views-read_vertex-requires t c =
 
 pub read_views-loop-vertex-init : goal.read_views-loop-vertex-init
 read_views-loop-vertex-init t c = rw (c.new-views.ensures, c.as_slice-vertex-items.ensures) (read_start c.args.vertices.now)
+
+pub read_view-returns-in_err-subviews : goal.read_view-returns-in_err-subviews
+read_view-returns-in_err-subviews t c =
+    let p = err_from_is_err_and c.from_residual-in_err-subviews.result c.from_residual-in_err-subviews.ensures.1 in
+    rw (p.1, p.2) (λ other.
+    view_fault c.args.informees.now c.args.contents.now c.args.subviews.now _ _ _ _ _
+    (c.in_ok-informees.ensures, c.in_ok-core.ensures, c.hole_count.ensures, c.len.ensures.vertices, c.len.ensures.bound, omega (arith, c.if-hole_count-len.false))
+    (c.in_err-subviews.ensures other))
+
+pub read_view-returns : goal.read_view-returns
+read_view-returns t c =
+    view_is c.args.informees.now c.args.contents.now c.args.subviews.now _ _ _ _ _
+    (c.in_ok-informees.ensures, c.in_ok-core.ensures, c.hole_count.ensures, c.len.ensures.vertices, c.len.ensures.bound, omega (arith, c.if-hole_count-len.false))
+    c.in_ok-subviews.ensures

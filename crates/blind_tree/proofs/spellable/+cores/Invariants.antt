@@ -1,7 +1,9 @@
 use Rattle.std.proofs.Common.{◌↔◌, ◌+◌, ◌*◌, [], ◌∷◌, drop}
 use Rattle.view_split.specs.CoreLists.{children_of, core_weight}
 use Rattle.blind_tree.specs.Cores.{AreSpellableChildren}
+use Rattle.blind_tree.specs.Seen.{AreChildren}
 use Rattle.blind_tree.proofs.Fitting.{AllChildren}
+use Rattle.blind_tree.proofs.Ranged.{ChildrenInRange}
 use Rattle.blind_tree.proofs.spellable.+cores.Given as goal
 
 abbrev pub decreases-is_core : goal.decreases-is_core
@@ -15,4 +17,5 @@ decreases-is_child l = 3 * core_weight (children_of (l.child.now ∷ [])) + 1
 
 -- all fit where those that are left do
 abbrev pub invariant-are_children-loop-child : goal.invariant-are_children-loop-child
-invariant-are_children-loop-child l = AllChildren (drop l.child-index l.child-items) ↔ AreSpellableChildren l.children
+invariant-are_children-loop-child l =
+    (AllChildren (drop l.child-index l.child-items) ↔ AreSpellableChildren l.children) × (ChildrenInRange (drop l.child-index l.child-items) → AreChildren l.children)

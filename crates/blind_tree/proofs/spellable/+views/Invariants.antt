@@ -1,7 +1,9 @@
 use Rattle.std.proofs.Common.{◌↔◌, ◌+◌, ◌*◌, drop}
 use Rattle.view_split.specs.ViewLists.{view_tree, view_count}
 use Rattle.blind_tree.specs.LeafBytes.{AreSpellableViews}
+use Rattle.blind_tree.specs.Seen.{AreViews}
 use Rattle.blind_tree.proofs.Fitting.{AllViews}
+use Rattle.blind_tree.proofs.Ranged.{ViewsInRange}
 use Rattle.blind_tree.proofs.spellable.+views.Given as goal
 
 abbrev pub decreases-is_view : goal.decreases-is_view
@@ -12,4 +14,5 @@ decreases-are_views l = 2 * view_count l.views.now + 1
 
 -- all fit where those that are left do
 abbrev pub invariant-are_views-loop-view : goal.invariant-are_views-loop-view
-invariant-are_views-loop-view l = AllViews (drop l.view-index l.view-items) ↔ AreSpellableViews l.views
+invariant-are_views-loop-view l =
+    (AllViews (drop l.view-index l.view-items) ↔ AreSpellableViews l.views) × (ViewsInRange (drop l.view-index l.view-items) → AreViews l.views)

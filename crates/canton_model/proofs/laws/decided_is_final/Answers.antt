@@ -1,4 +1,4 @@
-use Rattle.ledger_model.proofs.laws.decided_is_final.Goals as goal
+use Rattle.canton_model.proofs.laws.decided_is_final.Goals as goal
 use Rattle.canton_model.proofs.Decided.{final_of_log}
 
 pub returns : goal.returns

@@ -1,5 +1,5 @@
 use Rattle.canton_model.proofs.HostStatus.{same_locked}
-use Rattle.ledger_model.proofs.laws.locks_are_shared.Goals as goal
+use Rattle.canton_model.proofs.laws.locks_are_shared.Goals as goal
 
 pub returns : goal.returns
 returns c r end p k id lt shown = same_locked r end p id shown k lt

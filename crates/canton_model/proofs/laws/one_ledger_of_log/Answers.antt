@@ -1,6 +1,6 @@
 use Rattle.std.proofs.Common.{length}
 use Rattle.canton_model.specs.Ledger.{requests_of}
-use Rattle.ledger_model.proofs.laws.one_ledger_of_log.Goals as goal
+use Rattle.canton_model.proofs.laws.one_ledger_of_log.Goals as goal
 use Rattle.canton_model.proofs.Decided.{final_of_log}
 use Rattle.canton_model.proofs.OneLedger.{one_ledger}
 

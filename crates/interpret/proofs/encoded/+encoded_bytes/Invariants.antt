@@ -1,7 +1,7 @@
 use Rattle.std.proofs.Common.{◌≡◌, ◌+◌, ◌<◌, ◌^◌, drop}
 use Rattle.ledger_terms.specs.Grown.{forest_of, node_count}
 use Rattle.wire_form.specs.Lengths.{capped}
-use Rattle.interpret.specs.Encoded.{encoded_bytes}
+use Rattle.wire_form.specs.Encoded.{encoded_bytes}
 use Rattle.interpret.proofs.encoded.+encoded_bytes.Given as goal
 
 abbrev pub invariant-loop-node : goal.invariant-loop-node

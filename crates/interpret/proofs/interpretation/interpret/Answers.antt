@@ -5,8 +5,8 @@ use Rattle.interpret.proofs.interpretation.interpret.Goals as goal
 pub returns : goal.returns
 returns g c =
     record {
-      exact = c.interpreted.ensures;
-      wanted = wanted_answer _ _ _ _ _ _ c.interpreted.ensures;
-      stops = stop_answer _ _ _ _ _ _ c.interpreted.ensures;
-      plain = plain_answer _ _ _ _ _ _ (stop_answer _ _ _ _ _ _ c.interpreted.ensures);
+      exact = c.run.ensures;
+      wanted = wanted_answer _ _ _ _ _ _ c.run.ensures;
+      stops = stop_answer _ _ _ _ _ _ c.run.ensures;
+      plain = plain_answer _ _ _ _ _ _ (stop_answer _ _ _ _ _ _ c.run.ensures);
     }

@@ -5,4 +5,4 @@ use Rattle.interpret.proofs.sizes.are_small_args.Goals as goal
 pub returns-then-are_spellable : goal.returns-then-are_spellable
 unfolding are_small_args
 returns-then-are_spellable c =
-    small _ _ _ _ (values_are _ c.args.args.now c.are_spellable.ensures) c.if-are_spellable.true c.values_len.ensures
+    small _ _ _ _ (values_are _ c.args.args.now c.are_spellable.ensures.exact) c.if-are_spellable.true c.values_len.ensures

@@ -4,9 +4,9 @@ use Rattle.ledger_terms.specs.declared.action.Action.{Action}
 use Rattle.ledger_terms.specs.Trees.{Actions}
 use Rattle.view_split.specs.Holed.{fill}
 use Rattle.view_split.specs.CoreLists.{core_weight}
-use Rattle.view_split.proofs.Filling.{child_below, step_inner, step_hole, step_empty, filled_end}
+use Rattle.view_split.proofs.Filling.{child_below, step_inner, step_next, filled_end}
 use Rattle.view_split.proofs.assembling.+fill_into.Goals as goal
-use Rattle.view_split.proofs.assembling.+fill_into.Goals.{in-Inner+in_ok-fill_into-in-Inner+in_ok-copy_action-in-Inner+in_ok-push-in-Inner, in-Hole+in-Some+in_ok-push-in-Hole, in-Hole+in_default}
+use Rattle.view_split.proofs.assembling.+fill_into.Goals.{in-Inner+in_ok-fill_into-in-Inner+in_ok-copy_action-in-Inner+in_ok-push-in-Inner, in-Hole+in_ok-put_next-in-Hole}
 
 pub fill_into-requires : goal.fill_into-requires
 fill_into-requires t c =
@@ -21,10 +21,8 @@ loop-child-preserved t c =
           (step_inner _ _ _ w.in-Inner.node _ _ _ _ _ _ _ c.loop-child-test.true c.child-item.is w.in-Inner.is
           (w.in_ok-push-in-Inner.ensures.ok ∙ ap (λ (a : Action). join c.loop-child.out (Root (record { seed = w.in-Inner.node.seed; action = a }) w.fill_into.new.out NoRoots)) w.in_ok-copy_action-in-Inner.ensures)
           (w.in_ok-fill_into-in-Inner.ensures.filled ∙ ap (λ (x : Actions). join x (fill w.in-Inner.node.children c.loop-child.trees)) w.new-children.ensures) w.in_ok-fill_into-in-Inner.ensures.left c.loop-child.invariant)
-      | in-Hole+in-Some+in_ok-push-in-Hole w ↦ rw (w.out-is, w.trees-is)
-          (step_hole _ _ _ _ _ _ _ _ _ _ _ c.loop-child-test.true c.child-item.is w.in-Hole.is w.in-Some.ensures.taken w.in_ok-push-in-Hole.ensures.ok c.loop-child.invariant)
-      | in-Hole+in_default w ↦ rw (w.out-is, w.trees-is)
-          (step_empty _ _ _ _ _ _ _ _ c.loop-child-test.true c.child-item.is w.in-Hole.is w.in_default.ensures.taken w.in_default.ensures.none c.loop-child.invariant)
+      | in-Hole+in_ok-put_next-in-Hole w ↦ rw (w.out-is, w.trees-is)
+          (step_next _ _ _ _ _ _ _ _ _ c.loop-child-test.true c.child-item.is w.in-Hole.is w.in_ok-put_next-in-Hole.ensures.filled w.in_ok-put_next-in-Hole.ensures.left c.loop-child.invariant)
     ]
 
 pub returns-clause-filled : goal.returns-clause-filled

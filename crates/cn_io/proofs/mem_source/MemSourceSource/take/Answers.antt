@@ -1,4 +1,4 @@
-use Rattle.std.proofs.Common.{arith}
+use Rattle.std.proofs.Common.{arith, refl}
 use Rattle.std.proofs.lemmas.List.{take_rest}
 use Rattle.cn_io.proofs.Pieces.{given_first}
 use Rattle.cn_io.proofs.mem_source.MemSourceSource.take.Goals as goal
@@ -8,4 +8,4 @@ returns-clause-moved c =
     let s = c.self.inside in
     let call = rw (c.as_slice-2.ensures, take_rest s.bytes s.at) at c.copy_first-count.ensures in
     let given = given_first s.bytes c.args.into.now _ s.at _ s.piece call.count call.bytes c.requires (omega arith) in
-    rw (← c.self.view_is) given
+    rw (← c.self.view_is) (given.0, given.1, given.2, refl)

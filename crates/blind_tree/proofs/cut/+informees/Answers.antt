@@ -1,0 +1,16 @@
+use Rattle.std.proofs.Common.{◌≤◌, arith}
+use Rattle.blind_tree.specs.KeptLists.{one_kept, kept_count}
+use Rattle.blind_tree.proofs.KeptGrow.{kept_at, named_step, named_end}
+use Rattle.blind_tree.proofs.cut.+informees.Goals as goal
+
+pub informees_into-informees_vertex-requires : goal.informees_into-informees_vertex-requires
+informees_into-informees_vertex-requires t c =
+    let less : kept_count (one_kept c.view-item.result) ≤ kept_count c.args.views.now =
+    rw (c.view-item.is, ← c.as_slice-view-items.ensures) (kept_at _ _ _ c.loop-view-test.true) in
+    (omega (arith, less, c.decreases), tt)
+
+pub informees_into-loop-view-preserved : goal.informees_into-loop-view-preserved
+informees_into-loop-view-preserved t c = named_step _ _ _ _ _ _ _ c.loop-view-test.true c.view-item.is c.in_ok-vertex.ensures c.in_ok-push.ensures.ok c.loop-view.invariant
+
+pub informees_into-returns : goal.informees_into-returns
+informees_into-returns t c = named_end _ _ _ _ c.loop-view-test.false c.loop-view.invariant

@@ -1,7 +1,0 @@
-pub mod FirstForm
-pub mod Script
-pub mod Play
-pub mod Run
-pub mod FirstScript
-pub mod Words
-pub mod Ends

@@ -1,0 +1,46 @@
+//! The words of the command line.
+ghost use Rattle.std.specs.Prelude.{◌≡◌, ◌≢◌, ◌↔◌, ◌∷◌, [], IfOk, codes, drop, map, string_bytes};
+ghost use Rattle.std.specs.declared.io.kind.ErrorKind.TheVariants.{InvalidData};
+ghost use Rattle.canton_run.specs.Words.{are_run};
+
+use ledger_terms::{ListOf, Text};
+use std::alloc::{AllocError, Global};
+use std::io::ErrorKind;
+
+/// Words, without the program's name.
+pub type WordList = ListOf<Text>;
+
+/// The words that stand after the program's name.
+pub fn words_after_name(alloc: Global, all: &[String]) -> Result<WordList, AllocError>
+    ensures { IfOk result (λ words. words ≡ map string_bytes (drop 1 all.now)) }
+{
+    let mut words = WordList::new(alloc);
+    let Some((_, after)) = all.split_first() else {
+        return Ok(words);
+    };
+    'words: for word in after {
+        words.push(Text::of(alloc, word.as_str())?)?;
+    }
+    Ok(words)
+}
+
+/// The status where the words can't be had: 2 where they are no text, else 70.
+pub fn status_without_words(why: ErrorKind) -> u8
+    ensures text { result ≡ 2 ↔ why ≡ InvalidData }
+    ensures memory { result ≢ 2 → result ≡ 70 }
+{
+    match why {
+        ErrorKind::InvalidData => 2,
+        _ => 70,
+    }
+}
+
+/// Whether the words are the single word `run`, which is all that is accepted today.
+pub fn are_run(words: &WordList) -> bool
+    ensures { result ≡ are_run words.now }
+{
+    match words.as_slice() {
+        [word] => word.as_str() == "run",
+        _ => false,
+    }
+}

@@ -1,0 +1,46 @@
+-- The active rows of a store are the contracts that the actions create and none of them consumes.
+use Rattle.std.specs.Prelude.{◌≡◌, ℕ, ◌≤◌, Bool, List, [], ◌∷◌, not, map, filter}
+use Rattle.std.specs.List.{list_any}
+use Rattle.ledger_terms.specs.Trees.{Act}
+use Rattle.ledger_terms.specs.declared.active_row.ActiveRow.{ActiveRow}
+use Rattle.ledger_model.specs.Terms.{ParticipantId, is_create, consumes}
+use Rattle.canton_model.specs.Reading.{Reading}
+use Rattle.canton_model.specs.Inbox.{active_row, first_of_each, is_active_row, is_stakeholder_hosted}
+use Rattle.contract_store.specs.Active.{active_rows}
+use Rattle.contract_store.specs.Written.{Placed, written, acts_of}
+
+-- in rising order of places
+abbrev pub NoneBefore : ℕ → List Placed → Type 0
+NoneBefore n [] = Unit {0}
+NoneBefore n (p ∷ ps) = (n ≤ p.place) × NoneBefore n ps
+
+abbrev pub InOrder : List Placed → Type 0
+InOrder [] = Unit {0}
+InOrder (p ∷ ps) = NoneBefore p.place ps × InOrder ps
+
+abbrev pub is_creation : Placed → Bool
+is_creation p = is_create p.act.action
+
+abbrev pub row_for : Placed → ActiveRow
+row_for p = active_row p.place p.act
+
+-- the rows of the contracts that these actions create
+abbrev pub created_rows : List Placed → List ActiveRow
+created_rows ps = map row_for (filter is_creation ps)
+
+-- none of these actions consumes the contract
+abbrev pub is_left : List Act → ActiveRow → Bool
+is_left all row = not (list_any (consumes row.known.id) all)
+
+-- the contracts that are created and not consumed, each as it was created first
+abbrev pub left_of : List Placed → List ActiveRow
+left_of ps = filter (is_left (acts_of ps)) (first_of_each (created_rows ps))
+
+abbrev pub ActiveIsLeft : Type 0
+ActiveIsLeft = (ps : List Placed) → InOrder ps → active_rows (written ps []) ≡ left_of ps
+
+-- those with a hosted stakeholder are the model's active contracts among these actions
+abbrev pub HostedIsActive : Type 0
+HostedIsActive = (reading : Reading) (party : ParticipantId) (ps : List Placed) → InOrder ps
+    → filter (λ (a : ActiveRow). is_stakeholder_hosted reading party a.known.instance) (active_rows (written ps []))
+    ≡ filter (is_active_row reading party (acts_of ps)) (first_of_each (created_rows ps))

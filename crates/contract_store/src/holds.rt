@@ -1,0 +1,204 @@
+//! The holds, in a vector, and the chains through it.
+ghost use Rattle.std.specs.Prelude.{◌≡◌, ◌≢◌, IsTrue, IsFalse, false, ◌+◌, ◌<◌, ◌≤◌, ℕ, true, [], ◌∷◌, ◌++◌, List, Some, Option, map, nat_eq};
+ghost use Rattle.std.specs.Prelude.{if◌then◌else◌, IsSome, slice_get, slice_set, vec_len, vec_capacity};
+ghost use Rattle.std.specs.Str.{bytes_eq};
+ghost use Rattle.indexmap.specs.IndexMap.{get, keys, spare};
+ghost use Rattle.contract_store.specs.Leads.{row_behind, hold_behind};
+ghost use Rattle.contract_store.specs.Chains.{Link, above, NoneFrom, IsLast, IsLinked, Reaches, Chains};
+ghost use Rattle.contract_store.specs.Holds.{link_on, link_at, holds_of, released, LeadsToHolds, Releasing};
+ghost use Rattle.contract_store.specs.declared.hold.Hold.{Hold};
+ghost use Rattle.contract_store.specs.declared.hold.KeptHold.{KeptHold};
+
+use crate::hold::{Hold, KeptHold};
+use crate::keys::Behind;
+use crate::lookup::{hold_behind, put_hold};
+use indexmap::IndexMap;
+use ledger_terms::Hash;
+
+/// The place of the last hold of a request.
+pub fn place_behind(places: &IndexMap<u64, usize>, place: u64) -> Option<usize>
+    ensures { result ≡ get nat_eq places.now place }
+{
+    places.get(&place).copied()
+}
+
+/// Lets a place lead to a hold.
+pub fn put_place(places: &mut IndexMap<u64, usize>, place: u64, at: usize)
+    requires { 0 < spare places.old }
+    ensures places { (p : ℕ) → get nat_eq places.new p ≡ (if nat_eq place p then Some at else get nat_eq places.old p) }
+    ensures spare { spare places.old ≤ spare places.new + 1 }
+{
+    let _ = places.insert(place, at).unwrap();
+}
+
+/// One more hold, in the room that is there.
+pub fn push_hold(
+    slots: &mut Vec<KeptHold>,
+    ids: &mut IndexMap<Hash, Behind>,
+    places: &mut IndexMap<u64, usize>,
+    hold: Hold,
+)
+    requires room { vec_len slots.old < vec_capacity slots.old }
+    requires spare { 0 < spare places.old }
+    requires ready { IsSome (get bytes_eq ids.old hold.id) }
+    requires leads { LeadsToHolds slots.old.items (λ c. hold_behind (get bytes_eq ids.old c)) (λ p. get nat_eq places.old p) }
+    ensures leads { LeadsToHolds slots.new.items (λ c. hold_behind (get bytes_eq ids.new c)) (λ p. get nat_eq places.new p) }
+    ensures holds { holds_of slots.new.items ≡ holds_of slots.old.items ++ hold ∷ [] }
+    ensures rows { (c : List ℕ) → row_behind (get bytes_eq ids.new c) ≡ row_behind (get bytes_eq ids.old c) }
+    ensures keys { keys ids.new ≡ keys ids.old }
+    ensures len { vec_len slots.new ≡ vec_len slots.old + 1 }
+    ensures capacity { vec_capacity slots.old ≤ vec_capacity slots.new }
+    ensures spare { spare places.old ≤ spare places.new + 1 }
+{
+    let at = slots.len();
+    let before_on = hold_behind(ids, &hold.id);
+    let before_at = place_behind(places, hold.place);
+    slots
+        .push(KeptHold {
+            hold,
+            live: true,
+            before_on,
+            before_at,
+        })
+        .unwrap();
+    put_hold(ids, hold.id, Some(at));
+    put_place(places, hold.place, at);
+}
+
+// The hold at a place in the vector.
+fn slot_at(slots: &Vec<KeptHold>, at: usize) -> KeptHold
+    requires { at < vec_len slots.now }
+    ensures { slice_get slots.now.items at ≡ Some result }
+{
+    slots[at]
+}
+
+// The last hold on a contract that was not released, from a place on towards the start.
+fn last_live(slots: &Vec<KeptHold>, id: &Hash, from: Option<usize>) -> Option<usize>
+    requires linked { IsLinked bytes_eq (map link_on slots.now.items) }
+    requires reaches { Reaches bytes_eq (map link_on slots.now.items) id.now from }
+    ensures { IsLast bytes_eq (map link_on slots.now.items) id.now result }
+{
+    let mut cursor = from;
+    'back: while let Some(at) = cursor {
+        let slot = slot_at(slots, at);
+        if slot.live {
+            return Some(at);
+        }
+        cursor = slot.before_on;
+    }
+    None
+}
+
+// Releases the hold at a place in the vector.
+fn release_hold(slots: &mut Vec<KeptHold>, ids: &mut IndexMap<Hash, Behind>, at: usize)
+    requires within { at < vec_len slots.old }
+    requires on { Chains bytes_eq (map link_on slots.old.items) (λ c. hold_behind (get bytes_eq ids.old c)) }
+    ensures slots { (h : KeptHold) → slice_get slots.old.items at ≡ Some h → slots.new.items ≡ slice_set slots.old.items at (record h { live = false }) }
+    ensures on { Chains bytes_eq (map link_on slots.new.items) (λ c. hold_behind (get bytes_eq ids.new c)) }
+    ensures rows { (c : List ℕ) → row_behind (get bytes_eq ids.new c) ≡ row_behind (get bytes_eq ids.old c) }
+    ensures keys { keys ids.new ≡ keys ids.old }
+    ensures len { vec_len slots.new ≡ vec_len slots.old }
+    ensures capacity { vec_capacity slots.new ≡ vec_capacity slots.old }
+{
+    let slot = slot_at(slots, at);
+    slots[at] = KeptHold {
+        hold: slot.hold,
+        live: false,
+        before_on: slot.before_on,
+        before_at: slot.before_at,
+    };
+    if leads_to(ids, &slot.hold.id, at) {
+        let last = last_live(slots, &slot.hold.id, slot.before_on);
+        put_hold(ids, slot.hold.id, last);
+    }
+}
+
+// Whether an id leads to this hold.
+fn leads_to(ids: &IndexMap<Hash, Behind>, id: &Hash, at: usize) -> bool
+    ensures yes { IsTrue result → hold_behind (get bytes_eq ids.now id.now) ≡ Some at }
+    ensures no { IsFalse result → hold_behind (get bytes_eq ids.now id.now) ≢ Some at }
+{
+    match hold_behind(ids, id) {
+        Some(last) => last == at,
+        None => false,
+    }
+}
+
+// Releases the hold at a place in the vector, and gives the place of the one before it of the same request.
+fn release_next(
+    slots: &mut Vec<KeptHold>,
+    ids: &mut IndexMap<Hash, Behind>,
+    at: usize,
+) -> Option<usize>
+    requires within { at < vec_len slots.old }
+    requires on { Chains bytes_eq (map link_on slots.old.items) (λ c. hold_behind (get bytes_eq ids.old c)) }
+    requires linked { IsLinked nat_eq (map link_at slots.old.items) }
+    ensures below { above result ≤ at }
+    ensures step { (place : ℕ) (left : List Hold) (places : ℕ → Option ℕ)
+        → Releasing place left slots.old.items (λ c. hold_behind (get bytes_eq ids.old c)) places (Some at)
+        → Releasing place left slots.new.items (λ c. hold_behind (get bytes_eq ids.new c)) places result }
+    ensures rows { (c : List ℕ) → row_behind (get bytes_eq ids.new c) ≡ row_behind (get bytes_eq ids.old c) }
+    ensures keys { keys ids.new ≡ keys ids.old }
+    ensures len { vec_len slots.new ≡ vec_len slots.old }
+    ensures capacity { vec_capacity slots.new ≡ vec_capacity slots.old }
+{
+    let before = slot_at(slots, at).before_at;
+    release_hold(slots, ids, at);
+    before
+}
+
+// Takes the last hold out if it was released.
+fn pop_released(slots: &mut Vec<KeptHold>) -> bool
+    ensures leads { (ids : List ℕ → Option ℕ) (places : ℕ → Option ℕ) → LeadsToHolds slots.old.items ids places → LeadsToHolds slots.new.items ids places }
+    ensures holds { holds_of slots.new.items ≡ holds_of slots.old.items }
+    ensures len { (if result then 1 else 0) + vec_len slots.new ≡ vec_len slots.old }
+    ensures capacity { vec_capacity slots.old ≤ vec_capacity slots.new }
+{
+    let Some(last) = slots.pop() else {
+        return false;
+    };
+    if last.live {
+        slots.push(last).unwrap();
+        return false;
+    }
+    true
+}
+
+// Takes released holds out from the end on.
+fn pop_all_released(slots: &mut Vec<KeptHold>)
+    ensures leads { (ids : List ℕ → Option ℕ) (places : ℕ → Option ℕ) → LeadsToHolds slots.old.items ids places → LeadsToHolds slots.new.items ids places }
+    ensures holds { holds_of slots.new.items ≡ holds_of slots.old.items }
+    ensures len { vec_len slots.new ≤ vec_len slots.old }
+    ensures capacity { vec_capacity slots.old ≤ vec_capacity slots.new }
+{
+    let count = slots.len();
+    'back: for _ in 0..count {
+        if !pop_released(slots) {
+            return;
+        }
+    }
+}
+
+/// Releases the holds of a request.
+pub fn release_place(
+    slots: &mut Vec<KeptHold>,
+    ids: &mut IndexMap<Hash, Behind>,
+    places: &mut IndexMap<u64, usize>,
+    place: u64,
+)
+    requires leads { LeadsToHolds slots.old.items (λ c. hold_behind (get bytes_eq ids.old c)) (λ p. get nat_eq places.old p) }
+    ensures leads { LeadsToHolds slots.new.items (λ c. hold_behind (get bytes_eq ids.new c)) (λ p. get nat_eq places.new p) }
+    ensures holds { holds_of slots.new.items ≡ released place (holds_of slots.old.items) }
+    ensures rows { (c : List ℕ) → row_behind (get bytes_eq ids.new c) ≡ row_behind (get bytes_eq ids.old c) }
+    ensures keys { keys ids.new ≡ keys ids.old }
+    ensures len { vec_len slots.new ≤ vec_len slots.old }
+    ensures capacity { vec_capacity slots.old ≤ vec_capacity slots.new }
+    ensures spare { spare places.old ≤ spare places.new }
+{
+    let mut cursor = places.swap_remove(&place);
+    'back: while let Some(at) = cursor {
+        cursor = release_next(slots, ids, at);
+    }
+    pop_all_released(slots);
+}

@@ -1,0 +1,133 @@
+-- A finished tree that is what drafts ask for, and where drafts stop: recognised from the drafts as they stand.
+use Rattle.std.specs.Prelude.{◌≡◌, ℕ, suc, ◌<◌, ◌≤◌, Bool, true, ◌&&◌, if◌then◌else◌, nat_le, nat_lt, is_some, length, List, [], ◌∷◌, ◌++◌, Option, Some, None, flat_map, ◌⊎◌}
+use Rattle.ledger_terms.specs.declared.known.Known.{Known}
+use Rattle.ledger_terms.specs.declared.instance.Instance.{Instance}
+use Rattle.ledger_terms.specs.declared.value.Value.{Value}
+use Rattle.ledger_terms.specs.declared.value.Value.TheVariants.{Contract as ContractValue}
+use Rattle.ledger_terms.specs.declared.contract_ref.ContractRef.{ContractRef}
+use Rattle.ledger_terms.specs.declared.contract_ref.ContractRef.TheVariants.{Id, Label}
+use Rattle.ledger_terms.specs.declared.arg.Arg.{Arg}
+use Rattle.ledger_terms.specs.declared.arg.Arg.TheVariants.{Plain, Contract}
+use Rattle.ledger_terms.specs.declared.input.Input.{Input}
+use Rattle.ledger_terms.specs.declared.input.Input.TheVariants.{Known as KnownInput, Forged}
+use Rattle.ledger_terms.specs.declared.action.Action.{Action}
+use Rattle.ledger_terms.specs.declared.action.Action.TheVariants.{Create, Exercise, Fetch}
+use Rattle.ledger_terms.specs.Drafts.{Drafts, DraftAction, DraftCreate, DraftExercise, DraftFetch}
+use Rattle.ledger_terms.specs.Forest.{Forest, NoRoots, Root, preorder, size, number_from, paths_from}
+use Rattle.ledger_terms.specs.Trees.{Actions}
+use Rattle.wire_form.specs.Lengths.{capped}
+use Rattle.interpret.specs.declared.command_fault.CommandFault.{CommandFault}
+use Rattle.interpret.specs.declared.command_fault.CommandFault.TheVariants.{ContractUnknown, TooDeep, TooMany, TooBig}
+use Rattle.interpret.specs.Ids.{Hash, child_seed, label_seed}
+use Rattle.interpret.specs.Usable.{find_known, find_salt}
+use Rattle.wire_form.specs.Encoded.{encoded_bytes}
+use Rattle.ledger_terms.specs.Depth.{depth}
+use Rattle.interpret.specs.Filled.{id_of, is_draft_named}
+
+-- the contract that a reference names: an id itself, and a label the first known contract whose salt is its seed
+abbrev pub Names : List Known → ContractRef → Hash → Type 0
+Names known (Id id) named = named ≡ id
+Names known (Label l) named = (k : Known) × (find_salt (label_seed l) known ≡ Some k) × (named ≡ k.id)
+
+abbrev pub IsValueOf : List Known → Arg → Value → Type 0
+IsValueOf known (Plain v) value = value ≡ v
+IsValueOf known (Contract r) value = (id : Hash) × Names known r id × (value ≡ ContractValue id)
+
+abbrev pub AreValuesOf : List Known → List Arg → List Value → Type 0
+AreValuesOf known [] [] = Unit {0}
+AreValuesOf known (a ∷ as') (v ∷ vs) = IsValueOf known a v × AreValuesOf known as' vs
+AreValuesOf known as' vs = ⊥
+
+-- the known contract that a reference names
+abbrev pub IsKnownAs : List Known → ContractRef → Known → Type 0
+IsKnownAs known (Id id) k = find_known id known ≡ Some k
+IsKnownAs known (Label l) k = find_salt (label_seed l) known ≡ Some k
+
+-- the id that is handed in, or that of salt and instance
+abbrev pub IsForgedId : List Known → Option ContractRef → Hash → Instance → Hash → Type 0
+IsForgedId known None salt i id = id ≡ id_of salt i
+IsForgedId known (Some r) salt i id = Names known r id
+
+abbrev pub IsInputOf : List Known → Input → Hash → Hash → Instance → Type 0
+IsInputOf known (KnownInput r) id salt i = IsKnownAs known r (record { id = id; salt = salt; instance = i })
+IsInputOf known (Forged given salt' template fields) id salt i =
+    (salt ≡ salt') × (i.template ≡ template) × AreValuesOf known fields i.fields × IsForgedId known given salt i id
+
+-- the action is that of the draft
+abbrev pub IsActionOf : List Known → Hash → DraftAction → Action → Type 0
+IsActionOf known seed (DraftCreate template fields) (Create id i) =
+    (i.template ≡ template) × AreValuesOf known fields i.fields × (id ≡ id_of seed i)
+IsActionOf known seed (DraftExercise input choice args actors consuming result) (Exercise id salt i choice' args' actors' consuming' result') =
+    IsInputOf known input id salt i × (choice' ≡ choice) × AreValuesOf known args args' × (actors' ≡ actors) × (consuming' ≡ consuming)
+    × IsValueOf known result result'
+IsActionOf known seed (DraftFetch input actors) (Fetch id salt i actors') = IsInputOf known input id salt i × (actors' ≡ actors)
+IsActionOf known seed draft action = ⊥
+
+-- the trees stand as the drafts do, each action with the seed of its place
+abbrev pub AreFilled : List Known → Hash → ℕ → Drafts → Actions → Type 0
+AreFilled known seed index NoRoots NoRoots = Unit {0}
+AreFilled known seed index (Root d drafts others) (Root act consequences more) =
+    (act.seed ≡ child_seed seed index)
+    × IsActionOf known act.seed d act.action
+    × AreFilled known act.seed 0 drafts consequences
+    × AreFilled known seed (suc index) others more
+AreFilled known seed index drafts actions = ⊥
+
+-- the transaction that drafts ask for
+pub record IsFilled (known : List Known) (seed : Hash) (drafts : Drafts) (forest : Actions) : Type 0 where
+  pub trees : AreFilled known seed 0 drafts forest
+  pub few : size forest ≤ 64
+  pub shallow : depth forest ≤ 16
+  pub small : encoded_bytes forest ≤ 32768
+
+-- ---- where drafts stop
+
+-- a draft with its number in pre-order and its path
+abbrev pub Placed : Type 0
+Placed = ℕ × (List ℕ × DraftAction)
+
+-- an Input names what is known
+abbrev pub is_input_known : List Known → Input → Bool
+is_input_known known (KnownInput (Id id)) = is_some (find_known id known)
+is_input_known known (KnownInput (Label l)) = is_some (find_salt (label_seed l) known)
+is_input_known known (Forged given salt template fields) = true
+
+abbrev pub is_contract_known : List Known → DraftAction → Bool
+is_contract_known known (DraftCreate template fields) = true
+is_contract_known known (DraftExercise input choice args actors consuming result) = is_input_known known input
+is_contract_known known (DraftFetch input actors) = is_input_known known input
+
+-- what an action has to pass, in order, each with the fault where it doesn't
+abbrev pub action_tests : List Known → Placed → List (Bool × CommandFault)
+action_tests known x =
+    (nat_le (length (x.1).0) 16, TooDeep (x.1).0)
+    ∷ (nat_lt x.0 64, TooMany (x.1).0)
+    ∷ (is_contract_known known (x.1).1, ContractUnknown (x.1).0)
+    ∷ []
+
+-- every label in these drafts names a known contract
+abbrev pub are_placed_named : List Known → Forest Placed → Bool
+are_placed_named known NoRoots = true
+are_placed_named known (Root x below others) =
+    are_placed_named known below && (are_placed_named known others && is_draft_named known (x.1).1)
+
+-- each root's labels, and then its actions in pre-order
+abbrev pub root_tests : List Known → Forest Placed → List (Bool × CommandFault)
+root_tests known NoRoots = []
+root_tests known (Root x below others) =
+    (are_placed_named known (Root x below NoRoots), ContractUnknown (x.1).0)
+    ∷ (flat_map (action_tests known) (x ∷ preorder below) ++ root_tests known others)
+
+abbrev pub tests_of : List Known → Drafts → List (Bool × CommandFault)
+tests_of known drafts = root_tests known (number_from 0 (paths_from [] 0 drafts))
+
+abbrev pub first_failing : List (Bool × CommandFault) → Option CommandFault
+first_failing [] = None
+first_failing (t ∷ ts) = if t.0 then first_failing ts else Some t.1
+
+-- The first test that fails gives the fault; or none does, and the encoded bytes exceed their limit.
+abbrev pub FillStops : List Known → Hash → Drafts → CommandFault → Type 0
+FillStops known seed drafts fault =
+    (first_failing (tests_of known drafts) ≡ Some fault)
+    ⊎ ((forest : Actions) × AreFilled known seed 0 drafts forest × (size forest ≤ 64) × (depth forest ≤ 16)
+    × (32768 < encoded_bytes forest) × (fault ≡ TooBig (capped (encoded_bytes forest))))

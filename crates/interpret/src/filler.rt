@@ -1,0 +1,349 @@
+//! Prepared trees get their seeds and ids.
+ghost use Rattle.std.specs.Prelude.{◌≡◌, ◌≢◌, ◌<◌, ◌≤◌, ◌-◌, IfOk, IfErr, OnOk, Err, option_copied};
+ghost use Rattle.ledger_terms.specs.Answers.{UnlessMemory};
+ghost use Rattle.ledger_terms.specs.Drafts.{DraftCreate};
+ghost use Rattle.ledger_terms.specs.DraftsGrown.{draft_tree};
+ghost use Rattle.ledger_terms.specs.declared.action.Action.TheVariants.{Exercise};
+ghost use Rattle.ledger_terms.specs.Forest.{NoRoots};
+ghost use Rattle.interpret.specs.FilledTree.{IsFilled, FillStops};
+ghost use Rattle.interpret.specs.Filled.{draft_action, fetch_of_draft, fill_all, fill_below, fill_tree, filled_action, filled_roots};
+ghost use Rattle.interpret.specs.Filled.{filling, forged_contract, forged_id, id_of, input_of, known_of, list_answer, node_answer};
+
+use crate::command_fault::{CommandFault, copy_path};
+use crate::encoded::if_small;
+use crate::ids::{contract_id, label_seed};
+use crate::labels::is_draft_named;
+use crate::place::Place;
+use crate::references::{referenced_id, referenced_value, referenced_values};
+use ledger_terms::{
+    Action, ActionNode, ActionNodeList, Arg, ArgList, ContractRef, Draft, DraftList, Hash, Input,
+    Instance, Known, KnownContracts, Name, PartySet, Path, TemplateName, Value, ValueList,
+    copy_known,
+};
+use std::alloc::{AllocError, Global};
+use wire_form::is_spellable_instance;
+
+/// What fills prepared trees: the contracts that are known.
+#[derive(Drop)]
+struct Filler<'a, K> {
+    alloc: Global,
+    known: &'a K,
+}
+
+/// The id of a contract, where its instance has a spelling. What has none exceeds the encoded bytes.
+#[tactic(auto, unfolding(crate::specs::Filled::id_of))]
+fn id_of(alloc: Global, salt: &Hash, instance: &Instance) -> Result<Hash, AllocError>
+    ensures { IfOk result (λ id. id ≡ id_of salt.now instance.now) }
+{
+    if is_spellable_instance(instance) {
+        contract_id(alloc, salt, instance)
+    } else {
+        Ok(*salt)
+    }
+}
+
+/// The Exercise of a choice on a contract.
+fn exercise_of(
+    contract: Known,
+    choice: Name,
+    args: ValueList,
+    actors: &PartySet,
+    consuming: bool,
+    value: Value,
+) -> Result<Action, AllocError>
+    ensures { IfOk result (λ a. a ≡ Exercise contract.id contract.salt contract.instance choice args actors.now consuming value) }
+{
+    let Known { id, salt, instance } = contract;
+    Ok(Action::Exercise {
+        id,
+        salt,
+        instance,
+        choice,
+        args,
+        actors: actors.clone()?,
+        consuming,
+        result: value,
+    })
+}
+
+fn no_drafts(alloc: Global) -> ActionNodeList
+    ensures { result ≡ NoRoots }
+{
+    ActionNodeList::new(alloc)
+}
+
+/// The known contract that a reference names.
+fn known_of<'k, K: KnownContracts>(known: &'k K, contract: &ContractRef) -> Option<&'k Known>
+    ensures { option_copied result ≡ known_of (K.rows known.now) contract.now }
+{
+    match contract {
+        ContractRef::Id(id) => known.find(id),
+        ContractRef::Label(label) => known.find_salt(&label_seed(label)),
+    }
+}
+
+impl<K: KnownContracts> Filler<'_, K> {
+    fn forged_id(
+        &self,
+        id: &Option<ContractRef>,
+        salt: &Hash,
+        instance: &Instance,
+    ) -> Result<Option<Hash>, AllocError>
+        ensures { IfOk result (λ i. i ≡ forged_id (K.rows self.now.known.now) id.now salt.now instance.now) }
+    {
+        match id {
+            Some(contract) => Ok(referenced_id(self.known, contract)),
+            None => Ok(Some(id_of(self.alloc, salt, instance)?)),
+        }
+    }
+
+    fn forged_contract(
+        &self,
+        id: &Option<ContractRef>,
+        salt: Hash,
+        template: TemplateName,
+        fields: &ArgList,
+    ) -> Result<Option<Known>, AllocError>
+        ensures { IfOk result (λ k. k ≡ forged_contract (K.rows self.now.known.now) id.now salt template fields.now) }
+    {
+        let instance = match referenced_values(self.alloc, self.known, fields)? {
+            Some(fields) => Instance { template, fields },
+            None => return Ok(None),
+        };
+        match self.forged_id(id, &salt, &instance)? {
+            Some(id) => Ok(Some(Known { id, salt, instance })),
+            None => Ok(None),
+        }
+    }
+
+    /// The contract that an input stands for.
+    fn input_of(&self, input: &Input) -> Result<Option<Known>, AllocError>
+        ensures { IfOk result (λ k. k ≡ input_of (K.rows self.now.known.now) input.now) }
+    {
+        match input {
+            Input::Known(contract) => match known_of(self.known, contract) {
+                Some(found) => Ok(Some(copy_known(found)?)),
+                None => Ok(None),
+            },
+            Input::Forged {
+                id,
+                salt,
+                template,
+                fields,
+            } => self.forged_contract(id, *salt, *template, fields),
+        }
+    }
+
+    fn create_action(
+        &self,
+        seed: &Hash,
+        template: TemplateName,
+        fields: &ArgList,
+    ) -> Result<Option<Action>, AllocError>
+        ensures { IfOk result (λ a. a ≡ filled_action (K.rows self.now.known.now) seed.now (DraftCreate template fields.now)) }
+    {
+        match referenced_values(self.alloc, self.known, fields)? {
+            Some(fields) => {
+                let instance = Instance { template, fields };
+                let id = id_of(self.alloc, seed, &instance)?;
+                Ok(Some(Action::Create { id, instance }))
+            }
+            None => Ok(None),
+        }
+    }
+
+    fn fetch_action(
+        &self,
+        contract: &Input,
+        actors: &PartySet,
+    ) -> Result<Option<Action>, AllocError>
+        ensures { IfOk result (λ a. a ≡ fetch_of_draft (K.rows self.now.known.now) contract.now actors.now) }
+    {
+        let Some(contract) = self.input_of(contract)? else {
+            return Ok(None);
+        };
+        let Known { id, salt, instance } = contract;
+        Ok(Some(Action::Fetch {
+            id,
+            salt,
+            instance,
+            actors: actors.clone()?,
+        }))
+    }
+
+    /// The action of a draft, where the contracts that it names are known.
+    fn filled_action(&self, seed: &Hash, draft: &Draft) -> Result<Option<Action>, AllocError>
+        ensures { IfOk result (λ a. a ≡ filled_action (K.rows self.now.known.now) seed.now (draft_action draft.now)) }
+    {
+        match draft {
+            Draft::Create { template, fields } => self.create_action(seed, *template, fields),
+            Draft::Exercise {
+                contract,
+                choice,
+                args,
+                actors,
+                consuming,
+                result,
+                ..
+            } => {
+                let Some(contract) = self.input_of(contract)? else {
+                    return Ok(None);
+                };
+                let Some(args) = referenced_values(self.alloc, self.known, args)? else {
+                    return Ok(None);
+                };
+                let Some(value) = referenced_value(self.known, result)? else {
+                    return Ok(None);
+                };
+                let action = exercise_of(contract, *choice, args, actors, *consuming, value)?;
+                Ok(Some(action))
+            }
+            Draft::Fetch { contract, actors } => self.fetch_action(contract, actors),
+        }
+    }
+
+    /// What stands below the draft at a place.
+    #[cycle(fill)]
+    fn fill_below(
+        &self,
+        count: &mut u32,
+        place: &Place,
+        draft: &Draft,
+    ) -> Result<ActionNodeList, CommandFault>
+        requires few { count.old ≤ 64 }
+        requires level { 0 < place.now.left }
+        ensures filled { result ≢ Err CommandFault.Memory → list_answer result count.new ≡ fill_below (K.rows self.now.known.now)
+            (place.now.left - 1) place.now.path place.now.seed count.old (draft_tree draft.now) }
+        ensures grows { OnOk result ((count.old ≤ count.new) × (count.new ≤ 64)) }
+    {
+        match draft {
+            Draft::Exercise { children, .. } => self.fill_list(count, place, children),
+            Draft::Create { .. } => Ok(no_drafts(self.alloc)),
+            Draft::Fetch { .. } => Ok(no_drafts(self.alloc)),
+        }
+    }
+
+    /// A draft at a place with what stands below it, where so many actions stand before it.
+    #[cycle(fill)]
+    fn fill_draft(
+        &self,
+        count: &mut u32,
+        place: &Place,
+        draft: &Draft,
+    ) -> Result<ActionNode, CommandFault>
+        ensures filled { result ≢ Err CommandFault.Memory → node_answer result count.new
+            ≡ fill_tree (K.rows self.now.known.now) place.now.left place.now.path place.now.seed count.old (draft_tree draft.now) }
+        ensures grows { OnOk result ((count.old < count.new) × (count.new ≤ 64)) }
+    {
+        if place.left == 0 {
+            return Err(CommandFault::TooDeep {
+                path: copy_path(&place.path)?,
+            });
+        }
+        if *count >= 64 {
+            return Err(CommandFault::TooMany {
+                path: copy_path(&place.path)?,
+            });
+        }
+        let Some(action) = self.filled_action(&place.seed, draft)? else {
+            return Err(CommandFault::ContractUnknown {
+                path: copy_path(&place.path)?,
+            });
+        };
+        *count += 1;
+        let children = match self.fill_below(count, place, draft) {
+            Ok(children) => children,
+            Err(fault) => return Err(fault),
+        };
+        Ok(ActionNode {
+            seed: place.seed,
+            action,
+            children,
+        })
+    }
+
+    /// The drafts of a list below a place, with what stands below them.
+    #[cycle(fill)]
+    fn fill_list(
+        &self,
+        count: &mut u32,
+        place: &Place,
+        drafts: &DraftList,
+    ) -> Result<ActionNodeList, CommandFault>
+        requires few { count.old ≤ 64 }
+        requires level { 0 < place.now.left }
+        ensures filled { result ≢ Err CommandFault.Memory → list_answer result count.new ≡ fill_all (K.rows self.now.known.now)
+            (place.now.left - 1) place.now.seed place.now.path 0 count.old drafts.now }
+        ensures grows { OnOk result ((count.old ≤ count.new) × (count.new ≤ 64)) }
+    {
+        let mut filled = ActionNodeList::new(self.alloc);
+        let items = drafts.as_slice();
+        for index in 0..65u16 {
+            let draft = match items.get(index as usize) {
+                Some(draft) => draft,
+                None => return Ok(filled),
+            };
+            let below = place.child(index)?;
+            let node = match self.fill_draft(count, &below, draft) {
+                Ok(node) => node,
+                Err(fault) => return Err(fault),
+            };
+            filled.push(node)?;
+        }
+        Err(CommandFault::TooMany {
+            path: copy_path(&place.path)?,
+        })
+    }
+
+    fn fill_roots(&self, seed: &Hash, drafts: &DraftList) -> Result<ActionNodeList, CommandFault>
+        ensures { UnlessMemory CommandFault.Memory result (filled_roots (K.rows self.now.known.now) seed.now drafts.now) }
+    {
+        let mut filled = ActionNodeList::new(self.alloc);
+        let mut count: u32 = 0;
+        let items = drafts.as_slice();
+        for index in 0..65u16 {
+            let draft = match items.get(index as usize) {
+                Some(draft) => draft,
+                None => return Ok(filled),
+            };
+            let place = Place::root(self.alloc, seed, index)?;
+            if !is_draft_named(self.known, draft) {
+                return Err(CommandFault::ContractUnknown { path: place.path });
+            }
+            let node = match self.fill_draft(&mut count, &place, draft) {
+                Ok(node) => node,
+                Err(fault) => return Err(fault),
+            };
+            filled.push(node)?;
+        }
+        Err(CommandFault::TooMany {
+            path: Path::new(self.alloc),
+        })
+    }
+
+    #[tactic(auto, unfolding(crate::specs::Filled::filling))]
+    fn run(&self, seed: &Hash, drafts: &DraftList) -> Result<ActionNodeList, CommandFault>
+        ensures { UnlessMemory CommandFault.Memory result (filling (K.rows self.now.known.now) seed.now drafts.now) }
+    {
+        let roots = self.fill_roots(seed, drafts)?;
+        if_small(roots)
+    }
+}
+
+/// A prepared tree with its seeds and ids. An input that is known has the id, salt and instance that it has in `known`,
+/// whatever the tree itself creates or consumes, and one that is handed in without an id has that of its salt and
+/// instance. Each root first resolves its labels, then its actions in pre-order try depth, number and contract; the
+/// encoded bytes are tried last. Nothing is evaluated.
+pub fn fill<K: KnownContracts>(
+    alloc: Global,
+    known: &K,
+    seed: &Hash,
+    drafts: &DraftList,
+) -> Result<ActionNodeList, CommandFault>
+    ensures exact { UnlessMemory CommandFault.Memory result (filling (K.rows known.now) seed.now drafts.now) }
+    ensures wanted { IfOk result (λ forest. IsFilled (K.rows known.now) seed.now drafts.now forest) }
+    ensures stops { IfErr result (λ fault. fault ≢ CommandFault.Memory → FillStops (K.rows known.now) seed.now drafts.now fault) }
+{
+    let filler = Filler { alloc, known };
+    filler.run(seed, drafts)
+}

@@ -1,0 +1,340 @@
+//! Actions, each with its consequences.
+ghost use Rattle.std.specs.Prelude.{◌≡◌, ◌≢◌, ◌<◌, ◌-◌, [], IfOk, Ok, Err};
+ghost use Rattle.ledger_terms.specs.declared.action.Action.TheVariants.{Exercise};
+ghost use Rattle.lang_eval.specs.Next.{next};
+ghost use Rattle.interpret.specs.Act.{act, action_answer, body_answer, body_source, do_create, do_demand, do_fetch, exercise_on, follow, most_children, turn_of};
+ghost use Rattle.interpret.specs.Shown.{turn_shown};
+
+use crate::command_fault::{CommandFault, copy_path, eval_fault};
+use crate::demand::Demand;
+use crate::ids::contract_id;
+use crate::place::Place;
+use crate::progress::{Progress, spend, usable};
+use crate::seen_of::what_is_seen;
+use crate::sizes::is_small_result;
+use crate::tested::{are_authorised, authorisers, call_controllers, created_signatories, fetchers};
+use crate::turn::Turn;
+use lang_eval::{Checked, EvalFault, is_consuming_call, next_step};
+use ledger_model::{ChoiceCall, SeenList, Step};
+use ledger_terms::{
+    Action, ActionNode, ActionNodeList, Hash, Instance, Known, KnownContracts, Name, PartySet,
+    Path, Value, ValueList, copy_instance,
+};
+use std::alloc::{AllocError, Global};
+
+/// What carries out actions: the packages, and the contracts that are known.
+#[derive(Drop)]
+pub(crate) struct Interpreter<'a, K> {
+    pub alloc: Global,
+    pub checked: &'a Checked,
+    pub known: &'a K,
+}
+
+/// What is known of a contract that was created.
+fn created_known(id: Hash, salt: Hash, instance: &Instance) -> Result<Known, AllocError>
+    ensures { IfOk result (λ k. k ≡ record { id = id; salt = salt; instance = instance.now }) }
+{
+    Ok(Known {
+        id,
+        salt,
+        instance: copy_instance(instance)?,
+    })
+}
+
+/// The end of a body with a result that keeps its limit.
+fn end_of_body(path: &Path, value: Value) -> Result<Turn, CommandFault>
+    ensures { result ≢ Err CommandFault.Memory → turn_shown result ≡ turn_of path.now (Ok (Step.Done value)) }
+{
+    if !is_small_result(&value) {
+        return Err(CommandFault::Eval {
+            path: copy_path(path)?,
+            fault: EvalFault::TooLarge,
+        });
+    }
+    Ok(Turn::End(value))
+}
+
+/// What a step of a body is: its end with a result that keeps its limit, or a child.
+fn turn_of_step(path: &Path, step: Step) -> Result<Turn, CommandFault>
+    ensures { result ≢ Err CommandFault.Memory → turn_shown result ≡ turn_of path.now (Ok step) }
+{
+    match step {
+        Step::Done(value) => end_of_body(path, value),
+        Step::Create { template, fields } => Ok(Turn::Child(Demand::Create { template, fields })),
+        Step::Exercise {
+            template,
+            id,
+            choice,
+            args,
+        } => Ok(Turn::Child(Demand::Exercise {
+            template,
+            id,
+            choice,
+            args,
+        })),
+        Step::Fetch { template, id } => Ok(Turn::Child(Demand::Fetch { template, id })),
+    }
+}
+
+/// The salt of a contract, and the call of a choice on it.
+fn call_on(contract: Known, choice: Name, args: ValueList) -> (Hash, ChoiceCall)
+    ensures { result ≡ (contract.salt, record { id = contract.id; instance = contract.instance; choice = choice; args = args }) }
+{
+    let Known { id, salt, instance } = contract;
+    let call = ChoiceCall {
+        id,
+        instance,
+        choice,
+        args,
+    };
+    (salt, call)
+}
+
+/// The action of an Exercise that was carried out.
+fn exercise_action(
+    salt: Hash,
+    call: ChoiceCall,
+    actors: PartySet,
+    consuming: bool,
+    value: Value,
+) -> Action
+    ensures { result ≡ Exercise call.id salt call.instance call.choice call.args actors consuming value }
+{
+    let ChoiceCall {
+        id,
+        instance,
+        choice,
+        args,
+    } = call;
+    Action::Exercise {
+        id,
+        salt,
+        instance,
+        choice,
+        args,
+        actors,
+        consuming,
+        result: value,
+    }
+}
+
+impl<K: KnownContracts> Interpreter<'_, K> {
+    fn create(
+        &self,
+        progress: &mut Progress,
+        place: &Place,
+        by: &PartySet,
+        instance: Instance,
+    ) -> Result<ActionNode, CommandFault>
+        ensures { result ≢ Err CommandFault.Memory → action_answer result progress.new
+            ≡ do_create self.now.checked.now progress.old place.now.path place.now.seed by.now instance }
+    {
+        let signatories = match created_signatories(self.alloc, self.checked, &instance) {
+            Ok(signatories) => signatories,
+            Err(fault) => return Err(eval_fault(&place.path, fault)),
+        };
+        if !signatories.subset(by) {
+            return Err(CommandFault::Unauthorised {
+                path: copy_path(&place.path)?,
+            });
+        }
+        let id = contract_id(self.alloc, &place.seed, &instance)?;
+        progress
+            .created
+            .push(created_known(id, place.seed, &instance)?)?;
+        Ok(ActionNode {
+            seed: place.seed,
+            action: Action::Create { id, instance },
+            children: ActionNodeList::new(self.alloc),
+        })
+    }
+
+    fn fetch(
+        &self,
+        progress: &mut Progress,
+        place: &Place,
+        by: &PartySet,
+        contract: Option<Known>,
+    ) -> Result<ActionNode, CommandFault>
+        requires { progress.old.count < 64 }
+        ensures { result ≢ Err CommandFault.Memory → action_answer result progress.new
+            ≡ do_fetch self.now.checked.now progress.old place.now.path place.now.seed by.now contract }
+    {
+        let contract = match contract {
+            Some(contract) => contract,
+            None => {
+                return Err(CommandFault::ContractUnknown {
+                    path: copy_path(&place.path)?,
+                });
+            }
+        };
+        let actors = fetchers(self.alloc, self.checked, &contract.instance, by)?;
+        if actors.as_slice().is_empty() {
+            return Err(CommandFault::Unauthorised {
+                path: copy_path(&place.path)?,
+            });
+        }
+        progress.count += 1;
+        let Known { id, salt, instance } = contract;
+        Ok(ActionNode {
+            seed: place.seed,
+            action: Action::Fetch {
+                id,
+                salt,
+                instance,
+                actors,
+            },
+            children: ActionNodeList::new(self.alloc),
+        })
+    }
+
+    /// What the body of a call does next, of the Exercise at a path.
+    fn turn(&self, call: &ChoiceCall, path: &Path, seen: &SeenList) -> Result<Turn, CommandFault>
+        ensures { result ≢ Err CommandFault.Memory → turn_shown result ≡ turn_of path.now (next self.now.checked.now call.now seen.now) }
+    {
+        match next_step(self.alloc, self.checked, call, seen) {
+            Ok(step) => turn_of_step(path, step),
+            Err(fault) => Err(eval_fault(path, fault)),
+        }
+    }
+
+    /// The Exercise of a call on a contract with that salt.
+    #[cycle(act)]
+    fn exercise(
+        &self,
+        progress: &mut Progress,
+        place: &Place,
+        by: &PartySet,
+        salt: Hash,
+        call: ChoiceCall,
+    ) -> Result<ActionNode, CommandFault>
+        requires level { 0 < place.now.left }
+        ensures { result ≢ Err CommandFault.Memory → action_answer result progress.new ≡ exercise_on self.now.checked.now
+            (act (place.now.left - 1) self.now.checked.now (K.rows self.now.known.now)) progress.old place.now.path place.now.seed by.now salt call }
+    {
+        let actors = match call_controllers(self.alloc, self.checked, &call) {
+            Ok(actors) => actors,
+            Err(fault) => return Err(eval_fault(&place.path, fault)),
+        };
+        if !are_authorised(&actors, by) {
+            return Err(CommandFault::Unauthorised {
+                path: copy_path(&place.path)?,
+            });
+        }
+        let consuming = is_consuming_call(self.checked, &call);
+        spend(progress, consuming, call.id)?;
+        let below = authorisers(self.alloc, self.checked, &call.instance, &actors)?;
+        let mut children = ActionNodeList::new(self.alloc);
+        let value = match self.follow(progress, place, &below, &call, &mut children) {
+            Ok(value) => value,
+            Err(fault) => return Err(fault),
+        };
+        Ok(ActionNode {
+            seed: place.seed,
+            action: exercise_action(salt, call, actors, consuming, value),
+            children,
+        })
+    }
+
+    /// The consequences of the Exercise at a place, put at the end of `children`, and its result.
+    #[cycle(act)]
+    fn follow(
+        &self,
+        progress: &mut Progress,
+        place: &Place,
+        by: &PartySet,
+        call: &ChoiceCall,
+        children: &mut ActionNodeList,
+    ) -> Result<Value, CommandFault>
+        requires level { 0 < place.now.left }
+        ensures { result ≢ Err CommandFault.Memory → body_answer result children.new progress.new ≡ follow most_children
+            (body_source self.now.checked.now call.now place.now.path) (act (place.now.left - 1) self.now.checked.now (K.rows self.now.known.now))
+            place.now.seed place.now.path by.now progress.old [] children.old 0 }
+    {
+        let mut seen = SeenList::new(self.alloc);
+        for index in 0..65u16 {
+            let demand = match self.turn(call, &place.path, &seen) {
+                Ok(Turn::Child(demand)) => demand,
+                Ok(Turn::End(value)) => return Ok(value),
+                Err(fault) => return Err(fault),
+            };
+            let below = place.child(index)?;
+            let child = match self.act(progress, &below, by, demand) {
+                Ok(child) => child,
+                Err(fault) => return Err(fault),
+            };
+            seen.push(what_is_seen(&child.action)?)?;
+            children.push(child)?;
+        }
+        Err(CommandFault::TooMany {
+            path: copy_path(&place.path)?,
+        })
+    }
+
+    /// The action that is asked for at a place, with its consequences.
+    #[cycle(act)]
+    pub(crate) fn act(
+        &self,
+        progress: &mut Progress,
+        place: &Place,
+        by: &PartySet,
+        demand: Demand,
+    ) -> Result<ActionNode, CommandFault>
+        ensures { result ≢ Err CommandFault.Memory → action_answer result progress.new ≡ act place.now.left self.now.checked.now
+            (K.rows self.now.known.now) progress.old place.now.path place.now.seed by.now demand }
+    {
+        if place.left == 0 {
+            return Err(CommandFault::TooDeep {
+                path: copy_path(&place.path)?,
+            });
+        }
+        if progress.count >= 64 {
+            return Err(CommandFault::TooMany {
+                path: copy_path(&place.path)?,
+            });
+        }
+        self.act_in_room(progress, place, by, demand)
+    }
+
+    /// The same where there is room for one level and for one action.
+    #[cycle(act)]
+    fn act_in_room(
+        &self,
+        progress: &mut Progress,
+        place: &Place,
+        by: &PartySet,
+        demand: Demand,
+    ) -> Result<ActionNode, CommandFault>
+        requires level { 0 < place.now.left }
+        requires few { progress.old.count < 64 }
+        ensures { result ≢ Err CommandFault.Memory → action_answer result progress.new ≡ do_demand self.now.checked.now (K.rows self.now.known.now)
+            (act (place.now.left - 1) self.now.checked.now (K.rows self.now.known.now)) progress.old place.now.path place.now.seed by.now demand }
+    {
+        match demand {
+            Demand::Create { template, fields } => {
+                progress.count += 1;
+                self.create(progress, place, by, Instance { template, fields })
+            }
+            Demand::Exercise {
+                template,
+                id,
+                choice,
+                args,
+            } => {
+                let Some(contract) = usable(self.checked, self.known, progress, &id, template)?
+                else {
+                    return Err(CommandFault::ContractUnknown {
+                        path: copy_path(&place.path)?,
+                    });
+                };
+                progress.count += 1;
+                let (salt, call) = call_on(contract, choice, args);
+                self.exercise(progress, place, by, salt, call)
+            }
+            Demand::Fetch { template, id } => {
+                let contract = usable(self.checked, self.known, progress, &id, template)?;
+                self.fetch(progress, place, by, contract)
+            }
+        }
+    }
+}

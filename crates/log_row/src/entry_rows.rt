@@ -1,0 +1,61 @@
+//! Where the entries lie. An entry stays where it was put for as long as the log is lent.
+ghost use Rattle.std.specs.Prelude.{◌≡◌, ◌<◌, ◌^◌, MatchResult};
+
+use canton_model::Entry;
+use std::alloc::{AllocError, Global};
+use std::sync::OnceLock;
+
+type Row = Vec<OnceLock<Entry>>;
+
+/// Rows of doubling length, each made when its first entry comes.
+#[derive(Drop)]
+pub struct EntryRows {
+    alloc: Global,
+    rows: Vec<OnceLock<Row>>,
+}
+
+impl EntryRows {
+    pub fn new(alloc: Global) -> Result<EntryRows, AllocError> {
+        let mut rows = Vec::new(alloc);
+        rows.resize_with(64, || OnceLock::new())?;
+        Ok(EntryRows { alloc, rows })
+    }
+
+    /// Keeps the entry at the index, where none was. It comes back where there is no memory.
+    pub fn put<'r>(&'r self, index: u64, entry: Entry) -> Result<&'r Entry, Entry>
+        requires { index < 2 ^ 63 }
+        ensures { MatchResult result (λ r. r.now ≡ entry) (λ e. e ≡ entry) }
+    {
+        let Some(slot) = self.slot(index) else {
+            return Err(entry);
+        };
+        let token = slot.try_set(entry)?;
+        Ok(slot.value(&token))
+    }
+
+    // The index's own slot, which is empty until it is used. None comes where there is no memory.
+    fn slot(&self, index: u64) -> Option<&OnceLock<Entry>>
+        requires { index < 2 ^ 63 }
+    {
+        let number = index + 1;
+        let kind = number.ilog2();
+        let first = 1u64.checked_shl(kind)?;
+        let offset = number.checked_sub(first)?;
+        let lock = self.rows.get(kind as usize)?;
+        let row = match lock.get() {
+            Some(row) => row,
+            None => {
+                let fresh = fresh_row(self.alloc, first).ok()?;
+                let token = lock.try_set(fresh).ok()?;
+                lock.value(&token)
+            }
+        };
+        row.get(offset as usize)
+    }
+}
+
+fn fresh_row(alloc: Global, length: u64) -> Result<Row, AllocError> {
+    let mut row = Vec::new(alloc);
+    row.resize_with(length as usize, || OnceLock::new())?;
+    Ok(row)
+}

@@ -1,0 +1,243 @@
+//! The log with one writer.
+ghost use Rattle.std.specs.Prelude.{◌≡◌, ℕ, ◌+◌, ◌<◌, ◌^◌, ◌++◌, ◌∷◌, [], length, Some, slice_get, IfOk, MatchResult};
+ghost use Rattle.log_row.specs.LogPrefix.{extended, Agree};
+ghost use Rattle.log_row.specs.Seats.{writer};
+ghost use mathlib.Core.List.{IsPrefix};
+
+use crate::entry_rows::EntryRows;
+use crate::seat::{Adds, Append, Copied, Joined, Learn, RowSeat, RowShared, RowTable};
+use canton_model::Entry;
+use std::alloc::{AllocError, Global};
+use std::marker::{Brand, Model};
+use std::mem;
+
+/// What the slips of one history have in common.
+#[derive(Drop)]
+struct Storage {
+    entry_rows: EntryRows,
+    table: RowTable,
+}
+
+impl Storage {
+    fn new(alloc: Global) -> Result<(Storage, RowSeat), AllocError>
+        ensures { IfOk result (λ g. (g.1.table_id ≡ g.0.table.shared.table_id) × (g.1.table_id.words ≡ 1) × (g.1.me ≡ (writer [], []))) }
+    {
+        let (table, seat) = RowTable::of_words(alloc, &[0], &())?;
+        let entry_rows = EntryRows::new(alloc)?;
+        Ok((Storage { entry_rows, table }, seat))
+    }
+}
+
+/// The place of a log. To a contract it is the name of the history that `open` begins next.
+#[derive(Drop)]
+pub struct LogRow {
+    alloc: Global,
+    current: Storage,
+    next: Storage,
+    seat: RowSeat,
+}
+
+impl Model for LogRow {
+    ghost use Rattle.std.specs.Prelude.{◌≡◌, []};
+    ghost use Rattle.atomic_table.specs.Seated.{TableId, table_id_coded};
+
+    ghost Value = { TableId };
+
+    ghost coded = { table_id_coded };
+
+    ghost use Rattle.log_row.specs.Seats.{writer};
+
+    ghost view = { λ r. r.seat.table_id };
+
+    ghost invariant = { λ r. (r.seat.table_id ≡ r.next.table.shared.table_id) × (r.seat.table_id.words ≡ 1) × (r.seat.me ≡ (writer [], [])) };
+}
+
+/// The one writer of a history.
+#[derive(Drop)]
+pub struct Pen<'r> {
+    storage: &'r Storage,
+    seat: RowSeat,
+    count: u64,
+}
+
+impl<'r> Model for Pen<'r> {
+    ghost use Rattle.std.specs.Prelude.{◌≡◌, [], length};
+    ghost use Rattle.log_row.specs.LogPrefix.{LogPrefix};
+
+    ghost Value = { LogPrefix };
+
+    ghost use Rattle.log_row.specs.Seats.{writer};
+
+    ghost view = { λ p. record { row = p.seat.table_id; list = p.seat.me.0.list } };
+
+    ghost invariant = { λ p. (p.seat.table_id ≡ p.storage.now.table.shared.table_id) × (p.seat.table_id.words ≡ 1)
+        × (p.seat.me ≡ (writer p.seat.me.0.list, [])) × (p.count ≡ length p.seat.me.0.list) };
+}
+
+/// One published entry, with all that stands before it.
+#[derive(Drop)]
+pub struct Slip<'r> {
+    storage: &'r Storage,
+    seat: RowSeat,
+    place: u64,
+    entry: &'r Entry,
+}
+
+impl<'r> Model for Slip<'r> {
+    ghost use Rattle.std.specs.Prelude.{◌≡◌, ◌<◌, ◌^◌, []};
+    ghost use Rattle.log_row.specs.LogPrefix.{LogPrefix, EndsAt};
+
+    ghost Value = { LogPrefix };
+
+    ghost use Rattle.log_row.specs.Seats.{reader};
+
+    ghost view = { λ s. record { row = s.seat.table_id; list = s.seat.me.0.list } };
+
+    ghost invariant = { λ s. (s.seat.table_id ≡ s.storage.now.table.shared.table_id) × (s.seat.table_id.words ≡ 1)
+        × (s.seat.me ≡ (reader s.seat.me.0.list, [])) × EndsAt s.seat.me.0.list s.place s.entry.now × (s.place < 2 ^ 63) };
+}
+
+impl LogRow {
+    pub fn new(alloc: Global) -> Result<LogRow, AllocError> {
+        let (current, _seat) = Storage::new(alloc)?;
+        let (next, seat) = Storage::new(alloc)?;
+        Ok(LogRow {
+            alloc,
+            current,
+            next,
+            seat,
+        })
+    }
+
+    /// Begins a new and empty history, and gives its one writer.
+    pub fn open<'r>(&'r mut self) -> Result<Pen<'r>, AllocError>
+        ensures named { IfOk result (λ p. p.row ≡ self.old) }
+        ensures empty { IfOk result (λ p. p.list ≡ []) }
+    {
+        let (fresh, fresh_seat) = Storage::new(self.alloc)?;
+        let seat = mem::replace(&mut self.seat, fresh_seat);
+        self.current = mem::replace(&mut self.next, fresh);
+        Ok(Pen {
+            storage: &self.current,
+            seat,
+            count: 0,
+        })
+    }
+}
+
+// The writer's seat adds one entry.
+fn append<J: Adds>(row: &RowShared, seat: &mut RowSeat, entry: &Entry)
+    requires names { J.entries ≡ entry.now ∷ [] }
+    requires seat { (seat.old.table_id ≡ row.now.table_id) × (seat.old.table_id.words ≡ 1) × (seat.old.me ≡ (writer seat.old.me.0.list, [])) }
+    requires room { length seat.old.me.0.list + 1 < 2 ^ 64 }
+    ensures same { seat.new.table_id ≡ seat.old.table_id }
+    ensures list { seat.new.me ≡ (writer (seat.old.me.0.list ++ entry.now ∷ []), []) }
+{
+    row.fetch_add::<Append<J>>(seat, 0, 1);
+}
+
+impl<'r> Pen<'r> {
+    /// How many entries the history has.
+    pub fn len(&self) -> u64
+        ensures { result ≡ length self.now.list }
+    {
+        self.count
+    }
+
+    /// Appends the entry to the history, and gives its slip. Without memory the entry comes back.
+    pub fn publish(&mut self, entry: Entry) -> Result<Slip<'r>, Entry>
+        requires { length self.old.list < 2 ^ 63 }
+        ensures { MatchResult result (λ s. (self.new ≡ extended self.old entry) × (s ≡ self.new)) (λ e. (self.new ≡ self.old) × (e ≡ entry)) }
+    {
+        let entry = self.storage.entry_rows.put(self.count, entry)?;
+        append::<Brand>(&self.storage.table.shared, &mut self.seat, entry);
+        let seat = self
+            .storage
+            .table
+            .shared
+            .split_seat::<Copied>(&mut self.seat);
+        let place = self.count;
+        self.count += 1;
+        Ok(Slip {
+            storage: self.storage,
+            seat,
+            place,
+            entry,
+        })
+    }
+
+    /// Tells that the slip's list begins the history.
+    pub fn reaches(&mut self, slip: &mut Slip<'r>)
+        requires { slip.old.row ≡ self.old.row }
+        ensures same { (self.new ≡ self.old) × (slip.new ≡ slip.old) }
+        ensures begins { IsPrefix slip.old.list self.old.list }
+    {
+        let theirs = self
+            .storage
+            .table
+            .shared
+            .split_seat::<Copied>(&mut slip.seat);
+        self.storage
+            .table
+            .shared
+            .join_seat::<Joined>(&mut self.seat, theirs);
+        self.storage.table.shared.load::<Learn>(&mut self.seat, 0);
+    }
+}
+
+impl<'r> Slip<'r> {
+    /// Where the entry stands.
+    pub fn place(&self) -> u64
+        ensures place { length self.now.list ≡ result + 1 }
+        ensures few { result < 2 ^ 63 }
+    {
+        self.place
+    }
+
+    pub fn entry(&self) -> &Entry
+        ensures { (k : ℕ) → length self.now.list ≡ k + 1 → slice_get self.now.list k ≡ Some result.now }
+    {
+        self.entry
+    }
+
+    /// The same slip once more.
+    pub fn again(&mut self) -> Slip<'r>
+        ensures same { self.new ≡ self.old }
+        ensures again { result ≡ self.old }
+    {
+        let seat = self
+            .storage
+            .table
+            .shared
+            .split_seat::<Copied>(&mut self.seat);
+        Slip {
+            storage: self.storage,
+            seat,
+            place: self.place,
+            entry: self.entry,
+        }
+    }
+
+    /// Tells that the list of one of the two begins the other's.
+    pub fn compare(&mut self, other: &mut Slip<'r>)
+        requires { other.old.row ≡ self.old.row }
+        ensures same { (self.new ≡ self.old) × (other.new ≡ other.old) }
+        ensures agree { Agree self.old.list other.old.list }
+    {
+        let mut mine = self
+            .storage
+            .table
+            .shared
+            .split_seat::<Copied>(&mut self.seat);
+        let theirs = self
+            .storage
+            .table
+            .shared
+            .split_seat::<Copied>(&mut other.seat);
+        self.storage
+            .table
+            .shared
+            .join_seat::<Joined>(&mut mine, theirs);
+        self.storage.table.shared.load::<Learn>(&mut mine, 0);
+    }
+}

@@ -1,0 +1,32 @@
+//! What the mediator's calls do, in terms of the log.
+ghost use Rattle.std.specs.Prelude.{◌≡◌, ℕ, List, [], ◌∷◌, ◌++◌, Option, IfSome};
+ghost use Rattle.world_model.specs.Messages.{Entry as EntryValue};
+ghost use Rattle.canton_model.specs.declared.verdict.Verdict.{Verdict as VerdictValue};
+ghost use Rattle.world_model.specs.Machine.{Machine, GenuineLog};
+ghost use Rattle.world_model.specs.Fits.{IsDecision};
+ghost use Rattle.world_model.specs.Mediator.{MediatorState, new_mediator, read_by_mediator, next_verdict, give_back};
+ghost use Rattle.world_model.specs.Lawful.{MediatorHas};
+ghost use Rattle.mediator.specs.Kept.{Kept, Keeps, Knows, taken};
+
+/// What a mediator knows of the log that it has read: at first nothing, an entry more after each read, and the same after a
+/// verdict is taken or given back. Each verdict that it takes is the scan of the log.
+pub fn mediator_knows()
+    ensures new { (m : Machine) (kept : Kept) → kept.params ≡ m.params → Keeps kept new_mediator → Knows m [] kept }
+    ensures read { (m : Machine) (log : List EntryValue) (before after : Kept) (entry : EntryValue)
+        → Knows m log before
+        → after.params ≡ before.params
+        → ((state : MediatorState) → Keeps before state → Keeps after (read_by_mediator before.params state entry))
+        → Knows m (log ++ entry ∷ []) after }
+    ensures take { (m : Machine) (log : List EntryValue) (before after : Kept) (verdict : Option VerdictValue)
+        → GenuineLog m log
+        → Knows m log before
+        → after.params ≡ before.params
+        → ((state : MediatorState) → Keeps before state → verdict ≡ next_verdict state)
+        → ((state : MediatorState) → Keeps before state → Keeps after (taken state verdict))
+        → IfSome verdict (λ v. IsDecision m.params log v) × Knows m log after }
+    ensures give_back { (m : Machine) (log : List EntryValue) (before after : Kept) (k : ℕ)
+        → Knows m log before
+        → after.params ≡ before.params
+        → ((state : MediatorState) → Keeps before state → Keeps after (give_back state k))
+        → Knows m log after }
+{}

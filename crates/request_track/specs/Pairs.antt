@@ -1,0 +1,84 @@
+-- The requests that a participant tracks, and the clean place.
+use Rattle.std.specs.Prelude.{◌≡◌, ℕ, Bool, true, false, List, [], ◌∷◌, Option, Some, None, option_map, if◌then◌else◌, ◌&&◌, map, min, nat_eq, nat_le, nat_lt}
+use Rattle.std.specs.Map.{lookup}
+use Rattle.canton_model.specs.declared.outcome.Outcome.{Outcome}
+use Rattle.canton_model.specs.declared.outcome.Outcome.TheVariants.{Undecided, Approved, Rejected, TimedOut, Expired}
+use Rattle.request_track.specs.declared.tracked.Tracked.{Tracked}
+
+-- a request's place, with its decision time and what became of it
+abbrev pub Pair : Type 0
+Pair = ℕ × Tracked
+
+abbrev pub is_undecided : Outcome → Bool
+is_undecided Undecided = true
+is_undecided Approved = false
+is_undecided Rejected = false
+is_undecided TimedOut = false
+is_undecided Expired = false
+
+abbrev pub is_open : Pair → Bool
+is_open p = is_undecided p.1.outcome
+
+-- what became of the request at a place
+abbrev pub tracked_at : List Pair → ℕ → Option Tracked
+tracked_at pairs place = lookup (λ p. nat_eq place p) pairs
+
+abbrev pub outcome_at : List Pair → ℕ → Option Outcome
+outcome_at pairs place = option_map (λ (t : Tracked). t.outcome) (tracked_at pairs place)
+
+-- the request at a place gets the outcome
+abbrev pub settled : ℕ → Outcome → List Pair → List Pair
+settled place outcome [] = []
+settled place outcome (p ∷ ps) =
+    if nat_eq place p.0 then (p.0, record p.1 { outcome = outcome }) ∷ ps else p ∷ settled place outcome ps
+
+-- an undecided request whose decision time is below the time expires
+abbrev pub expire_one : ℕ → Pair → Pair
+expire_one time p = if is_open p && nat_lt p.1.decision time then (p.0, record p.1 { outcome = Expired }) else p
+
+abbrev pub expired : ℕ → List Pair → List Pair
+expired time pairs = map (expire_one time) pairs
+
+-- the clean place: the least place of an undecided request, and at most the cursor
+abbrev pub clean_of : List Pair → ℕ → ℕ
+clean_of [] cursor = cursor
+clean_of (p ∷ ps) cursor = if is_open p then min p.0 (clean_of ps cursor) else clean_of ps cursor
+
+-- in front of the first that isn't smaller
+abbrev pub in_place : ℕ → List ℕ → List ℕ
+in_place p [] = p ∷ []
+in_place p (q ∷ qs) = if nat_le p q then p ∷ q ∷ qs else q ∷ in_place p qs
+
+-- the undecided places in rising order
+abbrev pub undecided_of : List Pair → List ℕ
+undecided_of [] = []
+undecided_of (p ∷ ps) = if is_open p then in_place p.0 (undecided_of ps) else undecided_of ps
+
+-- without the first that is the place
+abbrev pub without : ℕ → List ℕ → List ℕ
+without p [] = []
+without p (q ∷ qs) = if nat_eq p q then qs else q ∷ without p qs
+
+-- the first, and at most the cursor
+abbrev pub first_or : List ℕ → ℕ → ℕ
+first_or [] cursor = cursor
+first_or (p ∷ ps) cursor = min p cursor
+
+abbrev pub put_if : Bool → ℕ → List ℕ → List ℕ
+put_if b p xs = if b then in_place p xs else xs
+
+abbrev pub drop_if : Bool → ℕ → List ℕ → List ℕ
+drop_if b p xs = if b then without p xs else xs
+
+-- no two pairs have one place
+abbrev pub Apart : List Pair → Type 0
+Apart [] = Unit {0}
+Apart (p ∷ ps) = (tracked_at ps p.0 ≡ None) × Apart ps
+
+-- whether it is undecided, and its decision time is below the time
+abbrev pub late_tracked : ℕ → Option Tracked → Bool
+late_tracked time None = false
+late_tracked time (Some t) = is_undecided t.outcome && nat_lt t.decision time
+
+abbrev pub is_late : ℕ → List Pair → ℕ → Bool
+is_late time ps place = late_tracked time (tracked_at ps place)

@@ -1,0 +1,83 @@
+//! Places in rising order.
+ghost use Rattle.std.specs.Prelude.{◌≡◌, ◌+◌, ◌<◌, ◌≤◌, ℕ, true, min, length, insert, remove, vec_len, vec_capacity, MatchOption};
+ghost use Rattle.request_track.specs.Pairs.{in_place, without, first_or, put_if, drop_if};
+
+// Where a place belongs: in front of the first that isn't smaller.
+fn place_for(places: &Vec<u64>, place: u64) -> usize
+    ensures within { result ≤ vec_len places.now }
+    ensures parts { insert places.now.items result place ≡ in_place place places.now.items }
+{
+    'forth: for (at, there) in places.iter().enumerate() {
+        if place <= *there {
+            return at;
+        }
+    }
+    places.len()
+}
+
+/// One more place, in the room that is there.
+pub fn insert_place(places: &mut Vec<u64>, place: u64)
+    requires { vec_len places.old < vec_capacity places.old }
+    ensures places { places.new.items ≡ in_place place places.old.items }
+    ensures len { vec_len places.new ≡ vec_len places.old + 1 }
+    ensures capacity { vec_capacity places.old ≤ vec_capacity places.new }
+{
+    let at = place_for(places, place);
+    places.insert(at, place).unwrap();
+}
+
+// Where a place stands.
+fn place_of(places: &Vec<u64>, place: u64) -> Option<usize>
+    ensures { MatchOption result (without place places.now.items ≡ places.now.items)
+        (λ at. (at < vec_len places.now) × (remove places.now.items at ≡ without place places.now.items)) }
+{
+    'forth: for (at, there) in places.iter().enumerate() {
+        if place == *there {
+            return Some(at);
+        }
+    }
+    None
+}
+
+/// Without a place.
+pub fn remove_place(places: &mut Vec<u64>, place: u64)
+    ensures places { places.new.items ≡ without place places.old.items }
+    ensures len { vec_len places.new ≤ vec_len places.old }
+    ensures capacity { vec_capacity places.new ≡ vec_capacity places.old }
+{
+    if let Some(at) = place_of(places, place) {
+        let _ = places.remove(at);
+    }
+}
+
+/// The first place, and at most the cursor.
+pub fn first_or(places: &Vec<u64>, cursor: u64) -> u64
+    ensures { result ≡ first_or places.now.items cursor }
+{
+    match places.first() {
+        Some(first) => { if *first < cursor { *first } else { cursor } }
+        None => cursor,
+    }
+}
+
+/// One more place, if it is wanted, in the room that is there.
+pub fn insert_if(places: &mut Vec<u64>, wanted: bool, place: u64)
+    requires { vec_len places.old < vec_capacity places.old }
+    ensures places { places.new.items ≡ put_if wanted place places.old.items }
+    ensures capacity { vec_capacity places.old ≤ vec_capacity places.new }
+{
+    if wanted {
+        insert_place(places, place);
+    }
+}
+
+/// Without a place, if it is to go.
+pub fn remove_if(places: &mut Vec<u64>, wanted: bool, place: u64)
+    ensures places { places.new.items ≡ drop_if wanted place places.old.items }
+    ensures len { vec_len places.new ≤ vec_len places.old }
+    ensures capacity { vec_capacity places.new ≡ vec_capacity places.old }
+{
+    if wanted {
+        remove_place(places, place);
+    }
+}

@@ -1,0 +1,27 @@
+//! Reads cases from standard input, one a line: the word `run`, a name, the calls at which the source and the sink fail, 0 for
+//! none, the words with commas between them, and the bytes of the source. It runs each over a source and a sink that move 16
+//! bytes a call, and writes the status, the line for it, and what the sink was given, each of its lines behind a bar. A line
+//! that begins otherwise is written again.
+#![tactic(auto)]
+
+mod case;
+mod played;
+
+use case::Case;
+use played::answer;
+use std::io;
+
+fn main(rt: HostRuntime) -> io::Result<()> {
+    let alloc = rt.alloc();
+    for line in rt.lines(alloc) {
+        let line = line?;
+        match Case::read(line.as_str()) {
+            Some(case) => {
+                let answer = answer(alloc, &case)?;
+                print!(rt; "{answer}")?;
+            }
+            None => println!(rt; "{line}")?,
+        }
+    }
+    Ok(())
+}

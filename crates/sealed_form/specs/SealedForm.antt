@@ -1,0 +1,189 @@
+-- The sealed form of a request: a tree for each recipient and one for the mediator, as bytes.
+use Rattle.std.specs.Prelude.{◌≡◌, ℕ, ◌≤◌, Bool, true, List, [], ◌∷◌, ◌++◌, length, map, filter, flat_map, Contains, nat_eq, Option, Some, None}
+use Rattle.std.specs.Prelude.{option_to_list, option_and_then, Result, Ok, Err, ◌||◌}
+use Rattle.sha2.specs.Sha256.{sha256}
+use Rattle.ledger_terms.specs.Trees.{Act}
+use Rattle.std.specs.List.{list_any}
+use Rattle.ledger_terms.specs.Forest.{Forest, preorder}
+use Rattle.ledger_terms.specs.Hosting.{hosts_at}
+use Rattle.ledger_terms.specs.declared.host.Host.{Host}
+use Rattle.ledger_terms.specs.declared.topology.Topology.{Topology}
+use Rattle.ledger_terms.specs.declared.value.Value.{Value}
+use Rattle.ledger_terms.specs.declared.value.Value.TheVariants.{Unit as UnitValue, Int, Bool as BoolValue, Text, Party, Contract, Parties}
+use Rattle.ledger_terms.specs.declared.action.Action.{Action}
+use Rattle.ledger_terms.specs.declared.action.Action.TheVariants.{Create, Exercise, Fetch}
+use Rattle.ledger_model.specs.Forest.{acts}
+use Rattle.ledger_model.specs.Language.{roles_of}
+use Rattle.ledger_model.specs.declared.roles.Roles.{Roles}
+use Rattle.ledger_model.specs.Opening.{confirming_of, Transaction}
+use Rattle.canton_model.specs.declared.envelope.Envelope.{Envelope}
+use Rattle.canton_model.specs.declared.request.Request.{Request}
+use Rattle.lang_eval.specs.Found.{Packages}
+use Rattle.wire_form.specs.InRange.{IsHash}
+use Rattle.wire_form.specs.declared.wire_fault.WireFault.{WireFault}
+use Rattle.interpret.specs.Language.{the_language}
+use Rattle.view_split.specs.SplitView.{SplitView}
+use Rattle.view_split.specs.Split.{split, assembled}
+use Rattle.sealed_form.specs.Within.{participants_of, is_hosted}
+use Rattle.view_split.specs.declared.opened_tree.OpenedTree.{OpenedTree}
+use Rattle.blind_tree.specs.Blind.{has_sight, is_host_named}
+use Rattle.blind_tree.specs.Opening.{tree_opened, views_read}
+use Rattle.blind_tree.specs.Reading.{read_all, tree_at}
+use Rattle.blind_tree.specs.Seen.{AreInRange, IsSmall}
+use Rattle.blind_tree.specs.Spelling.{spell_tree}
+use Rattle.blind_tree.specs.declared.leaf.Leaf.{Leaf}
+use Rattle.blind_tree.specs.declared.leaf.Leaf.TheVariants.{Blind, Plain}
+use Rattle.blind_tree.specs.declared.tree.Tree.{Tree}
+use Rattle.proto_model.specs.PlainReading.{envelope_to}
+use Rattle.sealed_form.specs.Overlay.{laid}
+use Rattle.sealed_form.specs.Salted.{Salts, split_as, tree_to, tree_to_mediator}
+
+-- ---- what a sender makes of a transaction
+
+abbrev pub roles_by : Packages → Action → Roles
+roles_by packages = roles_of (the_language packages)
+
+abbrev pub views_by : Packages → Transaction → Forest SplitView
+views_by packages t = split (roles_by packages) t.roots
+
+-- the sender, and who sees a view
+abbrev pub is_recipient : List Host → Forest SplitView → (sender p : ℕ) → Bool
+is_recipient hosts views sender p = nat_eq p sender || has_sight (hosts_at hosts p) views
+
+abbrev pub recipients_of : Topology → Forest SplitView → (sender : ℕ) → List ℕ
+recipients_of topology views sender = filter (is_recipient topology.hosts views sender) (participants_of topology)
+
+-- the tree for a participant, where the sender has this name
+abbrev pub tree_for : Topology → Packages → (sender : ℕ) (name : List ℕ) → Salts → Transaction → ℕ → Tree
+tree_for topology packages sender name salts t p =
+    tree_to sha256 salts name t (views_by packages t) (hosts_at topology.hosts p) (nat_eq p sender)
+
+abbrev pub envelope_for : Topology → Packages → (sender : ℕ) (name : List ℕ) → Salts → Transaction → ℕ → Envelope
+envelope_for topology packages sender name salts t p = record { to = p; bytes = spell_tree (tree_for topology packages sender name salts t p) }
+
+-- the participants that confirm a confirmer of a view
+abbrev pub confirming_by : (confirms : ℕ → List ℕ → Bool) → List ℕ → Forest SplitView → List ℕ
+confirming_by confirms participants views =
+    filter (λ p. list_any (λ (view : SplitView). list_any (confirms p) view.confirmers) (preorder views)) participants
+
+-- The request of a transaction: the participants that host a confirmer of a view are asked, and each recipient gets its tree,
+-- both in the order of the topology.
+abbrev pub request_of : Topology → Packages → (sender : ℕ) (name command : List ℕ) → Salts → Transaction → Request
+request_of topology packages sender name command salts t =
+    record {
+      sender = sender;
+      command = command;
+      confirming = confirming_of (the_language packages) (hosts_at topology.hosts) (participants_of topology) t.roots;
+      mediator = spell_tree (tree_to_mediator sha256 salts name t (views_by packages t));
+      envelopes = map (envelope_for topology packages sender name salts t) (recipients_of topology (views_by packages t) sender);
+    }
+
+-- ---- what is read of a request
+
+abbrev pub found : {A : Type 0} → Result A WireFault → Option A
+found (Ok x) = Some x
+found (Err fault) = None
+
+-- the tree that bytes spell
+abbrev pub tree_in : List ℕ → Option Tree
+tree_in bytes = found (read_all tree_at bytes)
+
+-- the trees that any of these spell, in order
+abbrev pub trees_in : List (List ℕ) → List Tree
+trees_in [] = []
+trees_in (bytes ∷ more) = option_to_list (tree_in bytes) ++ trees_in more
+
+abbrev pub bytes_of : Envelope → List ℕ
+bytes_of envelope = envelope.bytes
+
+-- what the tree that bytes spell opens
+abbrev pub opened_in : List ℕ → Option OpenedTree
+opened_in bytes = option_and_then (λ (tree : Tree). found (tree_opened tree)) (tree_in bytes)
+
+-- what is opened to a participant
+abbrev pub opened_to : ℕ → Request → Option OpenedTree
+opened_to p request = option_and_then opened_in (envelope_to p request.envelopes)
+
+-- all views, each from the first envelope that shows it
+abbrev pub all_views : Request → Option (Forest SplitView)
+all_views request = found (views_read (laid (trees_in (map bytes_of request.envelopes))))
+
+-- A transaction as it is read back, with the name of its sender and the salts of the first two leaves.
+pub record Whole : Type 0 where
+  pub sender : List ℕ
+  pub salts : Salts
+  pub transaction : Transaction
+
+abbrev pub salts_in : Leaf → Leaf → Option Salts
+salts_in (Plain salt bytes) (Plain salt2 bytes2) = Some (record { common = salt; requesters = salt2 })
+salts_in (Plain salt bytes) (Blind hash) = None
+salts_in (Blind hash) leaf = None
+
+abbrev pub whole_with : OpenedTree → Option Salts → Option (List (List ℕ)) → Option (Forest SplitView) → Option Whole
+whole_with opened None requesters views = None
+whole_with opened (Some salts) None views = None
+whole_with opened (Some salts) (Some requesters) None = None
+whole_with opened (Some salts) (Some requesters) (Some views) =
+    Some (record {
+      sender = opened.sender;
+      salts = salts;
+      transaction = record { requesters = requesters; ledger_time = opened.ledger_time; roots = assembled views };
+    })
+
+abbrev pub whole_if : Tree → Option (Forest SplitView) → Option OpenedTree → Option Whole
+whole_if tree views None = None
+whole_if tree views (Some opened) = whole_with opened (salts_in tree.common tree.requesters) opened.requesters views
+
+abbrev pub whole_by : Option (Forest SplitView) → Option Tree → Option Whole
+whole_by views None = None
+whole_by views (Some tree) = whole_if tree views (found (tree_opened tree))
+
+-- sender, salts, ledger time and requesters from the sender's envelope, and each view from the first envelope that shows it
+abbrev pub whole_of : Request → Option Whole
+whole_of request = whole_by (all_views request) (option_and_then tree_in (envelope_to request.sender request.envelopes))
+
+-- ---- sealed requests
+
+abbrev pub names_in : Value → List (List ℕ)
+names_in UnitValue = []
+names_in (Int n) = []
+names_in (BoolValue b) = []
+names_in (Text t) = []
+names_in (Party p) = p ∷ []
+names_in (Contract h) = []
+names_in (Parties s) = s
+
+-- the parties that an action names in its fields, arguments, actors or result
+abbrev pub named_in : Action → List (List ℕ)
+named_in (Create id i) = flat_map names_in i.fields
+named_in (Exercise id salt i choice args actors consuming result) =
+    flat_map names_in i.fields ++ (flat_map names_in args ++ (actors ++ names_in result))
+named_in (Fetch id salt i actors) = flat_map names_in i.fields ++ actors
+
+-- What can be sealed: each action has roles, its informees and the parties that it names are those of the topology, the
+-- sender hosts the requesters, and all that is in the trees is in the range of the formats and has room in them.
+pub record CanBeSealed (topology : Topology) (packages : Packages) (sender : ℕ) (whole : Whole) : Type 0 where
+  pub sender_is : is_host_named topology.hosts sender whole.sender ≡ true
+  pub has_roles : (a : Act) → Contains (acts whole.transaction.roots) a → (the_language packages).has_roles a.action ≡ true
+  pub informees : (a : Act) (party : List ℕ) → Contains (acts whole.transaction.roots) a → Contains (roles_by packages a.action).informees party
+      → is_hosted topology party ≡ true
+  pub named : (a : Act) (party : List ℕ) → Contains (acts whole.transaction.roots) a → Contains (named_in a.action) party → is_hosted topology party ≡ true
+  pub requesters : (party : List ℕ) → Contains whole.transaction.requesters party → hosts_at topology.hosts sender party ≡ true
+  pub common_salt : IsHash (whole.salts).common
+  pub requesters_salt : IsHash (whole.salts).requesters
+  pub in_range : AreInRange whole.sender (split_as whole.transaction (views_by packages whole.transaction))
+  pub small : IsSmall whole.sender (split_as whole.transaction (views_by packages whole.transaction))
+
+-- how many bytes the mediator's tree and each envelope may have: 4 MiB
+abbrev pub byte_limit : ℕ
+byte_limit = 4194304
+
+-- A request is sealed where its whole can be read and can be sealed, making it again gives the request, and its bytes are
+-- within the limit.
+pub record IsSealedForm (topology : Topology) (packages : Packages) (request : Request) : Type 0 where
+  pub whole : Whole
+  pub is_whole : whole_of request ≡ Some whole
+  pub can_be : CanBeSealed topology packages request.sender whole
+  pub again : request ≡ request_of topology packages request.sender whole.sender request.command whole.salts whole.transaction
+  pub short_mediator : length request.mediator ≤ byte_limit
+  pub short : (envelope : Envelope) → Contains request.envelopes envelope → length envelope.bytes ≤ byte_limit

@@ -1,0 +1,31 @@
+-- Which messages a log of this capacity and these times takes, and when. In words of the world model, without a machine.
+use Rattle.std.specs.Prelude.{◌≡◌, ℕ, ◌+◌, List, Option, Some, None, length, nat_lt, max, if◌then◌else◌}
+use Rattle.canton_model.specs.Log.{Params}
+use Rattle.canton_model.specs.Timeline.{or_else}
+use Rattle.world_model.specs.Messages.{Entry, Message, RequestMessage, ResponseMessage, VerdictMessage, Tick}
+use Rattle.world_model.specs.Sequencing as s
+use Rattle.seq_log.specs.Keys.{is_key}
+use Rattle.seq_log.specs.declared.key.Key.{Key}
+
+-- each key leads to the first place of the list where its message stands
+abbrev pub Leads : List Entry → (Key → Option ℕ) → Type 0
+Leads list places = (key : Key) → places key ≡ s.first_from (is_key key) 0 list
+
+-- the time of the next entry, after an entry of this time
+abbrev pub next_time : (now : ℕ) → Message → (last : ℕ) → ℕ
+next_time now Tick last = max now (last + 1)
+next_time now (RequestMessage request) last = last + 1
+next_time now (ResponseMessage response) last = last + 1
+next_time now (VerdictMessage verdict) last = last + 1
+
+abbrev pub if_full : (capacity spent need : ℕ) → Option s.AppendFault
+if_full capacity spent need = if nat_lt capacity (spent + need) then Some (s.LogFull spent need) else None
+
+abbrev pub other_fault : (capacity : ℕ) → Params → List Entry → Message → Option s.AppendFault
+other_fault capacity params list (RequestMessage request) = if_full capacity (s.spent list) (2 + length request.confirming)
+other_fault capacity params list (ResponseMessage response) = s.if_late params list response.request
+other_fault capacity params list (VerdictMessage verdict) = s.if_late params list verdict.request
+other_fault capacity params list Tick = None
+
+abbrev pub fault_in : (capacity : ℕ) → Params → List Entry → Message → Option s.AppendFault
+fault_in capacity params list message = or_else (s.if_already (s.first_from (s.is_same message) 0 list)) (other_fault capacity params list message)

@@ -1,0 +1,5 @@
+pub mod Faults
+pub mod Indexed
+pub mod Keys
+pub mod Sequenced
+pub mod Slips

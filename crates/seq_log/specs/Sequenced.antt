@@ -1,0 +1,35 @@
+-- What contracts see of a sequencer.
+use Rattle.std.specs.Prelude.{◌≡◌, ℕ, List, Option, Some, None}
+use Rattle.ledger_terms.specs.declared.params.Params.{Params}
+use Rattle.world_model.specs.Messages.{Entry}
+use Rattle.world_model.specs.Machine.{Machine}
+use Rattle.world_model.specs.Sequencing as s
+use Rattle.log_row.specs.LogPrefix.{LogPrefix, RowName}
+use Rattle.seq_log.specs.declared.fault.AppendFault.{AppendFault}
+use Rattle.seq_log.specs.declared.fault.AppendFault.TheVariants.{Already, LogFull, TooLate, Memory}
+
+pub record Sequenced : Type 0 where
+  pub row : RowName
+  pub list : List Entry
+  pub capacity : ℕ
+  pub params : Params
+
+-- its history
+abbrev pub prefix_of : Sequenced → LogPrefix
+prefix_of s = record { row = s.row; list = s.list }
+
+-- it has the times and the capacity of the machine
+pub record IsFor (m : Machine) (s : Sequenced) : Type 0 where
+  pub params : m.params ≡ s.params
+  pub capacity : m.capacity ≡ s.capacity
+
+-- the fault in the words of the world model; want of memory is none there
+abbrev pub cause_of : AppendFault → Option s.AppendFault
+cause_of (Already place) = Some (s.Already place)
+cause_of (LogFull spent need) = Some (s.LogFull spent need)
+cause_of (TooLate decision time) = Some (s.TooLate decision time)
+cause_of Memory = None
+
+abbrev pub fault_if : Option AppendFault → Option s.AppendFault
+fault_if None = None
+fault_if (Some fault) = cause_of fault

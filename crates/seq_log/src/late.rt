@@ -1,0 +1,55 @@
+//! When a message is too late, or too much.
+ghost use Rattle.std.specs.Prelude.{◌≡◌, ◌+◌, ◌<◌, ◌≤◌, ◌^◌, ℕ, slice_get};
+ghost use Rattle.canton_model.specs.Log.{time_of};
+ghost use Rattle.log_row.specs.LogPrefix.{LogPrefix};
+ghost use Rattle.world_model.specs.Sequencing as s;
+ghost use Rattle.seq_log.specs.Faults.{if_full};
+ghost use Rattle.seq_log.specs.Sequenced.{fault_if};
+ghost use Rattle.seq_log.specs.Slips.{Holds};
+
+use crate::fault::AppendFault;
+use ledger_terms::Params;
+use log_row::Slip;
+
+// The time of an entry, and 0 where there is none.
+fn entry_time(slips: &Vec<Slip<'_>>, place: u64) -> u64
+    ensures { (t : LogPrefix) → Holds t slips.now.items → result ≡ time_of (slice_get t.list place) }
+{
+    match slips.get(place as usize) {
+        Some(slip) => slip.entry().time,
+        None => 0,
+    }
+}
+
+/// Whether the next entry would come after the request's decision time.
+pub fn if_late(
+    slips: &Vec<Slip<'_>>,
+    params: &Params,
+    last: u64,
+    request: u64,
+) -> Option<AppendFault>
+    requires { last + 1 < 2 ^ 64 }
+    ensures { (t : LogPrefix) → Holds t slips.now.items → last ≡ s.last_time t.list → s.if_late params.now t.list request ≡ fault_if result }
+{
+    let decision = entry_time(slips, request)
+        .saturating_add(params.response_timeout)
+        .saturating_add(params.reaction_timeout);
+    let time = last + 1;
+    if decision < time {
+        Some(AppendFault::TooLate { decision, time })
+    } else {
+        None
+    }
+}
+
+/// Whether a request would spend more than the capacity.
+pub fn if_full(capacity: u64, spent: u64, need: u64) -> Option<AppendFault>
+    requires { spent ≤ capacity }
+    ensures { if_full capacity spent need ≡ fault_if result }
+{
+    if need > capacity - spent {
+        Some(AppendFault::LogFull { spent, need })
+    } else {
+        None
+    }
+}

@@ -1,0 +1,12 @@
+//! The sequencer: one rising log, each message of which stands in it once.
+#![tactic(auto)]
+
+mod fault;
+mod key;
+mod late;
+mod log_index;
+mod place;
+mod sequencer;
+
+pub use fault::{AppendFault, AppendRefusal};
+pub use sequencer::Sequencer;

@@ -1,0 +1,109 @@
+//! What is kept beside the log.
+ghost use Rattle.std.specs.Prelude.{◌≡◌, ◌+◌, ◌<◌, ◌≤◌, ◌^◌, ◌++◌, ◌∷◌, [], ℕ, List, None, length, OnOk};
+ghost use Rattle.indexmap.specs.IndexMap.{spare};
+ghost use Rattle.log_row.specs.LogPrefix.{LogPrefix};
+ghost use Rattle.world_model.specs.Messages.{Entry};
+ghost use Rattle.world_model.specs.Sequencing as s;
+ghost use Rattle.seq_log.specs.Keys.{key_of};
+ghost use Rattle.seq_log.specs.Faults.{next_time, fault_in, other_fault};
+ghost use Rattle.seq_log.specs.Indexed.{IsIndexOf};
+ghost use Rattle.seq_log.specs.Sequenced.{fault_if};
+ghost use Rattle.seq_log.specs.Slips.{Holds};
+
+use crate::fault::AppendFault;
+use crate::key::Key;
+use crate::late::{if_full, if_late};
+use crate::place::{place_of, put_place};
+use canton_model::Message;
+use indexmap::IndexMap;
+use ledger_terms::Params;
+use log_row::Slip;
+use std::alloc::AllocError;
+
+/// The times and the capacity of a log, where its messages stand, what was spent, and the time of its last entry.
+#[derive(Drop)]
+pub struct LogIndex {
+    pub params: Params,
+    pub capacity: u64,
+    pub places: IndexMap<Key, u64>,
+    pub spent: u64,
+    pub last: u64,
+}
+
+/// The time of the next entry.
+pub fn next_time(now: u64, message: &Message, last: u64) -> u64
+    requires { last + 1 < 2 ^ 64 }
+    ensures { result ≡ next_time now message.now last }
+{
+    match message {
+        Message::Tick => now.max(last + 1),
+        _ => last + 1,
+    }
+}
+
+/// What a message adds to what was spent.
+pub fn need_of(message: &Message) -> u64
+    ensures { result ≡ s.need_of message.now }
+{
+    match message {
+        Message::Request(request) => request.confirming.as_slice().len() as u64 + 2,
+        _ => 0,
+    }
+}
+
+impl LogIndex {
+    // Why the message isn't appended, where it doesn't stand in the log.
+    fn other_fault(&self, slips: &Vec<Slip<'_>>, message: &Message) -> Option<AppendFault>
+        requires spent { self.now.spent ≤ self.now.capacity }
+        requires last { self.now.last + 1 < 2 ^ 64 }
+        ensures { (t : LogPrefix) → Holds t slips.now.items → IsIndexOf self.now t.list
+            → other_fault self.now.capacity self.now.params t.list message.now ≡ fault_if result }
+    {
+        match message {
+            Message::Request(_) => if_full(self.capacity, self.spent, need_of(message)),
+            Message::Response(response) => {
+                if_late(slips, &self.params, self.last, response.request)
+            }
+            Message::Verdict(verdict) => if_late(slips, &self.params, self.last, verdict.request),
+            Message::Tick => None,
+        }
+    }
+
+    /// Why the message isn't appended, by the first cause.
+    pub fn fault(&self, slips: &Vec<Slip<'_>>, message: &Message) -> Option<AppendFault>
+        requires spent { self.now.spent ≤ self.now.capacity }
+        requires last { self.now.last + 1 < 2 ^ 64 }
+        ensures { (t : LogPrefix) → Holds t slips.now.items → IsIndexOf self.now t.list
+            → fault_in self.now.capacity self.now.params t.list message.now ≡ fault_if result }
+    {
+        match place_of(&self.places, message) {
+            Some(place) => Some(AppendFault::Already { place }),
+            None => self.other_fault(slips, message),
+        }
+    }
+
+    /// Makes room for one more place.
+    pub fn reserve(&mut self) -> Result<(), AllocError>
+        ensures kept { (list : List Entry) → IsIndexOf self.old list → IsIndexOf self.new list }
+        ensures made { (self.new.params ≡ self.old.params) × (self.new.capacity ≡ self.old.capacity) }
+        ensures numbers { (self.new.spent ≡ self.old.spent) × (self.new.last ≡ self.old.last) }
+        ensures room { OnOk result (0 < spare self.new.places) }
+    {
+        self.places.reserve(1)?;
+        Ok(())
+    }
+
+    /// Notes one more entry, in the room that is there.
+    pub fn note(&mut self, key: Option<Key>, place: u64, need: u64, time: u64)
+        requires room { 0 < spare self.old.places }
+        requires within { self.old.spent + need ≤ self.old.capacity }
+        ensures kept { (list : List Entry) (e : Entry) → IsIndexOf self.old list → length list ≡ place → key ≡ key_of e.message
+            → need ≡ s.need_of e.message → time ≡ e.time → s.first_from (s.is_same e.message) 0 list ≡ None → IsIndexOf self.new (list ++ e ∷ []) }
+        ensures made { (self.new.params ≡ self.old.params) × (self.new.capacity ≡ self.old.capacity) }
+        ensures numbers { (self.new.spent ≡ self.old.spent + need) × (self.new.last ≡ time) }
+    {
+        put_place(&mut self.places, key, place);
+        self.spent += need;
+        self.last = time;
+    }
+}

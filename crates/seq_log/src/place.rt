@@ -1,0 +1,46 @@
+//! Where messages stand.
+ghost use Rattle.std.specs.Prelude.{◌≡◌, ◌+◌, ◌<◌, ◌^◌, ◌++◌, ◌∷◌, [], ℕ, List, None, Some, length, if◌then◌else◌};
+ghost use Rattle.indexmap.specs.IndexMap.{get, spare};
+ghost use Rattle.world_model.specs.Messages.{Entry};
+ghost use Rattle.world_model.specs.Sequencing as s;
+ghost use Rattle.seq_log.specs.Keys.{key_of, key_eq, is_key};
+ghost use Rattle.seq_log.specs.declared.key.Key.{Key};
+ghost use Rattle.seq_log.specs.Faults.{Leads, next_time};
+
+use crate::key::{Key, key_of};
+use canton_model::Message;
+use indexmap::IndexMap;
+
+/// The place at which a message stands already.
+pub fn place_of(places: &IndexMap<Key, u64>, message: &Message) -> Option<u64>
+    ensures { (list : List Entry) → Leads list (λ k. get key_eq places.now k) → result ≡ s.first_from (s.is_same message.now) 0 list }
+{
+    match key_of(message) {
+        Some(key) => place_behind(places, &key),
+        None => None,
+    }
+}
+
+fn place_behind(places: &IndexMap<Key, u64>, key: &Key) -> Option<u64>
+    ensures { result ≡ get key_eq places.now key.now }
+{
+    places.get(key).copied()
+}
+
+fn put(places: &mut IndexMap<Key, u64>, key: Key, place: u64)
+    requires { 0 < spare places.old }
+    ensures { (q : Key) → get key_eq places.new q ≡ (if key_eq key q then Some place else get key_eq places.old q) }
+{
+    let _ = places.insert(key, place).unwrap();
+}
+
+/// Notes where the message of a new entry stands.
+pub fn put_place(places: &mut IndexMap<Key, u64>, key: Option<Key>, place: u64)
+    requires { 0 < spare places.old }
+    ensures { (list : List Entry) (e : Entry) → Leads list (λ k. get key_eq places.old k) → length list ≡ place → key ≡ key_of e.message
+        → s.first_from (s.is_same e.message) 0 list ≡ None → Leads (list ++ e ∷ []) (λ k. get key_eq places.new k) }
+{
+    if let Some(key) = key {
+        put(places, key, place);
+    }
+}

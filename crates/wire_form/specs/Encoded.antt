@@ -1,0 +1,41 @@
+-- The encoded bytes of a transaction, and what has a spelling, as tests. A text of more than 256 bytes, a set of more than
+-- 128 names and a list of more than 12 values have none.
+use Rattle.std.specs.Prelude.{ℕ, ◌+◌, ◌^◌, Bool, true, ◌&&◌, if◌then◌else◌, List, length, nat_le}
+use Rattle.std.specs.List.{list_all}
+use Rattle.ledger_terms.specs.declared.value.Value.{Value}
+use Rattle.ledger_terms.specs.declared.value.Value.TheVariants.{Unit as UnitValue, Int, Bool as BoolValue, Text, Party, Contract, Parties}
+use Rattle.ledger_terms.specs.declared.action.Action.{Action}
+use Rattle.ledger_terms.specs.declared.action.Action.TheVariants.{Create, Exercise, Fetch}
+use Rattle.ledger_terms.specs.Forest.{NoRoots, Root}
+use Rattle.ledger_terms.specs.Trees.{Actions}
+use Rattle.wire_form.specs.Spelling.{spell_action}
+
+abbrev pub is_spelled_set : List (List ℕ) → Bool
+is_spelled_set names = nat_le (length names) 128
+
+abbrev pub is_spelled_value : Value → Bool
+is_spelled_value UnitValue = true
+is_spelled_value (Int n) = true
+is_spelled_value (BoolValue b) = true
+is_spelled_value (Text t) = nat_le (length t) 256
+is_spelled_value (Party p) = true
+is_spelled_value (Contract h) = true
+is_spelled_value (Parties s) = is_spelled_set s
+
+abbrev pub are_spelled : List Value → Bool
+are_spelled values = nat_le (length values) 12 && list_all is_spelled_value values
+
+abbrev pub is_spelled_action : Action → Bool
+is_spelled_action (Create id i) = are_spelled i.fields
+is_spelled_action (Exercise id salt i choice args actors consuming result) =
+    are_spelled i.fields && (are_spelled args && (is_spelled_set actors && is_spelled_value result))
+is_spelled_action (Fetch id salt i actors) = are_spelled i.fields && is_spelled_set actors
+
+-- The seed and the action. An action without a spelling keeps no limit, so it counts as more than any.
+unfoldable pub action_bytes : Action → ℕ
+action_bytes a = if is_spelled_action a then 32 + length (spell_action a) else 2 ^ 64
+
+-- the sum over all actions
+abbrev pub encoded_bytes : Actions → ℕ
+encoded_bytes NoRoots = 0
+encoded_bytes (Root act consequences others) = action_bytes act.action + (encoded_bytes consequences + encoded_bytes others)

@@ -1,0 +1,158 @@
+-- What a run says of its results, of its rounds and of its log, with any number of workers.
+use Rattle.std.specs.Prelude.{◌≡◌, ℕ, ◌+◌, ◌<◌, ◌≤◌, Bool, true, false, List, [], ◌∷◌, ◌++◌, Option, Some, None, length, take, map, nat_eq, Contains}
+use Rattle.std.specs.Prelude.{if◌then◌else◌}
+use Rattle.std.specs.List.{list_any}
+use Rattle.ledger_terms.specs.declared.submission.Submission.{Submission}
+use Rattle.ledger_model.specs.Terms.{ParticipantId}
+use Rattle.canton_model.specs.Log.{request_at}
+use Rattle.world_model.specs.Messages.{Entry, Message, RequestMessage, ResponseMessage, VerdictMessage, Tick, Request}
+use Rattle.canton_model.specs.Inbox.{Item, inbox}
+use Rattle.canton_model.specs.Genuine.{is_request_of}
+use Rattle.world_model.specs.Machine.{Machine, GenuineLog}
+use Rattle.world_model.specs.Places.{has_place}
+use Rattle.world_model.specs.Sequencing.{sequenced, spent}
+use Rattle.world_model.specs.Settled.{Settled}
+
+pub record Round : Type 0 where
+  pub advance : ℕ
+  pub paused : List ParticipantId
+  pub holds_verdicts : Bool
+  pub submits : List Submission
+
+-- Why a submission isn't sent. `Unwanted` has whatever is said of a submission that wants no request.
+pub data SubmitFault (F : Type 0) : Type 0 where
+  Paused : SubmitFault F
+  Unwanted : F → SubmitFault F
+  Duplicate : (place : ℕ) → SubmitFault F
+  LogFull : (spent need : ℕ) → SubmitFault F
+
+pub data SubmitResult (F : Type 0) : Type 0 where
+  Sent : (place read_to : ℕ) → SubmitResult F
+  Refused : SubmitFault F → (read_to : ℕ) → SubmitResult F
+
+abbrev pub read_of : {F : Type 0} → SubmitResult F → ℕ
+read_of (Sent place read_to) = read_to
+read_of (Refused fault read_to) = read_to
+
+abbrev pub Results : Type 0 → Type 0
+Results F = List (Submission × SubmitResult F)
+
+-- why a submission wants no request over an inbox, where it wants none
+abbrev pub Why : Type 0 → Type 0
+Why F = Submission → List Item → (now : ℕ) → F
+
+-- what its participant has read of the first n entries
+abbrev pub read_at : Machine → List Entry → Submission → ℕ → List Item
+read_at m log what n = inbox m.reading what.participant (take n log)
+
+abbrev pub wanted_at : Machine → (now : ℕ) → List Entry → Submission → ℕ → Option Request
+wanted_at m now log what n = m.prepare what (read_at m log what n) now
+
+-- the log after a round's Tick, where it has one
+abbrev pub begun : Machine → (now : ℕ) → Round → List Entry → List Entry
+begun m now round log = if nat_eq round.advance 0 then log else sequenced m now log Tick
+
+-- the request of the submission over what was read stands at the place
+pub record SentHolds (m : Machine) (now : ℕ) (log : List Entry) (end : ℕ) (what : Submission) (place read_to : ℕ) : Type 0 where
+  pub request : Request
+  pub there : request_at log place ≡ Some request
+  pub wanted : wanted_at m now log what read_to ≡ Some request
+  pub read_before : read_to ≤ place
+  pub in_part : place < end
+
+-- the request of an earlier Sent result, which has its sender and command, stands at the place
+pub record DuplicateHolds {F : Type 0} (m : Machine) (now : ℕ) (log : List Entry) (earlier : Results F) (what : Submission) (place read_to : ℕ) : Type 0 where
+  pub request : Request
+  pub wanted : wanted_at m now log what read_to ≡ Some request
+  pub sent : (before : Submission) × (n : ℕ) × Contains earlier (before, Sent place n)
+  pub first : Request
+  pub there : request_at log place ≡ Some first
+  pub sender : first.sender ≡ request.sender
+  pub command : first.command ≡ request.command
+
+-- the needs of some of the entries, which have no request of its sender and command, and its own are above the capacity
+pub record FullHolds (m : Machine) (now : ℕ) (log : List Entry) (end : ℕ) (what : Submission) (amount need read_to : ℕ) : Type 0 where
+  pub request : Request
+  pub wanted : wanted_at m now log what read_to ≡ Some request
+  pub needs : need ≡ 2 + length request.confirming
+  pub some : ℕ  -- the entries over which the needs were summed
+  pub at_least : read_to ≤ some
+  pub at_most : some ≤ end
+  pub amount_is : amount ≡ spent (take some log)
+  pub full : m.capacity < amount + need
+  pub fresh : list_any (λ (entry : Entry). is_request_of request.sender request.command entry.message) (take some log) ≡ false
+
+-- The cause of a refusal. Paused is so exactly where the round's list names the participant, so no other answer has it there.
+abbrev pub RefusalHolds : {F : Type 0} → Machine → Why F → (now : ℕ) → Round → List Entry → (end : ℕ) → (earlier : Results F) → Submission
+    → SubmitFault F → (read_to : ℕ) → Type 0
+RefusalHolds m why now round log end earlier what Paused n = has_place round.paused what.participant ≡ true
+RefusalHolds m why now round log end earlier what (Unwanted fault) n = (wanted_at m now log what n ≡ None) × (why what (read_at m log what n) now ≡ fault)
+RefusalHolds m why now round log end earlier what (Duplicate place) n = DuplicateHolds m now log earlier what place n
+RefusalHolds m why now round log end earlier what (LogFull amount need) n = FullHolds m now log end what amount need n
+
+abbrev pub AnswerHolds : {F : Type 0} → Machine → Why F → (now : ℕ) → Round → List Entry → (end : ℕ) → (earlier : Results F) → Submission
+    → SubmitResult F → Type 0
+AnswerHolds m why now round log end earlier what (Sent place read_to) = SentHolds m now log end what place read_to
+AnswerHolds m why now round log end earlier what (Refused fault read_to) = RefusalHolds m why now round log end earlier what fault read_to
+
+-- how far was read: into the part that begins at `start`, and past the places of the participant's earlier Sent results
+pub record ReadHolds {F : Type 0} (start n : ℕ) (earlier : Results F) (what : Submission) : Type 0 where
+  pub after_start : start ≤ n
+  pub after_sent : (before : Submission) (place read_to : ℕ) → Contains earlier (before, Sent place read_to) → before.participant ≡ what.participant
+      → place < n
+
+-- one result, over the log up to the end of its part, which begins at `start`
+pub record ResultHolds {F : Type 0} (m : Machine) (why : Why F) (now : ℕ) (round : Round) (log : List Entry) (start end : ℕ) (earlier : Results F)
+    (what : Submission) (result : SubmitResult F) : Type 0 where
+  pub answer : AnswerHolds m why now round log end earlier what result
+  pub within : read_of result ≤ end
+  -- of a participant that isn't paused
+  pub read : has_place round.paused what.participant ≡ false → ReadHolds start (read_of result) earlier what
+  pub paused : has_place round.paused what.participant ≡ true → (n : ℕ) × (result ≡ Refused Paused n)
+
+-- each result against those before it
+abbrev pub ResultsHold : {F : Type 0} → Machine → Why F → (now : ℕ) → Round → List Entry → (start end : ℕ) → (earlier : Results F) → Results F → Type 0
+ResultsHold m why now round log start end earlier [] = Unit {0}
+ResultsHold m why now round log start end earlier (x ∷ rest) =
+    ResultHolds m why now round log start end earlier x.0 x.1 × ResultsHold m why now round log start end (earlier ++ x ∷ []) rest
+
+abbrev pub is_tick : Message → Bool
+is_tick Tick = true
+is_tick (RequestMessage request) = false
+is_tick (ResponseMessage response) = false
+is_tick (VerdictMessage verdict) = false
+
+-- One part of a log: `before` is the log where it begins and `after` where it ends. After its Tick, where it has one, it has
+-- no other, its requests are those of the Sent results, and its end is settled.
+pub record PartHolds {F : Type 0} (m : Machine) (now : ℕ) (round : Round) (results : Results F) (before after : List Entry) : Type 0 where
+  pub rest : List Entry
+  pub is_begun : after ≡ begun m now round before ++ rest
+  pub no_tick : (e : Entry) → Contains rest e → is_tick e.message ≡ false
+  pub of_results : (k : ℕ) (q : Request) → length (begun m now round before) ≤ k → request_at after k ≡ Some q
+      → (what : Submission) × (read_to : ℕ) × Contains results (what, Sent k read_to)
+  pub in_rest : (what : Submission) (k read_to : ℕ) → Contains results (what, Sent k read_to) → length (begun m now round before) ≤ k
+  pub settled : Settled m round.paused round.holds_verdicts after
+
+-- a round, its results and its part
+pub record RoundHolds {F : Type 0} (m : Machine) (why : Why F) (now : ℕ) (round : Round) (earlier results : Results F)
+    (before after : List Entry) : Type 0 where
+  pub part : PartHolds m now round results before after
+  pub submits : map (λ (x : Submission × SubmitResult F). x.0) results ≡ round.submits
+  pub each : ResultsHold m why now round after (length before) (length after) earlier results
+
+pub record RoundAnswers (F : Type 0) : Type 0 where
+  pub round : Round
+  pub results : Results F
+  pub end : ℕ
+
+-- the rounds of a run, cut at their ends. `now` is that of the round before
+abbrev pub RoundsHold : {F : Type 0} → Machine → Why F → (now : ℕ) → (log : List Entry) → (start : ℕ) → (earlier : Results F) → List (RoundAnswers F) → Type 0
+RoundsHold m why now log start earlier [] = start ≡ length log
+RoundsHold m why now log start earlier (x ∷ rest) =
+    (start ≤ x.end) × RoundHolds m why (now + x.round.advance) x.round earlier x.results (take start log) (take x.end log)
+    × RoundsHold m why (now + x.round.advance) log x.end (earlier ++ x.results) rest
+
+pub record RunHolds {F : Type 0} (m : Machine) (why : Why F) (log : List Entry) (rounds : List (RoundAnswers F)) : Type 0 where
+  pub genuine : GenuineLog m log
+  pub within_capacity : spent log ≤ m.capacity
+  pub cut : RoundsHold m why 0 log 0 [] rounds

@@ -1,0 +1,363 @@
+//! The laws of the definitions, as the clauses of functions that do nothing.
+
+ghost use Rattle.std.specs.Prelude.{◌≡◌, ◌++◌, ◌∷◌, [], ◌<◌, ◌≤◌, ◌+◌, ℕ, suc, slice_get, List, Bool, true, false, Some, None, length, take, Contains};
+ghost use Rattle.ledger_terms.specs.declared.submission.Submission.{Submission};
+ghost use Rattle.ledger_model.specs.Terms.{ParticipantId};
+ghost use Rattle.canton_model.specs.Log.{Params, request_at, decision_time_of};
+ghost use Rattle.world_model.specs.Messages.{Entry, Message, Request, Response, Verdict, Decision, Approved, RequestMessage, ResponseMessage, VerdictMessage};
+ghost use Rattle.canton_model.specs.Timeline.{Decided, outcome_of, timeline_of};
+ghost use Rattle.canton_model.specs.Mediation.{scan};
+ghost use Rattle.canton_model.specs.Inbox.{inbox};
+ghost use Rattle.canton_model.specs.Reading.{Reading};
+ghost use Rattle.canton_model.specs.Genuine.{Genuine, IsReading};
+ghost use Rattle.canton_model.specs.Example as model;
+ghost use Rattle.world_model.specs.Machine.{Machine, GenuineLog, IsMachine};
+ghost use Rattle.world_model.specs.Places.{has_place};
+ghost use Rattle.world_model.specs.Sequencing.{last_time, sequenced, spent};
+ghost use Rattle.world_model.specs.Fits.{IsOwed, IsDecision};
+ghost use Rattle.world_model.specs.Node.{NodeState, claim, finish, next_claim, outbox_head, owed_at, owes_at, put_back, read_entry, response_at};
+ghost use Rattle.world_model.specs.Node.{sent, validate, with_flag};
+ghost use Rattle.world_model.specs.Mediator.{MediatorState, cases_of, first_verdict, give_back, next_verdict, read_by_mediator, take_verdict};
+ghost use Rattle.world_model.specs.World.{World, Event, happens, played, new_world, with_log, with_mediator, with_node};
+ghost use Rattle.world_model.specs.Lawful.{Lawful, MediatorHas, NodeHas};
+ghost use Rattle.world_model.specs.Locks.{Claimed, NodeBehind, Prepared};
+ghost use Rattle.world_model.specs.Settled.{Settled, append_each, due, due_verdicts, left, pass, passes, replies_below};
+ghost use Rattle.world_model.specs.Turns.{IsMediatorReady, IsReady, MayTurn, turn_messages, turns_below, validate_below, verdict_messages, waiting_below};
+ghost use Rattle.world_model.specs.Rounds.{Round, RoundAnswers, Results, Why, Duplicate, SubmitResult, Sent, Refused, PartHolds, ResultHolds};
+ghost use Rattle.world_model.specs.Rounds.{ResultsHold, RunHolds, begun, read_of, wanted_at};
+ghost use Rattle.world_model.specs.Plain.{PlainPart, PlainRounds, Submitted};
+ghost use Rattle.world_model.specs.Complete.{AllApprove, RoundsApprove, Unhindered};
+ghost use Rattle.world_model.specs.Settling.{PassedTo, WorldReady, caught_up_world, resumed_world};
+ghost use Rattle.world_model.specs.Headline.{Headline};
+ghost use Rattle.world_model.specs.Example;
+
+/// Each event keeps a world lawful.
+pub fn each_event_keeps()
+    ensures { (m : Machine) (w : World) (event : Event) → IsMachine m → Lawful m w → Lawful m (happens m w event) }
+{}
+
+/// Whatever happens, the log is genuine and within its capacity.
+pub fn always_genuine()
+    ensures lawful { (m : Machine) (events : List Event) → IsMachine m → Lawful m (played m (new_world m) events) }
+    ensures genuine { (m : Machine) (events : List Event) → IsMachine m → GenuineLog m (played m (new_world m) events).log }
+{}
+
+/// A message that is handed in keeps the log within its capacity.
+pub fn capacity_stays()
+    ensures { (m : Machine) (now : ℕ) (log : List Entry) (message : Message) → spent log ≤ m.capacity → spent (sequenced m now log message) ≤ m.capacity }
+{}
+
+/// What a thread holds between two locks lands in any longer log, and every beginning of a genuine log is one.
+pub fn halves_land()
+    ensures request { (m : Machine) (now before : ℕ) (list log : List Entry) (what : Submission) (q : Request)
+        → IsMachine m
+        → Prepared m before list what q
+        → GenuineLog m log
+        → GenuineLog m (sequenced m now log (RequestMessage q)) }
+    ensures reply { (m : Machine) (now : ℕ) (list more : List Entry) (r : Response)
+        → IsOwed m.reading m.params list r
+        → GenuineLog m (list ++ more)
+        → GenuineLog m (sequenced m now (list ++ more) (ResponseMessage r)) }
+    ensures verdict { (m : Machine) (now : ℕ) (list more : List Entry) (v : Verdict)
+        → IsDecision m.params list v
+        → GenuineLog m (list ++ more)
+        → GenuineLog m (sequenced m now (list ++ more) (VerdictMessage v)) }
+    ensures job { (m : Machine) (p : ParticipantId) (list more : List Entry) (k : ℕ) (node : NodeState)
+        → Claimed m p list k
+        → NodeBehind m p (list ++ more) node
+        → NodeBehind m p (list ++ more) (finish node (response_at m.reading m.params p (inbox m.reading p list) k)) }
+    ensures verdicts { (m : Machine) (p : ParticipantId) (list more : List Entry) (k : ℕ)
+        → Claimed m p list k
+        → owed_at m.reading m.params p (inbox m.reading p (list ++ more)) k ≡ owed_at m.reading m.params p (inbox m.reading p list) k }
+    ensures beginning { (m : Machine) (log : List Entry) (n : ℕ) → GenuineLog m log → GenuineLog m (take n log) }
+{}
+
+/// Passes end: after as many as there is left, a further one appends nothing, and the log is settled, genuine and within its
+/// capacity.
+pub fn passes_settle()
+    ensures settled { (m : Machine) (now : ℕ) (paused : List ParticipantId) (held : Bool) (log : List Entry)
+        → Settled m paused held (passes m now paused held (left m.hosts log) log) }
+    ensures end { (m : Machine) (now : ℕ) (paused : List ParticipantId) (held : Bool) (n : ℕ) (log : List Entry)
+        → left m.hosts log ≤ n
+        → pass m now paused held (passes m now paused held n log) ≡ passes m now paused held n log }
+    ensures fixed { (m : Machine) (now : ℕ) (paused : List ParticipantId) (held : Bool) (log : List Entry) → pass m now paused held log ≡ log
+        → Settled m paused held log }
+    ensures genuine { (m : Machine) (now : ℕ) (paused : List ParticipantId) (held : Bool) (n : ℕ) (log : List Entry)
+        → IsReading m.reading
+        → GenuineLog m log
+        → GenuineLog m (passes m now paused held n log) }
+    ensures capacity { (m : Machine) (now : ℕ) (paused : List ParticipantId) (held : Bool) (n : ℕ) (log : List Entry)
+        → spent log ≤ m.capacity
+        → spent (passes m now paused held n log) ≤ m.capacity }
+{}
+
+/// A ready participant's turn leaves the log that its due messages leave.
+pub fn turn_appends_what_is_due()
+    ensures { (m : Machine) (now : ℕ) (p : ParticipantId) (log : List Entry) (n : ℕ) (node : NodeState)
+        → GenuineLog m log
+        → n ≤ length log
+        → NodeHas m p (take n log) node
+        → IsReady m p log node
+        → append_each m now log (turn_messages m p log node) ≡ append_each m now log (due m log p) }
+{}
+
+/// What is left of a turn after one claim, one response sent or one verdict taken is the rest of it, so a loop that takes them
+/// one by one does what the turn says.
+pub fn one_by_one()
+    ensures claim { (reading : Reading) (params : Params) (p : ParticipantId) (node : NodeState) (k : ℕ)
+        → next_claim reading params p node ≡ Some k
+        → validate_below reading params p (validate reading params p node k) (length node.items) ≡ validate_below reading params p node (length node.items) }
+    ensures claimed { (reading : Reading) (params : Params) (p : ParticipantId) (node : NodeState)
+        → next_claim reading params p node ≡ None
+        → validate_below reading params p node (length node.items) ≡ node }
+    ensures within { (reading : Reading) (params : Params) (p : ParticipantId) (node : NodeState) (n : ℕ)
+        → length node.outbox ≤ length (validate_below reading params p node n).outbox }
+    ensures send { (params : Params) (node : NodeState) (r : Response)
+        → outbox_head params node ≡ Some r
+        → waiting_below params node (length node.items) ≡ ResponseMessage r ∷ waiting_below params (sent node r.request) (length node.items) }
+    ensures sent { (params : Params) (node : NodeState)
+        → outbox_head params node ≡ None
+        → waiting_below params node (length node.items) ≡ [] }
+    ensures give { (params : Params) (log : List Entry) (given : List ℕ) (v : Verdict)
+        → first_verdict given (cases_of params log) ≡ Some v
+        → verdict_messages given (cases_of params log) ≡ VerdictMessage v ∷ verdict_messages (v.request ∷ given) (cases_of params log) }
+    ensures given { (params : Params) (log : List Entry) (given : List ℕ)
+        → first_verdict given (cases_of params log) ≡ None
+        → verdict_messages given (cases_of params log) ≡ [] }
+{}
+
+/// After its turn a participant is ready, whatever it has claimed; and others' messages leave it so.
+pub fn ready_stays()
+    ensures own { (m : Machine) (now : ℕ) (p : ParticipantId) (log : List Entry) (node : NodeState) → IsReady m p (append_each m now log (due m log p)) node }
+    ensures others { (m : Machine) (p : ParticipantId) (log more : List Entry) (node : NodeState)
+        → ((k : ℕ) (q : Request) → request_at (log ++ more) k ≡ Some q → k < length log)
+        → last_time log ≤ last_time (log ++ more)
+        → IsReady m p log node
+        → IsReady m p (log ++ more) node }
+{}
+
+/// The participants' half of a pass is what their own turns append; and after it each that isn't paused is ready again,
+/// whatever it has claimed.
+pub fn turns_are_a_pass()
+    ensures turns { (m : Machine) (now : ℕ) (paused : List ParticipantId) (nodes : ParticipantId → NodeState) (log : List Entry)
+        → IsReading m.reading
+        → GenuineLog m log
+        → ((p : ParticipantId) → p < m.hosts → has_place paused p ≡ false → MayTurn m p log (nodes p))
+        → turns_below m now paused nodes log m.hosts ≡ replies_below m now paused log m.hosts }
+    ensures ready { (m : Machine) (now : ℕ) (paused : List ParticipantId) (log : List Entry) (p : ParticipantId) (node : NodeState)
+        → p < m.hosts
+        → has_place paused p ≡ false
+        → IsReady m p (replies_below m now paused log m.hosts) node }
+{}
+
+/// A ready mediator's verdicts, one after another, leave the log that the due verdicts leave.
+pub fn mediator_appends_what_is_due()
+    ensures { (m : Machine) (now : ℕ) (log : List Entry) (given : List ℕ)
+        → GenuineLog m log
+        → IsMediatorReady m.params log given
+        → append_each m now log (verdict_messages given (cases_of m.params log)) ≡ append_each m now log (due_verdicts m log) }
+{}
+
+/// The mediator is ready after its turn, and others' messages leave it so, if it has given only what is decided.
+pub fn mediator_ready_stays()
+    ensures own { (m : Machine) (now : ℕ) (log : List Entry) (given : List ℕ)
+        → ((k : ℕ) → has_place given k ≡ true → (d : Decision) × (scan m.params log k ≡ Some d))
+        → IsMediatorReady m.params (append_each m now log (due_verdicts m log)) given }
+    ensures others { (params : Params) (log more : List Entry) (given : List ℕ)
+        → last_time log ≤ last_time (log ++ more)
+        → ((k : ℕ) → has_place given k ≡ true → (d : Decision) × (scan params log k ≡ Some d))
+        → IsMediatorReady params log given
+        → IsMediatorReady params (log ++ more) given }
+{}
+
+/// After the first stage of settling a lawful world is ready.
+pub fn resuming_makes_ready()
+    ensures { (m : Machine) (paused : List ParticipantId) (w : World) → Lawful m w → WorldReady m paused (resumed_world m w) }
+{}
+
+/// After catching up every participant has read the whole log, and the world is lawful as before.
+pub fn catching_up_keeps()
+    ensures lawful { (m : Machine) (w : World) → Lawful m w → Lawful m (caught_up_world m w) }
+    ensures node { (m : Machine) (w : World) (p : ParticipantId) (node : NodeState)
+        → Lawful m w
+        → slice_get (caught_up_world m w).nodes p ≡ Some node
+        → NodeHas m p w.log node }
+{}
+
+/// A pass over a ready world: each participant that isn't paused has its turn and then stands anyhow over what it has read, and
+/// then the mediator. It leaves the log that a pass leaves, and the world ready.
+pub fn a_pass_over_a_world()
+    ensures begins { (m : Machine) (paused : List ParticipantId) (w : World) → WorldReady m paused w → PassedTo m paused w.log 0 w }
+    ensures turn { (m : Machine) (paused : List ParticipantId) (began : List Entry) (p : ParticipantId) (w : World) (node after : NodeState)
+        → IsReading m.reading
+        → PassedTo m paused began p w
+        → slice_get w.nodes p ≡ Some node
+        → has_place paused p ≡ false
+        → NodeHas m p w.log after
+        → PassedTo m paused began (suc p) (with_node (with_log w (append_each m w.now w.log (turn_messages m p w.log node))) p after) }
+    ensures skipped { (m : Machine) (paused : List ParticipantId) (began : List Entry) (p : ParticipantId) (w : World)
+        → PassedTo m paused began p w
+        → has_place paused p ≡ true
+        → PassedTo m paused began (suc p) w }
+    ensures held { (m : Machine) (paused : List ParticipantId) (began : List Entry) (w : World) (after : MediatorState)
+        → PassedTo m paused began m.hosts w
+        → MediatorHas m w.log after
+        → after.given ≡ (w.mediator).given
+        → WorldReady m paused (with_mediator w after) × (w.log ≡ pass m w.now paused true began) }
+    ensures ends { (m : Machine) (paused : List ParticipantId) (began : List Entry) (w : World) (after : MediatorState)
+        → PassedTo m paused began m.hosts w
+        → MediatorHas m w.log after
+        → WorldReady m paused (with_mediator (with_log w (append_each m w.now w.log (verdict_messages (w.mediator).given (cases_of m.params w.log)))) after)
+        × (append_each m w.now w.log (verdict_messages (w.mediator).given (cases_of m.params w.log)) ≡ pass m w.now paused false began) }
+{}
+
+/// What a participant and the mediator have over the entries read is kept by each of their calls.
+pub fn calls_keep()
+    ensures read { (m : Machine) (p : ParticipantId) (read : List Entry) (node : NodeState) (e : Entry) → NodeHas m p read node
+        → NodeHas m p (read ++ e ∷ []) (read_entry m.reading p node read e) }
+    ensures claim { (m : Machine) (p : ParticipantId) (read : List Entry) (node : NodeState) (k : ℕ) → NodeHas m p read node → k < length node.items
+        → NodeHas m p read (claim node k) }
+    ensures finish { (m : Machine) (p : ParticipantId) (read : List Entry) (node : NodeState) (k : ℕ)
+        → NodeHas m p read node
+        → k < length node.items
+        → owes_at m.reading p node.items k ≡ true
+        → NodeHas m p read (finish node (response_at m.reading m.params p node.items k)) }
+    ensures sent { (m : Machine) (p : ParticipantId) (read : List Entry) (node : NodeState) (k : ℕ) → NodeHas m p read node → NodeHas m p read (sent node k) }
+    ensures put_back { (m : Machine) (p : ParticipantId) (read : List Entry) (node : NodeState) (k : ℕ) → NodeHas m p read node
+        → NodeHas m p read (put_back node k) }
+    ensures flag { (m : Machine) (p : ParticipantId) (read : List Entry) (node : NodeState) (b : Bool) → NodeHas m p read node
+        → NodeHas m p read (with_flag node b) }
+    ensures mediator_read { (m : Machine) (read : List Entry) (mediator : MediatorState) (e : Entry) → MediatorHas m read mediator
+        → MediatorHas m (read ++ e ∷ []) (read_by_mediator m.params mediator e) }
+    ensures take { (m : Machine) (read : List Entry) (mediator : MediatorState) (v : Verdict)
+        → GenuineLog m read
+        → MediatorHas m read mediator
+        → next_verdict mediator ≡ Some v
+        → IsDecision m.params read v × MediatorHas m read (take_verdict mediator v.request) }
+    ensures give_back { (m : Machine) (read : List Entry) (mediator : MediatorState) (k : ℕ) → MediatorHas m read mediator
+        → MediatorHas m read (give_back mediator k) }
+{}
+
+/// Passes one after another, and how many are enough.
+pub fn passes_add_up()
+    ensures next { (m : Machine) (now : ℕ) (paused : List ParticipantId) (held : Bool) (n : ℕ) (log : List Entry)
+        → pass m now paused held (passes m now paused held n log) ≡ passes m now paused held (suc n) log }
+    ensures enough { (m : Machine) (now : ℕ) (paused : List ParticipantId) (held : Bool) (n : ℕ) (log : List Entry)
+        → pass m now paused held (passes m now paused held n log) ≡ passes m now paused held n log
+        → passes m now paused held n log ≡ passes m now paused held (left m.hosts log) log }
+{}
+
+/// A request that is decided stays so in every longer log.
+pub fn outcome_stays()
+    ensures { (log more : List Entry) (k before after : ℕ) (d : Decision)
+        → outcome_of (timeline_of log) k before ≡ Decided d
+        → outcome_of (timeline_of (log ++ more)) k after ≡ Decided d }
+{}
+
+/// In a settled log a request that nothing hinders is approved.
+pub fn unhindered_is_approved()
+    ensures { (m : Machine) (paused : List ParticipantId) (log : List Entry) (k : ℕ)
+        → IsReading m.reading
+        → GenuineLog m log
+        → Settled m paused false log
+        → Unhindered m paused log k
+        → outcome_of (timeline_of log) k (decision_time_of m.params log k) ≡ Decided Approved }
+{}
+
+/// What one thread answers to a round's submissions, in order, is what a run says of its results, whatever comes after.
+pub fn one_thread_answers<F>()
+    ensures { (m : Machine) (why : Why F) (now : ℕ) (round : Round) (all : List Entry) (start : ℕ) (log after more : List Entry) (answers earlier : Results F)
+        → start ≤ length log
+        → ((what : Submission) (place read_to : ℕ) → Contains earlier (what, Sent place read_to) → place < length log)
+        → ((k : ℕ) (q : Request) → request_at log k ≡ Some q → (before : Submission) × (n : ℕ) × Contains earlier (before, Sent k n))
+        → Submitted m why now round log answers after
+        → all ≡ after ++ more
+        → ResultsHold m why now round all start (length all) earlier answers }
+{}
+
+/// What a result says over the list that its thread knew, against the earlier results of its own participant, it says over
+/// every longer log and against all earlier results.
+pub fn results_grow<F>()
+    ensures { (m : Machine) (why : Why F) (now : ℕ) (round : Round) (list more : List Entry) (start end later : ℕ) (own earlier : Results F)
+        (what : Submission) (result : SubmitResult F)
+        → end ≤ length list
+        → end ≤ later
+        → ((x : Submission × SubmitResult F) → Contains own x → Contains earlier x)
+        → ((before : Submission) (place n : ℕ) → Contains earlier (before, Sent place n) → before.participant ≡ what.participant
+        → Contains own (before, Sent place n))
+        → ResultHolds m why now round list start end own what result
+        → ResultHolds m why now round (list ++ more) start later earlier what result }
+{}
+
+/// Where a participant that isn't paused wants a request of a command that an earlier Sent result of it has, the result is
+/// Duplicate with that place, and nothing else.
+pub fn duplicates_are_exact<F>()
+    ensures { (m : Machine) (why : Why F) (now : ℕ) (round : Round) (log : List Entry) (start end : ℕ) (earlier : Results F)
+        (what before : Submission) (result : SubmitResult F) (place n : ℕ) (first request : Request)
+        → IsMachine m
+        → GenuineLog m log
+        → has_place round.paused what.participant ≡ false
+        → Contains earlier (before, Sent place n)
+        → before.participant ≡ what.participant
+        → request_at log place ≡ Some first
+        → first.sender ≡ what.participant
+        → first.command ≡ what.command
+        → wanted_at m now log what (read_of result) ≡ Some request
+        → ResultHolds m why now round log start end earlier what result
+        → result ≡ Refused (Duplicate place) (read_of result) }
+{}
+
+/// One thread's part, with its results, is a part as a run says it.
+pub fn one_thread_part<F>()
+    ensures { (m : Machine) (why : Why F) (now : ℕ) (round : Round) (results : Results F) (before after : List Entry)
+        → PlainPart m why now round results before after
+        → PartHolds m now round results before after }
+{}
+
+/// One thread's rounds are a run.
+pub fn one_thread_run<F>()
+    ensures { (m : Machine) (why : Why F) (rounds : List (RoundAnswers F)) (log : List Entry)
+        → IsMachine m
+        → PlainRounds m why 0 [] rounds log
+        → RunHolds m why log rounds }
+{}
+
+/// In a short part whose verdicts aren't held a request that all approve is approved.
+pub fn short_part_approves<F>()
+    ensures { (m : Machine) (now : ℕ) (round : Round) (results : Results F) (before after : List Entry) (k : ℕ)
+        → IsReading m.reading
+        → GenuineLog m after
+        → PartHolds m now round results before after
+        → round.holds_verdicts ≡ false
+        → length (begun m now round before) ≤ k
+        → length after ≤ k + m.params.response_timeout
+        → AllApprove m round.paused after k
+        → outcome_of (timeline_of after) k (decision_time_of m.params after k) ≡ Decided Approved }
+{}
+
+/// What holds of every genuine log.
+pub fn headline_of_genuine_log()
+    ensures { (reading : Reading) (params : Params) (log : List Entry) → IsReading reading → Genuine reading params log → Headline reading params log }
+{}
+
+/// It holds of the log after any list of events.
+pub fn headline_of_events()
+    ensures { (m : Machine) (events : List Event) → IsMachine m → Headline m.reading m.params (played m (new_world m) events).log }
+{}
+
+/// In a run the requests that all approve, in short parts whose verdicts aren't held, are approved, and stay so.
+pub fn run_approves<F>()
+    ensures { (m : Machine) (why : Why F) (log : List Entry) (rounds : List (RoundAnswers F))
+        → IsReading m.reading
+        → RunHolds m why log rounds
+        → RoundsApprove m log rounds }
+{}
+
+/// The premises can be met, and the definitions compute.
+pub fn example()
+    ensures machine { IsMachine Example.machine }
+    ensures log { (played Example.machine (new_world Example.machine) Example.events).log ≡ model.log }
+    ensures lost { passes Example.machine 0 [] false 2 (played Example.machine (new_world Example.machine) Example.losing).log ≡ model.log }
+    ensures settled { pass Example.machine 0 [] false model.log ≡ model.log }
+    ensures unhindered { Unhindered Example.machine [] model.log 0 }
+{}

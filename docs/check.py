@@ -1,0 +1,238 @@
+#!/usr/bin/env python3
+"""Checks what can be counted of the repository: docs/check.py [--list]
+
+- Each path and each name in backticks in README.md and docs/*.md is there: a path from the root, from crates/ or from a crate's
+  folder, a name as a word of a source. Words of the kit and of the system stand in docs/foreign_words.txt.
+- The table of crates in docs/ARCHITECTURE.md says what crates.txt says.
+- Files have under 500 lines, functions under 40 (clauses not counted) and at most six parameters, lines of src/ and specs/ under
+  160 characters. No library but a crate of tests has tests, and no crate more than eight edits.
+
+docs/check_limits.txt has the number of today's exceptions to each rule of shape, which may only fall. --list prints them. Ends with
+status 1 where something is amiss, each with a line.
+"""
+import glob
+import os
+import re
+import sys
+
+ROOT = os.path.dirname(os.path.dirname(os.path.abspath(__file__)))
+WORD = re.compile(r"[A-Za-z_][A-Za-z0-9_']*")
+NAME = re.compile(r"[A-Za-z_][A-Za-z0-9_'-]*(?:(?:\.|::)[A-Za-z_][A-Za-z0-9_'-]*)*\Z")
+PATH = re.compile(r"[A-Za-z0-9_./+-]+\Z")
+FUNCTION = re.compile(r'( *)(?:pub(?:\([a-z]+\))? )?(?:const |unsafe )*fn (\w+)')
+MOST_FILE_LINES, MOST_FUNCTION_LINES, MOST_PARAMETERS, MOST_LINE, MOST_EDITS = 499, 39, 6, 159, 8
+
+
+def read(path):
+    with open(os.path.join(ROOT, path), encoding='utf-8') as file:
+        return file.read()
+
+
+def files(*patterns):
+    """The files of some patterns from the root, in order, none of them made by a build."""
+    found = {path for pattern in patterns for path in glob.glob(os.path.join(ROOT, pattern), recursive=True)}
+    return sorted(os.path.relpath(path, ROOT) for path in found if os.path.isfile(path) and '/out/' not in path)
+
+
+def crates():
+    """The lines of crates.txt: each crate with what it stands on."""
+    table = {}
+    for line in read('crates.txt').split('\n'):
+        name, _, below = line.partition('#')[0].partition(':')
+        if name.strip():
+            table[name.split()[0]] = below.split()
+    return table
+
+
+# --- documents
+
+def documents():
+    return files('README.md', 'docs/*.md')
+
+
+def quoted(text):
+    """The words in backticks outside blocks of code, with their lines."""
+    inside = False
+    for number, line in enumerate(text.split('\n'), 1):
+        if line.lstrip().startswith('```'):
+            inside = not inside
+        elif not inside:
+            for token in re.findall(r'`([^`]+)`', line):
+                yield number, token
+
+
+def known_words():
+    words = set(WORD.findall(read('docs/foreign_words.txt')))
+    for path in files('crates/*/src/**/*.rt', 'crates/*/specs/**/*.antt', 'crates/*/proofs/**/*.antt', 'bench/*', '.ci/*', 'examples/*',
+                      'oracle/**/*.py', 'crates.txt', 'HANDLES', 'canton'):
+        words.update(WORD.findall(read(path)))
+        words.update(WORD.findall(path))
+    return words
+
+
+def is_there(path):
+    path = path.rstrip('/')
+    return any(glob.glob(os.path.join(ROOT, below, path)) for below in ('', 'docs', 'crates', 'crates/*', 'crates/*/src'))
+
+
+def is_known(token, words, names):
+    """Whether a token in backticks is no path and no name, or is there."""
+    if '/' in token and PATH.match(token):
+        parts = token.split('/')
+        if any(part.isupper() and len(part) > 1 and part not in ('README', 'HANDLES') for part in parts) or 'out' in parts:
+            return True
+        return is_there(token)
+    if not NAME.match(token):
+        return True
+    return token in names or all(part in words for part in WORD.findall(token))
+
+
+def document_faults():
+    words, names = known_words(), {os.path.basename(path) for path in files('*', 'docs/*', 'examples/*', 'crates/*/**/*')}
+    for path in documents():
+        for number, token in quoted(read(path)):
+            if not is_known(token, words, names):
+                yield '%s:%d: `%s` is nowhere' % (path, number, token)
+
+
+def table_faults():
+    """Where the table of docs/ARCHITECTURE.md differs from crates.txt."""
+    table = {}
+    rows = read('docs/ARCHITECTURE.md').partition('| Crate | Does | Stands on |\n')[2].partition('\n\n')[0]
+    for line in rows.split('\n')[1:]:
+        cells = line.strip('|').split('|')
+        table[cells[0].strip(' `')] = re.findall(r'`([a-z_0-9]+)`', cells[2])
+    for name, below in crates().items():
+        if name not in table:
+            yield 'docs/ARCHITECTURE.md: the table has no `%s`' % name
+        elif sorted(table[name]) != sorted(below):
+            amiss = sorted(set(table[name]) ^ set(below))
+            yield 'docs/ARCHITECTURE.md: `%s` stands on other crates than in crates.txt: %s' % (name, ' '.join(amiss))
+    for name in table:
+        if name not in crates():
+            yield 'docs/ARCHITECTURE.md: crates.txt has no `%s`' % name
+
+
+# --- shape
+
+def functions(text):
+    """Each function: its line, its name, how many lines it has without its clauses, and its parameters."""
+    lines = text.split('\n')
+    for at, line in enumerate(lines):
+        found = FUNCTION.match(line)
+        if not found:
+            continue
+        end = function_end(lines, at, found.group(1))
+        yield at + 1, found.group(2), function_lines(lines[at:end + 1], found.group(1)), parameters('\n'.join(lines[at:end + 1]))
+
+
+def function_end(lines, at, indent):
+    """The last line of the function that begins at a line: its brace, or the end of a declaration."""
+    is_open = False
+    for end in range(at, len(lines)):
+        line = lines[end].rstrip()
+        if is_open and line.startswith(indent + '}') or not is_open and line.endswith((';', '{}')) or end == at and line.endswith('}'):
+            return end
+        is_open = is_open or line.endswith('{') and (end > at or line.endswith(' {'))
+    return len(lines) - 1
+
+
+def function_lines(lines, indent):
+    """How many lines a function has: those between its signature and the brace of its body are clauses."""
+    for at, line in enumerate(lines):
+        if line == indent + '{':
+            clauses = [l for l in lines[:at] if re.match(indent + r'    (?: |ensures|requires|decreases)', l)]
+            signature = [l for l in clauses if re.match(indent + r'    \w+: |' + indent + r'    (?:&|mut )', l)]
+            return len(lines) - len(clauses) + len(signature)
+    return len(lines)
+
+
+def parameters(text):
+    """How many parameters a signature has, self not counted."""
+    start = text.index('(', text.index('fn '))
+    depth, angle, count, part = 0, 0, 0, ''
+    for char in text[start:]:
+        if char in '([{':
+            depth += 1
+        elif char in ')]}':
+            depth -= 1
+        angle += (char == '<') - (char == '>' and not part.endswith('-'))
+        if depth == 0 or (depth == 1 and angle == 0 and char == ','):
+            count += bool(part.strip()) and not re.match(r"(?:&(?:'\w+ )?)?(?:mut )?self\Z", part.strip())
+            part = ''
+        elif not (depth == 1 and char == '('):
+            part += char
+        if depth == 0:
+            break
+    return count
+
+
+def long_files():
+    for path in files('crates/*/src/**/*.rt', 'crates/*/specs/**/*.antt', 'crates/*/proofs/**/*.antt'):
+        count = read(path).count('\n')
+        if count > MOST_FILE_LINES:
+            yield '%s has %d lines' % (path, count)
+
+
+def long_lines():
+    for path in files('crates/*/src/**/*.rt', 'crates/*/specs/**/*.antt'):
+        for number, line in enumerate(read(path).split('\n'), 1):
+            if len(line) > MOST_LINE:
+                yield '%s:%d has %d characters' % (path, number, len(line))
+
+
+def long_functions():
+    for path in files('crates/*/src/**/*.rt'):
+        for number, name, count, _ in functions(read(path)):
+            if count > MOST_FUNCTION_LINES:
+                yield '%s:%d: %s has %d lines' % (path, number, name, count)
+
+
+def wide_functions():
+    for path in files('crates/*/src/**/*.rt'):
+        for number, name, _, count in functions(read(path)):
+            if count > MOST_PARAMETERS:
+                yield '%s:%d: %s has %d parameters' % (path, number, name, count)
+
+
+def library_tests():
+    for path in files('crates/*/src/**/*.rt'):
+        crate = path.split('/')[1]
+        if not crate.endswith('_tests') and '#[test]' in read(path) and files('crates/%s/src/lib.rt' % crate):
+            yield '%s has tests' % path
+
+
+def many_edits():
+    for crate in crates():
+        count = len(files('crates/%s/must-fail/*.edit' % crate))
+        if count > MOST_EDITS:
+            yield 'crates/%s/must-fail has %d edits' % (crate, count)
+
+
+RULES = {'long-files': long_files, 'long-lines': long_lines, 'long-functions': long_functions, 'wide-functions': wide_functions,
+         'library-tests': library_tests, 'many-edits': many_edits}
+
+
+def shape_faults(is_listed):
+    """The rules that have more exceptions than docs/check_limits.txt says."""
+    limits = dict(line.split() for line in read('docs/check_limits.txt').split('\n') if line and not line.startswith('#'))
+    for rule, exceptions in RULES.items():
+        found, limit = list(exceptions()), int(limits.get(rule, 0))
+        if is_listed:
+            print('%s: %d' % (rule, len(found)))
+        if is_listed or len(found) > limit:
+            print('\n'.join('  ' + line for line in found))
+        if len(found) > limit:
+            yield '%s: %d exceptions, and docs/check_limits.txt allows %d' % (rule, len(found), limit)
+        elif len(found) < limit:
+            print('docs/check_limits.txt can say %s %d' % (rule, len(found)))
+
+
+def main():
+    faults = list(document_faults()) + list(table_faults()) + list(shape_faults('--list' in sys.argv[1:]))
+    print('\n'.join(faults + ['%d faults in documents and shape' % len(faults)]))
+    sys.exit(1 if faults else 0)
+
+
+if __name__ == '__main__':
+    main()

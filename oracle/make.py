@@ -1,0 +1,102 @@
+"""Writes the inputs and the expected outputs of crates/tree_cases, crates/form_cases and crates/run_cases from the
+tables of this folder.
+
+What a table says of a case by hand is compared with what is computed here, where both are there.
+"""
+import json
+import os
+
+import form_cases
+import language
+import tree_cases
+from tables import bytes as byte_tables
+from tables import expressions, package_faults, runs, script_faults, transactions
+
+CRATES = os.path.join(os.path.dirname(os.path.dirname(os.path.abspath(__file__))), 'crates')
+
+
+def compact(form):
+    return json.dumps(form, separators=(',', ':'), ensure_ascii=False)
+
+
+def agreed(text, computed, worked):
+    """What was computed, where it is what was worked out by hand or nothing was."""
+    if worked is not None and computed != worked:
+        raise SystemExit('%s\n  computed   %s\n  worked out %s' % (text[:300], computed, worked))
+    return computed
+
+
+def tree_rows():
+    """The lines of each case of tree_cases and those that answer it."""
+    for name, script in transactions.NAMED:
+        lines = list(tree_cases.script_lines(script))
+        for worked in transactions.WORKED.get(name, []):
+            if worked not in lines:
+                raise SystemExit('%s has no line %s' % (name, worked))
+        yield 'script %s %s' % (name, compact(script)), ['script ' + name] + lines
+    for at, (text, fault) in enumerate(script_faults.cases()):
+        name = 'fault-%d' % at
+        lines = list(tree_cases.script_lines(json.loads(text))) if fault is None else ['fault ' + fault]
+        yield 'script %s %s' % (name, text), ['script ' + name] + lines
+
+
+def check_line(packages):
+    try:
+        language.Check().packages(packages)
+    except language.CheckFault as fault:
+        return fault.text
+    return 'no fault'
+
+
+def package_rows():
+    for text, fault, worked in package_faults.cases():
+        if fault is package_faults.READ:
+            computed = agreed(text, check_line(json.loads(text)), worked)
+            fault = None if computed == 'no fault' else computed
+        yield 'packages ' + text, ['no fault' if fault is None else 'fault ' + fault]
+
+
+def expression_rows():
+    for expression, worked in expressions.CASES:
+        computed = form_cases.expression_line(expressions.NAMES, expression)
+        yield 'expression ' + compact([expressions.NAMES, expression]), [agreed(str(expression), computed, worked)]
+
+
+def byte_rows():
+    for word, digits, fault, worked in byte_tables.cases():
+        computed = form_cases.bytes_line(word, bytes.fromhex(digits))
+        if (fault is not None or computed.startswith('bad at')) and computed != 'bad at %s' % fault:
+            raise SystemExit('%s %s\n  computed   %s\n  worked out bad at %s' % (word, digits, computed, fault))
+        if worked is not None and ' %s spelled' % worked not in computed:
+            raise SystemExit('%s %s\n  computed   %s\n  worked out %s' % (word, digits, computed, worked))
+        yield '%s %s' % (word, digits), [computed]
+
+
+def run_rows():
+    for name, words, source, take, put, status, line, text in runs.cases():
+        lines = ['run ' + name, 'status %d' % status] + ([] if line is None else [line])
+        yield 'run %s %d %d %s %s' % (name, take, put, words, source), lines + ['|' + written for written in text.splitlines()]
+
+
+def write(crate, parts):
+    """Writes the cases of a crate, each part below a heading that it writes again."""
+    asked, answered = [], []
+    for heading, rows in parts:
+        asked.append('# ' + heading)
+        answered.append('# ' + heading)
+        for line, lines in rows:
+            asked.append(line)
+            answered += lines
+    for name, lines in [('stdin', asked), ('stdout', answered)]:
+        with open(os.path.join(CRATES, crate, name), 'w') as out:
+            out.write('\n'.join(lines) + '\n')
+
+
+def main():
+    write('tree_cases', [('Transactions, and scripts with their first fault', tree_rows())])
+    write('form_cases', [('Terms and trees as bytes', byte_rows()), ('Expressions', expression_rows()), ('Packages', package_rows())])
+    write('run_cases', [('Whole runs', run_rows())])
+
+
+if __name__ == '__main__':
+    main()
