@@ -1,12 +1,9 @@
 -- The walk of the rounds keeps their limits, and the participants and parties that they name.
-use Rattle.std.proofs.Common.{◌≡◌, ℕ, ◌+◌, ◌≤◌, Bool, true, false, cond, List, [], ◌∷◌, ◌++◌, length, Ok, refl, sym, subst, arith}
-use Rattle.std.specs.Prelude.{◌&&◌, nat_le}
+use Rattle.std.proofs.Common.{◌≡◌, ℕ, ◌≤◌, Bool, true, false, cond, List, [], ◌∷◌, length, Ok, refl, sym, subst, arith}
+use Rattle.std.specs.Prelude.{◌&&◌}
 use Rattle.std.specs.List.{list_all, AllByRecursion}
-use Rattle.std.proofs.lemmas.Bool.Decides.{nat_tests}
-use Rattle.std.proofs.lemmas.List.{length_push}
 use Rattle.serde_json.specs.Data.{Data, Items}
 use Rattle.ledger_terms.specs.Parties.{name_below, same_name, with_party, with_parties, set_of}
-use Rattle.ledger_terms.specs.Pointers.{at_item}
 use Rattle.ledger_terms.specs.declared.host.Host.{Host}
 use Rattle.json_walk.specs.Walk.{Place, name_of, items_of, item_count, within_limit, few_items_of}
 use Rattle.json_walk.specs.declared.limit.Limit.{Limit}

@@ -1,16 +1,14 @@
 -- The walk of a submission keeps its limits, and the participants and parties that it names.
-use Rattle.std.proofs.Common.{◌≡◌, ℕ, suc, ◌+◌, ◌<◌, ◌≤◌, ◌^◌, Bool, true, false, List, [], ◌∷◌, ◌++◌, length, Option, Some, None, Ok, ok_or, option_map, refl, sym, ap, subst, arith}
+use Rattle.std.proofs.Common.{◌≡◌, ℕ, suc, ◌<◌, ◌≤◌, ◌^◌, Bool, true, false, List, [], ◌∷◌, length, Option, Some, None, Ok, ok_or, option_map, refl, sym, ap, subst, arith}
 use Rattle.std.specs.Prelude.{◌||◌, codes, MatchOption, if◌then◌else◌}
 use Rattle.std.specs.List.{list_all}
-use Rattle.std.proofs.lemmas.List.{length_push}
 use Rattle.serde_json.specs.Data.{Data, Items, null, boolean, number, string, array, object}
 use Rattle.serde_json.specs.Find.{get}
 use Rattle.ledger_terms.specs.Parties.{same_name, set_of}
-use Rattle.ledger_terms.specs.Pointers.{at_item, at_member}
+use Rattle.ledger_terms.specs.Pointers.{at_member}
 use Rattle.ledger_terms.specs.declared.host.Host.{Host}
 use Rattle.ledger_terms.specs.declared.what.What.{What}
 use Rattle.ledger_terms.specs.declared.what.What.TheVariants as what
-use Rattle.ledger_terms.specs.declared.command.Command.{Command}
 use Rattle.ledger_terms.specs.declared.submission.Submission.{Submission}
 use Rattle.json_walk.specs.declared.limits.TheConstants.{ACT_AS, COMMANDS, LEDGER_TIME}
 use Rattle.json_walk.specs.Lists.{few_of}

@@ -1,6 +1,6 @@
 -- Prepared trees: members looked up one by one.
 use Rattle.std.proofs.Common.{◌≡◌, ℕ, ◌+◌, List, length, Some, Ok, ok_or, refl, Ordering, Less, Equal, Greater}
-use Rattle.std.specs.Prelude.{codes, nat_le, if◌then◌else◌}
+use Rattle.std.specs.Prelude.{codes, if◌then◌else◌}
 use Rattle.std.specs.Ordering.{nat_cmp, match_ordering}
 use Rattle.std.specs.Cmp.Lexicographic.{slice_cmp}
 use Rattle.serde_json.specs.Data.{Data, null, boolean, number, string, array, object, Members, no_members, member}

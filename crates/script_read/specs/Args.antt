@@ -9,7 +9,7 @@ use Rattle.ledger_terms.specs.declared.arg.Arg.TheVariants as arg
 use Rattle.ledger_terms.specs.declared.value.Value.{Value}
 use Rattle.ledger_terms.specs.declared.value.Value.TheVariants as value
 use Rattle.ledger_terms.specs.Answers.{◌>>=◌, check}
-use Rattle.json_walk.specs.Walk.{Place, has_members, walk_items, member_of, few_items_of}
+use Rattle.json_walk.specs.Walk.{Place, has_members, member_of}
 use Rattle.json_walk.specs.Texts.{text_of}
 use Rattle.lang_read.specs.Literals.{is_party_form, is_parties_form, party_value_of, parties_value_of}
 use Rattle.json_walk.specs.Lists.{few_of}
