@@ -24,13 +24,9 @@ pub part_approves : {F : Type 0} (m : Machine) (now : ℕ) (round : Round) (resu
 part_approves m now round results before after k is genuine part open' le short a =
     approved m round.paused after is genuine (subst (λ (b : Bool). Settled m round.paused b after) open' part.settled) k
     (record {
-      request = a.request;
-      there = a.there;
+      approval = a;
       no_tick = λ i e lt at.
           let at' : slice_get (begun m now round before ++ part.rest) i ≡ Some e = ap (λ (xs : List Entry). slice_get xs i) (sym part.is_begun) ∙ at in
           part.no_tick e (contains_from_In part.rest e (in_right (begun m now round before) part.rest i e (omega (arith, le, lt)) at'));
       short = short;
-      somebody = a.somebody;
-      present = a.present;
-      approves = a.approves;
     })
