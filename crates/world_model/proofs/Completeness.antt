@@ -185,7 +185,8 @@ entry_there : (o : Option Entry) (q : Request) → request_in o ≡ Some q → (
 entry_there None q e = absurd (none-some q e)
 entry_there (Some x) q e = (x, refl)
 
-module _ (m : Machine) (paused : List ParticipantId) (log : List Entry) (is : IsReading m.reading) (genuine : GenuineLog m log) (settled : s.Settled m paused false log) (k : ℕ)
+module _ (m : Machine) (paused : List ParticipantId) (log : List Entry) (is : IsReading m.reading) (genuine : GenuineLog m log)
+    (settled : s.Settled m paused false log) (k : ℕ)
     (u : Unhindered m paused log k) where
   abbrev q : Request
   q = (u.approval).request
@@ -232,7 +233,9 @@ module _ (m : Machine) (paused : List ParticipantId) (log : List Entry) (is : Is
       }
 
   state : ApprovedOrWaits k q.confirming (drop (suc k) log) (fold (after_entry k dead) (Waiting q.confirming) (drop (suc k) log))
-  state = quiet_fold k dead (drop (suc k) log) quiet q.confirming (((u.approval).somebody).0, in_from_Contains q.confirming ((u.approval).somebody).0 ((u.approval).somebody).1)
+  state =
+      let p = (u.approval).somebody in
+      quiet_fold k dead (drop (suc k) log) quiet q.confirming (p.0, in_from_Contains q.confirming p.0 p.1)
 
   scanned : scan m.params log k ≡ decision_of (fold (after_entry k dead) (Waiting q.confirming) (drop (suc k) log))
   scanned = scan_is m.params log k q (u.approval).there
