@@ -1,7 +1,7 @@
 -- The worked test of conformance decides it.
 use Rattle.std.proofs.Common.{◌≡◌, Bool, true, false, List, [], ◌∷◌, ◌++◌, Some, refl, ap, ◌↔◌}
-use Rattle.ledger_terms.specs.Deciding.{both, both_true, lists_decide}
-use Rattle.ledger_terms.specs.SameValues.{value_decides, template_decides}
+use Rattle.ledger_terms.proofs.Deciding.{both, both_true, lists_decide}
+use Rattle.ledger_terms.proofs.SameValues.{value_decides, template_decides}
 use Rattle.ledger_terms.specs.declared.value.Value.TheVariants.{Unit as UnitValue}
 use Rattle.ledger_model.specs.Terms.{TemplateName, Value, Action, Act, Create, Exercise, Fetch}
 use Rattle.ledger_model.specs.Forest.{Forest, NoRoots, Root}

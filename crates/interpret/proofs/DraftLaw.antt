@@ -5,7 +5,7 @@ use Rattle.ledger_terms.specs.Answers.{UnlessMemory}
 use Rattle.std.proofs.lemmas.Bool.{cases_Bool}
 use Rattle.std.proofs.lemmas.Bool.Decides.{nat_tests}
 use Rattle.std.proofs.lemmas.List.{length-append}
-use Rattle.ledger_terms.specs.Deciding.{both_true}
+use Rattle.ledger_terms.proofs.Deciding.{both_true}
 use Rattle.ledger_terms.specs.declared.known.Known.{Known}
 use Rattle.ledger_terms.specs.declared.instance.Instance.{Instance}
 use Rattle.ledger_terms.specs.declared.value.Value.{Value}
