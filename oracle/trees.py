@@ -146,11 +146,9 @@ class TreeReader(Reader):
         return (salt, self.take(self.count(4, 2 ** 32)))
 
     def vertices(self, levels):
-        return [self.vertex(levels) for _ in range(self.count(2, 64))]
+        return [self.vertex(levels) for _ in range(self.count(2, 64 if levels else 0))]
 
     def vertex(self, levels):
-        if levels == 0:
-            raise Bad(self.at)
         if self.tag((0, 1)) == 0:
             return self.take(32)
         informees = self.leaf()
@@ -203,13 +201,13 @@ class LeafReader(Reader):
         self.parties()
         self.end()
 
-    def core_node(self):
-        """How many holes a core has."""
+    def core_node(self, levels=16):
+        """How many holes a core of so many levels has; below the last stand holes alone."""
         self.take(32)
         self.action()
         holes = 0
         for _ in range(self.count(2, 63)):
-            holes += 1 if self.tag((0, 1)) == 1 else self.core_node()
+            holes += 1 if self.tag((0, 1) if levels > 1 else (1,)) == 1 else self.core_node(levels - 1)
         return holes
 
     def contents(self):

@@ -77,10 +77,23 @@ TREES = [
 
 
 def too_deep():
-    """A tree of 17 levels, and the place of the first vertex that stands too deep."""
+    """A tree of 17 levels, and the place of the count that announces the vertex on the last."""
     text = tree(nested(17))
     upper, last = len(vertex(contents=HOLED)) // 2, len(tree()) // 2
-    return text, last + 16 * upper
+    return text, last + 16 * upper - 2
+
+
+def core(levels):
+    """A core of so many levels, each action with one below it."""
+    node = SALT + '01' + ID + HI
+    return node + ('0001' + '00' + core(levels - 1) if levels > 1 else '0000')
+
+
+def cores():
+    """Trees with a core of 16 levels and of 17, and the place in the second of the tag of the node that stands too deep."""
+    node = len(SALT + '01' + ID + HI) // 2 + 3
+    yield tree(vertex(contents=leaf(core(16)))), 'opened 1 views told 1 views'
+    yield tree(vertex(contents=leaf(core(17)))), 'opened bad at %d told 1 views' % (16 * node - 1)
 
 
 def cases():
@@ -91,3 +104,5 @@ def cases():
     for digits, fault, opened, told in TREES:
         yield 'tree', digits, fault, None if opened is None else 'opened %s told %s' % (opened, told)
     yield ('tree',) + too_deep() + (None,)
+    for digits, worked in cores():
+        yield 'tree', digits, None, worked

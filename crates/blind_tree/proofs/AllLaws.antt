@@ -8,11 +8,11 @@ use Rattle.wire_form.specs.declared.wire_fault.WireFault.{WireFault}
 use Rattle.wire_form.specs.declared.wire_fault.WireFault.TheVariants.{Memory}
 use Rattle.wire_form.specs.Formats.{◌>>=◌, Reading, Gives}
 use Rattle.wire_form.proofs.FormatLaws.{IsBytes, Reads}
-use Rattle.blind_tree.specs.Reading.{ended, with_place, read_all, finished}
+use Rattle.blind_tree.specs.Reading.{ended, with_place, read_all, reader_answer}
 
 -- what a reader gave, with nothing left after it
 pub given_all : {A : Type 0} (read : Reading A) (bytes rest : List ℕ) (got : Result A ReaderFault) → Gives (λ x. (x, rest)) got (read bytes)
-    → UnlessMemory Memory (finished got (length bytes) (length rest)) (read_all read bytes)
+    → UnlessMemory Memory (reader_answer got (length bytes) (length rest)) (read_all read bytes)
 given_all read bytes [] (Ok x) h other = ap (λ r. with_place (length bytes) (r >>= λ y. ended y.0 y.1)) (sym h)
 given_all read bytes (b ∷ more) (Ok x) h other = ap (λ r. with_place (length bytes) (r >>= λ y. ended y.0 y.1)) (sym h)
 given_all read bytes rest (Err (faults.Left n)) h other = ap (λ r. with_place (length bytes) (r >>= λ y. ended y.0 y.1)) (sym h)
@@ -53,8 +53,8 @@ module _ {A : Type 0} (s : A → List ℕ) (F : A → Type 0) (read : Reading A)
     pub only : (x : A) → F x → bytes ≡ s x → UnlessMemory Memory a (Ok x)
 
   pub decodes_all : (bytes from rest : List ℕ) (got : Result A ReaderFault) (left : ℕ) (a : Answer) → IsBytes bytes → from ≡ bytes → Gives (λ x. (x, rest)) got (read from) → left ≡ length rest
-      → a ≡ finished got (length bytes) left → DecodesAll bytes a
+      → a ≡ reader_answer got (length bytes) left → DecodesAll bytes a
   decodes_all bytes from rest got left a fits begins h at_left is =
-      let whole : a ≡ finished got (length bytes) (length rest) = is ∙ ap (finished got (length bytes)) at_left in
+      let whole : a ≡ reader_answer got (length bytes) (length rest) = is ∙ ap (reader_answer got (length bytes)) at_left in
       let exact = subst (λ (b : Answer). UnlessMemory Memory b (read_all read bytes)) (sym whole) (given_all read bytes rest got (subst (λ (k : List ℕ). Gives (λ x. (x, rest)) got (read k)) begins h)) in
       record { exact = exact; found = all_found bytes a fits exact; only = all_read bytes a exact }

@@ -19,7 +19,7 @@ use Rattle.blind_tree.specs.Digests.{Hashing, leaf_digest, digests, root_digest}
 use Rattle.blind_tree.specs.Agreement.{IsSizedLeaf, AreSized, IsSized}
 use Rattle.blind_tree.specs.InRange.{IsSpellableLeaf, AreSpellable, IsSpellableTree, nesting}
 use Rattle.blind_tree.specs.LeafBytes.{common_bytes, roles_bytes, core_bytes}
-use Rattle.blind_tree.specs.Blind.{Shown, leaf_of, digest_of, roles_digest, core_digest, view_digests, views_shown, named, shown_to, is_hidden, shows_roles, shows_core, vertices_shown, has_sight, sees_root, leaf_with, Salts, tree_with, tree_to, tree_to_mediator, digest_with, salts_of, transaction_of, blind_for, is_host_named, transaction_digest}
+use Rattle.blind_tree.specs.Blind.{Visibility, leaf_of, digest_of, roles_digest, core_digest, view_digests, views_shown, informees_alone, shown_to, is_hidden, shows_roles, shows_core, vertices_shown, has_sight, sees_root, leaf_with, Salts, tree_with, tree_to, tree_to_mediator, digest_with, salts_of, transaction_of, blind_for, is_host_named, transaction_digest}
 use Rattle.blind_tree.specs.Seen.{contents_shown, paths_seen, depth, AreSmall, IsSmall}
 use Rattle.blind_tree.specs.declared.tree.Tree.{Tree}
 use Rattle.blind_tree.specs.declared.recipient.Recipient.{Recipient}
@@ -28,7 +28,7 @@ use Rattle.blind_tree.proofs.KeptGrow.{any_parts}
 use Rattle.blind_tree.proofs.KeptLaws.{unshown, unnamed}
 
 abbrev Marked : Type 0
-Marked = Forest (Shown × SplitView)
+Marked = Forest (Visibility × SplitView)
 
 neither : (a b : Bool) → (a || b) ≡ false → (a ≡ false) × (b ≡ false)
 neither true b e = cc
@@ -74,7 +74,7 @@ module _ (sha : Hashing) where
 
   pub mediators_root : (salts : Salts) (sender : List ℕ) (t : Transaction) (views : Forest SplitView)
       → root_digest sha (tree_to_mediator sha salts sender t views) ≡ digest_with sha salts sender t views
-  mediators_root salts sender t views = salted_root salts sender false t views (map_forest named views) (unnamed views)
+  mediators_root salts sender t views = salted_root salts sender false t views (map_forest informees_alone views) (unnamed views)
 
   pub one_root : (views : Views) (sender : List ℕ) (hosts : List Host) (to : Recipient) → root_digest sha (blind_for sha views sender hosts to) ≡ transaction_digest sha views sender
   one_root views sender hosts (Participant p) =
@@ -110,7 +110,7 @@ module _ (sha : Hashing) where
     pub sized : (views : Views) (sender : List ℕ) (hosts : List Host) (to : Recipient) → IsSized (blind_for sha views sender hosts to)
     sized views sender hosts (Participant p) =
         sized_tree sender (sees_root (hosts_at hosts p) views.roots || is_host_named hosts p sender) views (shown_to (hosts_at hosts p) false views.roots)
-    sized views sender hosts Mediator = sized_tree sender false views (map_forest named views.roots)
+    sized views sender hosts Mediator = sized_tree sender false views (map_forest informees_alone views.roots)
 
   -- ---- what is shown
 
@@ -134,7 +134,7 @@ module _ (sha : Hashing) where
         ]
       ]
 
-  pub mediator_sees_none : (above : List ℕ) (k : ℕ) (f : Forest SplitView) → contents_shown above k (vertices_shown sha (map_forest named f)) ≡ []
+  pub mediator_sees_none : (above : List ℕ) (k : ℕ) (f : Forest SplitView) → contents_shown above k (vertices_shown sha (map_forest informees_alone f)) ≡ []
   mediator_sees_none above k NoRoots = refl
   mediator_sees_none above k (Root view subviews others) = λ i. mediator_sees_none (above ++ k ∷ []) 0 subviews i ++ mediator_sees_none above (suc k) others i
 
@@ -187,4 +187,4 @@ module _ (sha : Hashing) where
   pub spellable : (views : Views) (sender : List ℕ) (hosts : List Host) (to : Recipient) → IsSmall sender views → IsSpellableTree (blind_for sha views sender hosts to)
   spellable views sender hosts (Participant p) small =
       spellable_tree sender (sees_root (hosts_at hosts p) views.roots || is_host_named hosts p sender) views (shown_to (hosts_at hosts p) false views.roots) (unshown (hosts_at hosts p) false views.roots) small
-  spellable views sender hosts Mediator small = spellable_tree sender false views (map_forest named views.roots) (unnamed views.roots) small
+  spellable views sender hosts Mediator small = spellable_tree sender false views (map_forest informees_alone views.roots) (unnamed views.roots) small

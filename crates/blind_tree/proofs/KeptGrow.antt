@@ -17,7 +17,7 @@ use Rattle.blind_tree.specs.Blind.{has_sight}
 use Rattle.blind_tree.specs.LeafBytes.{AreSpellableViews}
 use Rattle.blind_tree.specs.KeptParts.{KeptPart}
 use Rattle.blind_tree.specs.KeptLists.{kept_of, one_kept, part_kept, kept_count}
-use Rattle.blind_tree.specs.Kept.{kept, kept_digests, is_kept_sight, has_kept_sight, sees_kept_root, cut, cut_one, cut_part, cut_for_mediator}
+use Rattle.blind_tree.specs.Kept.{kept_views, kept_digests, is_kept_sight, has_kept_sight, sees_kept_root, cut_views, cut_one, cut_part, cut_for_mediator}
 use Rattle.blind_tree.specs.declared.kept_list.KeptView.{KeptView}
 use Rattle.blind_tree.proofs.Grow.{beside-assoc, beside-nothing}
 
@@ -50,14 +50,14 @@ pub spellable_view : (vs : List View) (i : ℕ) (v : View) → i < length vs →
 spellable_view vs i v h at s = spellable_parts v (views_of (drop (i + 1) vs)) (rw (next_of vs i v h at) at s)
 
 pub kept_step : (vs : List View) (i : ℕ) (v : View) (all out new : Forest KeptPart) (k : KeptView) → i < length vs → v ≡ get_or vs i v
-    → one_kept k ≡ kept sha256 (view_tree v) → new ≡ join out (one_kept k) → join out (kept sha256 (views_of (drop i vs))) ≡ all → join new (kept sha256 (views_of (drop (i + 1) vs))) ≡ all
+    → one_kept k ≡ kept_views sha256 (view_tree v) → new ≡ join out (one_kept k) → join out (kept_views sha256 (views_of (drop i vs))) ≡ all → join new (kept_views sha256 (views_of (drop (i + 1) vs))) ≡ all
 kept_step vs i v all out new k h at is grown before =
-    let rest = kept sha256 (views_of (drop (i + 1) vs)) in
-    let next : kept sha256 (views_of (drop i vs)) ≡ join (kept sha256 (view_tree v)) rest = ap (kept sha256) (next_of vs i v h at) in
+    let rest = kept_views sha256 (views_of (drop (i + 1) vs)) in
+    let next : kept_views sha256 (views_of (drop i vs)) ≡ join (kept_views sha256 (view_tree v)) rest = ap (kept_views sha256) (next_of vs i v h at) in
     ap (λ (f : Forest KeptPart). join f rest) (grown ∙ ap (join out) is)
-    ∙ (join-assoc out (kept sha256 (view_tree v)) rest ∙ (ap (join out) (sym next) ∙ before))
+    ∙ (join-assoc out (kept_views sha256 (view_tree v)) rest ∙ (ap (join out) (sym next) ∙ before))
 
-pub kept_end : (vs : List View) (i : ℕ) (all out : Forest KeptPart) → length vs ≤ i → join out (kept sha256 (views_of (drop i vs))) ≡ all → out ≡ all
+pub kept_end : (vs : List View) (i : ℕ) (all out : Forest KeptPart) → length vs ≤ i → join out (kept_views sha256 (views_of (drop i vs))) ≡ all → out ≡ all
 kept_end vs i all out past before = sym (join-end out) ∙ (rw (drop_of_length-le vs past) at before)
 
 -- ---- views with their hashes, one at a time
@@ -87,7 +87,7 @@ pub kept_digests-length : (f : Forest KeptPart) → length (kept_digests f) ≡ 
 kept_digests-length NoRoots = refl
 kept_digests-length (Root part subviews others) = ap suc (kept_digests-length others)
 
-pub kept_count-of : (f : Forest SplitView) → trees_count (kept sha256 f) ≡ trees_count f
+pub kept_count-of : (f : Forest SplitView) → trees_count (kept_views sha256 f) ≡ trees_count f
 kept_count-of NoRoots = refl
 kept_count-of (Root view subviews others) = ap suc (kept_count-of others)
 
@@ -128,16 +128,16 @@ one_more false false part s o = refl
 
 pub cut_step : (hosts : List ℕ → Bool) (above sees : Bool) (vs : List KeptView) (i : ℕ) (v : KeptView) (all out new one : Vertices) → i < length vs → v ≡ get_or vs i v
     → sees ≡ (above || list_any hosts v.informees) → one ≡ cut_one hosts sees (part_kept v) v.subviews → new ≡ beside out one
-    → beside out (cut hosts above (kept_of (drop i vs))) ≡ all → beside new (cut hosts above (kept_of (drop (i + 1) vs))) ≡ all
+    → beside out (cut_views hosts above (kept_of (drop i vs))) ≡ all → beside new (cut_views hosts above (kept_of (drop (i + 1) vs))) ≡ all
 cut_step hosts above sees vs i v all out new one h at seen is grown before =
-    let rest = cut hosts above (kept_of (drop (i + 1) vs)) in
+    let rest = cut_views hosts above (kept_of (drop (i + 1) vs)) in
     let does = above || list_any hosts v.informees in
-    let next : cut hosts above (kept_of (drop i vs)) ≡ beside (cut_one hosts does (part_kept v) v.subviews) rest =
-    ap (cut hosts above) (next_kept vs i v h at) ∙ one_more does (has_kept_sight hosts v.subviews) (part_kept v) (cut hosts does v.subviews) rest in
+    let next : cut_views hosts above (kept_of (drop i vs)) ≡ beside (cut_one hosts does (part_kept v) v.subviews) rest =
+    ap (cut_views hosts above) (next_kept vs i v h at) ∙ one_more does (has_kept_sight hosts v.subviews) (part_kept v) (cut_views hosts does v.subviews) rest in
     ap (λ (x : Vertices). beside x rest) (grown ∙ ap (beside out) (is ∙ ap (λ (b : Bool). cut_one hosts b (part_kept v) v.subviews) seen))
     ∙ (beside-assoc out (cut_one hosts does (part_kept v) v.subviews) rest ∙ (ap (beside out) (sym next) ∙ before))
 
-pub cut_end : (hosts : List ℕ → Bool) (above : Bool) (vs : List KeptView) (i : ℕ) (all out : Vertices) → length vs ≤ i → beside out (cut hosts above (kept_of (drop i vs))) ≡ all → out ≡ all
+pub cut_end : (hosts : List ℕ → Bool) (above : Bool) (vs : List KeptView) (i : ℕ) (all out : Vertices) → length vs ≤ i → beside out (cut_views hosts above (kept_of (drop i vs))) ≡ all → out ≡ all
 cut_end hosts above vs i all out past before = sym (beside-nothing out) ∙ (rw (drop_of_length-le vs past) at before)
 
 pub named_step : (vs : List KeptView) (i : ℕ) (v : KeptView) (all out new one : Vertices) → i < length vs → v ≡ get_or vs i v

@@ -30,8 +30,8 @@ use Rattle.blind_tree.specs.LeafBytes.{common_bytes, roles_bytes, core_bytes}
 use Rattle.blind_tree.specs.Leaves.{spell_common, IsCommon, spell_roles, AreRoles}
 use Rattle.blind_tree.specs.Reading.{ended, with_place, read_all}
 use Rattle.blind_tree.specs.CoreReading.{core_at}
-use Rattle.blind_tree.specs.Blind.{leaf_of, vertices_shown, shown_to, named, has_sight, sees_root, blind_to, blind_for_mediator}
-use Rattle.blind_tree.specs.Opening.{head_at, roles_at, view_roles, roles_listed, told, ViewParts, parts_read, views_read, views_opened, placed, read_if_plain, tree_opened}
+use Rattle.blind_tree.specs.Blind.{leaf_of, vertices_shown, shown_to, informees_alone, has_sight, sees_root, blind_to, blind_for_mediator}
+use Rattle.blind_tree.specs.Opening.{head_at, roles_at, view_roles, roles_listed, informee_tree_of, ViewParts, parts_read, views_read, views_opened, placed, read_if_plain, tree_opened}
 use Rattle.blind_tree.specs.Seen.{roles_of_all, IsView, AreViews, AreInRange}
 use Rattle.blind_tree.specs.declared.view_roles.ViewRoles.{ViewRoles}
 use Rattle.blind_tree.proofs.CoreLaws as cores
@@ -157,11 +157,11 @@ module _ (sha : Hashing) where
 
   -- ---- what the mediator is told
 
-  told_again : (above : List ℕ) (k : ℕ) (f : Forest SplitView) → AreViews f → roles_listed above k (vertices_shown sha (map_forest named f)) ≡ Ok (roles_of_all above k f)
+  told_again : (above : List ℕ) (k : ℕ) (f : Forest SplitView) → AreViews f → roles_listed above k (vertices_shown sha (map_forest informees_alone f)) ≡ Ok (roles_of_all above k f)
   told_again above k NoRoots h = refl
   told_again above k (Root view subviews others) h =
       rw (roles_again view h.0, told_again (above ++ k ∷ []) 0 subviews h.1, told_again above (suc k) others h.2)
       (ap (λ (rs : List ViewRoles). Ok (view_roles (above ++ k ∷ []) (view.informees, view.confirmers) ∷ rs)) (sym (map_append one_role (preorder (paths_from (above ++ k ∷ []) 0 subviews)) (preorder (paths_from above (suc k) others)))))
 
-  pub tree_tells : (views : Views) (sender : List ℕ) → AreInRange sender views → told (blind_for_mediator sha views sender) ≡ Ok (record { sender = sender; views = roles_of_all [] 0 views.roots })
+  pub tree_tells : (views : Views) (sender : List ℕ) → AreInRange sender views → informee_tree_of (blind_for_mediator sha views sender) ≡ Ok (record { sender = sender; views = roles_of_all [] 0 views.roots })
   tree_tells views sender h = rw (head_again sender views.ledger_time h.sender_is h.time_fits, told_again [] 0 views.roots h.each) refl

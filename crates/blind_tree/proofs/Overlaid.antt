@@ -10,7 +10,7 @@ use Rattle.view_split.specs.Seen.{is_sight}
 use Rattle.blind_tree.specs.Vertices.{Vertices, NoVertices, BlindVertex, InnerVertex}
 use Rattle.blind_tree.specs.Digests.{Hashing}
 use Rattle.blind_tree.specs.LeafBytes.{roles_bytes, core_bytes}
-use Rattle.blind_tree.specs.Blind.{Shown, Hidden, Passed, Whole, shown, is_hidden, shows_roles, shows_core, leaf_of, roles_digest, core_digest, view_digests, views_shown, shown_to, has_sight, vertices_shown}
+use Rattle.blind_tree.specs.Blind.{Visibility, Hidden, Passed, Whole, visibility, is_hidden, shows_roles, shows_core, leaf_of, roles_digest, core_digest, view_digests, views_shown, shown_to, has_sight, vertices_shown}
 use Rattle.blind_tree.proofs.Blinded.{none_seen}
 use Rattle.blind_tree.proofs.KeptLaws.{unshown}
 use Rattle.blind_tree.specs.Overlay.{either, overlay}
@@ -51,7 +51,7 @@ module _ (h g : List ℕ → Bool) where
       let mine : is_sight both view ≡ is_sight g view = sight_or view ∙ ap (λ (b : Bool). b || is_sight g view) fs.0 in
       let below : has_sight both subviews ≡ has_sight g subviews = has_or subviews ∙ ap (λ (b : Bool). b || has_sight g subviews) fs.1 in
       rw (mine, below)
-      (λ i. Root (shown (above || is_sight g view) (has_sight g subviews), view) (second_alone (above || is_sight g view) subviews fs.1 i) (second_alone above others fs.2 i))
+      (λ i. Root (visibility (above || is_sight g view) (has_sight g subviews), view) (second_alone (above || is_sight g view) subviews fs.1 i) (second_alone above others fs.2 i))
 
   first_alone : (above : Bool) (f : Forest SplitView) → has_sight g f ≡ false → shown_to both above f ≡ shown_to h above f
   first_alone above NoRoots none = refl
@@ -60,7 +60,7 @@ module _ (h g : List ℕ → Bool) where
       let mine : is_sight both view ≡ is_sight h view = sight_or view ∙ (ap (λ (b : Bool). is_sight h view || b) fs.0 ∙ or_false (is_sight h view)) in
       let below : has_sight both subviews ≡ has_sight h subviews = has_or subviews ∙ (ap (λ (b : Bool). has_sight h subviews || b) fs.1 ∙ or_false (has_sight h subviews)) in
       rw (mine, below)
-      (λ i. Root (shown (above || is_sight h view) (has_sight h subviews), view) (first_alone (above || is_sight h view) subviews fs.1 i) (first_alone above others fs.2 i))
+      (λ i. Root (visibility (above || is_sight h view) (has_sight h subviews), view) (first_alone (above || is_sight h view) subviews fs.1 i) (first_alone above others fs.2 i))
 
 sees_either : (a b x y z : Bool) → z ≡ (x || y) → ((a || b) || z) ≡ ((a || x) || (b || y))
 sees_either true b x y z e = refl
@@ -71,7 +71,7 @@ sees_either false false x y z e = e
 module _ (sha : Hashing) where
   -- ---- one vertex
 
-  abbrev step : SplitView → Shown → List (List ℕ) → Vertices → Vertices → Vertices
+  abbrev step : SplitView → Visibility → List (List ℕ) → Vertices → Vertices → Vertices
   step view m below subviews others =
       if is_hidden m
       then BlindVertex (sha (view_hash_string (roles_digest sha view) (core_digest sha view) below)) others
@@ -79,7 +79,7 @@ module _ (sha : Hashing) where
 
   overlay_step : (view : SplitView) (s p t q : Bool) (d e x : List (List ℕ)) (v w u o o2 r : Vertices)
       → d ≡ x → ((s || p) ≡ false → w ≡ u) → ((t || q) ≡ false → v ≡ u) → overlay v w ≡ u → overlay o o2 ≡ r
-      → overlay (step view (shown s p) d v o) (step view (shown t q) e w o2) ≡ step view (shown (s || t) (p || q)) x u r
+      → overlay (step view (visibility s p) d v o) (step view (visibility t q) e w o2) ≡ step view (visibility (s || t) (p || q)) x u r
   overlay_step view true p true q d e x v w u o o2 r hd hw hv hu ho = λ i. step view Whole x (hu i) (ho i)
   overlay_step view true p false true d e x v w u o o2 r hd hw hv hu ho = λ i. step view Whole x (hu i) (ho i)
   overlay_step view true p false false d e x v w u o o2 r hd hw hv hu ho = λ i. step view Whole x (hv refl i) (ho i)
@@ -115,7 +115,7 @@ module _ (sha : Hashing) where
       ap (vertices_shown sha) (sym (first_alone h g s subviews fs.1) ∙ ap (λ (c : Bool). shown_to (either h g) c subviews) (sym (ap (λ (c : Bool). s || c) fs.0 ∙ or_false s))))
       (overlaid h g s t subviews)
       (overlaid h g a b others)
-      ∙ sym (λ i. step view (shown (sees i) (has_or h g subviews i))
+      ∙ sym (λ i. step view (visibility (sees i) (has_or h g subviews i))
       (digests_of (views_shown (shown_to (either h g) (sees i) subviews)))
       (vertices_shown sha (shown_to (either h g) (sees i) subviews))
       (vertices_shown sha (shown_to (either h g) (a || b) others)))

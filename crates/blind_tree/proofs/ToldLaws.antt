@@ -3,8 +3,8 @@ use Rattle.std.proofs.Common.{◌≡◌, ℕ, suc, ◌+◌, ◌<◌, List, [], �
 use Rattle.wire_form.specs.declared.wire_fault.WireFault.{WireFault}
 use Rattle.blind_tree.specs.Vertices.{Vertices, NoVertices, BlindVertex, InnerVertex, AreNarrow}
 use Rattle.blind_tree.specs.VertexLists.{vertices_of, with_vertex, one_vertex}
-use Rattle.blind_tree.specs.Opening.{with_read, read_leaf, head_at, roles_at, view_roles, roles_listed, told}
-use Rattle.blind_tree.specs.Told.{roles_after, view_told}
+use Rattle.blind_tree.specs.Opening.{with_read, read_leaf, head_at, roles_at, view_roles, roles_listed, informee_tree_of}
+use Rattle.blind_tree.specs.Told.{roles_after, view_roles_after}
 use Rattle.blind_tree.specs.declared.leaf.Leaf.{Leaf}
 use Rattle.blind_tree.specs.declared.vertex.Vertex.{Vertex}
 use Rattle.blind_tree.specs.declared.vertex.Vertex.TheVariants.{Blind, Inner}
@@ -45,7 +45,7 @@ told_behind above k (InnerVertex informees contents subviews others) so_far =
     ∙ sym (read_then (read_leaf roles_at informees) _ _)
 
 -- a vertex by itself
-pub told_one : (above : List ℕ) (k : ℕ) (informees contents : Leaf) (subviews : Vertices) (so_far : List ViewRoles) → roles_after above k (one_vertex (Inner informees contents subviews)) so_far ≡ view_told above k informees subviews so_far
+pub told_one : (above : List ℕ) (k : ℕ) (informees contents : Leaf) (subviews : Vertices) (so_far : List ViewRoles) → roles_after above k (one_vertex (Inner informees contents subviews)) so_far ≡ view_roles_after above k informees subviews so_far
 told_one above k informees contents subviews so_far =
     read_same (read_leaf roles_at informees) _ _ (λ roles. read_on (roles_after (above ++ k ∷ []) 0 subviews (so_far ++ view_roles (above ++ k ∷ []) roles ∷ [])))
 
@@ -83,12 +83,12 @@ told_fault vs above i v so_far all e h at one before =
     sym before ∙ (told_at vs above i v so_far h at ∙ ap (λ (p : Result (List ViewRoles) WireFault). with_read p (λ more. roles_after above (suc i) (vertices_of (drop (i + 1) vs)) more)) one)
 
 -- a fault of the vertices is the tree's
-pub told_tree_fault : (tree : Tree) (head : List ℕ × ℕ) (e : WireFault) → read_leaf head_at tree.common ≡ Ok head → roles_after [] 0 tree.views [] ≡ Err e → told tree ≡ Err e
+pub told_tree_fault : (tree : Tree) (head : List ℕ × ℕ) (e : WireFault) → read_leaf head_at tree.common ≡ Ok head → roles_after [] 0 tree.views [] ≡ Err e → informee_tree_of tree ≡ Err e
 told_tree_fault tree head e first fault =
     let listed : with_read (roles_listed [] 0 tree.views) (λ xs. Ok xs) ≡ Err e = sym (told_behind [] 0 tree.views []) ∙ fault in
     rw first (ap (λ (p : Result (List ViewRoles) WireFault). with_read p (λ (xs : List ViewRoles). Ok (record { sender = head.0; views = xs }))) (sym (read_on (roles_listed [] 0 tree.views)) ∙ listed))
 
-pub told_tree : (tree : Tree) (head : List ℕ × ℕ) (views : List ViewRoles) → read_leaf head_at tree.common ≡ Ok head → roles_after [] 0 tree.views [] ≡ Ok views → told tree ≡ Ok (record { sender = head.0; views = views })
+pub told_tree : (tree : Tree) (head : List ℕ × ℕ) (views : List ViewRoles) → read_leaf head_at tree.common ≡ Ok head → roles_after [] 0 tree.views [] ≡ Ok views → informee_tree_of tree ≡ Ok (record { sender = head.0; views = views })
 told_tree tree head views first all =
     let listed : with_read (roles_listed [] 0 tree.views) (λ xs. Ok xs) ≡ Ok views = sym (told_behind [] 0 tree.views []) ∙ all in
     rw first (ap (λ (p : Result (List ViewRoles) WireFault). with_read p (λ (xs : List ViewRoles). Ok (record { sender = head.0; views = xs }))) (sym (read_on (roles_listed [] 0 tree.views)) ∙ listed))

@@ -49,35 +49,35 @@ view_digests sha (Root view subviews others) =
     sha (view_hash_string (roles_digest sha view) (core_digest sha view) (view_digests sha subviews)) ∷ view_digests sha others
 
 -- What a tree shows of a view: its hash alone; what stands below it; its informees and confirmers too; or its contents too.
-pub data Shown : Type 0 where
-  Hidden : Shown
-  Passed : Shown
-  Named : Shown
-  Whole : Shown
+pub data Visibility : Type 0 where
+  Hidden : Visibility
+  Passed : Visibility
+  Named : Visibility
+  Whole : Visibility
 
-abbrev pub is_hidden : Shown → Bool
+abbrev pub is_hidden : Visibility → Bool
 is_hidden Hidden = true
 is_hidden Passed = false
 is_hidden Named = false
 is_hidden Whole = false
 
-abbrev pub shows_roles : Shown → Bool
+abbrev pub shows_roles : Visibility → Bool
 shows_roles Hidden = false
 shows_roles Passed = false
 shows_roles Named = true
 shows_roles Whole = true
 
-abbrev pub shows_core : Shown → Bool
+abbrev pub shows_core : Visibility → Bool
 shows_core Hidden = false
 shows_core Passed = false
 shows_core Named = false
 shows_core Whole = true
 
-abbrev pub views_shown : Forest (Shown × SplitView) → Forest SplitView
-views_shown = map_forest (λ (m : Shown × SplitView). m.1)
+abbrev pub views_shown : Forest (Visibility × SplitView) → Forest SplitView
+views_shown = map_forest (λ (m : Visibility × SplitView). m.1)
 
 -- the vertices of views, each with what is shown of it
-abbrev pub vertices_shown : Hashing → Forest (Shown × SplitView) → Vertices
+abbrev pub vertices_shown : Hashing → Forest (Visibility × SplitView) → Vertices
 vertices_shown sha NoRoots = NoVertices
 vertices_shown sha (Root marked subviews others) =
     if is_hidden marked.0
@@ -102,19 +102,19 @@ sees_root hosts (Root view subviews others) = is_sight hosts view || sees_root h
 
 -- Whole what is seen: a view with a hosted informee, or one below such a view, as above says. Passed what stands above such
 -- a view.
-abbrev pub shown : (sees below : Bool) → Shown
-shown sees below = if sees then Whole else (if below then Passed else Hidden)
+abbrev pub visibility : (sees below : Bool) → Visibility
+visibility sees below = if sees then Whole else (if below then Passed else Hidden)
 
-abbrev pub shown_to : (hosts : List ℕ → Bool) (above : Bool) → Forest SplitView → Forest (Shown × SplitView)
+abbrev pub shown_to : (hosts : List ℕ → Bool) (above : Bool) → Forest SplitView → Forest (Visibility × SplitView)
 shown_to hosts above NoRoots = NoRoots
 shown_to hosts above (Root view subviews others) =
-    Root (shown (above || is_sight hosts view) (has_sight hosts subviews), view)
+    Root (visibility (above || is_sight hosts view) (has_sight hosts subviews), view)
     (shown_to hosts (above || is_sight hosts view) subviews)
     (shown_to hosts above others)
 
 -- to the mediator the informees and confirmers of every view
-abbrev pub named : SplitView → Shown × SplitView
-named view = (Named, view)
+abbrev pub informees_alone : SplitView → Visibility × SplitView
+informees_alone view = (Named, view)
 
 -- the salts of the common leaf and of the requesters leaf
 pub record Salts : Type 0 where
@@ -122,7 +122,7 @@ pub record Salts : Type 0 where
   pub requesters : List ℕ
 
 -- A tree whose first two leaves have these salts, that shows so much of each view, and the requesters or not.
-abbrev pub tree_with : Hashing → Salts → (sender : List ℕ) (shows_requesters : Bool) → Transaction → Forest (Shown × SplitView) → Tree
+abbrev pub tree_with : Hashing → Salts → (sender : List ℕ) (shows_requesters : Bool) → Transaction → Forest (Visibility × SplitView) → Tree
 tree_with sha salts sender shows_requesters transaction marked =
     record {
       common = leaf_with sha true 1 salts.common (common_bytes sender transaction.ledger_time);
@@ -136,7 +136,7 @@ tree_to sha salts sender transaction views hosts sends =
     tree_with sha salts sender (sees_root hosts views || sends) transaction (shown_to hosts false views)
 
 abbrev pub tree_to_mediator : Hashing → Salts → (sender : List ℕ) → Transaction → Forest SplitView → Tree
-tree_to_mediator sha salts sender transaction views = tree_with sha salts sender false transaction (map_forest named views)
+tree_to_mediator sha salts sender transaction views = tree_with sha salts sender false transaction (map_forest informees_alone views)
 
 -- the hash of a transaction with these views, which each of its trees has
 abbrev pub digest_with : Hashing → Salts → (sender : List ℕ) → Transaction → Forest SplitView → List ℕ

@@ -40,16 +40,16 @@ kept_part sha view below =
       hash = sha (view_hash_string informees_leaf.hash contents_leaf.hash (kept_digests below));
     }
 
-abbrev pub kept : Hashing → Forest SplitView → Forest KeptPart
-kept sha NoRoots = NoRoots
-kept sha (Root view subviews others) = Root (kept_part sha view (kept sha subviews)) (kept sha subviews) (kept sha others)
+abbrev pub kept_views : Hashing → Forest SplitView → Forest KeptPart
+kept_views sha NoRoots = NoRoots
+kept_views sha (Root view subviews others) = Root (kept_part sha view (kept_views sha subviews)) (kept_views sha subviews) (kept_views sha others)
 
 abbrev pub kept_tree : Hashing → Views → (sender : List ℕ) → KeptTree
 kept_tree sha views sender =
     record {
       common = kept_leaf sha 1 views.seed (common_bytes sender views.ledger_time);
       requesters = kept_leaf sha 2 views.seed (spell_parties views.act_as);
-      views = kept sha views.roots;
+      views = kept_views sha views.roots;
     }
 
 abbrev pub is_kept_sight : (List ℕ → Bool) → KeptPart → Bool
@@ -73,15 +73,15 @@ cut_part sees below part subviews others =
     else BlindVertex part.hash others
 
 -- what a participant gets of views
-abbrev pub cut : (hosts : List ℕ → Bool) (above : Bool) → Forest KeptPart → Vertices
-cut hosts above NoRoots = NoVertices
-cut hosts above (Root part subviews others) =
+abbrev pub cut_views : (hosts : List ℕ → Bool) (above : Bool) → Forest KeptPart → Vertices
+cut_views hosts above NoRoots = NoVertices
+cut_views hosts above (Root part subviews others) =
     let sees = above || is_kept_sight hosts part in
-    cut_part sees (has_kept_sight hosts subviews) part (cut hosts sees subviews) (cut hosts above others)
+    cut_part sees (has_kept_sight hosts subviews) part (cut_views hosts sees subviews) (cut_views hosts above others)
 
 -- the same of one view, seen or not
 abbrev pub cut_one : (hosts : List ℕ → Bool) (sees : Bool) → KeptPart → Forest KeptPart → Vertices
-cut_one hosts sees part subviews = cut_part sees (has_kept_sight hosts subviews) part (cut hosts sees subviews) NoVertices
+cut_one hosts sees part subviews = cut_part sees (has_kept_sight hosts subviews) part (cut_views hosts sees subviews) NoVertices
 
 -- what the mediator gets of views
 abbrev pub cut_for_mediator : Forest KeptPart → Vertices
@@ -96,5 +96,5 @@ cut_shows kept shows_requesters views =
 -- what a recipient gets of a tree
 abbrev pub cut_tree : KeptTree → (sender : List ℕ) → List Host → Recipient → Tree
 cut_tree kept sender hosts (Participant p) =
-    cut_shows kept (sees_kept_root (hosts_at hosts p) kept.views || is_host_named hosts p sender) (cut (hosts_at hosts p) false kept.views)
+    cut_shows kept (sees_kept_root (hosts_at hosts p) kept.views || is_host_named hosts p sender) (cut_views (hosts_at hosts p) false kept.views)
 cut_tree kept sender hosts Mediator = cut_shows kept false (cut_for_mediator kept.views)

@@ -54,8 +54,8 @@ roles_listed above k (InnerVertex informees contents subviews others) =
     with_read (roles_listed above (suc k) others) (λ rest. Ok (view_roles (above ++ k ∷ []) roles ∷ (below ++ rest)))))
 
 -- what the mediator reads of a tree
-abbrev pub told : Tree → Result RolesTree WireFault
-told tree =
+abbrev pub informee_tree_of : Tree → Result RolesTree WireFault
+informee_tree_of tree =
     with_read (read_leaf head_at tree.common) (λ head. with_read (roles_listed [] 0 tree.views) (λ views. Ok (record { sender = head.0; views = views })))
 
 -- ---- what a participant opens

@@ -97,8 +97,8 @@ abbrev pub read_all : {A : Type 0} → Reading A → List ℕ → Result A WireF
 read_all read bytes = with_place (length bytes) (read bytes >>= λ x. ended x.0 x.1)
 
 -- what a reader of so many bytes gave, with so many left after it
-abbrev pub finished : {A : Type 0} → Result A ReaderFault → ℕ → ℕ → Result A WireFault
-finished (Ok x) len zero = Ok x
-finished (Ok x) len (suc left) = Err (Bad (len - suc left))
-finished (Err (faults.Left n)) len left = Err (Bad (len - n))
-finished (Err faults.Memory) len left = Err Memory
+abbrev pub reader_answer : {A : Type 0} → Result A ReaderFault → ℕ → ℕ → Result A WireFault
+reader_answer (Ok x) len zero = Ok x
+reader_answer (Ok x) len (suc left) = Err (Bad (len - suc left))
+reader_answer (Err (faults.Left n)) len left = Err (Bad (len - n))
+reader_answer (Err faults.Memory) len left = Err Memory

@@ -15,6 +15,6 @@ roles_after above k (InnerVertex informees contents subviews others) so_far =
     with_read (roles_after (above ++ k ∷ []) 0 subviews (so_far ++ view_roles (above ++ k ∷ []) roles ∷ [])) (λ more. roles_after above (suc k) others more))
 
 -- the same of one view, by its informees leaf and the vertices below it
-abbrev pub view_told : List ℕ → ℕ → Leaf → Vertices → List ViewRoles → Result (List ViewRoles) WireFault
-view_told above k informees subviews so_far =
+abbrev pub view_roles_after : List ℕ → ℕ → Leaf → Vertices → List ViewRoles → Result (List ViewRoles) WireFault
+view_roles_after above k informees subviews so_far =
     with_read (read_leaf roles_at informees) (λ roles. roles_after (above ++ k ∷ []) 0 subviews (so_far ++ view_roles (above ++ k ∷ []) roles ∷ []))

@@ -5,7 +5,7 @@ ghost use Rattle.blind_tree.specs.Vertices.{beside};
 ghost use Rattle.blind_tree.specs.VertexLists.{one_vertex};
 ghost use Rattle.blind_tree.specs.Blind.{is_host_named};
 ghost use Rattle.blind_tree.specs.KeptLists.{one_kept, part_kept};
-ghost use Rattle.blind_tree.specs.Kept.{cut, cut_for_mediator, cut_leaf, cut_one, cut_tree, has_kept_sight, sees_kept_root};
+ghost use Rattle.blind_tree.specs.Kept.{cut_views, cut_for_mediator, cut_leaf, cut_one, cut_tree, has_kept_sight, sees_kept_root};
 
 use crate::kept_leaf::KeptLeaf;
 use crate::kept_list::{KeptList, KeptView};
@@ -104,7 +104,7 @@ fn cut_into(
     above: bool,
     out: &mut VertexList,
 ) -> Result<(), AllocError>
-    ensures { OnOk result (out.new ≡ beside out.old (cut (hosts_at topology.now.hosts at) above views.now)) }
+    ensures { OnOk result (out.new ≡ beside out.old (cut_views (hosts_at topology.now.hosts at) above views.now)) }
 {
     for view in views.as_slice() {
         let sees = above || hosts_any(topology, at, &view.informees);

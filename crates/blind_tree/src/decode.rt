@@ -6,7 +6,7 @@ ghost use Rattle.wire_form.specs.declared.wire_fault.WireFault.TheVariants as Wi
 ghost use Rattle.blind_tree.specs.declared.tree.Tree.{Tree};
 ghost use Rattle.blind_tree.specs.InRange.{IsTree};
 ghost use Rattle.blind_tree.specs.Spelling.{spell_tree};
-ghost use Rattle.blind_tree.specs.Reading.{finished, leaf_at, long_bytes_at, most_beside, read_all};
+ghost use Rattle.blind_tree.specs.Reading.{reader_answer, leaf_at, long_bytes_at, most_beside, read_all};
 ghost use Rattle.blind_tree.specs.Reading.{tagged_leaf_at, tagged_vertex_at, tree_at, vertex_at, vertices_at};
 
 use crate::leaf::Leaf;
@@ -40,7 +40,7 @@ pub(crate) fn finish<T: Drop>(
     len: usize,
     left: usize,
 ) -> Result<T, WireFault>
-    ensures { result ≡ finished read len left }
+    ensures { result ≡ reader_answer read len left }
 {
     let value = match read {
         Ok(value) => value,

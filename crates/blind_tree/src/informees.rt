@@ -4,8 +4,8 @@ ghost use Rattle.ledger_terms.specs.Answers.{Follows, FollowsOn};
 ghost use Rattle.wire_form.specs.declared.wire_fault.WireFault.TheVariants as WireFault;
 ghost use Rattle.blind_tree.specs.Vertices.{AreNarrow, IsNarrow};
 ghost use Rattle.blind_tree.specs.VertexLists.{one_vertex};
-ghost use Rattle.blind_tree.specs.Opening.{told, view_roles};
-ghost use Rattle.blind_tree.specs.Told.{roles_after, view_told};
+ghost use Rattle.blind_tree.specs.Opening.{informee_tree_of, view_roles};
+ghost use Rattle.blind_tree.specs.Told.{roles_after, view_roles_after};
 
 use crate::leaf::Leaf;
 use crate::leaves::{read_head, read_roles};
@@ -23,7 +23,7 @@ use wire_form::WireFault;
 /// none.
 pub fn informee_tree(alloc: Global, tree: &Tree) -> Result<RolesTree, WireFault>
     requires { IsNarrow tree.now.views }
-    ensures { Follows WireFault.Memory result (told tree.now) }
+    ensures { Follows WireFault.Memory result (informee_tree_of tree.now) }
 {
     let (sender, _) = read_head(&tree.common)?;
     let mut views = ViewRolesList::new(alloc);
@@ -83,7 +83,7 @@ fn tell_view(
 ) -> Result<(), WireFault>
     requires step { at < 65536 }
     requires narrow { IsNarrow subviews.now }
-    ensures { FollowsOn WireFault.Memory out.new result (view_told above.now at informees.now subviews.now out.old) }
+    ensures { FollowsOn WireFault.Memory out.new result (view_roles_after above.now at informees.now subviews.now out.old) }
 {
     let (informees, confirmers) = read_roles(alloc, informees)?;
     let path = path_below(above, at)?;

@@ -9,7 +9,7 @@ ghost use Rattle.view_split.specs.ViewLists.{part_of, view_tree};
 ghost use Rattle.blind_tree.specs.Cores.{IsSpellableCore, spell_core};
 ghost use Rattle.blind_tree.specs.LeafBytes.{AreSpellable, AreSpellableViews, IsSpellableView, common_bytes, roles_bytes};
 ghost use Rattle.blind_tree.specs.KeptLists.{one_kept};
-ghost use Rattle.blind_tree.specs.Kept.{kept, kept_digests, kept_leaf, kept_tree};
+ghost use Rattle.blind_tree.specs.Kept.{kept_views, kept_digests, kept_leaf, kept_tree};
 
 use crate::core_bytes::encode_core;
 use crate::kept_leaf::KeptLeaf;
@@ -91,7 +91,7 @@ fn spelled_core(alloc: Global, core: &CoreNode) -> Result<Bytes, AllocError>
 #[cycle(keep)]
 fn keep_into(alloc: Global, views: &ViewList, out: &mut KeptList) -> Result<(), AllocError>
     requires { AreSpellableViews views.now }
-    ensures { OnOk result (out.new ≡ join out.old (kept sha256 views.now)) }
+    ensures { OnOk result (out.new ≡ join out.old (kept_views sha256 views.now)) }
 {
     for view in views.as_slice() {
         let kept = keep_view(alloc, view)?;
@@ -103,7 +103,7 @@ fn keep_into(alloc: Global, views: &ViewList, out: &mut KeptList) -> Result<(), 
 #[cycle(keep)]
 fn keep_view(alloc: Global, view: &View) -> Result<KeptView, AllocError>
     requires { AreSpellableViews (view_tree view.now) }
-    ensures { IfOk result (λ one. one_kept one ≡ kept sha256 (view_tree view.now)) }
+    ensures { IfOk result (λ one. one_kept one ≡ kept_views sha256 (view_tree view.now)) }
 {
     let mut subviews = KeptList::new(alloc);
     keep_into(alloc, &view.subviews, &mut subviews)?;

@@ -30,7 +30,7 @@ ghost use Rattle.blind_tree.specs.Blind.{is_host_named, sees_root, shown_to, tra
 ghost use Rattle.blind_tree.specs.Overlay.{either, overlay};
 ghost use Rattle.blind_tree.specs.Recipients.{is_recipient, recipients_of};
 ghost use Rattle.blind_tree.specs.Seen.{AreInRange, AreViews, contents_shown, IsSmall, paths_seen, roles_of_all};
-ghost use Rattle.blind_tree.specs.Opening.{head_at, roles_at, told, tree_opened, views_read};
+ghost use Rattle.blind_tree.specs.Opening.{head_at, roles_at, informee_tree_of, tree_opened, views_read};
 ghost use Rattle.blind_tree.specs.CoreReading.{core_at};
 ghost use Rattle.blind_tree.specs.Cores.{spell_node};
 ghost use Rattle.blind_tree.specs.Leaves.{AreRoles, IsCommon, IsNode, spell_common, spell_roles};
@@ -144,7 +144,7 @@ pub fn trees_open_what_is_seen()
           views = tops (seen_views hosts views.roots);
         }) }
     ensures mediator { (views : Views) (sender : List ℕ) → AreInRange sender views
-        → told (blind_for_mediator sha256 views sender) ≡ Ok (record { sender = sender; views = roles_of_all [] 0 views.roots }) }
+        → informee_tree_of (blind_for_mediator sha256 views sender) ≡ Ok (record { sender = sender; views = roles_of_all [] 0 views.roots }) }
 {}
 
 /// The views of a transaction within the limits can be blinded, and its trees can be written: with at most 64 actions, 16 of

@@ -57,7 +57,7 @@ fn put_place(out: &mut String, fault: &ScriptFault) -> Result<(), AllocError>
 {
     match fault {
         ScriptFault::Package { fault } => {
-            put_path(out, fault.kind.name())?;
+            put_path(out, fault.kind.as_str())?;
             put_path(out, fault.at.as_str())
         }
         ScriptFault::Shape { path } => put_path(out, path.as_str()),

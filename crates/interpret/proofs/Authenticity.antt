@@ -10,7 +10,7 @@ use Rattle.ledger_terms.specs.declared.command.Command.{Command}
 use Rattle.ledger_terms.specs.declared.action.Action.{Action}
 use Rattle.ledger_terms.specs.declared.action.Action.TheVariants.{Create, Exercise, Fetch}
 use Rattle.ledger_terms.specs.Forest.{NoRoots, Root, preorder}
-use Rattle.ledger_terms.specs.Trees.{Act, Actions}
+use Rattle.ledger_terms.specs.Trees.{Actions}
 use Rattle.ledger_model.specs.Language.{roles_of}
 use Rattle.ledger_model.specs.Authority.{authorisers_below}
 use Rattle.ledger_model.specs.declared.step.Seen.{Seen}

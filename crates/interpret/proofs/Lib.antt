@@ -23,3 +23,6 @@ pub mod DraftTests
 pub mod DraftLaw
 pub mod Used
 pub mod Authenticity
+pub mod PartyArgs
+pub mod PartyLaw
+pub mod PartyDrafts

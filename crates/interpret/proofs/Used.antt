@@ -1,5 +1,5 @@
 -- What holds of each known contract and of each created one holds of a contract that is used.
-use Rattle.std.proofs.Common.{◌≡◌, Bool, true, List, [], ◌∷◌, ◌++◌, Option, Some, None, refl, subst, inl, inr}
+use Rattle.std.proofs.Common.{◌≡◌, Bool, List, [], ◌∷◌, ◌++◌, Option, Some, None, refl, subst, inl, inr}
 use Rattle.std.specs.Prelude.{◌&&◌, find}
 use Rattle.std.proofs.lemmas.Bool.{cases_Bool}
 use Rattle.ledger_terms.specs.declared.known.Known.{Known}

@@ -14,3 +14,4 @@ pub mod Stops
 pub mod Plain
 pub mod Filled
 pub mod FilledTree
+pub mod NamedParties

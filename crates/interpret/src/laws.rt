@@ -1,5 +1,5 @@
 //! The laws of the definitions, as the clauses of functions that do nothing.
-ghost use Rattle.std.specs.Prelude.{◌≡◌, true, List, Ok, Err};
+ghost use Rattle.std.specs.Prelude.{◌≡◌, ℕ, Bool, true, List, Ok, Err};
 ghost use Rattle.std.specs.Bool.{Decides};
 ghost use Rattle.std.specs.List.{list_all};
 ghost use Rattle.ledger_terms.specs.Forest.{NoRoots, Root, preorder};
@@ -22,6 +22,8 @@ ghost use Rattle.ledger_terms.specs.declared.action.Action.{Action};
 ghost use Rattle.ledger_model.specs.Language.{roles_of};
 ghost use Rattle.lang_eval.specs.Found.{Packages};
 ghost use Rattle.lang_eval.specs.Language.{roles_in};
+ghost use Rattle.lang_eval.specs.Named.{AreKnown, parties_in_packages};
+ghost use Rattle.interpret.specs.NamedParties.{parties_in_commands, parties_in_contracts, parties_in_drafts, parties_in_forest};
 ghost use Rattle.interpret.specs.Language.{the_language};
 
 /// Who is involved in an action is said by the packages alone, whatever its size.
@@ -90,4 +92,23 @@ pub fn reexecution_decides_conformance()
     ensures { (packages : Packages) (seed : Hash) (action : Action) (consequences : Actions)
         → Decides (is_tree_possible packages action consequences)
         (Conforms (the_language packages) (Root (record { seed = seed; action = action }) consequences NoRoots)) }
+{}
+
+/// Each action of a wanted transaction names only parties that packages, commands and known contracts name.
+pub fn wanted_transactions_name_no_other_parties()
+    ensures { (is_party : List ℕ → Bool) (packages : Packages) (known : List Known) (seed : Hash) (act_as : PartyNames) (commands : List Command) (forest : Actions)
+        → AreKnown is_party (parties_in_packages packages)
+        → AreKnown is_party (parties_in_contracts known)
+        → AreKnown is_party (parties_in_commands commands)
+        → IsWanted packages known seed act_as commands forest
+        → AreKnown is_party (parties_in_forest forest) }
+{}
+
+/// Each action of a filled transaction names only parties that drafts and known contracts name.
+pub fn filled_transactions_name_no_other_parties()
+    ensures { (is_party : List ℕ → Bool) (known : List Known) (seed : Hash) (drafts : Drafts) (forest : Actions)
+        → AreKnown is_party (parties_in_contracts known)
+        → AreKnown is_party (parties_in_drafts drafts)
+        → IsFilled known seed drafts forest
+        → AreKnown is_party (parties_in_forest forest) }
 {}

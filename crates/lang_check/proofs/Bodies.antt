@@ -30,11 +30,13 @@ use Rattle.lang_check.proofs.Bound.{kinds_bound, kinds_with_fields, vals_kinds}
 pub went_same : (a c : Names) (b d : List Seen) → Went a b ≡ Went c d → (a ≡ c) × (b ≡ d)
 went_same a c b d h = (cc, cc)
 
-on_value_went : {A : Type 0} (r : Result A EvalFault) (go : A → Ran) (n : Names) (l : List Seen) → on_value r go ≡ Went n l → (v : A) × (r ≡ Ok v) × (go v ≡ Went n l)
+pub on_value_went : {A : Type 0} (r : Result A EvalFault) (go : A → Ran) (n : Names) (l : List Seen) → on_value r go ≡ Went n l
+    → (v : A) × (r ≡ Ok v) × (go v ≡ Went n l)
 on_value_went (Ok v) go n l h = (v, refl, h)
 on_value_went (Err e) go n l h = absurd (let other : Stopped (Err e) ≡ Went n l = h in cc)
 
-on_value_stopped : {A : Type 0} (r : Result A EvalFault) (go : A → Ran) (step : Step) → on_value r go ≡ Stopped (Ok step) → (v : A) × (r ≡ Ok v) × (go v ≡ Stopped (Ok step))
+on_value_stopped : {A : Type 0} (r : Result A EvalFault) (go : A → Ran) (step : Step) → on_value r go ≡ Stopped (Ok step)
+    → (v : A) × (r ≡ Ok v) × (go v ≡ Stopped (Ok step))
 on_value_stopped (Ok v) go step h = (v, refl, h)
 on_value_stopped (Err e) go step h = absurd (let other : Stopped (Err e) ≡ Stopped (Ok step) = h in cc)
 
@@ -46,7 +48,8 @@ asserted_stopped : (b : Bool) (names : Names) (seen : List Seen) (step : Step) �
 asserted_stopped true names seen step h = let other : Went names seen ≡ Stopped (Ok step) = h in cc
 asserted_stopped false names seen step h = let r : Result Step EvalFault = Err AssertFault in let other : Stopped r ≡ Stopped (Ok step) = h in cc
 
-taken_went : (r : Result Step EvalFault) (binds : Seen → Names) (seen : List Seen) (n : Names) (l : List Seen) → taken r binds seen ≡ Went n l → (s : Seen) × (seen ≡ s ∷ l) × (binds s ≡ n)
+taken_went : (r : Result Step EvalFault) (binds : Seen → Names) (seen : List Seen) (n : Names) (l : List Seen) → taken r binds seen ≡ Went n l
+    → (s : Seen) × (seen ≡ s ∷ l) × (binds s ≡ n)
 taken_went r binds [] n l h = absurd (let other : Stopped r ≡ Went n l = h in cc)
 taken_went r binds (s ∷ seen) n l h = let g = went_same (binds s) n seen l h in (s, ap (λ (l : List Seen). s ∷ l) g.1, g.0)
 
@@ -54,7 +57,8 @@ taken_stopped : (r : Result Step EvalFault) (binds : Seen → Names) (seen : Lis
 taken_stopped r binds [] step h = cc
 taken_stopped r binds (s ∷ seen) step h = absurd (let other : Went (binds s) seen ≡ Stopped (Ok step) = h in cc)
 
-closed_went : (names : Names) (r : Ran) (n : Names) (l : List Seen) → closed names r ≡ Went n l → (inside : Names) × (r ≡ Went inside l) × (take (length names) inside ≡ n)
+pub closed_went : (names : Names) (r : Ran) (n : Names) (l : List Seen) → closed names r ≡ Went n l
+    → (inside : Names) × (r ≡ Went inside l) × (take (length names) inside ≡ n)
 closed_went names (Stopped r) n l h = absurd (let other : Stopped r ≡ Went n l = h in cc)
 closed_went names (Went inside seen) n l h =
     let g = went_same (take (length names) inside) n seen l h in
@@ -64,11 +68,12 @@ closed_stopped : (names : Names) (r : Ran) (step : Step) → closed names r ≡ 
 closed_stopped names (Stopped r) step h = h
 closed_stopped names (Went inside seen) step h = absurd (let other : Went (take (length names) inside) seen ≡ Stopped (Ok step) = h in cc)
 
-then_on_went : (r : Ran) (rest : Names → List Seen → Ran) (n : Names) (l : List Seen) → then_on r rest ≡ Went n l → (m : Names) × (seen : List Seen) × (r ≡ Went m seen) × (rest m seen ≡ Went n l)
+pub then_on_went : (r : Ran) (rest : Names → List Seen → Ran) (n : Names) (l : List Seen) → then_on r rest ≡ Went n l
+    → (m : Names) × (seen : List Seen) × (r ≡ Went m seen) × (rest m seen ≡ Went n l)
 then_on_went (Stopped r) rest n l h = absurd (let other : Stopped r ≡ Went n l = h in cc)
 then_on_went (Went m seen) rest n l h = (m, seen, refl, h)
 
-then_on_then_on : (r : Ran) (f g : Names → List Seen → Ran) → then_on (then_on r f) g ≡ then_on r (λ n l. then_on (f n l) g)
+pub then_on_then_on : (r : Ran) (f g : Names → List Seen → Ran) → then_on (then_on r f) g ≡ then_on r (λ n l. then_on (f n l) g)
 then_on_then_on (Stopped r) f g = refl
 then_on_then_on (Went n l) f g = refl
 
@@ -82,12 +87,14 @@ stopped_is r step h = cc
 step_is : (a b : Step) → (let r : Result Step EvalFault = Ok a in r ≡ Ok b) → a ≡ b
 step_is a b h = cc
 
-create_asks : (t : TemplateName) (r : Result (List Value) EvalFault) (step : Step) → create_step t r ≡ Ok step → (vs : List Value) × (r ≡ Ok vs) × (CreateNext t vs ≡ step)
+create_asks : (t : TemplateName) (r : Result (List Value) EvalFault) (step : Step) → create_step t r ≡ Ok step
+    → (vs : List Value) × (r ≡ Ok vs) × (CreateNext t vs ≡ step)
 create_asks t r step h =
     let g = with_value_ok r (λ vs. Ok (CreateNext t vs)) step h in
     (g.0, g.1, step_is (CreateNext t g.0) step g.2)
 
-exercise_asks : (t : TemplateName) (choice : List ℕ) (contract : Result (List ℕ) EvalFault) (args : Result (List Value) EvalFault) (step : Step) → exercise_step t choice contract args ≡ Ok step → (id : List ℕ) × (vs : List Value) × (args ≡ Ok vs) × (ExerciseNext t id choice vs ≡ step)
+exercise_asks : (t : TemplateName) (choice : List ℕ) (contract : Result (List ℕ) EvalFault) (args : Result (List Value) EvalFault) (step : Step)
+    → exercise_step t choice contract args ≡ Ok step → (id : List ℕ) × (vs : List Value) × (args ≡ Ok vs) × (ExerciseNext t id choice vs ≡ step)
 exercise_asks t choice contract args step h =
     let g = with_value_ok contract (λ id. with_value args (λ vs. Ok (ExerciseNext t id choice vs))) step h in
     let f = with_value_ok args (λ vs. Ok (ExerciseNext t g.0 choice vs)) step g.2 in
@@ -102,25 +109,30 @@ fetch_asks t contract step h =
 
 -- each of what was seen answers the step at which this stops after those before it
 unfoldable pub Answered : Packages → (List Seen → Ran) → List Seen → Type 0
-Answered packages f seen = (before : List Seen) (s : Seen) (after : List Seen) → seen ≡ before ++ s ∷ after → (step : Step) × (f before ≡ Stopped (Ok step)) × IsAnswer packages step s
+Answered packages f seen = (before : List Seen) (s : Seen) (after : List Seen) → seen ≡ before ++ s ∷ after
+    → (step : Step) × (f before ≡ Stopped (Ok step)) × IsAnswer packages step s
 
-answered_same : (packages : Packages) (f g : List Seen → Ran) (seen left : List Seen) → ((before : List Seen) → f before ≡ g before) → seen ≡ left → Answered packages f seen → Answered packages g left
+pub answered_same : (packages : Packages) (f g : List Seen → Ran) (seen left : List Seen) → ((before : List Seen) → f before ≡ g before) → seen ≡ left
+    → Answered packages f seen → Answered packages g left
 unfolding Answered
 answered_same packages f g seen left same e h before s after is =
     let a = h before s after (e ∙ is) in
     (a.0, sym (same before) ∙ a.1, a.2)
 
-answered_tail : (packages : Packages) (f g : List Seen → Ran) (x : Seen) (seen left : List Seen) → ((before : List Seen) → f (x ∷ before) ≡ g before) → seen ≡ x ∷ left → Answered packages f seen → Answered packages g left
+answered_tail : (packages : Packages) (f g : List Seen → Ran) (x : Seen) (seen left : List Seen) → ((before : List Seen) → f (x ∷ before) ≡ g before)
+    → seen ≡ x ∷ left → Answered packages f seen → Answered packages g left
 unfolding Answered
 answered_tail packages f g x seen left same e h before s after is =
     let a = h (x ∷ before) s after (e ∙ ap (λ (l : List Seen). x ∷ l) is) in
     (a.0, sym (same before) ∙ a.1, a.2)
 
-answered_head : (packages : Packages) (f : List Seen → Ran) (x : Seen) (seen left : List Seen) → seen ≡ x ∷ left → Answered packages f seen → (step : Step) × (f [] ≡ Stopped (Ok step)) × IsAnswer packages step x
+answered_head : (packages : Packages) (f : List Seen → Ran) (x : Seen) (seen left : List Seen) → seen ≡ x ∷ left → Answered packages f seen
+    → (step : Step) × (f [] ≡ Stopped (Ok step)) × IsAnswer packages step x
 unfolding Answered
 answered_head packages f x seen left e h = h [] x left e
 
-created_kind : (packages : Packages) (t : TemplateName) (vs : List Value) (s : Seen) → IsAnswer packages (CreateNext t vs) s → kind_of (value_seen s) ≡ ContractKind
+created_kind : (packages : Packages) (t : TemplateName) (vs : List Value) (s : Seen) → IsAnswer packages (CreateNext t vs) s
+    → kind_of (value_seen s) ≡ ContractKind
 created_kind packages t vs (Created id) h = refl
 created_kind packages t vs (Returned v) h = absurd h
 created_kind packages t vs (Fetched i) h = absurd h
@@ -128,22 +140,29 @@ created_kind packages t vs (Fetched i) h = absurd h
 some_same : (c d : ChoiceForm) → Some c ≡ Some d → c ≡ d
 some_same c d h = cc
 
-returned_kind : (packages : Packages) (t : TemplateName) (id choice : List ℕ) (vs : List Value) (c : ChoiceForm) (s : Seen) → choice_in t choice packages ≡ Some c → IsAnswer packages (ExerciseNext t id choice vs) s → kind_of (value_seen s) ≡ c.returns
+returned_kind : (packages : Packages) (t : TemplateName) (id choice : List ℕ) (vs : List Value) (c : ChoiceForm) (s : Seen)
+    → choice_in t choice packages ≡ Some c → IsAnswer packages (ExerciseNext t id choice vs) s → kind_of (value_seen s) ≡ c.returns
 returned_kind packages t id choice vs c (Created i) is h = absurd h
 returned_kind packages t id choice vs c (Returned v) is h = h.2 ∙ ap (λ (d : ChoiceForm). d.returns) (some_same h.0 c (sym h.1 ∙ is))
 returned_kind packages t id choice vs c (Fetched i) is h = absurd h
 
-fetched_kinds : (packages : Packages) (t : TemplateName) (id : List ℕ) (template : TemplateForm) (s : Seen) → template_in t packages ≡ Some template → IsAnswer packages (FetchNext t id) s → have_kinds (fields_seen s) template.fields ≡ true
+fetched_kinds : (packages : Packages) (t : TemplateName) (id : List ℕ) (template : TemplateForm) (s : Seen) → template_in t packages ≡ Some template
+    → IsAnswer packages (FetchNext t id) s → have_kinds (fields_seen s) template.fields ≡ true
 fetched_kinds packages t id template (Created i) is h = absurd h
 fetched_kinds packages t id template (Returned v) is h = absurd h
 fetched_kinds packages t id template (Fetched i) is h =
     let there : template_in i.template packages ≡ Some template = ap (λ (n : TemplateName). template_in n packages) h.0 ∙ is in
     sym (ap (λ (o : Option TemplateForm). fields_have_kinds o i) there) ∙ h.1
 
-module _ (packages p : Packages) (templates : (t : TemplateName) (template : TemplateForm) → template_in t p ≡ Some template → template_in t packages ≡ Some (with_archive template)) (choices : (t : TemplateName) (template : TemplateForm) (name : List ℕ) (c : ChoiceForm) → template_in t p ≡ Some template → choice_named template name ≡ Some c → choice_in t name packages ≡ Some c) where
+module _ (packages p : Packages)
+    (templates : (t : TemplateName) (template : TemplateForm) → template_in t p ≡ Some template → template_in t packages ≡ Some (with_archive template))
+    (choices : (t : TemplateName) (template : TemplateForm) (name : List ℕ) (c : ChoiceForm) → template_in t p ≡ Some template
+    → choice_named template name ≡ Some c → choice_in t name packages ≡ Some c) where
   -- a statement that goes on leaves the names of its scope, and what is left to be seen answers what follows
   abbrev GoesOn : StmtForm → Type 0
-  GoesOn s = (names : Names) (after : Scope) (rest : Names → List Seen → Ran) (seen : List Seen) (n : Names) (left : List Seen) → IsTyped s p (kinds_in names) after → Answered packages (λ seen. then_on (ran s packages names seen) rest) seen → ran s packages names seen ≡ Went n left → (kinds_in n ≡ after) × Answered packages (λ seen. rest n seen) left
+  GoesOn s = (names : Names) (after : Scope) (rest : Names → List Seen → Ran) (seen : List Seen) (n : Names) (left : List Seen)
+      → IsTyped s p (kinds_in names) after → Answered packages (λ seen. then_on (ran s packages names seen) rest) seen
+      → ran s packages names seen ≡ Went n left → (kinds_in n ≡ after) × Answered packages (λ seen. rest n seen) left
 
   bind_goes_on : (x : List ℕ) (e : ExprForm) → GoesOn (Bind x e)
   bind_goes_on x e names after rest seen n left t a h =
@@ -152,7 +171,8 @@ module _ (packages p : Packages) (templates : (t : TemplateName) (template : Tem
       let kind = val_kind e names t.0 g.0 t.1 g.1 in (
         ap kinds_in (sym f.0) ∙ (kinds_bound names x g.0 ∙ (ap (λ (k : Kind). kinds_in names ++ (x, k) ∷ []) kind ∙ sym t.3)),
         answered_same packages (λ seen. then_on (ran (Bind x e) packages names seen) rest) (λ seen. rest n seen) seen left
-            (λ before. ap (λ (r : Result Value EvalFault). then_on (on_value r (λ v. Went (bound_to x v names) before)) rest) g.1 ∙ ap (λ (n : Names). rest n before) f.0) f.1 a,
+            (λ before. ap (λ (r : Result Value EvalFault). then_on (on_value r (λ v. Went (bound_to x v names) before)) rest) g.1 ∙ ap
+            (λ (n : Names). rest n before) f.0) f.1 a,
       )
 
   assert_goes_on : (e : ExprForm) → GoesOn (Assert e)
@@ -161,7 +181,8 @@ module _ (packages p : Packages) (templates : (t : TemplateName) (template : Tem
       let f = asserted_went g.0 names n seen left g.2 in (
         ap kinds_in (sym f.1) ∙ sym t.1,
         answered_same packages (λ seen. then_on (ran (Assert e) packages names seen) rest) (λ seen. rest n seen) seen left
-            (λ before. ap (λ (r : Result Bool EvalFault). then_on (on_value r (λ b. asserted b (Went names before))) rest) (g.1 ∙ ap (λ (b : Bool). Ok b) f.0) ∙ ap (λ (n : Names). rest n before) f.1) f.2 a,
+            (λ before. ap (λ (r : Result Bool EvalFault). then_on (on_value r (λ b. asserted b (Went names before))) rest)
+            (g.1 ∙ ap (λ (b : Bool). Ok b) f.0) ∙ ap (λ (n : Names). rest n before) f.1) f.2 a,
       )
 
   create_goes_on : (x : List ℕ) (t : TemplateName) (fields : ExprForms) → GoesOn (Create x t fields)
@@ -173,7 +194,8 @@ module _ (packages p : Packages) (templates : (t : TemplateName) (template : Tem
       let asks = create_asks t (vals fields names) first.0 (stopped_is r first.0 first.1) in
       let kind = created_kind packages t asks.0 g.0 (subst (λ (step : Step). IsAnswer packages step g.0) (sym asks.2) first.2) in (
         ap kinds_in (sym g.2) ∙ (kinds_bound names x (value_seen g.0) ∙ (ap (λ (k : Kind). kinds_in names ++ (x, k) ∷ []) kind ∙ sym typed.4)),
-        answered_tail packages (λ seen. then_on (ran (Create x t fields) packages names seen) rest) (λ seen. rest n seen) g.0 seen left (λ before. ap (λ (n : Names). rest n before) g.2) g.1 a,
+        answered_tail packages (λ seen. then_on (ran (Create x t fields) packages names seen) rest) (λ seen. rest n seen) g.0 seen left
+            (λ before. ap (λ (n : Names). rest n before) g.2) g.1 a,
       )
 
   exercise_goes_on : (x : List ℕ) (t : TemplateName) (e : ExprForm) (choice : List ℕ) (args : ExprForms) → GoesOn (Exercise x t e choice args)
@@ -186,7 +208,8 @@ module _ (packages p : Packages) (templates : (t : TemplateName) (template : Tem
       let there = choices t typed.0 choice typed.2 typed.1 typed.3 in
       let kind = returned_kind packages t asks.0 choice asks.1 typed.2 g.0 there (subst (λ (step : Step). IsAnswer packages step g.0) (sym asks.3) first.2) in (
         ap kinds_in (sym g.2) ∙ (kinds_bound names x (value_seen g.0) ∙ (ap (λ (k : Kind). kinds_in names ++ (x, k) ∷ []) kind ∙ sym typed.7)),
-        answered_tail packages (λ seen. then_on (ran (Exercise x t e choice args) packages names seen) rest) (λ seen. rest n seen) g.0 seen left (λ before. ap (λ (n : Names). rest n before) g.2) g.1 a,
+        answered_tail packages (λ seen. then_on (ran (Exercise x t e choice args) packages names seen) rest) (λ seen. rest n seen) g.0 seen left
+            (λ before. ap (λ (n : Names). rest n before) g.2) g.1 a,
       )
 
   fetch_goes_on : (x : List ℕ) (t : TemplateName) (e : ExprForm) → GoesOn (Fetch x t e)
@@ -197,63 +220,94 @@ module _ (packages p : Packages) (templates : (t : TemplateName) (template : Tem
       let first = answered_head packages (λ seen. then_on (ran (Fetch x t e) packages names seen) rest) g.0 seen left g.1 a in
       let asks = fetch_asks t (id_of e names) first.0 (stopped_is r first.0 first.1) in
       let there = templates t typed.0 typed.1 in
-      let kinds = fetched_kinds packages t asks.0 (with_archive typed.0) g.0 there (subst (λ (step : Step). IsAnswer packages step g.0) (sym asks.1) first.2) in (
+      let kinds = fetched_kinds packages t asks.0 (with_archive typed.0) g.0 there
+      (subst (λ (step : Step). IsAnswer packages step g.0) (sym asks.1) first.2) in (
         ap kinds_in (sym g.2) ∙ (ap (λ (o : Option TemplateForm). kinds_in (with_fields x (fields_of o) (fields_seen g.0) names)) there
             ∙ (kinds_with_fields typed.0.fields (fields_seen g.0) x names kinds ∙ sym typed.4)),
-        answered_tail packages (λ seen. then_on (ran (Fetch x t e) packages names seen) rest) (λ seen. rest n seen) g.0 seen left (λ before. ap (λ (n : Names). rest n before) g.2) g.1 a,
+        answered_tail packages (λ seen. then_on (ran (Fetch x t e) packages names seen) rest) (λ seen. rest n seen) g.0 seen left
+            (λ before. ap (λ (n : Names). rest n before) g.2) g.1 a,
       )
 
-  side_goes_on : (b : Bool) (first second : StmtForms) (names : Names) (rest : Names → List Seen → Ran) (seen : List Seen) (n : Names) (left : List Seen) → (truth_of : Result Bool EvalFault) → truth_of ≡ Ok b
-      → ((rest : Names → List Seen → Ran) (n : Names) (left : List Seen) → Answered packages (λ seen. then_on (ran_all first packages names seen) rest) seen → ran_all first packages names seen ≡ Went n left → Answered packages (λ seen. rest n seen) left)
-      → ((rest : Names → List Seen → Ran) (n : Names) (left : List Seen) → Answered packages (λ seen. then_on (ran_all second packages names seen) rest) seen → ran_all second packages names seen ≡ Went n left → Answered packages (λ seen. rest n seen) left)
-      → Answered packages (λ seen. then_on (on_value truth_of (λ b. closed names (cond b (ran_all first packages names seen) (ran_all second packages names seen)))) rest) seen
+  side_goes_on : (b : Bool) (first second : StmtForms) (names : Names) (rest : Names → List Seen → Ran) (seen : List Seen) (n : Names) (left : List Seen)
+      → (truth_of : Result Bool EvalFault) → truth_of ≡ Ok b
+      → ((rest : Names → List Seen → Ran) (n : Names) (left : List Seen) → Answered packages (λ seen. then_on (ran_all first packages names seen) rest) seen
+      → ran_all first packages names seen ≡ Went n left → Answered packages (λ seen. rest n seen) left)
+      → ((rest : Names → List Seen → Ran) (n : Names) (left : List Seen) → Answered packages (λ seen. then_on (ran_all second packages names seen) rest) seen
+      → ran_all second packages names seen ≡ Went n left → Answered packages (λ seen. rest n seen) left)
+      → Answered packages (λ seen. then_on (on_value truth_of
+      (λ b. closed names (cond b (ran_all first packages names seen) (ran_all second packages names seen)))) rest) seen
       → closed names (cond b (ran_all first packages names seen) (ran_all second packages names seen)) ≡ Went n left
       → Answered packages (λ seen. rest n seen) left
   side_goes_on true first second names rest seen n left truth_of is one other a h =
       let g = closed_went names (ran_all first packages names seen) n left h in
       let inside = one (λ n l. rest (take (length names) n) l) g.0 left
-      (answered_same packages (λ seen. then_on (on_value truth_of (λ b. closed names (cond b (ran_all first packages names seen) (ran_all second packages names seen)))) rest) (λ seen. then_on (ran_all first packages names seen) (λ n l. rest (take (length names) n) l)) seen seen
-      (λ before. ap (λ (r : Result Bool EvalFault). then_on (on_value r (λ b. closed names (cond b (ran_all first packages names before) (ran_all second packages names before)))) rest) is ∙ then_on_closed names (ran_all first packages names before) rest) refl a) g.1 in
-      answered_same packages (λ seen. rest (take (length names) g.0) seen) (λ seen. rest n seen) left left (λ before. ap (λ (n : Names). rest n before) g.2) refl inside
+      (answered_same packages (λ seen. then_on (on_value truth_of
+      (λ b. closed names (cond b (ran_all first packages names seen) (ran_all second packages names seen)))) rest)
+      (λ seen. then_on (ran_all first packages names seen) (λ n l. rest (take (length names) n) l)) seen seen
+      (λ before. ap (λ (r : Result Bool EvalFault). then_on
+      (on_value r (λ b. closed names (cond b (ran_all first packages names before) (ran_all second packages names before)))) rest) is ∙ then_on_closed names
+      (ran_all first packages names before) rest) refl a) g.1 in
+      answered_same packages (λ seen. rest (take (length names) g.0) seen) (λ seen. rest n seen) left left (λ before. ap (λ (n : Names). rest n before) g.2)
+      refl inside
   side_goes_on false first second names rest seen n left truth_of is one other a h =
       let g = closed_went names (ran_all second packages names seen) n left h in
       let inside = other (λ n l. rest (take (length names) n) l) g.0 left
-      (answered_same packages (λ seen. then_on (on_value truth_of (λ b. closed names (cond b (ran_all first packages names seen) (ran_all second packages names seen)))) rest) (λ seen. then_on (ran_all second packages names seen) (λ n l. rest (take (length names) n) l)) seen seen
-      (λ before. ap (λ (r : Result Bool EvalFault). then_on (on_value r (λ b. closed names (cond b (ran_all first packages names before) (ran_all second packages names before)))) rest) is ∙ then_on_closed names (ran_all second packages names before) rest) refl a) g.1 in
-      answered_same packages (λ seen. rest (take (length names) g.0) seen) (λ seen. rest n seen) left left (λ before. ap (λ (n : Names). rest n before) g.2) refl inside
+      (answered_same packages (λ seen. then_on (on_value truth_of
+      (λ b. closed names (cond b (ran_all first packages names seen) (ran_all second packages names seen)))) rest)
+      (λ seen. then_on (ran_all second packages names seen) (λ n l. rest (take (length names) n) l)) seen seen
+      (λ before. ap (λ (r : Result Bool EvalFault). then_on
+      (on_value r (λ b. closed names (cond b (ran_all first packages names before) (ran_all second packages names before)))) rest) is ∙ then_on_closed names
+      (ran_all second packages names before) rest) refl a) g.1 in
+      answered_same packages (λ seen. rest (take (length names) g.0) seen) (λ seen. rest n seen) left left (λ before. ap (λ (n : Names). rest n before) g.2)
+      refl inside
 
   mutual
-    goes_on : (s : StmtForm) → GoesOn s
+    pub goes_on : (s : StmtForm) → GoesOn s
     goes_on (Bind x e) names after rest seen n left t a h = bind_goes_on x e names after rest seen n left t a h
     goes_on (Assert e) names after rest seen n left t a h = assert_goes_on e names after rest seen n left t a h
     goes_on (Create x t fields) names after rest seen n left typed a h = create_goes_on x t fields names after rest seen n left typed a h
     goes_on (Exercise x t e choice args) names after rest seen n left typed a h = exercise_goes_on x t e choice args names after rest seen n left typed a h
     goes_on (Fetch x t e) names after rest seen n left typed a h = fetch_goes_on x t e names after rest seen n left typed a h
     goes_on (When e first second) names after rest seen n left t a h =
-        let g = on_value_went (truth e names) (λ b. closed names (cond b (ran_all first packages names seen) (ran_all second packages names seen))) n left h in (
+        let g = on_value_went (truth e names) (λ b. closed names (cond b (ran_all first packages names seen) (ran_all second packages names seen))) n left
+        h in (
           ap kinds_in (when_ends e first second packages names seen n left h) ∙ sym t.3,
           side_goes_on g.0 first second names rest seen n left (truth e names) g.1
               (λ rest n left a h. (all_go_on first names t.1.0 rest seen n left t.1.1 a h).1)
               (λ rest n left a h. (all_go_on second names t.2.0 rest seen n left t.2.1 a h).1) a g.2,
         )
 
-    all_go_on : (ss : StmtForms) (names : Names) (end : Scope) (rest : Names → List Seen → Ran) (seen : List Seen) (n : Names) (left : List Seen) → AreTyped ss p (kinds_in names) end → Answered packages (λ seen. then_on (ran_all ss packages names seen) rest) seen → ran_all ss packages names seen ≡ Went n left → (kinds_in n ≡ end) × Answered packages (λ seen. rest n seen) left
+    pub all_go_on : (ss : StmtForms) (names : Names) (end : Scope) (rest : Names → List Seen → Ran) (seen : List Seen) (n : Names) (left : List Seen)
+        → AreTyped ss p (kinds_in names) end → Answered packages (λ seen. then_on (ran_all ss packages names seen) rest) seen
+        → ran_all ss packages names seen ≡ Went n left → (kinds_in n ≡ end) × Answered packages (λ seen. rest n seen) left
     all_go_on NoStmts names end rest seen n left t a h =
-        let g = went_same names n seen left h in
-        (ap kinds_in (sym g.0) ∙ sym t, answered_same packages (λ seen. rest names seen) (λ seen. rest n seen) seen left (λ before. ap (λ (n : Names). rest n before) g.0) g.1 a)
+        let g = went_same names n seen left h in (
+          ap kinds_in (sym g.0) ∙ sym t,
+          answered_same packages (λ seen. rest names seen) (λ seen. rest n seen) seen left
+              (λ before. ap (λ (n : Names). rest n before) g.0) g.1 a,
+        )
     all_go_on (MoreStmts s ss) names end rest seen n left t a h =
         let k = λ (n : Names) (l : List Seen). ran_all ss packages n l in
         let g = then_on_went (ran s packages names seen) k n left h in
         let f = goes_on s names t.0 (λ n l. then_on (k n l) rest) seen g.0 g.1 t.1
-        (answered_same packages (λ seen. then_on (then_on (ran s packages names seen) k) rest) (λ seen. then_on (ran s packages names seen) (λ n l. then_on (k n l) rest)) seen seen (λ before. then_on_then_on (ran s packages names before) k rest) refl a) g.2 in
+        (answered_same packages (λ seen. then_on (then_on (ran s packages names seen) k) rest)
+        (λ seen. then_on (ran s packages names seen) (λ n l. then_on (k n l) rest)) seen seen
+        (λ before. then_on_then_on (ran s packages names before) k rest) refl a) g.2 in
         all_go_on ss g.0 end rest g.1 n left (subst (λ (scope : Scope). AreTyped ss p scope end) (sym f.0) t.2) f.1 g.3
 
-  side_answered : (b : Bool) (first second : StmtForms) (names : Names) (rest : Names → List Seen → Ran) (seen : List Seen) (truth_of : Result Bool EvalFault) → truth_of ≡ Ok b
-      → Answered packages (λ seen. then_on (on_value truth_of (λ b. closed names (cond b (ran_all first packages names seen) (ran_all second packages names seen)))) rest) seen
-      → Answered packages (λ seen. then_on (cond b (ran_all first packages names seen) (ran_all second packages names seen)) (λ n l. rest (take (length names) n) l)) seen
+  pub side_answered : (b : Bool) (first second : StmtForms) (names : Names) (rest : Names → List Seen → Ran) (seen : List Seen)
+      (truth_of : Result Bool EvalFault) → truth_of ≡ Ok b
+      → Answered packages (λ seen. then_on (on_value truth_of
+      (λ b. closed names (cond b (ran_all first packages names seen) (ran_all second packages names seen)))) rest) seen
+      → Answered packages (λ seen. then_on (cond b (ran_all first packages names seen) (ran_all second packages names seen))
+      (λ n l. rest (take (length names) n) l)) seen
   side_answered b first second names rest seen truth_of is a =
-      answered_same packages (λ seen. then_on (on_value truth_of (λ b. closed names (cond b (ran_all first packages names seen) (ran_all second packages names seen)))) rest) (λ seen. then_on (cond b (ran_all first packages names seen) (ran_all second packages names seen)) (λ n l. rest (take (length names) n) l)) seen seen
-      (λ before. ap (λ (r : Result Bool EvalFault). then_on (on_value r (λ b. closed names (cond b (ran_all first packages names before) (ran_all second packages names before)))) rest) is ∙ then_on_closed names (cond b (ran_all first packages names before) (ran_all second packages names before)) rest) refl a
+      answered_same packages (λ seen. then_on (on_value truth_of
+      (λ b. closed names (cond b (ran_all first packages names seen) (ran_all second packages names seen)))) rest)
+      (λ seen. then_on (cond b (ran_all first packages names seen) (ran_all second packages names seen)) (λ n l. rest (take (length names) n) l)) seen seen
+      (λ before. ap (λ (r : Result Bool EvalFault). then_on
+      (on_value r (λ b. closed names (cond b (ran_all first packages names before) (ran_all second packages names before)))) rest) is ∙ then_on_closed names
+      (cond b (ran_all first packages names before) (ran_all second packages names before)) rest) refl a
 
   in_a_side : (b : Bool) (f g : List Seen → Ran) (rest : Names → List Seen → Ran) (seen : List Seen) (step : Step) (A : Type 0)
       → (Answered packages (λ seen. then_on (f seen) rest) seen → f seen ≡ Stopped (Ok step) → A)
@@ -262,14 +316,17 @@ module _ (packages p : Packages) (templates : (t : TemplateName) (template : Tem
   in_a_side true f g rest seen step A one other a h = one a h
   in_a_side false f g rest seen step A one other a h = other a h
 
-  after_one : (r : Ran) (k : Names → List Seen → Ran) (step : Step) (A : Type 0) → (r ≡ Stopped (Ok step) → A) → ((n : Names) (l : List Seen) → r ≡ Went n l → k n l ≡ Stopped (Ok step) → A) → then_on r k ≡ Stopped (Ok step) → A
+  after_one : (r : Ran) (k : Names → List Seen → Ran) (step : Step) (A : Type 0) → (r ≡ Stopped (Ok step) → A)
+      → ((n : Names) (l : List Seen) → r ≡ Went n l → k n l ≡ Stopped (Ok step) → A) → then_on r k ≡ Stopped (Ok step) → A
   after_one (Stopped r) k step A stop go h = stop h
   after_one (Went n l) k step A stop go h = go n l refl h
 
   module _ (returns : Kind) where
     mutual
       -- where a statement stops, it asks for what is there
-      asks : (s : StmtForm) (names : Names) (after : Scope) (rest : Names → List Seen → Ran) (seen : List Seen) (step : Step) → IsTyped s p (kinds_in names) after → Answered packages (λ seen. then_on (ran s packages names seen) rest) seen → ran s packages names seen ≡ Stopped (Ok step) → IsAsked packages returns step
+      asks : (s : StmtForm) (names : Names) (after : Scope) (rest : Names → List Seen → Ran) (seen : List Seen) (step : Step)
+          → IsTyped s p (kinds_in names) after → Answered packages (λ seen. then_on (ran s packages names seen) rest) seen
+          → ran s packages names seen ≡ Stopped (Ok step) → IsAsked packages returns step
       asks (Bind x e) names after rest seen step t a h =
           let g = on_value_stopped (val e names) (λ v. Went (bound_to x v names) seen) step h in
           absurd (let other : Went (bound_to x g.0 names) seen ≡ Stopped (Ok step) = g.2 in cc)
@@ -281,7 +338,8 @@ module _ (packages p : Packages) (templates : (t : TemplateName) (template : Tem
           let g = create_asks t (vals fields names) step (taken_stopped r (λ s. bound_to x (value_seen s) names) seen step h) in
           let there = templates t typed.0 typed.1 in
           let kinds = vals_kinds fields names typed.0.fields g.0 typed.2 g.1 in
-          subst (λ (step : Step). IsAsked packages returns step) g.2 (ap (λ (o : Option TemplateForm). fields_have_kinds o (record { template = t; fields = g.0 })) there ∙ kinds)
+          subst (λ (step : Step). IsAsked packages returns step) g.2
+          (ap (λ (o : Option TemplateForm). fields_have_kinds o (record { template = t; fields = g.0 })) there ∙ kinds)
       asks (Exercise x t e choice args) names after rest seen step typed a h =
           let r = exercise_step t choice (id_of e names) (vals args names) in
           let g = exercise_asks t choice (id_of e names) (vals args names) step (taken_stopped r (λ s. bound_to x (value_seen s) names) seen step h) in
@@ -289,22 +347,29 @@ module _ (packages p : Packages) (templates : (t : TemplateName) (template : Tem
           subst (λ (step : Step). IsAsked packages returns step) g.3 (typed.2, choices t typed.0 choice typed.2 typed.1 typed.3, kinds)
       asks (Fetch x t e) names after rest seen step typed a h =
           let r = fetch_step t (id_of e names) in
-          let g = fetch_asks t (id_of e names) step (taken_stopped r (λ s. with_fields x (fields_of (template_in t packages)) (fields_seen s) names) seen step h) in
+          let g = fetch_asks t (id_of e names) step (taken_stopped r (λ s. with_fields x (fields_of (template_in t packages)) (fields_seen s) names) seen
+          step h) in
           subst (λ (step : Step). IsAsked packages returns step) g.1 (with_archive typed.0, templates t typed.0 typed.1)
       asks (When e first second) names after rest seen step t a h =
-          let g = on_value_stopped (truth e names) (λ b. closed names (cond b (ran_all first packages names seen) (ran_all second packages names seen))) step h in
+          let g = on_value_stopped (truth e names) (λ b. closed names (cond b (ran_all first packages names seen) (ran_all second packages names seen))) step
+          h in
           let inside = λ (n : Names) (l : List Seen). rest (take (length names) n) l in
-          in_a_side g.0 (λ seen. ran_all first packages names seen) (λ seen. ran_all second packages names seen) inside seen step (IsAsked packages returns step)
+          in_a_side g.0 (λ seen. ran_all first packages names seen) (λ seen. ran_all second packages names seen) inside seen step
+          (IsAsked packages returns step)
           (λ a h. all_ask first names t.1.0 inside seen step t.1.1 a h)
           (λ a h. all_ask second names t.2.0 inside seen step t.2.1 a h)
           (side_answered g.0 first second names rest seen (truth e names) g.1 a)
           (closed_stopped names (cond g.0 (ran_all first packages names seen) (ran_all second packages names seen)) step g.2)
 
-      all_ask : (ss : StmtForms) (names : Names) (end : Scope) (rest : Names → List Seen → Ran) (seen : List Seen) (step : Step) → AreTyped ss p (kinds_in names) end → Answered packages (λ seen. then_on (ran_all ss packages names seen) rest) seen → ran_all ss packages names seen ≡ Stopped (Ok step) → IsAsked packages returns step
+      all_ask : (ss : StmtForms) (names : Names) (end : Scope) (rest : Names → List Seen → Ran) (seen : List Seen) (step : Step)
+          → AreTyped ss p (kinds_in names) end → Answered packages (λ seen. then_on (ran_all ss packages names seen) rest) seen
+          → ran_all ss packages names seen ≡ Stopped (Ok step) → IsAsked packages returns step
       all_ask NoStmts names end rest seen step t a h = absurd (let other : Went names seen ≡ Stopped (Ok step) = h in cc)
       all_ask (MoreStmts s ss) names end rest seen step t a h =
           let k = λ (n : Names) (l : List Seen). ran_all ss packages n l in
-          let both = answered_same packages (λ seen. then_on (then_on (ran s packages names seen) k) rest) (λ seen. then_on (ran s packages names seen) (λ n l. then_on (k n l) rest)) seen seen (λ before. then_on_then_on (ran s packages names before) k rest) refl a in
+          let both = answered_same packages (λ seen. then_on (then_on (ran s packages names seen) k) rest)
+          (λ seen. then_on (ran s packages names seen) (λ n l. then_on (k n l) rest)) seen seen
+          (λ before. then_on_then_on (ran s packages names before) k rest) refl a in
           after_one (ran s packages names seen) k step (IsAsked packages returns step)
           (λ h. asks s names t.0 (λ n l. then_on (k n l) rest) seen step t.1 both h)
           (λ n l is h.
@@ -312,16 +377,20 @@ module _ (packages p : Packages) (templates : (t : TemplateName) (template : Tem
           all_ask ss n end rest l step (subst (λ (scope : Scope). AreTyped ss p scope end) (sym f.0) t.2) f.1 h) h
 
     -- after the body its result has its kind
-    result_asked : (r : Ran) (result : ExprForm) (end : Scope) (step : Step) → ((step : Step) → r ≡ Stopped (Ok step) → IsAsked packages returns step) → ((n : Names) (l : List Seen) → r ≡ Went n l → kinds_in n ≡ end) → HasKind result end returns → then_on r (λ n l. Stopped (with_value (val result n) (λ v. Ok (Done v)))) ≡ Stopped (Ok step) → IsAsked packages returns step
+    result_asked : (r : Ran) (result : ExprForm) (end : Scope) (step : Step) → ((step : Step) → r ≡ Stopped (Ok step) → IsAsked packages returns step)
+        → ((n : Names) (l : List Seen) → r ≡ Went n l → kinds_in n ≡ end) → HasKind result end returns
+        → then_on r (λ n l. Stopped (with_value (val result n) (λ v. Ok (Done v)))) ≡ Stopped (Ok step) → IsAsked packages returns step
     result_asked (Stopped r) result end step stop go t h = stop step h
     result_asked (Went n l) result end step stop go t h =
         let g = with_value_ok (val result n) (λ v. Ok (Done v)) step (stopped_is (with_value (val result n) (λ v. Ok (Done v))) step h) in
         let kind = val_kind result n returns g.0 (subst (λ (scope : Scope). HasKind result scope returns) (sym (go n l refl)) t) g.1 in
         subst (λ (step : Step). IsAsked packages returns step) (step_is (Done g.0) step g.2) kind
 
-    pub body_asks : (body : StmtForms) (result : ExprForm) (names : Names) (end : Scope) (seen : List Seen) (step : Step) → AreTyped body p (kinds_in names) end → HasKind result end returns
+    pub body_asks : (body : StmtForms) (result : ExprForm) (names : Names) (end : Scope) (seen : List Seen) (step : Step)
+        → AreTyped body p (kinds_in names) end → HasKind result end returns
         → Answered packages (λ seen. then_on (ran_all body packages names seen) (λ n l. Stopped (with_value (val result n) (λ v. Ok (Done v))))) seen
-        → then_on (ran_all body packages names seen) (λ n l. Stopped (with_value (val result n) (λ v. Ok (Done v)))) ≡ Stopped (Ok step) → IsAsked packages returns step
+        → then_on (ran_all body packages names seen) (λ n l. Stopped (with_value (val result n) (λ v. Ok (Done v)))) ≡ Stopped (Ok step)
+        → IsAsked packages returns step
     body_asks body result names end seen step t u a h =
         let rest = λ (n : Names) (l : List Seen). Stopped (with_value (val result n) (λ v. Ok (Done v))) in
         result_asked (ran_all body packages names seen) result end step

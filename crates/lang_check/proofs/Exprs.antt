@@ -104,7 +104,8 @@ mutual
       two_is at IntKind IntKind BoolKind (kind_at (at_item at 1) scope a) (kind_at (at_item at 2) scope b) k
       (kind_complete a (at_item at 1) scope IntKind h.0) (kind_complete b (at_item at 2) scope IntKind h.1) h.2
   kind_complete (Equal a b) at scope k h =
-      alike_is at (kind_at (at_item at 1) scope a) (kind_at (at_item at 2) scope b) h.0.0 k (kind_complete a (at_item at 1) scope h.0.0 h.0.1) (kind_complete b (at_item at 2) scope h.0.0 h.0.2) h.1
+      alike_is at (kind_at (at_item at 1) scope a) (kind_at (at_item at 2) scope b) h.0.0 k (kind_complete a (at_item at 1) scope h.0.0 h.0.1)
+      (kind_complete b (at_item at 2) scope h.0.0 h.0.2) h.1
   kind_complete (Both a b) at scope k h =
       two_is at BoolKind BoolKind BoolKind (kind_at (at_item at 1) scope a) (kind_at (at_item at 2) scope b) k
       (kind_complete a (at_item at 1) scope BoolKind h.0) (kind_complete b (at_item at 2) scope BoolKind h.1) h.2

@@ -90,25 +90,35 @@ mutual
   kind (Literal v) at scope = literal at v
   kind (Var x) at scope = some (kind_named x scope) UnknownName at (λ e. cc)
   kind (Add a b) at scope =
-      two at IntKind IntKind IntKind (kind_at (at_item at 1) scope a) (kind_at (at_item at 2) scope b) (kind a (at_item at 1) scope) (kind b (at_item at 2) scope)
+      two at IntKind IntKind IntKind (kind_at (at_item at 1) scope a) (kind_at (at_item at 2) scope b) (kind a (at_item at 1) scope)
+      (kind b (at_item at 2) scope)
   kind (Sub a b) at scope =
-      two at IntKind IntKind IntKind (kind_at (at_item at 1) scope a) (kind_at (at_item at 2) scope b) (kind a (at_item at 1) scope) (kind b (at_item at 2) scope)
+      two at IntKind IntKind IntKind (kind_at (at_item at 1) scope a) (kind_at (at_item at 2) scope b) (kind a (at_item at 1) scope)
+      (kind b (at_item at 2) scope)
   kind (Mul a b) at scope =
-      two at IntKind IntKind IntKind (kind_at (at_item at 1) scope a) (kind_at (at_item at 2) scope b) (kind a (at_item at 1) scope) (kind b (at_item at 2) scope)
+      two at IntKind IntKind IntKind (kind_at (at_item at 1) scope a) (kind_at (at_item at 2) scope b) (kind a (at_item at 1) scope)
+      (kind b (at_item at 2) scope)
   kind (Less a b) at scope =
-      two at IntKind IntKind BoolKind (kind_at (at_item at 1) scope a) (kind_at (at_item at 2) scope b) (kind a (at_item at 1) scope) (kind b (at_item at 2) scope)
+      two at IntKind IntKind BoolKind (kind_at (at_item at 1) scope a) (kind_at (at_item at 2) scope b) (kind a (at_item at 1) scope)
+      (kind b (at_item at 2) scope)
   kind (LessEq a b) at scope =
-      two at IntKind IntKind BoolKind (kind_at (at_item at 1) scope a) (kind_at (at_item at 2) scope b) (kind a (at_item at 1) scope) (kind b (at_item at 2) scope)
+      two at IntKind IntKind BoolKind (kind_at (at_item at 1) scope a) (kind_at (at_item at 2) scope b) (kind a (at_item at 1) scope)
+      (kind b (at_item at 2) scope)
   kind (Both a b) at scope =
-      two at BoolKind BoolKind BoolKind (kind_at (at_item at 1) scope a) (kind_at (at_item at 2) scope b) (kind a (at_item at 1) scope) (kind b (at_item at 2) scope)
+      two at BoolKind BoolKind BoolKind (kind_at (at_item at 1) scope a) (kind_at (at_item at 2) scope b) (kind a (at_item at 1) scope)
+      (kind b (at_item at 2) scope)
   kind (Either a b) at scope =
-      two at BoolKind BoolKind BoolKind (kind_at (at_item at 1) scope a) (kind_at (at_item at 2) scope b) (kind a (at_item at 1) scope) (kind b (at_item at 2) scope)
+      two at BoolKind BoolKind BoolKind (kind_at (at_item at 1) scope a) (kind_at (at_item at 2) scope b) (kind a (at_item at 1) scope)
+      (kind b (at_item at 2) scope)
   kind (Cat a b) at scope =
-      two at TextKind TextKind TextKind (kind_at (at_item at 1) scope a) (kind_at (at_item at 2) scope b) (kind a (at_item at 1) scope) (kind b (at_item at 2) scope)
+      two at TextKind TextKind TextKind (kind_at (at_item at 1) scope a) (kind_at (at_item at 2) scope b) (kind a (at_item at 1) scope)
+      (kind b (at_item at 2) scope)
   kind (Union a b) at scope =
-      two at PartiesKind PartiesKind PartiesKind (kind_at (at_item at 1) scope a) (kind_at (at_item at 2) scope b) (kind a (at_item at 1) scope) (kind b (at_item at 2) scope)
+      two at PartiesKind PartiesKind PartiesKind (kind_at (at_item at 1) scope a) (kind_at (at_item at 2) scope b) (kind a (at_item at 1) scope)
+      (kind b (at_item at 2) scope)
   kind (Has a b) at scope =
-      two at PartiesKind PartyKind BoolKind (kind_at (at_item at 1) scope a) (kind_at (at_item at 2) scope b) (kind a (at_item at 1) scope) (kind b (at_item at 2) scope)
+      two at PartiesKind PartyKind BoolKind (kind_at (at_item at 1) scope a) (kind_at (at_item at 2) scope b) (kind a (at_item at 1) scope)
+      (kind b (at_item at 2) scope)
   kind (Equal a b) at scope =
       alike at (kind_at (at_item at 1) scope a) (kind_at (at_item at 2) scope b) (kind a (at_item at 1) scope) (kind b (at_item at 2) scope)
   kind (Negate a) at scope = one at BoolKind BoolKind (kind_at (at_item at 1) scope a) (kind a (at_item at 1) scope)
@@ -156,35 +166,49 @@ fit [] [] at i = ok tt
 fit [] (d ∷ ds) at i = ok tt
 fit (k ∷ ks) [] at i = ok tt
 fit (k ∷ ks) (d ∷ ds) at i =
-    bind (tried (same_kind k d.kind) WrongKind (at_item at i)) (λ _. fit_from at (i + 1) ks ds) (test (same_kind k d.kind) WrongKind (at_item at i) wrong_kind) (λ _. fit ks ds at (i + 1))
+    bind (tried (same_kind k d.kind) WrongKind (at_item at i)) (λ _. fit_from at (i + 1) ks ds)
+    (test (same_kind k d.kind) WrongKind (at_item at i) wrong_kind) (λ _. fit ks ds at (i + 1))
 
 create : (at : Place) (x : List ℕ) (t : TemplateName) (fields : ExprForms) (p : Packages) (scope : Scope) → Faulty (create_at at p x t fields scope)
 unfolding create_at
 create at x t fields p scope =
     let here = at_member at (codes "fields") in
     let last = bound_at (at_member at (codes "bind")) x ContractKind scope in
-    bind (template_at (at_member at (codes "template")) t p) (λ template. kinds_from here 0 scope [] fields >>= λ kinds. counted_at here kinds template.fields >>= λ _. fit_from here 0 kinds template.fields >>= λ _. last)
+    bind (template_at (at_member at (codes "template")) t p)
+    (λ template. kinds_from here 0 scope [] fields >>= λ kinds. counted_at here kinds template.fields >>= λ _. fit_from here 0 kinds template.fields >>=
+    λ _. last)
     (template (at_member at (codes "template")) t p)
-    (λ template. bind (kinds_from here 0 scope [] fields) (λ kinds. counted_at here kinds template.fields >>= λ _. fit_from here 0 kinds template.fields >>= λ _. last) (kinds fields here 0 scope [])
+    (λ template. bind (kinds_from here 0 scope [] fields)
+    (λ kinds. counted_at here kinds template.fields >>= λ _. fit_from here 0 kinds template.fields >>= λ _. last) (kinds fields here 0 scope [])
     (λ ks. bind (counted_at here ks template.fields) (λ _. fit_from here 0 ks template.fields >>= λ _. last) (counted here ks template.fields)
     (λ _. bind (fit_from here 0 ks template.fields) (λ _. last) (fit ks template.fields here 0)
     (λ _. bound (at_member at (codes "bind")) x ContractKind scope))))
 
-exercise : (at : Place) (x : List ℕ) (t : TemplateName) (e : ExprForm) (c : List ℕ) (args : ExprForms) (p : Packages) (scope : Scope) → Faulty (exercise_at at p x t e c args scope)
+exercise : (at : Place) (x : List ℕ) (t : TemplateName) (e : ExprForm) (c : List ℕ) (args : ExprForms) (p : Packages) (scope : Scope)
+    → Faulty (exercise_at at p x t e c args scope)
 unfolding exercise_at
 exercise at x t e c args p scope =
     let here = at_member at (codes "args") in
     let there = at_member at (codes "contract") in
     let last = λ (k : Kind). bound_at (at_member at (codes "bind")) x k scope in
-    bind (template_at (at_member at (codes "template")) t p) (λ template. choice_at (at_member at (codes "choice")) template c >>= λ signature. kind_at there scope e >>= λ kind. kinds_from here 0 scope [] args >>= λ kinds. counted_at here kinds signature.0 >>= λ _. tried (same_kind kind ContractKind) WrongKind there >>= λ _. fit_from here 0 kinds signature.0 >>= λ _. last signature.1)
+    bind (template_at (at_member at (codes "template")) t p)
+    (λ template. choice_at (at_member at (codes "choice")) template c >>= λ signature. kind_at there scope e >>= λ kind. kinds_from here 0 scope [] args
+    >>= λ kinds. counted_at here kinds signature.0 >>= λ _. tried (same_kind kind ContractKind) WrongKind there >>= λ _. fit_from here 0 kinds
+    signature.0 >>= λ _. last signature.1)
     (template (at_member at (codes "template")) t p)
-    (λ template. bind (choice_at (at_member at (codes "choice")) template c) (λ signature. kind_at there scope e >>= λ kind. kinds_from here 0 scope [] args >>= λ kinds. counted_at here kinds signature.0 >>= λ _. tried (same_kind kind ContractKind) WrongKind there >>= λ _. fit_from here 0 kinds signature.0 >>= λ _. last signature.1)
+    (λ template. bind (choice_at (at_member at (codes "choice")) template c)
+    (λ signature. kind_at there scope e >>= λ kind. kinds_from here 0 scope [] args >>= λ kinds. counted_at here kinds signature.0 >>= λ _. tried
+    (same_kind kind ContractKind) WrongKind there >>= λ _. fit_from here 0 kinds signature.0 >>= λ _. last signature.1)
     (choice (at_member at (codes "choice")) template c)
-    (λ s. bind (kind_at there scope e) (λ kind. kinds_from here 0 scope [] args >>= λ kinds. counted_at here kinds s.0 >>= λ _. tried (same_kind kind ContractKind) WrongKind there >>= λ _. fit_from here 0 kinds s.0 >>= λ _. last s.1)
+    (λ s. bind (kind_at there scope e) (λ kind. kinds_from here 0 scope [] args >>= λ kinds. counted_at here kinds s.0 >>= λ _. tried
+    (same_kind kind ContractKind) WrongKind there >>= λ _. fit_from here 0 kinds s.0 >>= λ _. last s.1)
     (kind e there scope)
-    (λ j. bind (kinds_from here 0 scope [] args) (λ kinds. counted_at here kinds s.0 >>= λ _. tried (same_kind j ContractKind) WrongKind there >>= λ _. fit_from here 0 kinds s.0 >>= λ _. last s.1) (kinds args here 0 scope [])
-    (λ ks. bind (counted_at here ks s.0) (λ _. tried (same_kind j ContractKind) WrongKind there >>= λ _. fit_from here 0 ks s.0 >>= λ _. last s.1) (counted here ks s.0)
-    (λ _. bind (tried (same_kind j ContractKind) WrongKind there) (λ _. fit_from here 0 ks s.0 >>= λ _. last s.1) (test (same_kind j ContractKind) WrongKind there wrong_kind)
+    (λ j. bind (kinds_from here 0 scope [] args) (λ kinds. counted_at here kinds s.0 >>= λ _. tried (same_kind j ContractKind) WrongKind there >>= λ _.
+    fit_from here 0 kinds s.0 >>= λ _. last s.1) (kinds args here 0 scope [])
+    (λ ks. bind (counted_at here ks s.0) (λ _. tried (same_kind j ContractKind) WrongKind there >>= λ _. fit_from here 0 ks s.0 >>= λ _. last s.1)
+    (counted here ks s.0)
+    (λ _. bind (tried (same_kind j ContractKind) WrongKind there) (λ _. fit_from here 0 ks s.0 >>= λ _. last s.1)
+    (test (same_kind j ContractKind) WrongKind there wrong_kind)
     (λ _. bind (fit_from here 0 ks s.0) (λ _. last s.1) (fit ks s.0 here 0)
     (λ _. bound (at_member at (codes "bind")) x s.1 scope)))))))
 
@@ -193,9 +217,13 @@ unfolding fetch_at
 fetch at x t e p scope =
     let here = at_member at (codes "contract") in
     let there = at_member at (codes "bind") in
-    bind (template_at (at_member at (codes "template")) t p) (λ template. expr_at here scope ContractKind e >>= λ _. tried (not (some_among (scope_of x template.fields) scope)) DuplicateName there >>= λ _. Ok (scope ++ scope_of x template.fields))
+    bind (template_at (at_member at (codes "template")) t p)
+    (λ template. expr_at here scope ContractKind e >>= λ _. tried (not (some_among (scope_of x template.fields) scope)) DuplicateName there >>= λ _. Ok
+    (scope ++ scope_of x template.fields))
     (template (at_member at (codes "template")) t p)
-    (λ template. bind (expr_at here scope ContractKind e) (λ _. tried (not (some_among (scope_of x template.fields) scope)) DuplicateName there >>= λ _. Ok (scope ++ scope_of x template.fields)) (expr e here scope ContractKind)
+    (λ template. bind (expr_at here scope ContractKind e)
+    (λ _. tried (not (some_among (scope_of x template.fields) scope)) DuplicateName there >>= λ _. Ok (scope ++ scope_of x template.fields))
+    (expr e here scope ContractKind)
     (λ _. bind (tried (not (some_among (scope_of x template.fields) scope)) DuplicateName there) (λ _. Ok (scope ++ scope_of x template.fields))
     (test (not (some_among (scope_of x template.fields) scope)) DuplicateName there duplicate) (λ _. ok (scope ++ scope_of x template.fields))))
 
@@ -219,7 +247,8 @@ mutual
       let here = at_member (at_member at (codes "when")) (codes "if") in
       let yes_side = at_member (at_member at (codes "when")) (codes "then") in
       let no_side = at_member (at_member at (codes "when")) (codes "else") in
-      bind (expr_at here scope BoolKind e) (λ _. stmts_from yes_side 0 p first scope >>= λ _. stmts_from no_side 0 p second scope >>= λ _. Ok scope) (expr e here scope BoolKind)
+      bind (expr_at here scope BoolKind e) (λ _. stmts_from yes_side 0 p first scope >>= λ _. stmts_from no_side 0 p second scope >>= λ _. Ok scope)
+      (expr e here scope BoolKind)
       (λ _. bind (stmts_from yes_side 0 p first scope) (λ _. stmts_from no_side 0 p second scope >>= λ _. Ok scope) (stmts first yes_side 0 p scope)
       (λ _. bind (stmts_from no_side 0 p second scope) (λ _. Ok scope) (stmts second no_side 0 p scope) (λ _. ok scope)))
 
@@ -231,25 +260,30 @@ mutual
 named : (at : Place) (n : List ℕ) (taken : NameLists) → Faulty (named_at at n taken)
 unfolding named_at
 named at n taken =
-    bind (tried (not (is_among n taken)) DuplicateName at) (λ _. Ok (taken ++ n ∷ [])) (test (not (is_among n taken)) DuplicateName at duplicate) (λ _. ok (taken ++ n ∷ []))
+    bind (tried (not (is_among n taken)) DuplicateName at) (λ _. Ok (taken ++ n ∷ [])) (test (not (is_among n taken)) DuplicateName at duplicate)
+    (λ _. ok (taken ++ n ∷ []))
 
 names : (ns : NameLists) (at : Place) (i : ℕ) (taken : NameLists) → Faulty (names_from at i taken ns)
 names [] at i taken = ok tt
 names (n ∷ ns) at i taken =
-    bind (named_at (at_member (at_item at i) (codes "name")) n taken) (λ more. names_from at (i + 1) more ns) (named (at_member (at_item at i) (codes "name")) n taken)
+    bind (named_at (at_member (at_item at i) (codes "name")) n taken) (λ more. names_from at (i + 1) more ns)
+    (named (at_member (at_item at i) (codes "name")) n taken)
     (λ more. names ns at (i + 1) more)
 
 choice_name : (at : Place) (n : List ℕ) (taken : NameLists) → Faulty (choice_name_at at n taken)
 unfolding choice_name_at
 choice_name at n taken =
     bind (named_at at n taken) (λ more. tried (not (same_name archive_name n)) Reserved at >>= λ _. Ok more) (named at n taken)
-    (λ more. bind (tried (not (same_name archive_name n)) Reserved at) (λ _. Ok more) (test (not (same_name archive_name n)) Reserved at (λ e. cc)) (λ _. ok more))
+    (λ more. bind (tried (not (same_name archive_name n)) Reserved at) (λ _. Ok more) (test (not (same_name archive_name n)) Reserved at (λ e. cc))
+    (λ _. ok more))
 
 choice_parties : (at : Place) (t : TemplateForm) (c : ChoiceForm) → Faulty (choice_parties_at at t c)
 unfolding choice_parties_at
 choice_parties at t c =
-    bind (expr_at (at_member at (codes "controllers")) (choice_scope t c) PartiesKind c.controllers) (λ _. expr_at (at_member at (codes "observers")) (choice_scope t c) PartiesKind c.observers)
-    (expr c.controllers (at_member at (codes "controllers")) (choice_scope t c) PartiesKind) (λ _. expr c.observers (at_member at (codes "observers")) (choice_scope t c) PartiesKind)
+    bind (expr_at (at_member at (codes "controllers")) (choice_scope t c) PartiesKind c.controllers)
+    (λ _. expr_at (at_member at (codes "observers")) (choice_scope t c) PartiesKind c.observers)
+    (expr c.controllers (at_member at (codes "controllers")) (choice_scope t c) PartiesKind)
+    (λ _. expr c.observers (at_member at (codes "observers")) (choice_scope t c) PartiesKind)
 
 choice_body : (at : Place) (p : Packages) (t : TemplateForm) (c : ChoiceForm) → Faulty (choice_body_at at p t c)
 unfolding choice_body_at
@@ -261,21 +295,27 @@ whole_choice : (at : Place) (p : Packages) (t : TemplateForm) (c : ChoiceForm) (
 unfolding choice_from
 whole_choice at p t c taken =
     let params = names_from (at_member at (codes "params")) 0 [] (decl_names c.params) in
-    bind (choice_name_at (at_member at (codes "name")) c.name taken) (λ more. params >>= λ _. choice_parties_at at t c >>= λ _. choice_body_at at p t c >>= λ _. Ok more) (choice_name (at_member at (codes "name")) c.name taken)
-    (λ more. bind params (λ _. choice_parties_at at t c >>= λ _. choice_body_at at p t c >>= λ _. Ok more) (names (decl_names c.params) (at_member at (codes "params")) 0 [])
+    bind (choice_name_at (at_member at (codes "name")) c.name taken)
+    (λ more. params >>= λ _. choice_parties_at at t c >>= λ _. choice_body_at at p t c >>= λ _. Ok more)
+    (choice_name (at_member at (codes "name")) c.name taken)
+    (λ more. bind params (λ _. choice_parties_at at t c >>= λ _. choice_body_at at p t c >>= λ _. Ok more)
+    (names (decl_names c.params) (at_member at (codes "params")) 0 [])
     (λ _. bind (choice_parties_at at t c) (λ _. choice_body_at at p t c >>= λ _. Ok more) (choice_parties at t c)
     (λ _. bind (choice_body_at at p t c) (λ _. Ok more) (choice_body at p t c) (λ _. ok more))))
 
 choices : (cs : List ChoiceForm) (at : Place) (i : ℕ) (p : Packages) (t : TemplateForm) (taken : NameLists) → Faulty (choices_from at i p t taken cs)
 choices [] at i p t taken = ok tt
 choices (c ∷ cs) at i p t taken =
-    bind (choice_from (at_item at i) p t c taken) (λ more. choices_from at (i + 1) p t more cs) (whole_choice (at_item at i) p t c taken) (λ more. choices cs at (i + 1) p t more)
+    bind (choice_from (at_item at i) p t c taken) (λ more. choices_from at (i + 1) p t more cs) (whole_choice (at_item at i) p t c taken)
+    (λ more. choices cs at (i + 1) p t more)
 
 stakeholders : (at : Place) (t : TemplateForm) → Faulty (template_parties_at at t)
 unfolding template_parties_at
 stakeholders at t =
-    bind (expr_at (at_member at (codes "signatories")) (this_scope t) PartiesKind t.signatories) (λ _. expr_at (at_member at (codes "observers")) (this_scope t) PartiesKind t.observers)
-    (expr t.signatories (at_member at (codes "signatories")) (this_scope t) PartiesKind) (λ _. expr t.observers (at_member at (codes "observers")) (this_scope t) PartiesKind)
+    bind (expr_at (at_member at (codes "signatories")) (this_scope t) PartiesKind t.signatories)
+    (λ _. expr_at (at_member at (codes "observers")) (this_scope t) PartiesKind t.observers)
+    (expr t.signatories (at_member at (codes "signatories")) (this_scope t) PartiesKind)
+    (λ _. expr t.observers (at_member at (codes "observers")) (this_scope t) PartiesKind)
 
 exprs : (at : Place) (t : TemplateForm) → Faulty (template_exprs_at at t)
 unfolding template_exprs_at
@@ -287,12 +327,14 @@ whole_template : (at : Place) (p : Packages) (t : TemplateForm) → Faulty (temp
 unfolding template_from
 whole_template at p t =
     let choices_of = choices_from (at_member at (codes "choices")) 0 p t [] t.choices in
-    bind (names_from (at_member at (codes "fields")) 0 [] (decl_names t.fields)) (λ _. template_exprs_at at t >>= λ _. choices_of) (names (decl_names t.fields) (at_member at (codes "fields")) 0 [])
+    bind (names_from (at_member at (codes "fields")) 0 [] (decl_names t.fields)) (λ _. template_exprs_at at t >>= λ _. choices_of)
+    (names (decl_names t.fields) (at_member at (codes "fields")) 0 [])
     (λ _. bind (template_exprs_at at t) (λ _. choices_of) (exprs at t) (λ _. choices t.choices (at_member at (codes "choices")) 0 p t []))
 
 templates : (ts : List TemplateForm) (at : Place) (i : ℕ) (p : Packages) → Faulty (templates_from at i p ts)
 templates [] at i p = ok tt
-templates (t ∷ ts) at i p = bind (template_from (at_item at i) p t) (λ _. templates_from at (i + 1) p ts) (whole_template (at_item at i) p t) (λ _. templates ts at (i + 1) p)
+templates (t ∷ ts) at i p = bind (template_from (at_item at i) p t) (λ _. templates_from at (i + 1) p ts) (whole_template (at_item at i) p t)
+    (λ _. templates ts at (i + 1) p)
 
 whole_package : (at : Place) (before : Packages) (p : PackageForm) → Faulty (package_from at before p)
 unfolding package_from
@@ -300,13 +342,16 @@ whole_package at before p =
     let here = at_member at (codes "templates") in
     let again = is_among p.name (package_names before) in
     let templates_of = templates_from here 0 (before ++ p ∷ []) p.templates in
-    bind (tried (not again) DuplicateName (at_member at (codes "name"))) (λ _. names_from here 0 [] (template_names p.templates) >>= λ _. templates_of) (test (not again) DuplicateName (at_member at (codes "name")) duplicate)
-    (λ _. bind (names_from here 0 [] (template_names p.templates)) (λ _. templates_of) (names (template_names p.templates) here 0 []) (λ _. templates p.templates here 0 (before ++ p ∷ [])))
+    bind (tried (not again) DuplicateName (at_member at (codes "name"))) (λ _. names_from here 0 [] (template_names p.templates) >>= λ _. templates_of)
+    (test (not again) DuplicateName (at_member at (codes "name")) duplicate)
+    (λ _. bind (names_from here 0 [] (template_names p.templates)) (λ _. templates_of) (names (template_names p.templates) here 0 [])
+    (λ _. templates p.templates here 0 (before ++ p ∷ [])))
 
 packages : (ps : Packages) (i : ℕ) (before : Packages) → Faulty (packages_from i before ps)
 packages [] i before = ok tt
 packages (p ∷ ps) i before =
-    bind (package_from (at_item [] i) before p) (λ _. packages_from (i + 1) (before ++ p ∷ []) ps) (whole_package (at_item [] i) before p) (λ _. packages ps (i + 1) (before ++ p ∷ []))
+    bind (package_from (at_item [] i) before p) (λ _. packages_from (i + 1) (before ++ p ∷ []) ps) (whole_package (at_item [] i) before p)
+    (λ _. packages ps (i + 1) (before ++ p ∷ []))
 
 faulty : {A : Type 0} (r : Result A CheckFault) (f : CheckFault) → Faulty r → r ≡ Err f → f.kind ≢ Memory
 unfolding Faulty

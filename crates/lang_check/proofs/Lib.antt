@@ -13,3 +13,6 @@ pub mod Lookups
 pub mod Calls
 pub mod Faulty
 pub mod EvalFaults
+pub mod Defaults
+pub mod Refuted
+pub mod ContractFaults

@@ -24,7 +24,8 @@ Kinds NoExprs scope [] = Unit {0}
 Kinds (MoreExprs e es) scope (k ∷ ks) = HasKind e scope k × Kinds es scope ks
 Kinds es scope ks = ⊥
 
-kinds_sound : (es : ExprForms) (at : Place) (i : ℕ) (scope : Scope) (before ks : List Kind) → kinds_from at i scope before es ≡ Ok ks → (more : List Kind) × (ks ≡ before ++ more) × Kinds es scope more
+kinds_sound : (es : ExprForms) (at : Place) (i : ℕ) (scope : Scope) (before ks : List Kind) → kinds_from at i scope before es ≡ Ok ks
+    → (more : List Kind) × (ks ≡ before ++ more) × Kinds es scope more
 unfolding Kinds
 kinds_sound NoExprs at i scope before ks h = ([], sym (ok_same before ks h) ∙ sym (append-nil before), tt)
 kinds_sound (MoreExprs e es) at i scope before ks h =
@@ -32,7 +33,8 @@ kinds_sound (MoreExprs e es) at i scope before ks h =
     let f = kinds_sound es at (i + 1) scope (before ++ g.0 ∷ []) ks g.2 in
     (g.0 ∷ f.0, f.1 ∙ append_assoc before (g.0 ∷ []) f.0, (kind_sound e (at_item at i) scope g.0 g.1, f.2))
 
-kinds_fit : (es : ExprForms) (ks : List Kind) (ds : List FieldDecl) (at : Place) (i : ℕ) (scope : Scope) (u : ⊤) → Kinds es scope ks → length ks ≡ length ds → fit_from at i ks ds ≡ Ok u → HaveKindsOf es scope ds
+kinds_fit : (es : ExprForms) (ks : List Kind) (ds : List FieldDecl) (at : Place) (i : ℕ) (scope : Scope) (u : ⊤) → Kinds es scope ks → length ks ≡ length ds
+    → fit_from at i ks ds ≡ Ok u → HaveKindsOf es scope ds
 unfolding Kinds
 kinds_fit NoExprs [] [] at i scope u h e g = tt
 kinds_fit NoExprs [] (d ∷ ds) at i scope u h e g = absurd (omega arith)
@@ -44,7 +46,8 @@ kinds_fit (MoreExprs x es) (k ∷ ks) (d ∷ ds) at i scope u h e g =
     let same = same_kind-true k d.kind (tried_ok (same_kind k d.kind) WrongKind (at_item at i) b.0 b.1) in
     (rw (← same) h.0, kinds_fit es ks ds at (i + 1) scope u h.1 (omega arith) b.2)
 
-pub counted_fit : (es : ExprForms) (at : Place) (scope : Scope) (ks : List Kind) (ds : List FieldDecl) (u v : ⊤) → kinds_from at 0 scope [] es ≡ Ok ks → counted_at at ks ds ≡ Ok u → fit_from at 0 ks ds ≡ Ok v → HaveKindsOf es scope ds
+pub counted_fit : (es : ExprForms) (at : Place) (scope : Scope) (ks : List Kind) (ds : List FieldDecl) (u v : ⊤) → kinds_from at 0 scope [] es ≡ Ok ks
+    → counted_at at ks ds ≡ Ok u → fit_from at 0 ks ds ≡ Ok v → HaveKindsOf es scope ds
 unfolding counted_at
 counted_fit es at scope ks ds u v h c f =
     let g = kinds_sound es at 0 scope [] ks h in
@@ -54,7 +57,8 @@ counted_fit es at scope ks ds u v h c f =
 abbrev pub declared_kinds : List FieldDecl → List Kind
 declared_kinds ds = map (λ (d : FieldDecl). d.kind) ds
 
-kinds_complete : (es : ExprForms) (ds : List FieldDecl) (at : Place) (i : ℕ) (scope : Scope) (before : List Kind) → HaveKindsOf es scope ds → kinds_from at i scope before es ≡ Ok (before ++ declared_kinds ds)
+kinds_complete : (es : ExprForms) (ds : List FieldDecl) (at : Place) (i : ℕ) (scope : Scope) (before : List Kind) → HaveKindsOf es scope ds
+    → kinds_from at i scope before es ≡ Ok (before ++ declared_kinds ds)
 kinds_complete NoExprs [] at i scope before h = ok_of before (before ++ []) (sym (append-nil before))
 kinds_complete NoExprs (d ∷ ds) at i scope before h = absurd h
 kinds_complete (MoreExprs e es) [] at i scope before h = absurd h
@@ -63,7 +67,8 @@ kinds_complete (MoreExprs e es) (d ∷ ds) at i scope before h =
     (kind_complete e (at_item at i) scope d.kind h.0)
     (kinds_complete es ds at (i + 1) scope (before ++ d.kind ∷ []) h.1 ∙ ok_of _ _ (append_assoc before (d.kind ∷ []) (declared_kinds ds)))
 
-pub kinds_are : (es : ExprForms) (ds : List FieldDecl) (at : Place) (scope : Scope) → HaveKindsOf es scope ds → kinds_from at 0 scope [] es ≡ Ok (declared_kinds ds)
+pub kinds_are : (es : ExprForms) (ds : List FieldDecl) (at : Place) (scope : Scope) → HaveKindsOf es scope ds
+    → kinds_from at 0 scope [] es ≡ Ok (declared_kinds ds)
 kinds_are es ds at scope h = kinds_complete es ds at 0 scope [] h
 
 as_many : (ds : List FieldDecl) → length (declared_kinds ds) ≡ length ds
@@ -95,8 +100,11 @@ none_of a b h k = rw h k
 
 pub new_together : (bound scope : Scope) → some_among bound scope ≡ false → AreNew bound scope
 new_together [] scope h = tt
-new_together (b ∷ bs) scope h =
-    (none_first (is_among b.0 (names_in scope)) (some_among bs scope) h, new_together bs scope (none_second (is_among b.0 (names_in scope)) (some_among bs scope) h))
+new_together (b ∷ bs) scope h = (
+  none_first (is_among b.0 (names_in scope)) (some_among bs scope) h,
+  new_together bs scope
+      (none_second (is_among b.0 (names_in scope)) (some_among bs scope) h),
+)
 
 pub none_among : (bound scope : Scope) → AreNew bound scope → some_among bound scope ≡ false
 none_among [] scope h = refl
@@ -119,10 +127,11 @@ among_more m n [] = or_none (same_name n m) where
   or_none : (a : Bool) → (a || false) ≡ a
   or_none true = refl
   or_none false = refl
-among_more m n (t ∷ taken) = ap (λ (b : Bool). same_name t m || b) (among_more m n taken) ∙ sym (or_assoc (same_name t m) (is_among m taken) (same_name n m)) where
-  or_assoc : (a b c : Bool) → ((a || b) || c) ≡ (a || (b || c))
-  or_assoc true b c = refl
-  or_assoc false b c = refl
+among_more m n (t ∷ taken) = ap (λ (b : Bool). same_name t m || b) (among_more m n taken) ∙ sym (or_assoc (same_name t m) (is_among m taken) (same_name n m))
+  where
+    or_assoc : (a b c : Bool) → ((a || b) || c) ≡ (a || (b || c))
+    or_assoc true b c = refl
+    or_assoc false b c = refl
 
 apart_more : (n : List ℕ) (taken ns : NameLists) → Apart taken ns → IsNew n ns → Apart (taken ++ n ∷ []) ns
 unfolding Apart

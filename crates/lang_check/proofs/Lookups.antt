@@ -34,13 +34,15 @@ mapped_found : {B C : Type 0} (b : Bool) (x : B) (r : Option B) (g : B → C) �
 mapped_found true x r g = refl
 mapped_found false x r g = refl
 
-packages_mapped : (n : List ℕ) (ps : Packages) → find (λ (q : PackageForm). same_name q.name n) (map with_archives ps) ≡ option_map with_archives (find (λ (q : PackageForm). same_name q.name n) ps)
+packages_mapped : (n : List ℕ) (ps : Packages) → find (λ (q : PackageForm). same_name q.name n) (map with_archives ps) ≡ option_map with_archives
+    (find (λ (q : PackageForm). same_name q.name n) ps)
 packages_mapped n [] = refl
 packages_mapped n (p ∷ ps) =
     ap (λ (o : Option PackageForm). cond (same_name p.name n) (Some (with_archives p)) o) (packages_mapped n ps)
     ∙ mapped_found (same_name p.name n) p (find (λ (q : PackageForm). same_name q.name n) ps) with_archives
 
-templates_mapped : (n : List ℕ) (ts : List TemplateForm) → find (λ (t : TemplateForm). same_name t.name n) (map with_archive ts) ≡ option_map with_archive (find (λ (t : TemplateForm). same_name t.name n) ts)
+templates_mapped : (n : List ℕ) (ts : List TemplateForm)
+    → find (λ (t : TemplateForm). same_name t.name n) (map with_archive ts) ≡ option_map with_archive (find (λ (t : TemplateForm). same_name t.name n) ts)
 templates_mapped n [] = refl
 templates_mapped n (t ∷ ts) =
     ap (λ (o : Option TemplateForm). cond (same_name t.name n) (Some (with_archive t)) o) (templates_mapped n ts)
@@ -55,7 +57,8 @@ template_checked name ps =
     ap (λ (o : Option PackageForm). template_of o name.name) (packages_mapped name.«package» ps)
     ∙ template_of_mapped (find (λ (q : PackageForm). same_name q.name name.«package») ps) name.name
 
-in_package : (o : Option PackageForm) (n : List ℕ) (t : TemplateForm) → template_of o n ≡ Some t → (p : PackageForm) × (o ≡ Some p) × (find (λ (t : TemplateForm). same_name t.name n) p.templates ≡ Some t)
+in_package : (o : Option PackageForm) (n : List ℕ) (t : TemplateForm) → template_of o n ≡ Some t
+    → (p : PackageForm) × (o ≡ Some p) × (find (λ (t : TemplateForm). same_name t.name n) p.templates ≡ Some t)
 in_package None n t h = no_some t _ h
 in_package (Some p) n t h = (p, refl, h)
 
@@ -67,15 +70,18 @@ template_more name ps qs t h =
 
 -- ---- what is found is well typed
 
-pub in_template : (o : Option TemplateForm) (n : List ℕ) (c : ChoiceForm) → choice_of o n ≡ Some c → (t : TemplateForm) × (o ≡ Some t) × (find (λ (c : ChoiceForm). same_name c.name n) t.choices ≡ Some c)
+pub in_template : (o : Option TemplateForm) (n : List ℕ) (c : ChoiceForm) → choice_of o n ≡ Some c
+    → (t : TemplateForm) × (o ≡ Some t) × (find (λ (c : ChoiceForm). same_name c.name n) t.choices ≡ Some c)
 in_template None n c h = no_some c _ h
 in_template (Some t) n c h = (t, refl, h)
 
-pub mapped_template : (o : Option TemplateForm) (t : TemplateForm) → option_map with_archive o ≡ Some t → (given : TemplateForm) × (o ≡ Some given) × (with_archive given ≡ t)
+pub mapped_template : (o : Option TemplateForm) (t : TemplateForm) → option_map with_archive o ≡ Some t
+    → (given : TemplateForm) × (o ≡ Some given) × (with_archive given ≡ t)
 mapped_template None t h = no_some t _ h
 mapped_template (Some given) t h = (given, refl, some_same (with_archive given) t h)
 
-typed_choice : (cs : List ChoiceForm) (f : ChoiceForm → Bool) (p : Packages) (t : TemplateForm) (c : ChoiceForm) → AreChoices p t cs → find f cs ≡ Some c → IsChoice p t c
+typed_choice : (cs : List ChoiceForm) (f : ChoiceForm → Bool) (p : Packages) (t : TemplateForm) (c : ChoiceForm) → AreChoices p t cs → find f cs ≡ Some c
+    → IsChoice p t c
 typed_choice [] f p t c h e = no_some c _ e
 typed_choice (x ∷ cs) f p t c h e =
     in_find (f x) x c (find f cs) (IsChoice p t c) (λ same. subst (λ (c : ChoiceForm). IsChoice p t c) same h.0) (λ later. typed_choice cs f p t c h.1 later) e
@@ -83,7 +89,8 @@ typed_choice (x ∷ cs) f p t c h e =
 typed_template : (ts : List TemplateForm) (f : TemplateForm → Bool) (p : Packages) (t : TemplateForm) → AreTemplates p ts → find f ts ≡ Some t → IsTemplate p t
 typed_template [] f p t h e = no_some t _ e
 typed_template (x ∷ ts) f p t h e =
-    in_find (f x) x t (find f ts) (IsTemplate p t) (λ same. subst (λ (t : TemplateForm). IsTemplate p t) same h.0) (λ later. typed_template ts f p t h.1 later) e
+    in_find (f x) x t (find f ts) (IsTemplate p t) (λ same. subst (λ (t : TemplateForm). IsTemplate p t) same h.0)
+    (λ later. typed_template ts f p t h.1 later) e
 
 -- a package that stands after some and before others
 abbrev Placed : Packages → Packages → PackageForm → Type 0
@@ -103,7 +110,8 @@ placed (x ∷ ps) before f q h e =
     (λ later. later_placed before ps x q (placed ps (before ++ x ∷ []) f q h.1 later)) e
 
 -- a template of packages is well typed where some first ones of them may be named
-pub template_typed : (ps : Packages) (name : TemplateName) (t : TemplateForm) → ArePackages [] ps → template_in name ps ≡ Some t → (p : Packages) × (post : Packages) × (ps ≡ p ++ post) × IsTemplate p t
+pub template_typed : (ps : Packages) (name : TemplateName) (t : TemplateForm) → ArePackages [] ps → template_in name ps ≡ Some t
+    → (p : Packages) × (post : Packages) × (ps ≡ p ++ post) × IsTemplate p t
 template_typed ps name t h e =
     let f = λ (q : PackageForm). same_name q.name name.«package» in
     let g = in_package (find f ps) name.name t e in
@@ -128,28 +136,35 @@ free_choices (c ∷ cs) p t h = (h.0.free, free_choices cs p t h.1)
 other_name : (n m : List ℕ) → same_name archive_name n ≡ true → same_name archive_name m ≡ false → same_name m n ≡ false
 other_name n m h k = nat_list_eq_equiv.symm m n ∙ (sym (nat_list_eq_equiv.congr archive_name n m h) ∙ k)
 
-archive_last : (cs : List ChoiceForm) (a : ChoiceForm) (n : List ℕ) → AreFree cs → same_name archive_name n ≡ true → same_name a.name n ≡ true → find (λ (c : ChoiceForm). same_name c.name n) (cs ++ a ∷ []) ≡ Some a
+archive_last : (cs : List ChoiceForm) (a : ChoiceForm) (n : List ℕ) → AreFree cs → same_name archive_name n ≡ true → same_name a.name n ≡ true
+    → find (λ (c : ChoiceForm). same_name c.name n) (cs ++ a ∷ []) ≡ Some a
 unfolding AreFree
 archive_last [] a n h k e = ap (λ (b : Bool). cond b (Some a) None) e
 archive_last (c ∷ cs) a n h k e =
     ap (λ (b : Bool). cond b (Some c) (find (λ (c : ChoiceForm). same_name c.name n) (cs ++ a ∷ []))) (other_name n c.name k h.0) ∙ archive_last cs a n h.1 k e
 
-by_name : (t : TemplateForm) (n : List ℕ) (c : ChoiceForm) (b : Bool) → same_name archive_name n ≡ b → AreFree t.choices → (if b then Some (archive_of t.signatories) else choice_among n t.choices) ≡ Some c → find (λ (c : ChoiceForm). same_name c.name n) (t.choices ++ archive_of t.signatories ∷ []) ≡ Some c
+by_name : (t : TemplateForm) (n : List ℕ) (c : ChoiceForm) (b : Bool) → same_name archive_name n ≡ b → AreFree t.choices
+    → (if b then Some (archive_of t.signatories) else choice_among n t.choices) ≡ Some c
+    → find (λ (c : ChoiceForm). same_name c.name n) (t.choices ++ archive_of t.signatories ∷ []) ≡ Some c
 by_name t n c true is free h = archive_last t.choices (archive_of t.signatories) n free is is ∙ h
 by_name t n c false is free h = find_append (λ (c : ChoiceForm). same_name c.name n) t.choices (archive_of t.signatories ∷ []) c h
 
-pub choice_checked : (p : Packages) (t : TemplateForm) (n : List ℕ) (c : ChoiceForm) → IsTemplate p t → choice_named t n ≡ Some c → choice_of (Some (with_archive t)) n ≡ Some c
+pub choice_checked : (p : Packages) (t : TemplateForm) (n : List ℕ) (c : ChoiceForm) → IsTemplate p t → choice_named t n ≡ Some c
+    → choice_of (Some (with_archive t)) n ≡ Some c
 choice_checked p t n c typed h = by_name t n c (same_name archive_name n) refl (free_choices t.choices p t typed.choices) h
 
 split_find : {B : Type 0} (f : B → Bool) (xs : List B) (y a : B) (A : Type 0) → (find f xs ≡ Some a → A) → (y ≡ a → A) → find f (xs ++ y ∷ []) ≡ Some a → A
 split_find f [] y a A one last h = in_find (f y) y a None A last (λ e. no_some a A e) h
 split_find f (x ∷ xs) y a A one last h =
     splits (f x) x a (find f xs) (find f (xs ++ y ∷ [])) A one (λ one e. split_find f xs y a A one last e) h where
-      splits : {B : Type 0} (b : Bool) (x a : B) (r s : Option B) (A : Type 0) → (cond b (Some x) r ≡ Some a → A) → ((r ≡ Some a → A) → s ≡ Some a → A) → cond b (Some x) s ≡ Some a → A
+      splits : {B : Type 0} (b : Bool) (x a : B) (r s : Option B) (A : Type 0) → (cond b (Some x) r ≡ Some a → A) → ((r ≡ Some a → A) → s ≡ Some a → A)
+          → cond b (Some x) s ≡ Some a → A
       splits true x a r s A one f h = one h
       splits false x a r s A one f h = f one h
 
 -- a choice of a checked template is well typed, or it is Archive
-pub choice_typed : (p : Packages) (t : TemplateForm) (n : List ℕ) (c : ChoiceForm) (A : Type 0) → IsTemplate p t → (IsChoice p t c → A) → (archive_of t.signatories ≡ c → A) → choice_of (Some (with_archive t)) n ≡ Some c → A
+pub choice_typed : (p : Packages) (t : TemplateForm) (n : List ℕ) (c : ChoiceForm) (A : Type 0) → IsTemplate p t → (IsChoice p t c → A)
+    → (archive_of t.signatories ≡ c → A) → choice_of (Some (with_archive t)) n ≡ Some c → A
 choice_typed p t n c A typed one last h =
-    split_find (λ (c : ChoiceForm). same_name c.name n) t.choices (archive_of t.signatories) c A (λ e. one (typed_choice t.choices (λ (c : ChoiceForm). same_name c.name n) p t c typed.choices e)) last h
+    split_find (λ (c : ChoiceForm). same_name c.name n) t.choices (archive_of t.signatories) c A
+    (λ e. one (typed_choice t.choices (λ (c : ChoiceForm). same_name c.name n) p t c typed.choices e)) last h

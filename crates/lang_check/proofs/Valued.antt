@@ -20,7 +20,8 @@ use Rattle.lang_check.specs.KindedNames.{kinds_in}
 pub value_is : (v w : Value) → (let r : Answer = Ok v in r ≡ Ok w) → v ≡ w
 value_is v w h = cc
 
-pub with_value_ok : {A B : Type 0} (r : Result A EvalFault) (go : A → Result B EvalFault) (v : B) → with_value r go ≡ Ok v → (a : A) × (r ≡ Ok a) × (go a ≡ Ok v)
+pub with_value_ok : {A B : Type 0} (r : Result A EvalFault) (go : A → Result B EvalFault) (v : B) → with_value r go ≡ Ok v
+    → (a : A) × (r ≡ Ok a) × (go a ≡ Ok v)
 with_value_ok (Ok a) go v h = (a, refl, h)
 with_value_ok (Err e) go v h = absurd (let other : Err e ≡ Ok v = h in cc)
 
@@ -76,21 +77,25 @@ member_kind : (x y : Value) → kind_of x ≡ PartiesKind → kind_of y ≡ Part
 member_kind (Parties x) (Party y) p q = refl
 member_kind x y p q = cc
 
-both_kind : (x : Value) (second : Answer) (v : Value) → kind_of x ≡ BoolKind → (second ≡ Ok v → kind_of v ≡ BoolKind) → both_of x second ≡ Ok v → kind_of v ≡ BoolKind
+both_kind : (x : Value) (second : Answer) (v : Value) → kind_of x ≡ BoolKind → (second ≡ Ok v → kind_of v ≡ BoolKind) → both_of x second ≡ Ok v
+    → kind_of v ≡ BoolKind
 both_kind (BoolValue true) second v p f h = f h
 both_kind (BoolValue false) second v p f h = ap kind_of (sym (value_is (BoolValue false) v h))
 both_kind x second v p f h = cc
 
-either_kind : (x : Value) (second : Answer) (v : Value) → kind_of x ≡ BoolKind → (second ≡ Ok v → kind_of v ≡ BoolKind) → either_of x second ≡ Ok v → kind_of v ≡ BoolKind
+either_kind : (x : Value) (second : Answer) (v : Value) → kind_of x ≡ BoolKind → (second ≡ Ok v → kind_of v ≡ BoolKind) → either_of x second ≡ Ok v
+    → kind_of v ≡ BoolKind
 either_kind (BoolValue false) second v p f h = f h
 either_kind (BoolValue true) second v p f h = ap kind_of (sym (value_is (BoolValue true) v h))
 either_kind x second v p f h = cc
 
-side_kind : (b : Bool) (first second : Answer) (v : Value) (k : Kind) → (first ≡ Ok v → kind_of v ≡ k) → (second ≡ Ok v → kind_of v ≡ k) → cond b first second ≡ Ok v → kind_of v ≡ k
+side_kind : (b : Bool) (first second : Answer) (v : Value) (k : Kind) → (first ≡ Ok v → kind_of v ≡ k) → (second ≡ Ok v → kind_of v ≡ k)
+    → cond b first second ≡ Ok v → kind_of v ≡ k
 side_kind true first second v k f g h = f h
 side_kind false first second v k f g h = g h
 
-picked : (b : Bool) (x : Binding) (rest : Option Binding) (s : Option Kind) (k : Kind) → cond b (Some (kind_of x.value)) s ≡ Some k → (s ≡ Some k → kind_of (value_in rest) ≡ k) → kind_of (value_in (cond b (Some x) rest)) ≡ k
+picked : (b : Bool) (x : Binding) (rest : Option Binding) (s : Option Kind) (k : Kind) → cond b (Some (kind_of x.value)) s ≡ Some k
+    → (s ≡ Some k → kind_of (value_in rest) ≡ k) → kind_of (value_in (cond b (Some x) rest)) ≡ k
 picked true x rest s k h f = cc
 picked false x rest s k h f = f h
 
@@ -99,7 +104,8 @@ bound_kind [] x k h = absurd (let r : Option Kind = None in let other : r ≡ So
 bound_kind (b ∷ names) x k h = picked (same_name b.name x) b (binding_of x names) (kind_named x (kinds_in names)) k h (bound_kind names x k)
 
 -- the values of two operands
-two_values : (a b : Answer) (f : Value → Value → Answer) (v : Value) → with_value a (λ x. with_value b (λ y. f x y)) ≡ Ok v → (x : Value) × (y : Value) × (a ≡ Ok x) × (b ≡ Ok y) × (f x y ≡ Ok v)
+two_values : (a b : Answer) (f : Value → Value → Answer) (v : Value) → with_value a (λ x. with_value b (λ y. f x y)) ≡ Ok v
+    → (x : Value) × (y : Value) × (a ≡ Ok x) × (b ≡ Ok y) × (f x y ≡ Ok v)
 two_values a b f v h =
     let g = with_value_ok a (λ x. with_value b (λ y. f x y)) v h in
     let d = with_value_ok b (λ y. f g.0 y) v g.2 in

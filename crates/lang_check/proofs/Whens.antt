@@ -27,7 +27,8 @@ stops Memory r f h = tt
 goes_on : {A B : Type 0} (r : Result A CheckFault) (v : A) (f : A → Result B CheckFault) → r ≡ Ok v → (r >>= f) ≡ f v
 goes_on r v f h = rw h refl
 
-module _ (at : Place) (p : Packages) (scope : Scope) (s : Stmt) (e : Expr) (first second : StmtList) (w i t o : Place) (is : s ≡ WhenStmt e first second) (when : w ≡ at_member at (codes "when")) where
+module _ (at : Place) (p : Packages) (scope : Scope) (s : Stmt) (e : Expr) (first second : StmtList)
+    (w i t o : Place) (is : s ≡ WhenStmt e first second) (when : w ≡ at_member at (codes "when")) where
   abbrev found : Result Scope CheckFault
   found =
       expr_at (at_member w (codes "if")) scope BoolKind (expr_form e) >>= λ _.
@@ -43,7 +44,8 @@ module _ (at : Place) (p : Packages) (scope : Scope) (s : Stmt) (e : Expr) (firs
       stmts_from (at_member w (codes "else")) 0 p (stmt_list_form second) scope >>= λ _. Ok scope) (sym when))
 
   module _ (test : i ≡ at_member w (codes "if")) (then : t ≡ at_member w (codes "then")) (true : expr_at i scope BoolKind (expr_form e) ≡ Ok tt) where
-    tested : found ≡ (stmts_from t 0 p (stmt_list_form first) scope >>= λ _. stmts_from (at_member w (codes "else")) 0 p (stmt_list_form second) scope >>= λ _. Ok scope)
+    tested : found ≡ (stmts_from t 0 p (stmt_list_form first) scope >>= λ _. stmts_from (at_member w (codes "else")) 0 p (stmt_list_form second) scope >>=
+        λ _. Ok scope)
     tested = rw (← test, ← then, true) refl
 
     pub when_stops_first : (stop : Stop) → StopsAt stop (stmts_from t 0 p (stmt_list_form first) scope) → StopsAt stop (stmt_at at p (stmt_form s) scope)

@@ -22,7 +22,8 @@ use Rattle.lang_check.proofs.Stmts.{stmts_sound, stmts_complete}
 
 -- ---- choices
 
-name_ok : (at : Place) (n : List ℕ) (taken more : NameLists) → choice_name_at at n taken ≡ Ok more → (same_name archive_name n ≡ false) × IsNew n taken × (more ≡ taken ++ n ∷ [])
+name_ok : (at : Place) (n : List ℕ) (taken more : NameLists) → choice_name_at at n taken ≡ Ok more
+    → (same_name archive_name n ≡ false) × IsNew n taken × (more ≡ taken ++ n ∷ [])
 unfolding choice_name_at
 name_ok at n taken more h =
     let a = bind_ok (named_at at n taken) (λ more. tried (not (same_name archive_name n)) Reserved at >>= λ _. Ok more) more h in
@@ -33,39 +34,58 @@ name_ok at n taken more h =
 name_is : (at : Place) (n : List ℕ) (taken : NameLists) → same_name archive_name n ≡ false → IsNew n taken → choice_name_at at n taken ≡ Ok (taken ++ n ∷ [])
 unfolding choice_name_at
 name_is at n taken free new =
-    bind_is (named_at at n taken) (λ more. tried (not (same_name archive_name n)) Reserved at >>= λ _. Ok more) (taken ++ n ∷ []) (taken ++ n ∷ []) (named_is at n taken new)
+    bind_is (named_at at n taken) (λ more. tried (not (same_name archive_name n)) Reserved at >>= λ _. Ok more) (taken ++ n ∷ []) (taken ++ n ∷ [])
+    (named_is at n taken new)
     (bind_is (tried (not (same_name archive_name n)) Reserved at) (λ _. Ok (taken ++ n ∷ [])) tt (taken ++ n ∷ [])
     (tried_is (not (same_name archive_name n)) Reserved at (not_false (same_name archive_name n) free)) refl)
 
-parties_ok : (at : Place) (t : TemplateForm) (c : ChoiceForm) (u : ⊤) → choice_parties_at at t c ≡ Ok u → HasKind c.controllers (choice_scope t c) PartiesKind × HasKind c.observers (choice_scope t c) PartiesKind
+parties_ok : (at : Place) (t : TemplateForm) (c : ChoiceForm) (u : ⊤) → choice_parties_at at t c ≡ Ok u
+    → HasKind c.controllers (choice_scope t c) PartiesKind × HasKind c.observers (choice_scope t c) PartiesKind
 unfolding choice_parties_at
 parties_ok at t c u h =
-    let a = bind_ok (expr_at (at_member at (codes "controllers")) (choice_scope t c) PartiesKind c.controllers) (λ _. expr_at (at_member at (codes "observers")) (choice_scope t c) PartiesKind c.observers) u h in
-    (expr_sound c.controllers (at_member at (codes "controllers")) (choice_scope t c) PartiesKind a.0 a.1, expr_sound c.observers (at_member at (codes "observers")) (choice_scope t c) PartiesKind u a.2)
+    let a = bind_ok (expr_at (at_member at (codes "controllers")) (choice_scope t c) PartiesKind c.controllers)
+    (λ _. expr_at (at_member at (codes "observers")) (choice_scope t c) PartiesKind c.observers) u h in (
+      expr_sound c.controllers (at_member at (codes "controllers")) (choice_scope t c) PartiesKind a.0 a.1,
+      expr_sound c.observers
+          (at_member at (codes "observers")) (choice_scope t c) PartiesKind u a.2,
+    )
 
-parties_are : (at : Place) (t : TemplateForm) (c : ChoiceForm) → HasKind c.controllers (choice_scope t c) PartiesKind → HasKind c.observers (choice_scope t c) PartiesKind → choice_parties_at at t c ≡ Ok tt
+parties_are : (at : Place) (t : TemplateForm) (c : ChoiceForm) → HasKind c.controllers (choice_scope t c) PartiesKind
+    → HasKind c.observers (choice_scope t c) PartiesKind → choice_parties_at at t c ≡ Ok tt
 unfolding choice_parties_at
 parties_are at t c p q =
-    bind_is (expr_at (at_member at (codes "controllers")) (choice_scope t c) PartiesKind c.controllers) (λ _. expr_at (at_member at (codes "observers")) (choice_scope t c) PartiesKind c.observers) tt tt
-    (expr_complete c.controllers (at_member at (codes "controllers")) (choice_scope t c) PartiesKind p) (expr_complete c.observers (at_member at (codes "observers")) (choice_scope t c) PartiesKind q)
+    bind_is (expr_at (at_member at (codes "controllers")) (choice_scope t c) PartiesKind c.controllers)
+    (λ _. expr_at (at_member at (codes "observers")) (choice_scope t c) PartiesKind c.observers) tt tt
+    (expr_complete c.controllers (at_member at (codes "controllers")) (choice_scope t c) PartiesKind p)
+    (expr_complete c.observers (at_member at (codes "observers")) (choice_scope t c) PartiesKind q)
 
-body_ok : (at : Place) (p : Packages) (t : TemplateForm) (c : ChoiceForm) (u : ⊤) → choice_body_at at p t c ≡ Ok u → (end : Scope) × AreTyped c.body p (body_scope t c) end × HasKind c.result end c.returns
+body_ok : (at : Place) (p : Packages) (t : TemplateForm) (c : ChoiceForm) (u : ⊤) → choice_body_at at p t c ≡ Ok u
+    → (end : Scope) × AreTyped c.body p (body_scope t c) end × HasKind c.result end c.returns
 unfolding choice_body_at
 body_ok at p t c u h =
-    let a = bind_ok (stmts_from (at_member at (codes "body")) 0 p c.body (body_scope t c)) (λ end. expr_at (at_member at (codes "result")) end c.returns c.result) u h in
-    (a.0, stmts_sound c.body (at_member at (codes "body")) 0 p (body_scope t c) a.0 a.1, expr_sound c.result (at_member at (codes "result")) a.0 c.returns u a.2)
+    let a = bind_ok (stmts_from (at_member at (codes "body")) 0 p c.body (body_scope t c))
+    (λ end. expr_at (at_member at (codes "result")) end c.returns c.result) u h in (
+      a.0,
+      stmts_sound c.body (at_member at (codes "body")) 0 p (body_scope t c) a.0 a.1,
+      expr_sound c.result (at_member at (codes "result")) a.0 c.returns u
+          a.2,
+    )
 
-body_is : (at : Place) (p : Packages) (t : TemplateForm) (c : ChoiceForm) (end : Scope) → AreTyped c.body p (body_scope t c) end → HasKind c.result end c.returns → choice_body_at at p t c ≡ Ok tt
+body_is : (at : Place) (p : Packages) (t : TemplateForm) (c : ChoiceForm) (end : Scope) → AreTyped c.body p (body_scope t c) end
+    → HasKind c.result end c.returns → choice_body_at at p t c ≡ Ok tt
 unfolding choice_body_at
 body_is at p t c end h k =
-    bind_is (stmts_from (at_member at (codes "body")) 0 p c.body (body_scope t c)) (λ end. expr_at (at_member at (codes "result")) end c.returns c.result) end tt
+    bind_is (stmts_from (at_member at (codes "body")) 0 p c.body (body_scope t c)) (λ end. expr_at (at_member at (codes "result")) end c.returns c.result)
+    end tt
     (stmts_complete c.body (at_member at (codes "body")) 0 p (body_scope t c) end h) (expr_complete c.result (at_member at (codes "result")) end c.returns k)
 
-choice_sound : (at : Place) (p : Packages) (t : TemplateForm) (c : ChoiceForm) (taken more : NameLists) → choice_from at p t c taken ≡ Ok more → IsChoice p t c × IsNew c.name taken × (more ≡ taken ++ c.name ∷ [])
+choice_sound : (at : Place) (p : Packages) (t : TemplateForm) (c : ChoiceForm) (taken more : NameLists) → choice_from at p t c taken ≡ Ok more
+    → IsChoice p t c × IsNew c.name taken × (more ≡ taken ++ c.name ∷ [])
 unfolding choice_from
 choice_sound at p t c taken more h =
     let params = names_from (at_member at (codes "params")) 0 [] (decl_names c.params) in
-    let a = bind_ok (choice_name_at (at_member at (codes "name")) c.name taken) (λ more. params >>= λ _. choice_parties_at at t c >>= λ _. choice_body_at at p t c >>= λ _. Ok more) more h in
+    let a = bind_ok (choice_name_at (at_member at (codes "name")) c.name taken)
+    (λ more. params >>= λ _. choice_parties_at at t c >>= λ _. choice_body_at at p t c >>= λ _. Ok more) more h in
     let b = bind_ok params (λ _. choice_parties_at at t c >>= λ _. choice_body_at at p t c >>= λ _. Ok a.0) more a.2 in
     let d = bind_ok (choice_parties_at at t c) (λ _. choice_body_at at p t c >>= λ _. Ok a.0) more b.2 in
     let f = bind_ok (choice_body_at at p t c) (λ _. Ok a.0) more d.2 in
@@ -82,21 +102,25 @@ choice_sound at p t c taken more h =
       sym (ok_same a.0 more f.2) ∙ n.2,
     )
 
-choice_complete : (at : Place) (p : Packages) (t : TemplateForm) (c : ChoiceForm) (taken : NameLists) → IsChoice p t c → IsNew c.name taken → choice_from at p t c taken ≡ Ok (taken ++ c.name ∷ [])
+choice_complete : (at : Place) (p : Packages) (t : TemplateForm) (c : ChoiceForm) (taken : NameLists) → IsChoice p t c → IsNew c.name taken
+    → choice_from at p t c taken ≡ Ok (taken ++ c.name ∷ [])
 unfolding choice_from
 choice_complete at p t c taken h new =
     let params = names_from (at_member at (codes "params")) 0 [] (decl_names c.params) in
     let more = taken ++ c.name ∷ [] in
-    bind_is (choice_name_at (at_member at (codes "name")) c.name taken) (λ more. params >>= λ _. choice_parties_at at t c >>= λ _. choice_body_at at p t c >>= λ _. Ok more) more more
+    bind_is (choice_name_at (at_member at (codes "name")) c.name taken)
+    (λ more. params >>= λ _. choice_parties_at at t c >>= λ _. choice_body_at at p t c >>= λ _. Ok more) more more
     (name_is (at_member at (codes "name")) c.name taken h.free new)
-    (bind_is params (λ _. choice_parties_at at t c >>= λ _. choice_body_at at p t c >>= λ _. Ok more) tt more (distinct_names (decl_names c.params) (at_member at (codes "params")) h.params)
+    (bind_is params (λ _. choice_parties_at at t c >>= λ _. choice_body_at at p t c >>= λ _. Ok more) tt more
+    (distinct_names (decl_names c.params) (at_member at (codes "params")) h.params)
     (bind_is (choice_parties_at at t c) (λ _. choice_body_at at p t c >>= λ _. Ok more) tt more (parties_are at t c h.controllers h.observers)
     (bind_is (choice_body_at at p t c) (λ _. Ok more) tt more (body_is at p t c h.body.0 h.body.1 h.body.2) refl)))
 
 choice_names : List ChoiceForm → NameLists
 choice_names cs = map (λ (c : ChoiceForm). c.name) cs
 
-choices_sound : (cs : List ChoiceForm) (at : Place) (i : ℕ) (p : Packages) (t : TemplateForm) (taken : NameLists) (u : ⊤) → choices_from at i p t taken cs ≡ Ok u → After taken (choice_names cs) × AreChoices p t cs
+choices_sound : (cs : List ChoiceForm) (at : Place) (i : ℕ) (p : Packages) (t : TemplateForm) (taken : NameLists) (u : ⊤)
+    → choices_from at i p t taken cs ≡ Ok u → After taken (choice_names cs) × AreChoices p t cs
 unfolding After choice_names
 choices_sound [] at i p t taken u h = (tt, tt)
 choices_sound (c ∷ cs) at i p t taken u h =
@@ -105,7 +129,8 @@ choices_sound (c ∷ cs) at i p t taken u h =
     let g = choices_sound cs at (i + 1) p t (taken ++ c.name ∷ []) u (rw f.2 at a.2) in
     ((f.1, g.0), (f.0, g.1))
 
-choices_complete : (cs : List ChoiceForm) (at : Place) (i : ℕ) (p : Packages) (t : TemplateForm) (taken : NameLists) → After taken (choice_names cs) → AreChoices p t cs → choices_from at i p t taken cs ≡ Ok tt
+choices_complete : (cs : List ChoiceForm) (at : Place) (i : ℕ) (p : Packages) (t : TemplateForm) (taken : NameLists) → After taken (choice_names cs)
+    → AreChoices p t cs → choices_from at i p t taken cs ≡ Ok tt
 unfolding After choice_names
 choices_complete [] at i p t taken new h = refl
 choices_complete (c ∷ cs) at i p t taken new h =
@@ -122,19 +147,28 @@ choices_distinct cs d = after_of (map (λ (c : ChoiceForm). c.name) cs) d
 
 -- ---- templates
 
-stakeholders_ok : (at : Place) (t : TemplateForm) (u : ⊤) → template_parties_at at t ≡ Ok u → HasKind t.signatories (this_scope t) PartiesKind × HasKind t.observers (this_scope t) PartiesKind
+stakeholders_ok : (at : Place) (t : TemplateForm) (u : ⊤) → template_parties_at at t ≡ Ok u
+    → HasKind t.signatories (this_scope t) PartiesKind × HasKind t.observers (this_scope t) PartiesKind
 unfolding template_parties_at
 stakeholders_ok at t u h =
-    let a = bind_ok (expr_at (at_member at (codes "signatories")) (this_scope t) PartiesKind t.signatories) (λ _. expr_at (at_member at (codes "observers")) (this_scope t) PartiesKind t.observers) u h in
-    (expr_sound t.signatories (at_member at (codes "signatories")) (this_scope t) PartiesKind a.0 a.1, expr_sound t.observers (at_member at (codes "observers")) (this_scope t) PartiesKind u a.2)
+    let a = bind_ok (expr_at (at_member at (codes "signatories")) (this_scope t) PartiesKind t.signatories)
+    (λ _. expr_at (at_member at (codes "observers")) (this_scope t) PartiesKind t.observers) u h in (
+      expr_sound t.signatories (at_member at (codes "signatories")) (this_scope t) PartiesKind a.0 a.1,
+      expr_sound t.observers
+          (at_member at (codes "observers")) (this_scope t) PartiesKind u a.2,
+    )
 
-stakeholders_are : (at : Place) (t : TemplateForm) → HasKind t.signatories (this_scope t) PartiesKind → HasKind t.observers (this_scope t) PartiesKind → template_parties_at at t ≡ Ok tt
+stakeholders_are : (at : Place) (t : TemplateForm) → HasKind t.signatories (this_scope t) PartiesKind → HasKind t.observers (this_scope t) PartiesKind
+    → template_parties_at at t ≡ Ok tt
 unfolding template_parties_at
 stakeholders_are at t p q =
-    bind_is (expr_at (at_member at (codes "signatories")) (this_scope t) PartiesKind t.signatories) (λ _. expr_at (at_member at (codes "observers")) (this_scope t) PartiesKind t.observers) tt tt
-    (expr_complete t.signatories (at_member at (codes "signatories")) (this_scope t) PartiesKind p) (expr_complete t.observers (at_member at (codes "observers")) (this_scope t) PartiesKind q)
+    bind_is (expr_at (at_member at (codes "signatories")) (this_scope t) PartiesKind t.signatories)
+    (λ _. expr_at (at_member at (codes "observers")) (this_scope t) PartiesKind t.observers) tt tt
+    (expr_complete t.signatories (at_member at (codes "signatories")) (this_scope t) PartiesKind p)
+    (expr_complete t.observers (at_member at (codes "observers")) (this_scope t) PartiesKind q)
 
-exprs_ok : (at : Place) (t : TemplateForm) (u : ⊤) → template_exprs_at at t ≡ Ok u → HasKind t.ensure (this_scope t) BoolKind × HasKind t.signatories (this_scope t) PartiesKind × HasKind t.observers (this_scope t) PartiesKind
+exprs_ok : (at : Place) (t : TemplateForm) (u : ⊤) → template_exprs_at at t ≡ Ok u
+    → HasKind t.ensure (this_scope t) BoolKind × HasKind t.signatories (this_scope t) PartiesKind × HasKind t.observers (this_scope t) PartiesKind
 unfolding template_exprs_at
 exprs_ok at t u h =
     let a = bind_ok (expr_at (at_member at (codes "ensure")) (this_scope t) BoolKind t.ensure) (λ _. template_parties_at at t) u h in
@@ -168,7 +202,8 @@ template_complete : (at : Place) (p : Packages) (t : TemplateForm) → IsTemplat
 unfolding template_from
 template_complete at p t h =
     let choices = choices_from (at_member at (codes "choices")) 0 p t [] t.choices in
-    bind_is (names_from (at_member at (codes "fields")) 0 [] (decl_names t.fields)) (λ _. template_exprs_at at t >>= λ _. choices) tt tt (distinct_names (decl_names t.fields) (at_member at (codes "fields")) h.fields)
+    bind_is (names_from (at_member at (codes "fields")) 0 [] (decl_names t.fields)) (λ _. template_exprs_at at t >>= λ _. choices) tt tt
+    (distinct_names (decl_names t.fields) (at_member at (codes "fields")) h.fields)
     (bind_is (template_exprs_at at t) (λ _. choices) tt tt (exprs_are at p t h)
     (choices_complete t.choices (at_member at (codes "choices")) 0 p t [] (choices_distinct t.choices h.names) h.choices))
 
@@ -181,7 +216,8 @@ templates_sound (t ∷ ts) at i p u h =
 templates_complete : (ts : List TemplateForm) (at : Place) (i : ℕ) (p : Packages) → AreTemplates p ts → templates_from at i p ts ≡ Ok tt
 templates_complete [] at i p h = refl
 templates_complete (t ∷ ts) at i p h =
-    bind_is (template_from (at_item at i) p t) (λ _. templates_from at (i + 1) p ts) tt tt (template_complete (at_item at i) p t h.0) (templates_complete ts at (i + 1) p h.1)
+    bind_is (template_from (at_item at i) p t) (λ _. templates_from at (i + 1) p ts) tt tt (template_complete (at_item at i) p t h.0)
+    (templates_complete ts at (i + 1) p h.1)
 
 -- ---- packages
 
@@ -191,7 +227,8 @@ package_sound at before p u h =
     let here = at_member at (codes "templates") in
     let again = is_among p.name (package_names before) in
     let templates = templates_from here 0 (before ++ p ∷ []) p.templates in
-    let a = bind_ok (tried (not again) DuplicateName (at_member at (codes "name"))) (λ _. names_from here 0 [] (template_names p.templates) >>= λ _. templates) u h in
+    let a = bind_ok (tried (not again) DuplicateName (at_member at (codes "name")))
+    (λ _. names_from here 0 [] (template_names p.templates) >>= λ _. templates) u h in
     let b = bind_ok (names_from here 0 [] (template_names p.templates)) (λ _. templates) u a.2 in
     record {
       name = not_true again (tried_ok (not again) DuplicateName (at_member at (codes "name")) a.0 a.1);
@@ -205,7 +242,8 @@ package_complete at before p h =
     let here = at_member at (codes "templates") in
     let again = is_among p.name (package_names before) in
     let templates = templates_from here 0 (before ++ p ∷ []) p.templates in
-    bind_is (tried (not again) DuplicateName (at_member at (codes "name"))) (λ _. names_from here 0 [] (template_names p.templates) >>= λ _. templates) tt tt (tried_is (not again) DuplicateName (at_member at (codes "name")) (not_false again h.name))
+    bind_is (tried (not again) DuplicateName (at_member at (codes "name"))) (λ _. names_from here 0 [] (template_names p.templates) >>= λ _. templates) tt tt
+    (tried_is (not again) DuplicateName (at_member at (codes "name")) (not_false again h.name))
     (bind_is (names_from here 0 [] (template_names p.templates)) (λ _. templates) tt tt (distinct_names (template_names p.templates) here h.names)
     (templates_complete p.templates here 0 (before ++ p ∷ []) h.templates))
 
@@ -218,7 +256,8 @@ packages_sound (p ∷ ps) i before u h =
 packages_complete : (ps : Packages) (i : ℕ) (before : Packages) → ArePackages before ps → packages_from i before ps ≡ Ok tt
 packages_complete [] i before h = refl
 packages_complete (p ∷ ps) i before h =
-    bind_is (package_from (at_item [] i) before p) (λ _. packages_from (i + 1) (before ++ p ∷ []) ps) tt tt (package_complete (at_item [] i) before p h.0) (packages_complete ps (i + 1) (before ++ p ∷ []) h.1)
+    bind_is (package_from (at_item [] i) before p) (λ _. packages_from (i + 1) (before ++ p ∷ []) ps) tt tt (package_complete (at_item [] i) before p h.0)
+    (packages_complete ps (i + 1) (before ++ p ∷ []) h.1)
 
 pub walk_sound : (ps : Packages) → walk ps ≡ Ok tt → ArePackages (note_form ∷ []) ps
 unfolding walk
@@ -235,7 +274,8 @@ checked_sound ps cs h =
 
 pub fault_sound : (ps : Packages) (f : CheckFault) → checked_or_fault ps ≡ Err f → ArePackages (note_form ∷ []) ps → ⊥
 fault_sound ps f h typed =
-    let found : checked_or_fault ps ≡ Ok (checked_packages ps) = bind_is (walk ps) (λ _. Ok (checked_packages ps)) tt (checked_packages ps) (walk_complete ps typed) refl in
+    let found : checked_or_fault ps ≡ Ok (checked_packages ps) = bind_is (walk ps) (λ _. Ok (checked_packages ps)) tt (checked_packages ps)
+    (walk_complete ps typed) refl in
     cc
 
 -- the fault of the whole is that of the walk

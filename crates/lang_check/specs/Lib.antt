@@ -6,3 +6,4 @@ pub mod Declarations
 pub mod Packages
 pub mod KindedNames
 pub mod Asked
+pub mod Defaults

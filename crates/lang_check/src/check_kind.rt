@@ -2,6 +2,8 @@
 ghost use Rattle.std.specs.Prelude.{◌≡◌};
 ghost use Rattle.lang_check.specs.KindNames.{kind_name};
 
+use std::fmt;
+
 /// The kind of a fault, or want of memory, which has no place in the packages.
 #[derive(Clone, Copy, PartialEq, Eq)]
 pub enum CheckKind {
@@ -16,8 +18,8 @@ pub enum CheckKind {
 }
 
 impl CheckKind {
-    /// The kind's word.
-    pub fn name(&self) -> &'static str
+    /// The kind's word, as a refusal spells it.
+    pub fn as_str(&self) -> &'static str
         ensures { result.now ≡ kind_name self.now }
     {
         match self {
@@ -30,5 +32,16 @@ impl CheckKind {
             CheckKind::Reserved => "Reserved",
             CheckKind::Memory => "Memory",
         }
+    }
+}
+
+impl fmt::Display for CheckKind {
+    ghost use Rattle.std.specs.Prelude.{Some};
+    ghost use Rattle.lang_check.specs.KindNames.{kind_name};
+
+    ghost output = { λ k. Some (kind_name k) };
+
+    fn fmt<W: fmt::Write>(&self, f: &mut fmt::Formatter<W>) -> fmt::Result {
+        f.write_str(self.as_str())
     }
 }

@@ -1,15 +1,15 @@
 //! The check of packages: kinds and names, with the first fault.
 #![tactic(auto)]
 
-pub mod check_fault;
-pub mod check_kind;
+mod check_fault;
+mod check_kind;
 mod declarations;
 mod exercise;
 mod expressions;
 mod faults;
 pub mod laws;
 mod nameable;
-pub mod packages;
+mod packages;
 mod scope;
 mod signature;
 mod statements;

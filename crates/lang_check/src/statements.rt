@@ -1,7 +1,8 @@
 //! Statements: template, choice, expressions, counts and kinds, and what is bound.
-ghost use Rattle.std.specs.Prelude.{◌≡◌, find, option_copied, option_map};
+ghost use Rattle.std.specs.Prelude.{◌≡◌, find, option_copied, option_map, codes};
 ghost use Rattle.ledger_terms.specs.ExprForms.{expr_form, list_form};
 ghost use Rattle.ledger_terms.specs.StmtForms.{stmt_form, stmt_list_form};
+ghost use Rattle.ledger_terms.specs.Pointers.{at_member};
 ghost use Rattle.lang_eval.specs.Typed.{choice_named, choice_among};
 ghost use Rattle.lang_check.specs.Faults.{Walks};
 ghost use Rattle.lang_check.specs.Statements.{bound_at, template_at, signature_of, choice_at, counted_at, fit_from, let_at, assert_at, create_at, exercise_at, fetch_at, stmt_at, stmts_from};
@@ -121,8 +122,9 @@ fn check_create(
     scope: &mut Scope,
     at: &Pointer,
 ) -> Result<(), Stop>
-    ensures { Walks (λ _. scope.new) result (create_at at.now packages.now bound template (list_form fields.now) scope.old) }
+    ensures { Walks (λ _. scope.new) result (create_at (at_member at.now (codes "create")) packages.now bound template (list_form fields.now) scope.old) }
 {
+    let at = at.member("create")?;
     let template = template_of(template, packages, &at.member("template")?)?;
     let at_fields = at.member("fields")?;
     let kinds = kinds_of(fields, scope, &at_fields)?;
@@ -138,7 +140,8 @@ fn check_exercise(
     scope: &mut Scope,
     at: &Pointer,
 ) -> Result<(), Stop>
-    ensures { Walks (λ _. scope.new) result (exercise_at at.now packages.now exercise.now.bound exercise.now.template (expr_form exercise.now.contract.now) exercise.now.choice (list_form exercise.now.args.now) scope.old) }
+    ensures { Walks (λ _. scope.new) result (exercise_at at.now packages.now exercise.now.bound exercise.now.template
+        (expr_form exercise.now.contract.now) exercise.now.choice (list_form exercise.now.args.now) scope.old) }
 {
     let template = template_of(exercise.template, packages, &at.member("template")?)?;
     let signature = choice_of(template, exercise.choice, &at.member("choice")?)?;
@@ -166,8 +169,9 @@ fn check_fetch(
     scope: &mut Scope,
     at: &Pointer,
 ) -> Result<(), Stop>
-    ensures { Walks (λ _. scope.new) result (fetch_at at.now packages.now bound template (expr_form contract.now) scope.old) }
+    ensures { Walks (λ _. scope.new) result (fetch_at (at_member at.now (codes "fetch")) packages.now bound template (expr_form contract.now) scope.old) }
 {
+    let at = at.member("fetch")?;
     let template = template_of(template, packages, &at.member("template")?)?;
     check_expr(contract, Kind::Contract, scope, &at.member("contract")?)?;
     let mut fields = Scope::new(*scope.allocator());
@@ -214,14 +218,7 @@ fn check_stmt(
             bind,
             template,
             fields,
-        } => check_create(
-            *bind,
-            *template,
-            fields,
-            packages,
-            scope,
-            &at.member("create")?,
-        ),
+        } => check_create(*bind, *template, fields, packages, scope, at),
         Stmt::Exercise {
             bind,
             template,
@@ -242,14 +239,7 @@ fn check_stmt(
             bind,
             template,
             contract,
-        } => check_fetch(
-            *bind,
-            *template,
-            contract,
-            packages,
-            scope,
-            &at.member("fetch")?,
-        ),
+        } => check_fetch(*bind, *template, contract, packages, scope, at),
         Stmt::When { test, yes, no } => {
             let at = at.member("when")?;
             check_expr(test, Kind::Bool, scope, &at.member("if")?)?;

@@ -7,7 +7,7 @@ use Rattle.std.proofs.lemmas.Bool.{cases_Bool, cases_lt, eq-eqb, ne_eqb}
 use Rattle.std.proofs.lemmas.Option.{same_Some, none-some}
 use Rattle.sha2.specs.Sha256.{sha256}
 use Rattle.ledger_terms.specs.Forest.{Forest}
-use Rattle.ledger_terms.specs.Deciding.{bytes_decide}
+use Rattle.ledger_terms.proofs.Deciding.{bytes_decide}
 use Rattle.ledger_terms.specs.Hosting.{hosts_at}
 use Rattle.ledger_terms.specs.Topologies.{AreApart, IsValid}
 use Rattle.ledger_terms.specs.declared.action.Action.{Action}

@@ -3,7 +3,7 @@ use Rattle.sha2.specs.Sha256.{sha256}
 use Rattle.ledger_terms.specs.Forest.{join}
 use Rattle.view_split.specs.ViewLists.{view_tree, views_of, view_count}
 use Rattle.blind_tree.specs.LeafBytes.{AreSpellableViews}
-use Rattle.blind_tree.specs.Kept.{kept}
+use Rattle.blind_tree.specs.Kept.{kept_views}
 use Rattle.blind_tree.proofs.keep.+keep.Given as goal
 
 abbrev pub decreases-keep_view : goal.decreases-keep_view
@@ -16,4 +16,4 @@ decreases-keep_into l = 2 * view_count l.views.now + 1
 abbrev pub invariant-keep_into-loop-view : goal.invariant-keep_into-loop-view
 invariant-keep_into-loop-view l =
     AreSpellableViews (views_of (drop l.view-index l.view-items))
-    × (join l.out (kept sha256 (views_of (drop l.view-index l.view-items))) ≡ join l.fn.out (kept sha256 l.views))
+    × (join l.out (kept_views sha256 (views_of (drop l.view-index l.view-items))) ≡ join l.fn.out (kept_views sha256 l.views))

@@ -1,0 +1,117 @@
+-- What the definitions of evaluation give for a wrong kind, a name that isn't bound or a template that isn't there, and the
+-- evaluations that take none of it.
+use Rattle.std.specs.Prelude.{◌≡◌, ◌⊎◌, true, false, List, [], Some, Ok}
+use Rattle.ledger_terms.specs.declared.kind.Kind.{Kind}
+use Rattle.ledger_terms.specs.declared.kind.Kind.TheVariants.{Int as IntKind, Bool as BoolKind, Text as TextKind, Party as PartyKind, Contract as ContractKind, Parties as PartiesKind}
+use Rattle.ledger_terms.specs.declared.value.Value.{Value}
+use Rattle.ledger_terms.specs.declared.value.Value.TheVariants.{Bool as BoolValue, Parties}
+use Rattle.ledger_terms.specs.declared.instance.Instance.{Instance}
+use Rattle.ledger_terms.specs.Syntax.{ExprForm, ExprForms, Literal, Var, Add, Sub, Mul, Less, LessEq, Equal, Both, Either, Negate, Cond, Cat, SetOf, Union, Has, NoExprs, MoreExprs, StmtForm, StmtForms, Bind, Assert, Create, Exercise, Fetch, When, NoStmts, MoreStmts}
+use Rattle.ledger_terms.specs.Packages.{TemplateForm, ChoiceForm}
+use Rattle.ledger_model.specs.declared.step.ChoiceCall.{ChoiceCall}
+use Rattle.ledger_model.specs.declared.step.Seen.{Seen}
+use Rattle.lang_eval.specs.declared.binding.Binding.{Binding}
+use Rattle.lang_eval.specs.declared.eval_fault.EvalFault.{EvalFault}
+use Rattle.lang_eval.specs.declared.eval_fault.EvalFault.TheVariants.{Overflow, Assert as AssertFault, Ensure, NoSignatory, TooLarge}
+use Rattle.lang_eval.specs.Found.{Packages, template_in, choice_in}
+use Rattle.lang_eval.specs.Kinds.{kind_of}
+use Rattle.lang_eval.specs.Names.{Names, binding_of}
+use Rattle.lang_eval.specs.Next.{Went, ran, ran_all, names_of}
+use Rattle.lang_eval.specs.Value.{val}
+use Rattle.lang_eval.specs.Parts.{this_names}
+use Rattle.lang_check.specs.Asked.{Gives}
+
+-- the faults of expressions: a number or a text beyond its limit
+abbrev pub IsOverLimit : EvalFault → Type 0
+IsOverLimit Overflow = Unit {0}
+IsOverLimit TooLarge = Unit {0}
+IsOverLimit f = ⊥
+
+-- the faults of bodies: those, and an assertion
+abbrev pub IsOfBodies : EvalFault → Type 0
+IsOfBodies AssertFault = Unit {0}
+IsOfBodies f = IsOverLimit f
+
+-- The faults of contracts: a limit, an `ensure` that is evaluated to false, and signatories that are evaluated to none.
+abbrev pub IsOfContracts : TemplateForm → Instance → EvalFault → Type 0
+IsOfContracts t i Ensure = val t.ensure (this_names t i) ≡ Ok (BoolValue false)
+IsOfContracts t i NoSignatory = val t.signatories (this_names t i) ≡ Ok (Parties [])
+IsOfContracts t i f = IsOverLimit f
+
+-- two expressions give values of one kind
+abbrev pub GiveAlike : ExprForm → ExprForm → Names → Type 0
+GiveAlike a b names = (x y : Value) → val a names ≡ Ok x → val b names ≡ Ok y → kind_of x ≡ kind_of y
+
+-- each of the expressions gives a value of this kind
+abbrev pub AllGive : ExprForms → Names → Kind → Type 0
+AllGive NoExprs names k = Unit {0}
+AllGive (MoreExprs e es) names k = Gives e names k × AllGive es names k
+
+abbrev mutual
+  -- each name in the expression is bound, and each operand gives a value of a kind that its operator takes
+  pub TakesNoDefault : ExprForm → Names → Type 0
+  TakesNoDefault (Literal v) names = Unit {0}
+  TakesNoDefault (Var x) names = (b : Binding) × (binding_of x names ≡ Some b)
+  TakesNoDefault (Add a b) names = (TakesNoDefault a names × Gives a names IntKind) × (TakesNoDefault b names × Gives b names IntKind)
+  TakesNoDefault (Sub a b) names = (TakesNoDefault a names × Gives a names IntKind) × (TakesNoDefault b names × Gives b names IntKind)
+  TakesNoDefault (Mul a b) names = (TakesNoDefault a names × Gives a names IntKind) × (TakesNoDefault b names × Gives b names IntKind)
+  TakesNoDefault (Less a b) names = (TakesNoDefault a names × Gives a names IntKind) × (TakesNoDefault b names × Gives b names IntKind)
+  TakesNoDefault (LessEq a b) names = (TakesNoDefault a names × Gives a names IntKind) × (TakesNoDefault b names × Gives b names IntKind)
+  TakesNoDefault (Equal a b) names = (TakesNoDefault a names × TakesNoDefault b names) × GiveAlike a b names
+  TakesNoDefault (Both a b) names = (TakesNoDefault a names × Gives a names BoolKind) × (TakesNoDefault b names × Gives b names BoolKind)
+  TakesNoDefault (Either a b) names = (TakesNoDefault a names × Gives a names BoolKind) × (TakesNoDefault b names × Gives b names BoolKind)
+  TakesNoDefault (Negate a) names = TakesNoDefault a names × Gives a names BoolKind
+  TakesNoDefault (Cond c a b) names = (TakesNoDefault c names × Gives c names BoolKind) × (TakesNoDefault a names × TakesNoDefault b names)
+  TakesNoDefault (Cat a b) names = (TakesNoDefault a names × Gives a names TextKind) × (TakesNoDefault b names × Gives b names TextKind)
+  TakesNoDefault (SetOf es) names = TakeNoDefault es names × AllGive es names PartyKind
+  TakesNoDefault (Union a b) names = (TakesNoDefault a names × Gives a names PartiesKind) × (TakesNoDefault b names × Gives b names PartiesKind)
+  TakesNoDefault (Has a b) names = (TakesNoDefault a names × Gives a names PartiesKind) × (TakesNoDefault b names × Gives b names PartyKind)
+
+  pub TakeNoDefault : ExprForms → Names → Type 0
+  TakeNoDefault NoExprs names = Unit {0}
+  TakeNoDefault (MoreExprs e es) names = TakesNoDefault e names × TakeNoDefault es names
+
+abbrev mutual
+  -- so do a statement's expressions, where its test is a truth value, its contract an id, and its template or choice there
+  pub RunsWithoutDefault : StmtForm → Packages → Names → List Seen → Type 0
+  RunsWithoutDefault (Bind x e) packages names seen = TakesNoDefault e names
+  RunsWithoutDefault (Assert e) packages names seen = TakesNoDefault e names × Gives e names BoolKind
+  RunsWithoutDefault (Create x t fields) packages names seen = ((template : TemplateForm) × (template_in t packages ≡ Some template)) × TakeNoDefault fields
+      names
+  RunsWithoutDefault (Exercise x t e choice args) packages names seen =
+      ((c : ChoiceForm) × (choice_in t choice packages ≡ Some c)) × (TakesNoDefault e names × Gives e names ContractKind) × TakeNoDefault args names
+  RunsWithoutDefault (Fetch x t e) packages names seen =
+      ((template : TemplateForm) × (template_in t packages ≡ Some template)) × (TakesNoDefault e names × Gives e names ContractKind)
+  RunsWithoutDefault (When e first second) packages names seen =
+      (TakesNoDefault e names × Gives e names BoolKind)
+      × (val e names ≡ Ok (BoolValue true) → RunWithoutDefault first packages names seen)
+      × (val e names ≡ Ok (BoolValue false) → RunWithoutDefault second packages names seen)
+
+  -- and so do those of the statements that are reached
+  pub RunWithoutDefault : StmtForms → Packages → Names → List Seen → Type 0
+  RunWithoutDefault NoStmts packages names seen = Unit {0}
+  RunWithoutDefault (MoreStmts s ss) packages names seen =
+      RunsWithoutDefault s packages names seen
+      × ((after : Names) (left : List Seen) → ran s packages names seen ≡ Went after left → RunWithoutDefault ss packages after left)
+
+-- a body and, where it is reached, its result
+abbrev pub BodyTakesNoDefault : TemplateForm → ChoiceForm → Packages → ChoiceCall → List Seen → Type 0
+BodyTakesNoDefault t c packages call seen =
+    RunWithoutDefault c.body packages (names_of t c call) seen
+    × ((after : Names) (left : List Seen) → ran_all c.body packages (names_of t c call) seen ≡ Went after left → TakesNoDefault c.result after)
+
+abbrev mutual
+  -- an assertion of the statement is reached, and is evaluated to false
+  pub IsRefuted : StmtForm → Packages → Names → List Seen → Type 0
+  IsRefuted (Assert e) packages names seen = val e names ≡ Ok (BoolValue false)
+  IsRefuted (When e first second) packages names seen =
+      ((val e names ≡ Ok (BoolValue true)) × AreRefuted first packages names seen)
+      ⊎ ((val e names ≡ Ok (BoolValue false)) × AreRefuted second packages names seen)
+  IsRefuted s packages names seen = ⊥
+
+  -- one of the statements
+  pub AreRefuted : StmtForms → Packages → Names → List Seen → Type 0
+  AreRefuted NoStmts packages names seen = ⊥
+  AreRefuted (MoreStmts s ss) packages names seen =
+      IsRefuted s packages names seen
+      ⊎ ((after : Names) × (left : List Seen) × (ran s packages names seen ≡ Went after left) × AreRefuted ss packages after left)
