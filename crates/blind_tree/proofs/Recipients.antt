@@ -4,7 +4,7 @@ use Rattle.std.specs.Prelude.{slice_get}
 use Rattle.std.specs.List.{AllPairs, range_with_len}
 use Rattle.std.proofs.lemmas.Bool.{cases_Bool, cases_lt, or_cases, eqb-true, eq-eqb, ne_eqb}
 use Rattle.std.proofs.lemmas.Option.{same_Some, none-some}
-use Rattle.ledger_terms.specs.Deciding.{bytes_decide}
+use Rattle.ledger_terms.proofs.Deciding.{bytes_decide}
 use Rattle.ledger_terms.specs.Forest.{Forest, preorder}
 use Rattle.ledger_terms.specs.Hosting.{hosts_at}
 use Rattle.ledger_terms.specs.Topologies.{AreApart}

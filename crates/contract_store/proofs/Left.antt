@@ -1,7 +1,7 @@
 -- The active rows of a store, action by action.
-use Rattle.std.proofs.Common.{◌≡◌, ℕ, zero, suc, ◌≤◌, Bool, true, false, cond, List, [], ◌∷◌, length, map, filter, Option, Some, None, is_some, refl}
+use Rattle.std.proofs.Common.{◌≡◌, ℕ, zero, suc, ◌≤◌, Bool, true, false, cond, List, [], ◌∷◌, length, filter, Option, Some, None, is_some, refl}
 use Rattle.std.proofs.Common.{sym, ap, ◌∙◌, inl, inr, arith}
-use Rattle.std.specs.Prelude.{if◌then◌else◌, ◌||◌, ◌&&◌, not, option_map, ◌⊎◌}
+use Rattle.std.specs.Prelude.{if◌then◌else◌, ◌||◌, ◌&&◌, not, option_map}
 use Rattle.std.specs.List.{list_any}
 use Rattle.std.specs.Str.{bytes_eq}
 use Rattle.std.proofs.lemmas.Bool.{cases_Bool, both_ways, not-true, or_left}
@@ -165,7 +165,8 @@ created_active p ps e above =
     active_by (changed (new_created p) ps).created_at (changed (new_created p) ps).consumed_at (changed (new_created p) ps).known
     (list_any (consumes (id_of p.act.action)) (acts_of ps)) (changed_gone ps (new_created p))
     ∙ ap (λ (s : Option ℕ). if list_any (consumes (id_of p.act.action)) (acts_of ps) then None
-    else option_map (λ place. record { created_at = place; known = (changed (new_created p) ps).known }) s) (changed_first p.place ps (new_created p) above refl)
+    else option_map (λ place. record { created_at = place; known = (changed (new_created p) ps).known }) s)
+    (changed_first p.place ps (new_created p) above refl)
     ∙ ap (λ (k : Known). if list_any (consumes (id_of p.act.action)) (acts_of ps) then None else Some (record { created_at = p.place; known = k }))
     (changed_known ps (new_created p))
     ∙ ap (λ (s : Hash). if list_any (consumes (id_of p.act.action)) (acts_of ps) then None
@@ -307,7 +308,9 @@ module _ (p : Placed) (ps : List Placed) where
       ∙ ap (λ (rows : List ActiveRow). filter (is_left all_p) (first_of_each rows)) (sym made))
 
   not_created : is_create p.act.action ≡ false → left_of (p ∷ ps) ≡ filter (is_left all_p) rows_p
-  not_created e = let same : created_rows (p ∷ ps) ≡ created_rows ps = rw e refl in ap (λ (rows : List ActiveRow). filter (is_left all_p) (first_of_each rows)) same
+  not_created e =
+      let same : created_rows (p ∷ ps) ≡ created_rows ps = rw e refl in
+      ap (λ (rows : List ActiveRow). filter (is_left all_p) (first_of_each rows)) same
 
   -- a consuming Exercise
   first_consumed : is_create p.act.action ≡ false → is_consuming p.act.action ≡ true → actives (written (others id_p ps) []) ≡ left_of (others id_p ps)

@@ -77,7 +77,8 @@ first_rises (a ∷ rows) r = (
 pub active_is_left : (ps : List Placed) → InOrder ps → active_rows (written ps []) ≡ left_of ps
 active_is_left ps r =
     let e = actives_left (length ps) ps (omega arith) r in
-    sorted (written ps []) (rw e (kept_rises (is_left (acts_of ps)) (first_of_each (created_rows ps)) (first_rises (created_rows ps) (rises is_creation ps r)))) ∙ e
+    let first = first_rises (created_rows ps) (rises is_creation ps r) in
+    sorted (written ps []) (rw e (kept_rises (is_left (acts_of ps)) (first_of_each (created_rows ps)) first)) ∙ e
 
 -- two tests one after the other
 filter_both : (f g : ActiveRow → Bool) (rows : List ActiveRow) → filter f (filter g rows) ≡ filter (λ (a : ActiveRow). f a && g a) rows

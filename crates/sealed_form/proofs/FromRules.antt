@@ -3,8 +3,9 @@ use Rattle.std.proofs.Common.{◌≡◌, ℕ, suc, ◌+◌, ◌^◌, ◌≤◌, 
 use Rattle.std.proofs.lemmas.Bool.{cases_Bool}
 use Rattle.sha2.proofs.Facts256.{length-sha256}
 use Rattle.hash_id.specs.Strings.{child_seed_string}
+use Rattle.ledger_terms.specs.Depth as depths
 use Rattle.ledger_terms.specs.Trees.{Actions}
-use Rattle.ledger_terms.specs.Forest.{NoRoots, Root, preorder}
+use Rattle.ledger_terms.specs.Forest.{NoRoots, Root, preorder, size}
 use Rattle.ledger_terms.specs.declared.action.Action.{Action}
 use Rattle.ledger_terms.specs.declared.command.Command.{Command}
 use Rattle.ledger_terms.specs.declared.known.Known.{Known}
@@ -18,9 +19,8 @@ use Rattle.lang_eval.specs.Parts.{PartyNames}
 use Rattle.wire_form.specs.InRange.{IsHash}
 use Rattle.wire_form.specs.Spelling.{spell_action}
 use Rattle.interpret.specs.Act.{Source}
-use Rattle.interpret.specs.Encoded.{action_bytes, encoded_bytes, is_spelled_action}
+use Rattle.wire_form.specs.Encoded.{action_bytes, encoded_bytes, is_spelled_action}
 use Rattle.interpret.specs.Ids.{Hash, child_seed}
-use Rattle.interpret.specs.Keeping as keeping
 use Rattle.interpret.specs.Keeping.{KeepsRules}
 use Rattle.interpret.specs.Commands.{commands_source}
 use Rattle.interpret.specs.Interpreted.{nothing_done}
@@ -36,7 +36,7 @@ abbrev pub AreSeeded : Actions → Type 0
 AreSeeded NoRoots = Unit {0}
 AreSeeded (Root act below others) = IsHash act.seed × AreSeeded below × AreSeeded others
 
-same_depth : (f : Actions) → depth f ≡ keeping.depth f
+same_depth : (f : Actions) → depth f ≡ depths.depth f
 same_depth NoRoots = refl
 same_depth (Root act below others) = λ i. max (suc (same_depth below i)) (same_depth others i)
 
@@ -52,11 +52,11 @@ measured a h =
       | inr unspelled ↦ let none : 2 ^ 64 ≤ 32768 = rw unspelled at h in absurd (omega (arith, none))
     ]
 
-pub record AreMeasured (f : Actions) : Type 0 where
-  pub short : acts_length f ≤ encoded_bytes f
-  pub each : AreSpellableActs f
+record AreMeasured (f : Actions) : Type 0 where
+  short : acts_length f ≤ encoded_bytes f
+  each : AreSpellableActs f
 
-pub all_measured : (f : Actions) → AreSeeded f → encoded_bytes f ≤ 32768 → AreMeasured f
+all_measured : (f : Actions) → AreSeeded f → encoded_bytes f ≤ 32768 → AreMeasured f
 all_measured NoRoots seeds h = record { short = omega arith; each = tt }
 all_measured (Root act below others) seeds h =
     let m = measured act.action (omega (arith, h)) in
@@ -64,15 +64,18 @@ all_measured (Root act below others) seeds h =
     let o = all_measured others seeds.2 (omega (arith, h)) in
     record { short = omega (arith, m.long, seeds.0, b.short, o.short); each = (action_spellable act.action m.spelled, b.each, o.each) }
 
-pub keeps_limits : (packages : Packages) (act_as : PartyNames) (f : Actions) → KeepsRules packages act_as f → AreSeeded f → KeepLimits f
-keeps_limits packages act_as f rules seeds =
-    let m = all_measured f seeds rules.small in
+pub limits_kept : (f : Actions) → size f ≤ 64 → depths.depth f ≤ 16 → encoded_bytes f ≤ 32768 → AreSeeded f → KeepLimits f
+limits_kept f few shallow small seeds =
+    let m = all_measured f seeds small in
     record {
-      few = rules.few;
-      nested = subst (λ (n : ℕ). n ≤ 16) (sym (same_depth f)) rules.shallow;
-      short = omega (arith, m.short, rules.small);
+      few = few;
+      nested = subst (λ (n : ℕ). n ≤ 16) (sym (same_depth f)) shallow;
+      short = omega (arith, m.short, small);
       each = m.each;
     }
+
+pub keeps_limits : (packages : Packages) (act_as : PartyNames) (f : Actions) → KeepsRules packages act_as f → AreSeeded f → KeepLimits f
+keeps_limits packages act_as f rules seeds = limits_kept f rules.few rules.shallow rules.small seeds
 
 pub seed_is : (seed : Hash) (index : ℕ) → IsHash (child_seed seed index)
 unfolding child_seed

@@ -2,7 +2,9 @@
 use Rattle.std.proofs.Common.{◌≡◌, ℕ, ◌+◌, Bool, true, false, List, [], ◌∷◌, ◌++◌, length, Option, Some, None, Contains, refl, sym, ap, ◌∙◌, subst, inl, arith}
 use Rattle.std.specs.Prelude.{slice_get, nat_eq, ◌||◌, if◌then◌else◌}
 use Rattle.std.specs.List.{list_any}
+use Rattle.std.specs.List.Sorted.{IsStrictlyIncreasing}
 use Rattle.std.proofs.lemmas.Bool.{eq-eqb, or_right}
+use Rattle.std.proofs.lemmas.List.Kept.{IsStrictlyIncreasing-filter}
 use Rattle.std.proofs.lemmas.Option.{same_Some, none-some}
 use Rattle.ledger_terms.specs.Parties.{set_of}
 use Rattle.ledger_terms.specs.Trees.{Act}
@@ -16,11 +18,13 @@ use Rattle.ledger_model.specs.Opening.{shown_of, confirming_of}
 use Rattle.canton_model.specs.Reading.{Reading}
 use Rattle.ledger_model.specs.Views.{View, confirmers_of, views}
 use Rattle.canton_model.specs.Checks.{is_confirmed_by, is_first, first_tree}
-use Rattle.canton_model.specs.Genuine.{IsReading, IsCovered, IsRootCovered, IsSealed}
-use Rattle.ledger_model.proofs.Lists.{In, in_any, from_any, in_map, in_filter, in_from_Contains, contains_from_In}
+use Rattle.canton_model.specs.Genuine.{Answers, IsCovered, IsRootCovered, IsSealed, TellsOf}
+use Rattle.ledger_model.proofs.Lists.{In, in_any, from_any, in_map, in_filter, from_filter, in_from_Contains, contains_from_In}
 use Rattle.ledger_model.proofs.Projected.{in_project}
 use Rattle.ledger_model.proofs.Sets.{front_of_set}
 use Rattle.ledger_model.proofs.Openings.{opens_projection, numbered_shown, viewed_shown}
+use Rattle.ledger_model.proofs.PathOrder.{told_of}
+use Rattle.ledger_model.proofs.ConfirmingViews.{asked_shown}
 use Rattle.view_split.specs.Holed.{inner}
 use Rattle.view_split.specs.SplitView.{SplitView}
 use Rattle.view_split.specs.Split.{confirmers_in, view_at, split}
@@ -104,13 +108,14 @@ module _ (language : Language) (hosts : Name → Bool) (roots : Forest Act) wher
       with_cores_over : Forest Act → Forest Entry
       with_cores_over f = with_cores (λ (v : Path × SplitView). (v.1).below) seen_here (number_from 0 f)
 
-module _ (reading : Reading) (participants : List ParticipantId) (request : Request) (t : Transaction) (lawful : IsReading reading)
+module _ (reading : Reading) (participants : List ParticipantId) (request : Request) (t : Transaction)
+    (confirms_hosted : (p : ParticipantId) (name : Name) → reading.confirms p name ≡ true → reading.hosts p name ≡ true)
     (keeps : KeepsRules reading participants request t) where
   abbrev language : Language
   language = reading.language
 
   hosted : (p : ParticipantId) (names : List Name) → list_any (reading.confirms p) names ≡ true → list_any (reading.hosts p) names ≡ true
-  hosted p names h = let w = from_any (reading.confirms p) names h in in_any (reading.hosts p) names w.0 w.1 (lawful.confirms_hosted p w.0 w.2)
+  hosted p names h = let w = from_any (reading.confirms p) names h in in_any (reading.hosts p) names w.0 w.1 (confirms_hosted p w.0 w.2)
 
   informed : (p : ParticipantId) (a : Act) → list_any (reading.confirms p) (language.signatories (instance_of a.action)) ≡ true
       → list_any (reading.hosts p) (informees_of language a.action) ≡ true
@@ -226,19 +231,35 @@ module _ (reading : Reading) (participants : List ParticipantId) (request : Requ
       let s = is_shown g.0 tree there e in
       root_covered_by tree g.0 s.0 g.1 s.1 (root_view language (reading.hosts g.0) t.roots tree h e)
 
+  tells : (p : ParticipantId) (shown : Shown) → reading.shown p request ≡ Some shown → TellsOf t shown
+  tells p shown is =
+      let told = told_of language (reading.hosts p) (sends p) t shown (by_rules p shown is) in
+      record { ledger_time = told.0; requesters = told.1; path_order = told.2 }
+
+  -- who confirms a view of the whole
+  abbrev is_asked : ParticipantId → Bool
+  is_asked p = list_any (λ (v : View). list_any (reading.confirms p) (confirmers_of (roles_of language) v)) (preorder (views (roles_of language) t.roots))
+
+  answers : (p : ParticipantId) → Contains request.confirming p → Answers reading request p
+  answers p h =
+      let listed : In p (confirming_of language reading.confirms participants t.roots) =
+      subst (λ (ps : List ParticipantId). In p ps) keeps.confirming (in_from_Contains request.confirming p h) in
+      let v = from_any (λ (v : View). list_any (reading.confirms p) (confirmers_of (roles_of language) v)) (preorder (views (roles_of language) t.roots))
+      (from_filter is_asked participants p listed).1 in
+      let s = asked_shown language (reading.hosts p) (reading.confirms p) (confirms_hosted p) (sends p) t v.0 v.1 v.2 in
+      record { shown = s.0; is_shown = keeps.shown p ∙ s.2; view = s.1; is_opened = s.3; is_confirmed = s.4 }
+
   asks : (p : ParticipantId) (shown : Shown) (view : OpenedView) → reading.shown p request ≡ Some shown → Contains shown.views view
       → is_confirmed_by reading p view ≡ true → Contains request.confirming p
   asks p shown view is h c =
-      let roles = roles_of language in
-      let test : ParticipantId → Bool = λ q. list_any (λ (v : View). list_any (reading.confirms q) (confirmers_of roles v)) (preorder (views roles t.roots)) in
       let listed : In view (opened_views_of language (reading.hosts p) t.roots) =
       subst (λ (x : Shown). In view x.views) (sym (their_shown p shown is)) (in_from_Contains shown.views view h) in
       let v = view_of_whole language (reading.hosts p) t.roots view listed in
       let w = from_any (reading.confirms p) view.confirmers c in
       let there : In p participants = in_from_Contains participants p (keeps.confirmers p w.0 w.2) in
-      let passes : test p ≡ true = in_any _ (preorder (views roles t.roots)) v.0 v.1 (ap (list_any (reading.confirms p)) (sym v.2) ∙ c) in
+      let passes : is_asked p ≡ true = in_any _ (preorder (views (roles_of language) t.roots)) v.0 v.1 (ap (list_any (reading.confirms p)) (sym v.2) ∙ c) in
       subst (λ (ps : List ParticipantId). Contains ps p) (sym keeps.confirming)
-      (contains_from_In (confirming_of language reading.confirms participants t.roots) p (in_filter test participants p there passes))
+      (contains_from_In (confirming_of language reading.confirms participants t.roots) p (in_filter is_asked participants p there passes))
 
   pub sealed : IsSealed reading request
   sealed =
@@ -250,6 +271,9 @@ module _ (reading : Reading) (participants : List ParticipantId) (request : Requ
         guarded = keeps.confirmed;
         viewed = λ p shown i a is e signs. viewed_shown language (reading.hosts p) (sends p) t (reading.confirms p) shown i a (by_rules p shown is) e signs;
         numbered = λ p shown view i a is h c. numbered_shown language (reading.hosts p) (sends p) t shown view i a (by_rules p shown is) h c;
+        tells = tells;
+        confirming_order = subst IsStrictlyIncreasing (sym keeps.confirming) (IsStrictlyIncreasing-filter is_asked participants keeps.participants_order);
+        answers = answers;
         asked = asks;
         covers = λ tree h. covered tree (in_from_Contains (trees_of t.roots) tree h);
         roots = λ tree h. root_covered tree (in_from_Contains (root_trees t.roots) tree h);

@@ -1,13 +1,13 @@
-pub mod Sights
+pub mod Hosts
 pub mod Recipients
 pub mod Trees
 pub mod Opens
+pub mod Conforming
 pub mod Sealed
 pub mod Overlaid
 pub mod Made
 pub mod OneId
 pub mod Asked
-pub mod Subtrees
 pub mod Given
 pub mod Short
 pub mod Limited

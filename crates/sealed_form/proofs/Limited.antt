@@ -14,13 +14,13 @@ use Rattle.lang_eval.specs.Found.{Packages}
 use Rattle.view_split.specs.SplitView.{SplitView}
 use Rattle.view_split.specs.Numbered.{map_forest}
 use Rattle.view_split.proofs.Confirming.{from_map}
-use Rattle.blind_tree.specs.Blind.{Shown, named, sees_root, shown_to, views_shown}
+use Rattle.blind_tree.specs.Blind.{Visibility, informees_alone, sees_root, shown_to, tree_with, views_shown}
 use Rattle.blind_tree.specs.Limits.{HaveSets, KeepLimits}
+use Rattle.blind_tree.specs.Recipients.{recipients_of}
 use Rattle.blind_tree.specs.Seen.{AreViews}
 use Rattle.blind_tree.specs.Spelling.{spell_tree}
 use Rattle.blind_tree.proofs.KeptLaws.{unshown, unnamed}
-use Rattle.sealed_form.specs.Salted.{tree_with}
-use Rattle.sealed_form.specs.SealedForm.{CanBeSealed, IsSealedForm, Whole, envelope_for, recipients_of, request_of, roles_by, views_by}
+use Rattle.sealed_form.specs.SealedForm.{CanBeSealed, IsSealedForm, Whole, envelope_for, request_of, roles_by, views_by}
 use Rattle.sealed_form.proofs.Made.{made_is_sealed}
 use Rattle.sealed_form.proofs.Short.{AreShort, short_split, size_split, tree_length}
 
@@ -45,7 +45,7 @@ module _ (topology : Topology) (packages : Packages) (sender : ℕ) (command : L
   few_views : size views ≤ 64
   few_views = let s = size_split (roles_by packages) t.roots in omega (arith, s, limits.few)
 
-  short_tree : (shows : Bool) (f : Forest (Shown × SplitView)) → views_shown f ≡ views
+  short_tree : (shows : Bool) (f : Forest (Visibility × SplitView)) → views_shown f ≡ views
       → length (spell_tree (tree_with sha256 whole.salts whole.sender shows t f)) ≤ 4194304
   short_tree shows f same =
       tree_length sha256 length-sha256 whole.salts whole.sender shows t f can.common_salt can.requesters_salt (can.in_range).sender_is
@@ -54,7 +54,7 @@ module _ (topology : Topology) (packages : Packages) (sender : ℕ) (command : L
 
   short_envelope : (e : Envelope) → Contains made.envelopes e → length e.bytes ≤ 4194304
   short_envelope e there =
-      let p = from_map (envelope_for topology packages sender whole.sender whole.salts t) (recipients_of topology views sender) e
+      let p = from_map (envelope_for topology packages sender whole.sender whole.salts t) (recipients_of topology.hosts views sender) e
       (in_from_Contains made.envelopes e there) in
       let hosts = hosts_at topology.hosts p.0 in
       subst (λ (x : Envelope). length x.bytes ≤ 4194304) p.2
@@ -62,4 +62,4 @@ module _ (topology : Topology) (packages : Packages) (sender : ℕ) (command : L
 
   pub limited_is_sealed : IsSealedForm topology packages made
   limited_is_sealed =
-      made_is_sealed topology packages sender command whole can made refl (short_tree false (map_forest named views) (unnamed views)) short_envelope
+      made_is_sealed topology packages sender command whole can made refl (short_tree false (map_forest informees_alone views) (unnamed views)) short_envelope

@@ -24,22 +24,24 @@ use Rattle.view_split.specs.declared.opened_tree.OpenedTree.{OpenedTree}
 use Rattle.view_split.proofs.Assembled.{assembled_split}
 use Rattle.view_split.proofs.Holes.{filled}
 use Rattle.view_split.proofs.Signed.{has_signatory}
-use Rattle.blind_tree.specs.Blind.{has_sight, sees_root, shown_to, vertices_shown}
+use Rattle.blind_tree.specs.Blind.{has_sight, leaf_with, sees_root, shown_to, vertices_shown}
 use Rattle.blind_tree.specs.LeafBytes.{common_bytes}
 use Rattle.blind_tree.specs.Opening.{views_read}
+use Rattle.blind_tree.specs.Overlay.{overlay, laid}
+use Rattle.blind_tree.specs.Recipients.{is_recipient, recipients_of}
 use Rattle.blind_tree.specs.Spelling.{spell_tree}
 use Rattle.blind_tree.specs.declared.tree.Tree.{Tree}
 use Rattle.blind_tree.proofs.KeptGrow.{any_parts}
+use Rattle.blind_tree.proofs.OpensLaws.{all_again}
+use Rattle.blind_tree.proofs.Overlaid.{overlaid}
 use Rattle.wire_form.specs.Spelling.{spell_parties}
-use Rattle.proto_model.specs.PlainReading.{envelope_to}
-use Rattle.sealed_form.specs.Overlay.{overlay, laid}
-use Rattle.sealed_form.specs.Salted.{leaf_with}
-use Rattle.sealed_form.specs.SealedForm.{CanBeSealed, IsSealedForm, Whole, all_views, bytes_of, envelope_for, found, is_recipient, recipients_of}
+use Rattle.sealed_form.specs.SealedForm.{CanBeSealed, IsSealedForm, Whole, all_views, bytes_of, envelope_for, envelope_to, found}
 use Rattle.sealed_form.specs.SealedForm.{request_of, roles_by, salts_in, tree_for, tree_in, trees_in, views_by, whole_by, whole_if, whole_of}
 use Rattle.sealed_form.specs.SealedForm.{whole_with}
 use Rattle.sealed_form.proofs.Opens.{opens, tree_is_opened}
-use Rattle.sealed_form.proofs.Overlaid.{AllSeen, all_read, all_shown, overlaid, overlay_none}
-use Rattle.sealed_form.proofs.Recipients.{are_reached, first_to, host_found, in_recipients, nat_eq_self}
+use Rattle.sealed_form.proofs.Hosts.{host_found}
+use Rattle.sealed_form.proofs.Overlaid.{AllSeen, all_shown, overlay_none}
+use Rattle.sealed_form.proofs.Recipients.{are_reached, first_to, in_recipients, nat_eq_self}
 use Rattle.sealed_form.proofs.Sealed.{signatory_informed}
 use Rattle.sealed_form.proofs.Trees.{is_tree, tree_again}
 
@@ -65,7 +67,7 @@ module _ (topology : Topology) (packages : Packages) (sender : ℕ) (command : L
   envelope p = envelope_for topology packages sender whole.sender whole.salts t p
 
   abbrev recipients : List ℕ
-  recipients = recipients_of topology views sender
+  recipients = recipients_of topology.hosts views sender
 
   abbrev made : Request
   made = request_of topology packages sender whole.sender command whole.salts t
@@ -131,7 +133,7 @@ module _ (topology : Topology) (packages : Packages) (sender : ℕ) (command : L
         party = signs.0;
         informed = informed;
         hosted = host.1;
-        gets = in_recipients topology views sender whole.sender can.sender_is host.0 (or_right (nat_eq host.0 sender) (has_sight (hosts host.0) views) sees);
+        gets = in_recipients topology.hosts views sender whole.sender can.sender_is host.0 (or_right (nat_eq host.0 sender) (has_sight (hosts host.0) views) sees);
       }
 
   read_by_all : (ps : List ℕ) → In sender ps → ((p : ℕ) → In p recipients → In p ps) → views_read (laid (map tree ps)) ≡ Ok views
@@ -142,7 +144,7 @@ module _ (topology : Topology) (packages : Packages) (sender : ℕ) (command : L
       in_any (some_host p more) (informees_of (the_language packages) a.action) w.party w.informed
       (some_hosts p more w.participant w.party (inside w.participant w.gets) w.hosted)) in
       ap views_read (laid_all p more ∙ ap (vertices_shown sha256) (all_shown (some_host p more) views seen))
-      ∙ all_read sha256 (some_host p more) views (can.in_range).each (filled (roles_by packages) t.roots)
+      ∙ all_again sha256 (some_host p more) views (can.in_range).each (filled (roles_by packages) t.roots)
 
   sender_gets : is_recipient topology.hosts views sender sender ≡ true
   sender_gets = or_left (nat_eq sender sender) (has_sight (hosts sender) views) (nat_eq_self sender)
@@ -150,7 +152,7 @@ module _ (topology : Topology) (packages : Packages) (sender : ℕ) (command : L
   all_are : all_views made ≡ Some views
   all_are =
       ap (λ (ts : List Tree). found (views_read (laid ts))) (trees_made recipients)
-      ∙ ap found (read_by_all recipients (in_recipients topology views sender whole.sender can.sender_is sender sender_gets) (λ p i. i))
+      ∙ ap found (read_by_all recipients (in_recipients topology.hosts views sender whole.sender can.sender_is sender sender_gets) (λ p i. i))
 
   -- ---- the sender's envelope
 
@@ -158,7 +160,7 @@ module _ (topology : Topology) (packages : Packages) (sender : ℕ) (command : L
   senders =
       first_to (λ (p : ℕ). spell_tree (tree p)) sender recipients
       ∙ ap (λ (b : Bool). if b then Some (spell_tree (tree sender)) else None)
-      (are_reached topology views sender whole.sender can.sender_is sender ∙ sender_gets)
+      (are_reached topology.hosts views sender whole.sender can.sender_is sender ∙ sender_gets)
 
   senders_tree : option_and_then tree_in (envelope_to sender made.envelopes) ≡ Some (tree sender)
   senders_tree = ap (option_and_then tree_in) senders ∙ tree_again (tree sender) (is_tree topology packages sender whole can sender)

@@ -1,5 +1,5 @@
 -- In a log of sealed requests that doesn't collide, authentic actions on one contract carry one instance.
-use Rattle.std.proofs.Common.{◌≡◌, ◌⊎◌, ℕ, zero, suc, true, List, [], ◌∷◌, ◌++◌, length, map, Option, Some, None, Contains, refl, sym, ap, subst, ◌∙◌}
+use Rattle.std.proofs.Common.{◌≡◌, ◌⊎◌, ℕ, Bool, zero, suc, true, List, [], ◌∷◌, ◌++◌, length, map, Option, Some, None, Contains, refl, sym, ap, subst, ◌∙◌}
 use Rattle.std.proofs.Common.{inl, inr, arith}
 use Rattle.std.specs.Prelude.{flat_map, option_map}
 use Rattle.std.specs.Str.{bytes_eq}
@@ -30,14 +30,13 @@ use Rattle.wire_form.specs.Reading.{instance_at}
 use Rattle.wire_form.specs.Spelling.{spell_instance}
 use Rattle.wire_form.proofs.FormatLaws.{ok_is}
 use Rattle.wire_form.proofs.ValueLaws.{instance_reads}
-use Rattle.interpret.specs.Ids.{contract_id}
+use Rattle.interpret.specs.Ids.{contract_id, is_authentic, salt_of}
 use Rattle.view_split.specs.Holed.{Holed, NoMore, Inner, Hole, inner, fill, after_holes}
 use Rattle.view_split.specs.SplitView.{SplitView}
 use Rattle.view_split.specs.Split.{assembled}
 use Rattle.view_split.proofs.Assembled.{assembled_split}
 use Rattle.blind_tree.specs.Digests.{tree_strings}
 use Rattle.blind_tree.specs.Seen.{AreChildren, AreViews}
-use Rattle.proto_model.specs.PlainReading.{is_authentic, salt_of}
 use Rattle.sealed_form.specs.Collisions.{AreSealed, Collides, hashed, id_string, message_strings, request_strings, request_trees, whole_acts}
 use Rattle.sealed_form.specs.SealedForm.{Whole, roles_by, views_by, whole_of}
 use Rattle.sealed_form.specs.SealedReading.{sealed_reading}
@@ -138,7 +137,7 @@ strings_are (ResponseMessage response) request e = absurd (none-some request e)
 strings_are (VerdictMessage verdict) request e = absurd (none-some request e)
 strings_are Tick request e = absurd (none-some request e)
 
-module _ (topology : Topology) (packages : Packages) (log : List Entry) (sealed : AreSealed topology packages log) where
+module _ (topology : Topology) (packages : Packages) (test : Request → Bool) (log : List Entry) (sealed : AreSealed topology packages log) where
   abbrev strings_in : Entry → List (List ℕ)
   strings_in entry = message_strings entry.message
 
@@ -170,7 +169,7 @@ module _ (topology : Topology) (packages : Packages) (log : List Entry) (sealed 
         ranged = views_ranged (views_by packages (s.whole).transaction) ((s.can_be).in_range).each a again;
       }
 
-  known : (k : ℕ) (a : Act) → Contains (acts_of (whole_at (sealed_reading topology packages) log k)) a → Known a
+  known : (k : ℕ) (a : Act) → Contains (acts_of (whole_at (sealed_reading topology packages test) log k)) a → Known a
   known k a there = by_request (request_at log k) refl there
     where
       by_request : (o : Option Request) → request_at log k ≡ o
@@ -179,7 +178,7 @@ module _ (topology : Topology) (packages : Packages) (log : List Entry) (sealed 
       by_request None e h = absurd (in_from_Contains [] a h)
       by_request (Some request) e h = known_of k request a e h
 
-  pub no_collision : (Collides log → ⊥) → NoCollision (sealed_reading topology packages) log
+  pub no_collision : (Collides log → ⊥) → NoCollision (sealed_reading topology packages test) log
   no_collision apart k m a b in_a in_b true_a true_b same =
       let ka = known k a in_a in
       let kb = known m b in_b in

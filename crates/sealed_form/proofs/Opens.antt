@@ -18,29 +18,27 @@ use Rattle.view_split.specs.declared.opened_tree.OpenedTree.{OpenedTree}
 use Rattle.view_split.proofs.Holes.{filled}
 use Rattle.view_split.proofs.Tops.{shown_is_by_rules}
 use Rattle.blind_tree.specs.Digests.{Hashing}
-use Rattle.blind_tree.specs.Blind as blinds
-use Rattle.blind_tree.specs.Blind.{sees_root, shown_to, tree_of}
+use Rattle.blind_tree.specs.Blind.{Salts, Visibility, salts_of, sees_root, shown_to, transaction_of, tree_with}
 use Rattle.blind_tree.specs.Opening.{tree_opened}
+use Rattle.blind_tree.specs.Recipients.{is_recipient, recipients_of}
 use Rattle.blind_tree.specs.Seen.{contents_shown}
 use Rattle.blind_tree.specs.Spelling.{spell_tree}
 use Rattle.blind_tree.specs.declared.tree.Tree.{Tree}
 use Rattle.blind_tree.proofs.Blinded.{seen_is_shown}
 use Rattle.blind_tree.proofs.OpensLaws.{tree_opens}
-use Rattle.proto_model.specs.PlainReading.{envelope_to}
-use Rattle.sealed_form.specs.Salted.{Salts, split_as, tree_with}
-use Rattle.sealed_form.specs.SealedForm.{CanBeSealed, IsSealedForm, Whole, envelope_for, found, is_recipient, opened_in, recipients_of, roles_by}
-use Rattle.sealed_form.specs.SealedForm.{tree_for, views_by}
+use Rattle.blind_tree.proofs.Sights.{some_paths, root_paths, seen_as_ruled}
+use Rattle.sealed_form.specs.SealedForm.{CanBeSealed, IsSealedForm, Whole, envelope_for, envelope_to, found, opened_in, opened_to, roles_by}
+use Rattle.sealed_form.specs.SealedForm.{split_as, tree_for, views_by}
 use Rattle.sealed_form.specs.SealedReading.{sealed_reading}
 use Rattle.sealed_form.proofs.Recipients.{first_to, are_reached}
-use Rattle.sealed_form.proofs.Sights.{some_paths, root_paths, seen_as_ruled}
 use Rattle.sealed_form.proofs.Trees.{is_tree, tree_again}
 
 -- no salt of the first two leaves is read
-unsalted : (sha : Hashing) (salts : Salts) (name : List ℕ) (shows : Bool) (t : Transaction) (views : Forest SplitView)
-    (marked : Forest (blinds.Shown × SplitView))
-    → tree_opened (tree_with sha salts name shows t marked) ≡ tree_opened (tree_of sha name shows (split_as t views) marked)
-unsalted sha salts name true t views marked = refl
-unsalted sha salts name false t views marked = refl
+unsalted : (sha : Hashing) (salts others : Salts) (name : List ℕ) (shows : Bool) (t : Transaction) (views : Forest SplitView)
+    (marked : Forest (Visibility × SplitView))
+    → tree_opened (tree_with sha salts name shows t marked) ≡ tree_opened (tree_with sha others name shows (transaction_of (split_as t views)) marked)
+unsalted sha salts others name true t views marked = refl
+unsalted sha salts others name false t views marked = refl
 
 or_swap : (a b : Bool) → (a || b) ≡ (b || a)
 or_swap true true = refl
@@ -79,7 +77,7 @@ module _ (topology : Topology) (packages : Packages) (sender : ℕ) (whole : Who
 
   pub tree_is_opened : (p : ℕ) → tree_opened (tree p) ≡ Ok (opens p)
   tree_is_opened p =
-      unsalted sha256 whole.salts whole.sender (sees_root (hosts p) views || sends p) t views (shown_to (hosts p) false views)
+      unsalted sha256 whole.salts (salts_of sha256 []) whole.sender (sees_root (hosts p) views || sends p) t views (shown_to (hosts p) false views)
       ∙ tree_opens sha256 (split_as t views) whole.sender (hosts p) (sends p) can.in_range (filled (roles_by packages) t.roots)
 
   bytes_are_opened : (p : ℕ) → opened_in (bytes p) ≡ Some (opens p)
@@ -116,14 +114,14 @@ module _ (topology : Topology) (packages : Packages) (sender : ℕ) (whole : Who
 
   -- what is shown to a participant by these envelopes
   pub shown_by_envelopes : (p : ℕ) (request : Request)
-      → request.envelopes ≡ map (envelope_for topology packages sender whole.sender whole.salts t) (recipients_of topology views sender)
-      → (sealed_reading topology packages).shown p request ≡ shown_of (the_language packages) (hosts p) (sends p) t
+      → request.envelopes ≡ map (envelope_for topology packages sender whole.sender whole.salts t) (recipients_of topology.hosts views sender)
+      → option_map shown_by (opened_to p request) ≡ shown_of (the_language packages) (hosts p) (sends p) t
   shown_by_envelopes p request is =
       let told : gets p ≡ (sends p || list_any (λ (path : List ℕ). true) (seen_paths (roles_by packages) (hosts p) t.roots)) =
       ap (λ (b : Bool). sends p || b) (sym (some_paths (roles_by packages) (hosts p) t.roots)) in
       ap (λ (es : List Envelope). shown_from (envelope_to p es)) is
-      ∙ (ap shown_from (first_to bytes p (recipients_of topology views sender))
-      ∙ (ap (λ (b : Bool). shown_from (if b then Some (bytes p) else None)) (are_reached topology views sender whole.sender can.sender_is p)
+      ∙ (ap shown_from (first_to bytes p (recipients_of topology.hosts views sender))
+      ∙ (ap (λ (b : Bool). shown_from (if b then Some (bytes p) else None)) (are_reached topology.hosts views sender whole.sender can.sender_is p)
       ∙ (by_gift p (gets p) ∙ (λ i. shown_if (told i) (shows_rules p i)))))
 
   -- its tree shows the contents of exactly the views that the rules name
@@ -131,8 +129,9 @@ module _ (topology : Topology) (packages : Packages) (sender : ℕ) (whole : Who
   contents_by_rules p = seen_is_shown sha256 (hosts p) false [] 0 views ∙ seen_as_ruled (roles_by packages) (hosts p) t.roots
 
 -- What a sealed request shows to a participant is what the rules show of its whole.
-pub shown_is : (topology : Topology) (packages : Packages) (request : Request) (sealed : IsSealedForm topology packages request) (p : ℕ)
-    → (sealed_reading topology packages).shown p request ≡ shown_of (the_language packages) (hosts_at topology.hosts p) (nat_eq p request.sender)
+pub shown_is : (topology : Topology) (packages : Packages) (test : Request → Bool) (request : Request)
+    (sealed : IsSealedForm topology packages request) (p : ℕ)
+    → (sealed_reading topology packages test).shown p request ≡ shown_of (the_language packages) (hosts_at topology.hosts p) (nat_eq p request.sender)
     (sealed.whole).transaction
-shown_is topology packages request sealed p =
+shown_is topology packages test request sealed p =
     shown_by_envelopes topology packages request.sender sealed.whole sealed.can_be p request (ap (λ (r : Request). r.envelopes) sealed.again)

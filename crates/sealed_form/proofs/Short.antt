@@ -23,11 +23,10 @@ use Rattle.blind_tree.specs.Vertices.{count}
 use Rattle.blind_tree.specs.Cores.{spell_children}
 use Rattle.blind_tree.specs.Digests.{Hashing}
 use Rattle.blind_tree.specs.LeafBytes.{common_bytes, roles_bytes, core_bytes}
-use Rattle.blind_tree.specs.Blind.{Shown, is_hidden, leaf_of, roles_digest, salt_of, core_digest, view_digests, views_shown, shows_core, shows_roles}
-use Rattle.blind_tree.specs.Blind.{vertices_shown}
+use Rattle.blind_tree.specs.Blind.{Salts, Visibility, is_hidden, leaf_of, leaf_with, roles_digest, salt_of, core_digest, view_digests, views_shown}
+use Rattle.blind_tree.specs.Blind.{shows_core, shows_roles, tree_with, vertices_shown}
 use Rattle.blind_tree.specs.Limits.{acts_length, HaveSets}
 use Rattle.blind_tree.specs.Spelling.{spell_each, spell_leaf, spell_tree}
-use Rattle.sealed_form.specs.Salted.{Salts, leaf_with, tree_with}
 
 -- ---- sets and names
 
@@ -180,7 +179,7 @@ module _ (sha : Hashing) (long : (s : List ℕ) → length (sha s) ≡ 32) where
   inner_leaf : (shows : Bool) (kind : ℕ) (seed bytes : List ℕ) → length (spell_leaf (leaf_of sha shows kind seed bytes)) ≤ 37 + length bytes
   inner_leaf shows kind seed bytes = leaf_length shows kind (salt_of sha kind seed) bytes (long (leaf_salt_string kind seed))
 
-  each_length : (f : Forest (Shown × SplitView)) → AreShort (views_shown f) → length (spell_each (vertices_shown sha f)) ≤ 41489 * size (views_shown f)
+  each_length : (f : Forest (Visibility × SplitView)) → AreShort (views_shown f) → length (spell_each (vertices_shown sha f)) ≤ 41489 * size (views_shown f)
   each_length NoRoots h = omega arith
   each_length (Root marked subviews others) h =
       let view = marked.1 in
@@ -222,7 +221,7 @@ module _ (sha : Hashing) (long : (s : List ℕ) → length (sha s) ≡ 32) where
             ))
       ]
 
-  pub tree_length : (salts : Salts) (sender : List ℕ) (shows : Bool) (t : Transaction) (f : Forest (Shown × SplitView))
+  pub tree_length : (salts : Salts) (sender : List ℕ) (shows : Bool) (t : Transaction) (f : Forest (Visibility × SplitView))
       → IsHash salts.common → IsHash salts.requesters → IsName sender → IsPartySet t.requesters → AreShort (views_shown f) → size (views_shown f) ≤ 64
       → length (spell_tree (tree_with sha salts sender shows t f)) ≤ 4194304
   tree_length salts sender shows t f common requesters name set short few =

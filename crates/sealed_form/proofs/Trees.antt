@@ -16,15 +16,14 @@ use Rattle.blind_tree.specs.LeafBytes.{common_bytes}
 use Rattle.blind_tree.specs.InRange.{IsLeaf, AreVertices, IsTree, IsSpellableLeaf, AreSpellable}
 use Rattle.blind_tree.specs.Reading.{ended, with_place, read_all, tree_at}
 use Rattle.blind_tree.specs.Spelling.{spell_tree}
-use Rattle.blind_tree.specs.Blind.{sees_root}
+use Rattle.blind_tree.specs.Blind.{leaf_with, sees_root}
 use Rattle.blind_tree.specs.declared.leaf.Leaf.{Leaf}
 use Rattle.blind_tree.specs.declared.leaf.Leaf.TheVariants.{Blind, Plain}
 use Rattle.blind_tree.specs.declared.tree.Tree.{Tree}
 use Rattle.blind_tree.specs.declared.recipient.Recipient.TheVariants.{Participant}
 use Rattle.blind_tree.proofs.Blinded.{sized, spellable}
 use Rattle.blind_tree.proofs.TreeLaws.{tree_reads}
-use Rattle.sealed_form.specs.Salted.{leaf_with, split_as}
-use Rattle.sealed_form.specs.SealedForm.{CanBeSealed, Whole, found, tree_for, tree_in, views_by}
+use Rattle.sealed_form.specs.SealedForm.{CanBeSealed, Whole, found, split_as, tree_for, tree_in, views_by}
 
 pub read_again : {A : Type 0} (read : Reading A) (bytes : List ℕ) (x : A) → read (bytes ++ []) ≡ Ok (x, []) → read_all read bytes ≡ Ok x
 read_again read bytes x h =

@@ -13,10 +13,10 @@ use Rattle.canton_model.specs.declared.request.Request.{Request}
 use Rattle.canton_model.specs.declared.message.Message.{Message}
 use Rattle.canton_model.specs.declared.message.Message.TheVariants.{Request as RequestMessage, Response as ResponseMessage, Verdict as VerdictMessage, Tick}
 use Rattle.lang_eval.specs.Found.{Packages}
+use Rattle.interpret.specs.Ids.{salt_of}
 use Rattle.blind_tree.specs.Agreement.{Clash}
 use Rattle.blind_tree.specs.Digests.{tree_strings}
 use Rattle.blind_tree.specs.declared.tree.Tree.{Tree}
-use Rattle.proto_model.specs.PlainReading.{salt_of}
 use Rattle.sealed_form.specs.SealedForm.{IsSealedForm, Whole, bytes_of, trees_in, whole_of}
 
 -- the string of a contract's id

@@ -1,17 +1,13 @@
 -- The sealed form of a request: a tree for each recipient and one for the mediator, as bytes.
-use Rattle.std.specs.Prelude.{◌≡◌, ℕ, ◌≤◌, Bool, true, List, [], ◌∷◌, ◌++◌, length, map, filter, flat_map, Contains, nat_eq, Option, Some, None}
-use Rattle.std.specs.Prelude.{option_to_list, option_and_then, Result, Ok, Err, ◌||◌}
+use Rattle.std.specs.Prelude.{◌≡◌, ℕ, ◌≤◌, Bool, true, List, [], ◌∷◌, ◌++◌, length, map, filter, Contains, nat_eq, Option, Some, None}
+use Rattle.std.specs.Prelude.{option_to_list, option_and_then, Result, Ok, Err, if◌then◌else◌}
 use Rattle.sha2.specs.Sha256.{sha256}
 use Rattle.ledger_terms.specs.Trees.{Act}
 use Rattle.std.specs.List.{list_any}
 use Rattle.ledger_terms.specs.Forest.{Forest, preorder}
-use Rattle.ledger_terms.specs.Hosting.{hosts_at}
-use Rattle.ledger_terms.specs.declared.host.Host.{Host}
+use Rattle.ledger_terms.specs.Hosting.{confirms_at, hosts_at}
 use Rattle.ledger_terms.specs.declared.topology.Topology.{Topology}
-use Rattle.ledger_terms.specs.declared.value.Value.{Value}
-use Rattle.ledger_terms.specs.declared.value.Value.TheVariants.{Unit as UnitValue, Int, Bool as BoolValue, Text, Party, Contract, Parties}
 use Rattle.ledger_terms.specs.declared.action.Action.{Action}
-use Rattle.ledger_terms.specs.declared.action.Action.TheVariants.{Create, Exercise, Fetch}
 use Rattle.ledger_model.specs.Forest.{acts}
 use Rattle.ledger_model.specs.Language.{roles_of}
 use Rattle.ledger_model.specs.declared.roles.Roles.{Roles}
@@ -19,24 +15,26 @@ use Rattle.ledger_model.specs.Opening.{confirming_of, Transaction}
 use Rattle.canton_model.specs.declared.envelope.Envelope.{Envelope}
 use Rattle.canton_model.specs.declared.request.Request.{Request}
 use Rattle.lang_eval.specs.Found.{Packages}
+use Rattle.lang_eval.specs.Named.{AreKnown}
 use Rattle.wire_form.specs.InRange.{IsHash}
 use Rattle.wire_form.specs.declared.wire_fault.WireFault.{WireFault}
 use Rattle.interpret.specs.Language.{the_language}
+use Rattle.interpret.specs.NamedParties.{parties_in_forest}
 use Rattle.view_split.specs.SplitView.{SplitView}
 use Rattle.view_split.specs.Split.{split, assembled}
 use Rattle.sealed_form.specs.Within.{participants_of, is_hosted}
 use Rattle.view_split.specs.declared.opened_tree.OpenedTree.{OpenedTree}
-use Rattle.blind_tree.specs.Blind.{has_sight, is_host_named}
+use Rattle.view_split.specs.declared.views.Views.{Views}
+use Rattle.blind_tree.specs.Blind.{Salts, is_host_named, tree_to, tree_to_mediator}
 use Rattle.blind_tree.specs.Opening.{tree_opened, views_read}
+use Rattle.blind_tree.specs.Overlay.{laid}
 use Rattle.blind_tree.specs.Reading.{read_all, tree_at}
+use Rattle.blind_tree.specs.Recipients.{recipients_of}
 use Rattle.blind_tree.specs.Seen.{AreInRange, IsSmall}
 use Rattle.blind_tree.specs.Spelling.{spell_tree}
 use Rattle.blind_tree.specs.declared.leaf.Leaf.{Leaf}
 use Rattle.blind_tree.specs.declared.leaf.Leaf.TheVariants.{Blind, Plain}
 use Rattle.blind_tree.specs.declared.tree.Tree.{Tree}
-use Rattle.proto_model.specs.PlainReading.{envelope_to}
-use Rattle.sealed_form.specs.Overlay.{laid}
-use Rattle.sealed_form.specs.Salted.{Salts, split_as, tree_to, tree_to_mediator}
 
 -- ---- what a sender makes of a transaction
 
@@ -46,12 +44,9 @@ roles_by packages = roles_of (the_language packages)
 abbrev pub views_by : Packages → Transaction → Forest SplitView
 views_by packages t = split (roles_by packages) t.roots
 
--- the sender, and who sees a view
-abbrev pub is_recipient : List Host → Forest SplitView → (sender p : ℕ) → Bool
-is_recipient hosts views sender p = nat_eq p sender || has_sight (hosts_at hosts p) views
-
-abbrev pub recipients_of : Topology → Forest SplitView → (sender : ℕ) → List ℕ
-recipients_of topology views sender = filter (is_recipient topology.hosts views sender) (participants_of topology)
+-- A transaction with its views, as what is split is seen. Nothing that is asked of it hangs on the seed, which isn't told.
+abbrev pub split_as : Transaction → Forest SplitView → Views
+split_as t views = record { act_as = t.requesters; ledger_time = t.ledger_time; seed = []; roots = views }
 
 -- the tree for a participant, where the sender has this name
 abbrev pub tree_for : Topology → Packages → (sender : ℕ) (name : List ℕ) → Salts → Transaction → ℕ → Tree
@@ -66,16 +61,16 @@ abbrev pub confirming_by : (confirms : ℕ → List ℕ → Bool) → List ℕ �
 confirming_by confirms participants views =
     filter (λ p. list_any (λ (view : SplitView). list_any (confirms p) view.confirmers) (preorder views)) participants
 
--- The request of a transaction: the participants that host a confirmer of a view are asked, and each recipient gets its tree,
+-- The request of a transaction: the participants that confirm for a confirmer of a view are asked, and each recipient gets its tree,
 -- both in the order of the topology.
 abbrev pub request_of : Topology → Packages → (sender : ℕ) (name command : List ℕ) → Salts → Transaction → Request
 request_of topology packages sender name command salts t =
     record {
       sender = sender;
       command = command;
-      confirming = confirming_of (the_language packages) (hosts_at topology.hosts) (participants_of topology) t.roots;
+      confirming = confirming_of (the_language packages) (confirms_at topology.hosts) (participants_of topology) t.roots;
       mediator = spell_tree (tree_to_mediator sha256 salts name t (views_by packages t));
-      envelopes = map (envelope_for topology packages sender name salts t) (recipients_of topology (views_by packages t) sender);
+      envelopes = map (envelope_for topology packages sender name salts t) (recipients_of topology.hosts (views_by packages t) sender);
     }
 
 -- ---- what is read of a request
@@ -95,6 +90,11 @@ trees_in (bytes ∷ more) = option_to_list (tree_in bytes) ++ trees_in more
 
 abbrev pub bytes_of : Envelope → List ℕ
 bytes_of envelope = envelope.bytes
+
+-- the bytes of the first envelope to a participant
+abbrev pub envelope_to : ℕ → List Envelope → Option (List ℕ)
+envelope_to p [] = None
+envelope_to p (envelope ∷ rest) = if nat_eq envelope.to p then Some envelope.bytes else envelope_to p rest
 
 -- what the tree that bytes spell opens
 abbrev pub opened_in : List ℕ → Option OpenedTree
@@ -144,22 +144,6 @@ whole_of request = whole_by (all_views request) (option_and_then tree_in (envelo
 
 -- ---- sealed requests
 
-abbrev pub names_in : Value → List (List ℕ)
-names_in UnitValue = []
-names_in (Int n) = []
-names_in (BoolValue b) = []
-names_in (Text t) = []
-names_in (Party p) = p ∷ []
-names_in (Contract h) = []
-names_in (Parties s) = s
-
--- the parties that an action names in its fields, arguments, actors or result
-abbrev pub named_in : Action → List (List ℕ)
-named_in (Create id i) = flat_map names_in i.fields
-named_in (Exercise id salt i choice args actors consuming result) =
-    flat_map names_in i.fields ++ (flat_map names_in args ++ (actors ++ names_in result))
-named_in (Fetch id salt i actors) = flat_map names_in i.fields ++ actors
-
 -- What can be sealed: each action has roles, its informees and the parties that it names are those of the topology, the
 -- sender hosts the requesters, and all that is in the trees is in the range of the formats and has room in them.
 pub record CanBeSealed (topology : Topology) (packages : Packages) (sender : ℕ) (whole : Whole) : Type 0 where
@@ -167,7 +151,7 @@ pub record CanBeSealed (topology : Topology) (packages : Packages) (sender : ℕ
   pub has_roles : (a : Act) → Contains (acts whole.transaction.roots) a → (the_language packages).has_roles a.action ≡ true
   pub informees : (a : Act) (party : List ℕ) → Contains (acts whole.transaction.roots) a → Contains (roles_by packages a.action).informees party
       → is_hosted topology party ≡ true
-  pub named : (a : Act) (party : List ℕ) → Contains (acts whole.transaction.roots) a → Contains (named_in a.action) party → is_hosted topology party ≡ true
+  pub named : AreKnown (is_hosted topology) (parties_in_forest (whole.transaction).roots)
   pub requesters : (party : List ℕ) → Contains whole.transaction.requesters party → hosts_at topology.hosts sender party ≡ true
   pub common_salt : IsHash (whole.salts).common
   pub requesters_salt : IsHash (whole.salts).requesters

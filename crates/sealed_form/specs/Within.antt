@@ -2,7 +2,7 @@
 use Rattle.std.specs.Prelude.{◌≡◌, Bool, true, List, Some, nat_eq, is_some, length, Contains}
 use Rattle.std.specs.List.{range_with_len}
 use Rattle.ledger_terms.specs.Trees.{Act}
-use Rattle.ledger_terms.specs.Hosting.{host_of, hosts_at}
+use Rattle.ledger_terms.specs.Hosting.{confirms_at, host_of, hosts_at}
 use Rattle.ledger_terms.specs.declared.action.Action.{Action}
 use Rattle.ledger_terms.specs.declared.instance.Instance.{Instance}
 use Rattle.ledger_terms.specs.declared.topology.Topology.{Topology}
@@ -26,7 +26,7 @@ is_hosted topology party = is_some (host_of topology.hosts party)
 -- of the packages.
 pub record IsWithin (topology : Topology) (packages : Packages) (reading : Reading) : Type 0 where
   pub hosts : (p : ParticipantId) (party : Name) → reading.hosts p party ≡ hosts_at topology.hosts p party
-  pub confirms : (p : ParticipantId) (party : Name) → reading.confirms p party ≡ hosts_at topology.hosts p party
+  pub confirms : (p : ParticipantId) (party : Name) → reading.confirms p party ≡ confirms_at topology.hosts p party
   pub signatories : (i : Instance) → (reading.language).signatories i ≡ signatories_in (parties_if_typed packages i)
   pub has_roles : (a : Action) → (reading.language).has_roles a ≡ has_roles packages a
 

@@ -1,31 +1,29 @@
 //! The laws of the sealed form, as the clauses of functions that do nothing.
-ghost use Rattle.std.specs.Prelude.{◌≡◌, ℕ, Bool, List, true, Some, Contains, ◌≤◌, [], Ok, length, nat_eq};
+ghost use Rattle.std.specs.Prelude.{◌≡◌, ℕ, Bool, true, List, Some, Contains, ◌≤◌, [], Ok, length, nat_eq};
 ghost use Rattle.ledger_terms.specs.Trees.{Act, Actions};
 ghost use Rattle.ledger_terms.specs.Forest.{Forest, below_at};
-ghost use Rattle.ledger_model.specs.Terms.{ParticipantId};
+ghost use Rattle.ledger_model.specs.Terms.{Name, ParticipantId};
 ghost use Rattle.ledger_model.specs.Opening.{seen_paths, shown_of, Transaction, Shown, confirming_of};
-ghost use Rattle.ledger_model.specs.Forest.{acts, trees_of, ledger_acts};
-ghost use Rattle.ledger_model.specs.Views.{views};
+ghost use Rattle.ledger_model.specs.Forest.{acts, ledger_acts};
 ghost use Rattle.canton_model.specs.Reading.{Reading};
 ghost use Rattle.canton_model.specs.Genuine.{IsReading, IsSealed, Genuine, NoCollision};
 ghost use Rattle.sealed_form.specs.Rules.{KeepsRules};
 ghost use Rattle.sealed_form.specs.Within.{IsWithin, KeepsRulesWithin};
-ghost use Rattle.view_split.specs.Split.{split, assembled};
+ghost use Rattle.view_split.specs.Split.{split};
 ghost use Rattle.canton_model.specs.Checks.{authorises_children};
 ghost use Rattle.authorise.specs.Below.{are_authorised_below};
 ghost use Rattle.ledger_terms.specs.declared.command.Command.{Command};
 ghost use Rattle.ledger_terms.specs.declared.known.Known.{Known};
 ghost use Rattle.lang_eval.specs.Parts.{PartyNames};
 ghost use Rattle.interpret.specs.Wanted.{IsWanted};
-ghost use Rattle.interpret.specs.Filled.{filled};
+ghost use Rattle.interpret.specs.FilledTree.{IsFilled};
 ghost use Rattle.ledger_terms.specs.Drafts.{Drafts};
 ghost use Rattle.ledger_terms.specs.Hosting.{hosts_at};
 ghost use Rattle.ledger_terms.specs.Topologies.{IsValid};
 ghost use Rattle.ledger_terms.specs.declared.topology.Topology.{Topology};
 ghost use Rattle.sha2.specs.Sha256.{sha256};
-ghost use Rattle.blind_tree.specs.Blind.{blind_for, is_host_named};
+ghost use Rattle.blind_tree.specs.Blind.{blind_for, is_host_named, salts_of, tree_to_mediator};
 ghost use Rattle.blind_tree.specs.declared.recipient.Recipient.TheVariants.{Mediator, Participant};
-ghost use Rattle.sealed_form.specs.Salted.{salts_of, tree_to_mediator};
 ghost use Rattle.ledger_model.specs.Consistency.{Consistent};
 ghost use Rattle.canton_model.specs.Ledger.{ledger};
 ghost use Rattle.ledger_model.specs.Language.{Language, roles_of};
@@ -39,25 +37,23 @@ ghost use Rattle.ledger_terms.specs.declared.tx.Tx.{Tx};
 ghost use Rattle.ledger_model.specs.declared.roles.Roles.{Roles};
 ghost use Rattle.lang_eval.specs.Language.{has_roles, roles_in};
 ghost use Rattle.view_split.specs.Faults.{views_of_tx};
-ghost use Rattle.view_split.specs.Holed.{fill};
-ghost use Rattle.view_split.specs.SplitView.{SplitView};
 ghost use Rattle.view_split.specs.declared.views.Views.{Views};
 ghost use Rattle.blind_tree.specs.Limits.{KeepLimits};
 ghost use Rattle.blind_tree.specs.Seen.{contents_shown};
 ghost use Rattle.sealed_form.specs.Collisions.{AreSealed, Collides};
 ghost use Rattle.sealed_form.specs.SealedForm.{CanBeSealed, IsSealedForm, Whole, byte_limit, confirming_by, request_of, roles_by, tree_for, views_by, whole_of};
-ghost use Rattle.sealed_form.specs.SealedLog.{IsSealedLog};
-ghost use Rattle.sealed_form.specs.SealedReading.{sealed_reading};
+ghost use Rattle.sealed_form.specs.SealedReading.{IsTestOf, sealed_reading};
 
-/// The reading of the sealed form is a reading.
+/// The reading of the sealed form is a reading, whatever the test by which requests are found to be in that form.
 pub fn sealed_reading_is_reading()
-    ensures { (topology : Topology) (packages : Packages) → IsReading (sealed_reading topology packages) }
+    ensures { (topology : Topology) (packages : Packages) (test : Request → Bool) → IsTestOf topology packages test
+        → IsReading (sealed_reading topology packages test) }
 {}
 
 /// What a sealed request shows to a participant is what the rules show of its whole: the projection, with the views in it.
 pub fn sealed_requests_show_what_the_rules_show()
-    ensures { (topology : Topology) (packages : Packages) (request : Request) (sealed : IsSealedForm topology packages request) (p : ℕ)
-        → (sealed_reading topology packages).shown p request ≡ shown_of (the_language packages) (hosts_at topology.hosts p) (nat_eq p request.sender)
+    ensures { (topology : Topology) (packages : Packages) (test : Request → Bool) (request : Request) (sealed : IsSealedForm topology packages request) (p : ℕ)
+        → (sealed_reading topology packages test).shown p request ≡ shown_of (the_language packages) (hosts_at topology.hosts p) (nat_eq p request.sender)
         (sealed.whole).transaction }
 {}
 
@@ -71,8 +67,8 @@ pub fn trees_show_the_contents_of_what_is_seen()
 
 /// A request that is sealed in form is sealed to the laws of the ledger.
 pub fn sealed_forms_are_sealed()
-    ensures { (topology : Topology) (packages : Packages) (request : Request) → IsSealedForm topology packages request
-        → IsSealed (sealed_reading topology packages) request }
+    ensures { (topology : Topology) (packages : Packages) (test : Request → Bool) (request : Request) → IsSealedForm topology packages request
+        → IsSealed (sealed_reading topology packages test) request }
 {}
 
 /// The request that is made of what can be sealed is sealed, and its whole is that, where no bytes of it are too long.
@@ -121,13 +117,6 @@ pub fn what_is_split_has_roles()
         → has_roles packages a.action ≡ true }
 {}
 
-/// Each view, put back with those below it, is the tree of its first action in the transaction.
-pub fn views_are_put_back_to_subtrees()
-    ensures { (roles : Action → Roles) (roots : Forest Act) (view : SplitView) (subviews : Forest SplitView)
-        → Contains (trees_of (split roles roots)) (view, subviews)
-        → Contains (trees_of roots) (view.first, fill view.below (assembled subviews)) }
-{}
-
 /// A wanted transaction keeps the limits under which its trees can be made and written.
 pub fn wanted_transactions_keep_the_limits_of_trees()
     ensures { (packages : Packages) (known : List Known) (seed : List ℕ) (act_as : PartyNames) (commands : List Command) (forest : Actions)
@@ -137,7 +126,7 @@ pub fn wanted_transactions_keep_the_limits_of_trees()
 
 /// A prepared tree that is filled keeps them too.
 pub fn filled_trees_keep_the_limits_of_trees()
-    ensures { (known : List Known) (seed : List ℕ) (drafts : Drafts) (forest : Actions) → filled known seed drafts ≡ Ok forest → KeepLimits forest }
+    ensures { (known : List Known) (seed : List ℕ) (drafts : Drafts) (forest : Actions) → IsFilled known seed drafts forest → KeepLimits forest }
 {}
 
 /// Who is asked can be read off the views that a transaction is split into.
@@ -148,25 +137,30 @@ pub fn views_tell_who_is_asked()
 
 /// In a log of sealed requests of which no two hashed strings collide, authentic actions on one contract carry one instance.
 pub fn contracts_of_one_id_are_one()
-    ensures { (topology : Topology) (packages : Packages) (log : List Entry) → AreSealed topology packages log → (Collides log → ⊥)
-        → NoCollision (sealed_reading topology packages) log }
+    ensures { (topology : Topology) (packages : Packages) (test : Request → Bool) (log : List Entry)
+        → AreSealed topology packages log
+        → (Collides log → ⊥)
+        → NoCollision (sealed_reading topology packages test) log }
 {}
 
-/// A log of sealed requests is genuine to the laws of the ledger, and where it doesn't collide its approved requests are one
+/// Each request of a genuine log is in the sealed form, and where the log doesn't collide its approved requests are one
 /// consistent ledger.
 pub fn sealed_logs_are_one_ledger()
-    ensures genuine { (topology : Topology) (packages : Packages) (log : List Entry) → IsSealedLog topology packages log
-        → Genuine (sealed_reading topology packages) topology.params log }
-    ensures ledger { (topology : Topology) (packages : Packages) (log : List Entry)
-        → IsSealedLog topology packages log
+    ensures sealed { (topology : Topology) (packages : Packages) (test : Request → Bool) (log : List Entry)
+        → IsTestOf topology packages test
+        → Genuine (sealed_reading topology packages test) topology.params log
+        → AreSealed topology packages log }
+    ensures ledger { (topology : Topology) (packages : Packages) (test : Request → Bool) (log : List Entry)
+        → IsTestOf topology packages test
+        → Genuine (sealed_reading topology packages test) topology.params log
         → (Collides log → ⊥)
-        → Consistent (ledger_acts (ledger (sealed_reading topology packages) log)) }
+        → Consistent (ledger_acts (ledger (sealed_reading topology packages test) log)) }
 {}
 
-/// A request whose sender keeps the rules on views is sealed.
+/// A request whose sender keeps the rules on views is sealed, where who confirms for a party hosts it.
 pub fn rules_are_sealed()
     ensures { (reading : Reading) (participants : List ParticipantId) (request : Request) (transaction : Transaction)
-        → IsReading reading
+        → ((p : ParticipantId) (name : Name) → reading.confirms p name ≡ true → reading.hosts p name ≡ true)
         → KeepsRules reading participants request transaction
         → IsSealed reading request }
 {}
@@ -174,7 +168,6 @@ pub fn rules_are_sealed()
 /// Within a topology it is enough that each signatory is a party of it: then somebody confirms each action.
 pub fn rules_within_a_topology_are_sealed()
     ensures { (topology : Topology) (packages : Packages) (reading : Reading) (request : Request) (transaction : Transaction)
-        → IsReading reading
         → IsWithin topology packages reading
         → KeepsRulesWithin topology reading request transaction
         → IsSealed reading request }

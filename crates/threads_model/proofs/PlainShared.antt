@@ -176,4 +176,5 @@ plain_rounds_are_shared m why machine now before [] after g h = h
 plain_rounds_are_shared m why machine now before (x ∷ rest) after g h =
     let now' = now + x.round.advance in
     let part = plain_is_shared m why now' x.round machine x.results before h.0 g h.2 in
-    (h.0, h.1, part, h.3, plain_rounds_are_shared m why machine now' h.0 rest after (part_good m why now' x.round x.results before h.0 machine.is_reading part) h.4)
+    let good = part_good m why now' x.round x.results before h.0 machine.is_reading part in
+    (h.0, h.1, part, h.3, plain_rounds_are_shared m why machine now' h.0 rest after good h.4)

@@ -213,7 +213,8 @@ module _ {F : Type 0} (m : Machine) (why : Why F) (machine : IsMachine m) (now :
       where
         mine : (q : Request) → wanted_at m now next what n ≡ Some q → q.sender ≡ what.participant
         mine q w =
-            (machine.prepares what (take n next) now q (subst (GenuineLog m) (take_same next log n begins within) (genuine_take m.reading m.params log n j.genuine)) w).sender
+            (machine.prepares what (take n next) now q
+            (subst (GenuineLog m) (take_same next log n begins within) (genuine_take m.reading m.params log n j.genuine)) w).sender
 
         in_pre : (other : Submission) (r : ℕ) → In (other, Sent place r) results → request_at log place ≡ Some h.first → place < length next
             → In (other, Sent place r) pre

@@ -185,16 +185,17 @@ entry_there : (o : Option Entry) (q : Request) → request_in o ≡ Some q → (
 entry_there None q e = absurd (none-some q e)
 entry_there (Some x) q e = (x, refl)
 
-module _ (m : Machine) (paused : List ParticipantId) (log : List Entry) (is : IsReading m.reading) (genuine : GenuineLog m log) (settled : s.Settled m paused false log) (k : ℕ)
+module _ (m : Machine) (paused : List ParticipantId) (log : List Entry) (is : IsReading m.reading) (genuine : GenuineLog m log)
+    (settled : s.Settled m paused false log) (k : ℕ)
     (u : Unhindered m paused log k) where
   abbrev q : Request
-  q = u.request
+  q = (u.approval).request
 
   abbrev dead : ℕ
   dead = deadline_of m.params log k
 
   its_entry : (e : Entry) × (slice_get log k ≡ Some e)
-  its_entry = entry_there (slice_get log k) q u.there
+  its_entry = entry_there (slice_get log k) q (u.approval).there
 
   next_in_time : last_time log + 1 ≤ dead
   next_in_time =
@@ -216,12 +217,12 @@ module _ (m : Machine) (paused : List ParticipantId) (log : List Entry) (is : Is
   all_approve : (i : ℕ) (e : Entry) (r : Response) → slice_get log i ≡ Some e → e.message ≡ ResponseMessage r → r.request ≡ k → AllApprove r.verdicts
   all_approve i e r at is to v listed =
       let fit = response_fits i e r at is in
-      let same : fit.request ≡ q = same_Some _ _ (sym fit.there ∙ (ap (request_at log) to ∙ u.there)) in
+      let same : fit.request ≡ q = same_Some _ _ (sym fit.there ∙ (ap (request_at log) to ∙ (u.approval).there)) in
       let owed : r.verdicts ≡ verdicts_owed m.reading m.params r.from (inbox m.reading r.from (take (suc k) log)) k =
       fit.owed ∙ ap (λ (x : ℕ). verdicts_owed m.reading m.params r.from (inbox m.reading r.from (take (suc x) log)) x) to in
-      let asked : Contains (u.request).confirming r.from = subst (λ (x : Request). Contains x.confirming r.from) same fit.confirming in
+      let asked : Contains ((u.approval).request).confirming r.from = subst (λ (x : Request). Contains x.confirming r.from) same fit.confirming in
       let listed' : In v (verdicts_owed m.reading m.params r.from (inbox m.reading r.from (take (suc k) log)) k) = subst (In v) owed listed in
-      u.approves r.from v asked (contains_from_In _ v listed')
+      (u.approval).approves r.from v asked (contains_from_In _ v listed')
 
   quiet : Quiet k dead (drop (suc k) log)
   quiet =
@@ -232,10 +233,12 @@ module _ (m : Machine) (paused : List ParticipantId) (log : List Entry) (is : Is
       }
 
   state : ApprovedOrWaits k q.confirming (drop (suc k) log) (fold (after_entry k dead) (Waiting q.confirming) (drop (suc k) log))
-  state = quiet_fold k dead (drop (suc k) log) quiet q.confirming ((u.somebody).0, in_from_Contains q.confirming (u.somebody).0 (u.somebody).1)
+  state =
+      let p = (u.approval).somebody in
+      quiet_fold k dead (drop (suc k) log) quiet q.confirming (p.0, in_from_Contains q.confirming p.0 p.1)
 
   scanned : scan m.params log k ≡ decision_of (fold (after_entry k dead) (Waiting q.confirming) (drop (suc k) log))
-  scanned = scan_is m.params log k q u.there
+  scanned = scan_is m.params log k q (u.approval).there
 
   -- a response to the request stands after it
   responded_after : (p : ParticipantId) → has_responded k log p ≡ true → has_responded k (drop (suc k) log) p ≡ true
@@ -259,12 +262,12 @@ module _ (m : Machine) (paused : List ParticipantId) (log : List Entry) (is : Is
   responded : (p : ParticipantId) → verdict_on k (timeline_of log) ≡ None → In p q.confirming → has_responded k log p ≡ true
   responded p none i =
       let asked = contains_from_In q.confirming p i in
-      let here = u.present p asked in
+      let here = (u.approval).present p asked in
       elim (cases_Bool (has_responded k log p)) [
         | inl yes' ↦ yes'
         | inr no' ↦
-            let owes : s.is_asked_in m.reading p (request_at log k) ≡ true = ap (s.is_asked_in m.reading p) u.there
-            ∙ confirming_asked m.reading p q (sealed_of m.reading m.params log is genuine k q u.there) asked in
+            let owes : s.is_asked_in m.reading p (request_at log k) ≡ true = ap (s.is_asked_in m.reading p) (u.approval).there
+            ∙ confirming_asked m.reading p q (sealed_of m.reading m.params log is genuine k q (u.approval).there) asked in
             let due : s.is_due m log p k ≡ true = and_from _ _ owes (and_from _ _ (ap not no') (undecided none)) in
             absurd (both_ways _ not_late (settled.responses p k here.0 here.1 due))
       ]

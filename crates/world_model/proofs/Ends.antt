@@ -179,7 +179,8 @@ module _ (m : Machine) (now : ℕ) where
       by_decision None e h = absurd h
       by_decision (Some d) e h = let t = in_if (not (is_some (verdict_on n (timeline_of log)))) x _ h in subst (MayStand m log) t.1 e
 
-  pub replies_genuine : (is : IsReading m.reading) (paused : List ParticipantId) (log : List Entry) (n : ℕ) → GenuineLog m log → GenuineLog m (replies_below m now paused log n)
+  pub replies_genuine : (is : IsReading m.reading) (paused : List ParticipantId) (log : List Entry) (n : ℕ) → GenuineLog m log
+      → GenuineLog m (replies_below m now paused log n)
   replies_genuine is paused log zero g = g
   replies_genuine is paused log (suc n) g =
       let h = replies_genuine is paused log n g in
@@ -193,7 +194,8 @@ module _ (m : Machine) (now : ℕ) where
   unless_genuine true log g = g
   unless_genuine false log g = each_genuine log (due_verdicts m log) (verdicts_may log (length log)) g
 
-  pub pass_genuine : (is : IsReading m.reading) (paused : List ParticipantId) (held : Bool) (log : List Entry) → GenuineLog m log → GenuineLog m (pass m now paused held log)
+  pub pass_genuine : (is : IsReading m.reading) (paused : List ParticipantId) (held : Bool) (log : List Entry) → GenuineLog m log
+      → GenuineLog m (pass m now paused held log)
   pass_genuine is paused held log g = unless_genuine held _ (replies_genuine is paused log m.hosts g)
 
   pub passes_genuine : (is : IsReading m.reading) (paused : List ParticipantId) (held : Bool) (n : ℕ) (log : List Entry) → GenuineLog m log

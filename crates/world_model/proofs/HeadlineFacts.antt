@@ -41,13 +41,14 @@ module _ (reading : Reading) (params : Params) (log : List Entry) (is : IsReadin
     locked : (p : ParticipantId) (k : ℕ) (a : Act) → k < length log → IsAtHost reading log p a
         → is_locked_in_inbox reading params (inbox reading p (take (suc k) log)) k (id_of a.action) ≡ is_locked_in reading params log k a
     locked p k a lt h =
-        locked_agrees reading params log (informs reading is) distinct genuine sealed opens p h.place a (in_from_Contains _ a h.stands) h.authentic h.hosted k lt
+        locked_agrees reading params log (informs reading is) distinct genuine sealed opens p h.place a (in_from_Contains _ a h.stands)
+        h.authentic h.hosted k lt
 
     status : (p : ParticipantId) (k : ℕ) (a : Act) → k < length log → IsAtHost reading log p a → is_locked_in reading params log k a ≡ false
         → status_in_inbox reading (inbox reading p (take (suc k) log)) k (id_of a.action) ≡ status_in reading log k (id_of a.action)
     status p k a lt h free =
-        status_agrees reading params log (informs reading is) distinct genuine sealed opens p h.place a (in_from_Contains _ a h.stands) h.authentic h.hosted k lt
-        (locked p k a lt h ∙ free)
+        status_agrees reading params log (informs reading is) distinct genuine sealed opens p h.place a (in_from_Contains _ a h.stands)
+        h.authentic h.hosted k lt (locked p k a lt h ∙ free)
 
     one_ledger : OneLedger reading params log
     one_ledger =

@@ -2,5 +2,4 @@ use Rattle.sealed_form.proofs.WithinTopology.{sealed_within}
 use Rattle.sealed_form.proofs.laws.rules_within_a_topology_are_sealed.Goals as goal
 
 pub returns : goal.returns
-returns c =
-    λ topology packages reading request transaction lawful within keeps. sealed_within topology packages reading request transaction within keeps lawful
+returns c = sealed_within

@@ -42,18 +42,20 @@ owed p = verdicts_owed model.reading model.params p (inbox model.reading p (take
 pub returns-clause-unhindered : goal.returns-clause-unhindered
 returns-clause-unhindered c =
     record {
-      request = model.request;
-      there = refl;
+      approval = record {
+        request = model.request;
+        there = refl;
+        somebody = (0, (0, omega arith, refl));
+        present =
+            λ p h. elim
+            (in_from_Contains (0 ∷ []) p h) [ inl same ↦ subst (λ (n : ℕ). (n < 1) × (false ≡ false)) same (omega arith, refl) | inr none ↦ absurd none ];
+        approves = λ p v h l. elim (in_from_Contains (0 ∷ []) p h) [
+          | inl same ↦
+              let mine : Contains (owed 0) v = subst (λ (n : ℕ). Contains (owed n) v) (sym same) l in
+              elim (in_from_Contains (owed 0) v mine) [ inl is ↦ ap (λ (w : ViewVerdict). w.verdict) (sym is) | inr none ↦ absurd none ]
+          | inr none ↦ absurd none
+        ];
+      };
       no_tick = quiet;
       short = omega arith;
-      somebody = (0, (0, omega arith, refl));
-      present =
-          λ p h. elim
-          (in_from_Contains (0 ∷ []) p h) [ inl same ↦ subst (λ (n : ℕ). (n < 1) × (false ≡ false)) same (omega arith, refl) | inr none ↦ absurd none ];
-      approves = λ p v h l. elim (in_from_Contains (0 ∷ []) p h) [
-        | inl same ↦
-            let mine : Contains (owed 0) v = subst (λ (n : ℕ). Contains (owed n) v) (sym same) l in
-            elim (in_from_Contains (owed 0) v mine) [ inl is ↦ ap (λ (w : ViewVerdict). w.verdict) (sym is) | inr none ↦ absurd none ]
-        | inr none ↦ absurd none
-      ];
     }
