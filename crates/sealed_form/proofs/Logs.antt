@@ -18,7 +18,7 @@ module _ (topology : Topology) (packages : Packages) (test : Request → Bool) (
     (genuine : Genuine (sealed_reading topology packages test) topology.params log) where
   by_message : (k : ℕ) (m : Message) (request : Request) → FitsIfRequest (sealed_reading topology packages test) log k m → request_of m ≡ Some request
       → IsSealedForm topology packages request
-  by_message k (RequestMessage q) request f e = subst (IsSealedForm topology packages) (same_Some q request e) (sound.passes q f.is_sealed)
+  by_message k (RequestMessage q) request f e = subst (IsSealedForm topology packages) (same_Some q request e) (sound.sealed q f.is_sealed)
   by_message k (ResponseMessage response) request f e = absurd (none-some request e)
   by_message k (VerdictMessage verdict) request f e = absurd (none-some request e)
   by_message k Tick request f e = absurd (none-some request e)

@@ -63,5 +63,5 @@ lawful topology packages test sound =
     record {
       confirms_hosted = λ p name h. confirmer_hosts topology.hosts p name h;
       conforms_is = λ roots. decides packages roots;
-      sealed_facts = λ request passes. is_sealed topology packages test request (sound.passes request passes);
+      sealed_facts = λ request passes. is_sealed topology packages test request (sound.sealed request passes);
     }

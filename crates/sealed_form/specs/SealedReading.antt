@@ -20,13 +20,14 @@ abbrev pub conforms : Packages → Forest Act → Bool
 conforms packages NoRoots = true
 conforms packages (Root act consequences others) = is_tree_possible packages act.action consequences && conforms packages others
 
+-- the participant there has vetted the package
 abbrev pub vets : Option Host → List ℕ → Bool
 vets None name = false
 vets (Some host) name = has_party host.vetted name
 
 -- What passes the test is in the sealed form.
 pub record IsTestOf (topology : Topology) (packages : Packages) (test : Request → Bool) : Type 0 where
-  pub passes : (request : Request) → test request ≡ true → IsSealedForm topology packages request
+  pub sealed : (request : Request) → test request ≡ true → IsSealedForm topology packages request
 
 -- the reading of a synchroniser with this topology and these packages, which takes the requests that pass a test for sealed
 abbrev pub sealed_reading : Topology → Packages → (test : Request → Bool) → Reading
