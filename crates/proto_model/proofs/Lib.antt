@@ -2,6 +2,8 @@ pub mod PlainLaws
 pub mod NoteRoles
 pub mod Conforming
 pub mod Sealed
+pub mod NoteTests
+pub mod Lawful
 pub mod NoteForms
 pub mod OneCreate
 pub mod OneRequest

@@ -11,16 +11,15 @@ use Rattle.canton_model.specs.declared.local_verdict.LocalVerdict.TheVariants.{A
 use Rattle.ledger_model.specs.Language.{roles_of}
 use Rattle.ledger_model.specs.Opening.{Shown}
 use Rattle.canton_model.specs.Reading.{Reading}
-use Rattle.canton_model.specs.Genuine.{IsSealed, Genuine, NoCollision}
+use Rattle.canton_model.specs.Genuine.{Genuine, NoCollision}
 use Rattle.canton_model.specs.Checks.{verdicts_owed, verdicts_on, verdict_on_view, is_confirmed_by, authorises_children, is_requested, is_within}
 use Rattle.canton_model.specs.Inbox.{Received, inbox, received, shown_in}
 use Rattle.proto_model.specs.NoteForm.{root_seed_of, note_of, note_form, note_request, request_to_self}
 use Rattle.proto_model.specs.BuiltIn.{built_in, built_in_language, conforms}
 use Rattle.proto_model.specs.NoteLog.{approval, request_entry, note_log, sole_host, LeavesTime}
-use Rattle.proto_model.specs.NoteRequest.{IsNoteRequest}
 use Rattle.proto_model.specs.Plain.{IsPlain, spell_plain, plain_of}
 use Rattle.interpret.specs.Ids.{contract_id}
-use Rattle.proto_model.specs.PlainReading.{is_authentic, plain_to, plain_reading, root_of, roots_of_form, shown_of_form, view_of_form, whole_of_form}
+use Rattle.proto_model.specs.PlainReading.{is_authentic, is_note_request, plain_to, plain_reading, root_of, roots_of_form, shown_of_form, view_of_form, whole_of_form}
 use Rattle.proto_model.specs.declared.plain_form.PlainForm.{PlainForm}
 use Rattle.interpret.specs.Sizes.{is_small_instance}
 use Rattle.lang_eval.specs.Parts.{parties_of_created}
@@ -29,7 +28,7 @@ use Rattle.proto_model.proofs.NoteRoles.{has_kinds, has_roles, signs, observes}
 use Rattle.proto_model.proofs.OneCreate.{approves}
 use Rattle.proto_model.proofs.OneRequest.{one_view, genuine, no_collision}
 use Rattle.proto_model.proofs.PlainLaws.{plain_again}
-use Rattle.proto_model.proofs.Sealed.{same_self, or_false, sealed}
+use Rattle.proto_model.proofs.Sealed.{same_self, or_false}
 
 away : (p : ℕ) → nat_eq (suc p) 0 ≡ false
 away p = ne_eqb (suc p) 0 (λ e. omega arith)
@@ -77,19 +76,9 @@ module _ (name command bytes party text seed own id : List ℕ) (params : Params
     (read : plain_of bytes ≡ Some (seeded party text seed own id))
     (authentic : is_authentic (root_of (seeded party text seed own id)) ≡ true)
     (few : length party ≤ 32) (many : length text ≤ 256) where
-  pub is_note_request : IsNoteRequest (sole_host name party) (request_to_self 0 command bytes) (seeded party text seed own id) party
-  is_note_request =
-      record {
-        opened = λ p. to_self command bytes (seeded party text seed own id) p read;
-        hosted = hosted name party;
-        confirming = (0, omega arith, refl);
-        has_roles = has_roles party text id;
-        signs = signs party text;
-        observes = observes party text;
-      }
-
-  note_sealed : IsSealed (plain_reading (sole_host name party)) (request_to_self 0 command bytes)
-  note_sealed = sealed (sole_host name party) (request_to_self 0 command bytes) (seeded party text seed own id) party is_note_request
+  passes : (plain_reading (sole_host name party)).is_sealed (request_to_self 0 command bytes) ≡ true
+  unfolding is_note_request
+  passes = rw (read, has_roles party text id, signs party text, observes party text, same_self party) refl
 
   confirmed : is_confirmed_by (plain_reading (sole_host name party)) 0 (view_of_form (seeded party text seed own id)) ≡ true
   confirmed = rw (signs party text) (or_false _ ∙ hosted name party 0)
@@ -114,7 +103,7 @@ module _ (name command bytes party text seed own id : List ℕ) (params : Params
       ∙ one_view R params (record { time = 1; content = Received shown } ∷ []) 0 (Some (party ∷ [])) (roots_of_form (seeded party text seed own id)) (view_of_form (seeded party text seed own id)) confirmed approved refl
 
   pub note_genuine : Genuine (plain_reading (sole_host name party)) params (note_log (request_to_self 0 command bytes))
-  note_genuine = genuine (plain_reading (sole_host name party)) params command bytes leaves note_sealed owed
+  note_genuine = genuine (plain_reading (sole_host name party)) params command bytes leaves passes owed
 
   pub note_collides_not : NoCollision (plain_reading (sole_host name party)) (note_log (request_to_self 0 command bytes))
   note_collides_not =

@@ -5,7 +5,7 @@ use Rattle.std.specs.List.{list_any}
 use Rattle.ledger_terms.specs.declared.params.Params.{Params}
 use Rattle.canton_model.specs.declared.local_verdict.LocalVerdict.TheVariants.{Approve}
 use Rattle.ledger_model.specs.Terms.{Act, is_create}
-use Rattle.ledger_model.specs.Status.{shows_locked, shows_inactive, shows_not_fresh, shows_unordered}
+use Rattle.ledger_model.specs.Status.{is_locked_by, status_after, shows_locked, shows_inactive, shows_not_fresh, shows_unordered}
 use Rattle.ledger_model.specs.Language.{roles_of}
 use Rattle.ledger_model.specs.Opening.{Shown, OpenedView}
 use Rattle.canton_model.specs.Reading.{Reading}
@@ -34,20 +34,20 @@ module _ (reading : Reading) (params : Params) (time : ℕ) (shown : Shown) (vie
   pub approves : reading.is_authentic a ≡ true → has_vetted reading 0 a ≡ true → is_within params.skew shown.ledger_time time ≡ true → is_create a.action ≡ true
       → reading.conforms (first_tree shown view.core) ≡ true
       → (authorises_children (roles_of reading.language) shown (0, a) && is_requested (roles_of reading.language) shown view (0, a)) ≡ true
-      → first_shown (checks reading params 0 time shown view [] []) ((0, a) ∷ []) ≡ Approve
+      → first_shown (checks reading params 0 time shown view (status_after []) (is_locked_by [])) ((0, a) ∷ []) ≡ Approve
   approves authentic vetted within create conforms authorised =
-      none_is_approval (checks reading params 0 time shown view [] []) ((0, a) ∷ []) (
+      none_is_approval (checks reading params 0 time shown view (status_after []) (is_locked_by [])) ((0, a) ∷ []) (
         none_shown _ authentic,
         (
           none_shown _ vetted,
           (
             none_shown _ within,
             (
-              neither (has_hosted_stakeholder reading 0 a) (shows_locked [] a) refl,
+              neither (has_hosted_stakeholder reading 0 a) (shows_locked (is_locked_by []) a) refl,
               (
-                neither (has_hosted_stakeholder reading 0 a) (shows_inactive [] [] a) (rw create refl),
+                neither (has_hosted_stakeholder reading 0 a) (shows_inactive (status_after []) [] a) (rw create refl),
                 (
-                  neither (has_hosted_stakeholder reading 0 a) (shows_not_fresh [] a) (rw create refl),
+                  neither (has_hosted_stakeholder reading 0 a) (shows_not_fresh (status_after []) a) (rw create refl),
                   (
                     neither (has_hosted_stakeholder reading 0 a) (shows_unordered [] a) (rw create refl),
                     (none_shown _ conforms, (none_shown _ authorised, tt)),

@@ -16,7 +16,7 @@ use Rattle.canton_model.specs.Inbox.{Item, inbox}
 use Rattle.canton_model.specs.Checks.{verdicts_owed, verdicts_on, verdict_on_view, is_confirmed_by}
 use Rattle.canton_model.specs.Ledger.{FitsIfVerdict, whole_at, commit_of}
 use Rattle.canton_model.specs.Evidence.{acts_of}
-use Rattle.canton_model.specs.Genuine.{IsSealed, FitsIfRequest, FitsIfResponse, Genuine, NoCollision}
+use Rattle.canton_model.specs.Genuine.{FitsIfRequest, FitsIfResponse, Genuine, NoCollision}
 use Rattle.ledger_model.proofs.Lists.{In, in_from_Contains}
 use Rattle.proto_model.specs.NoteForm.{request_to_self}
 use Rattle.proto_model.specs.NoteLog.{approval, request_entry, response_entry, note_log, LeavesTime}
@@ -33,7 +33,7 @@ not_past : (a b : ℕ) → b ≤ a → nat_lt a b ≡ false
 not_past a b h = grind (arith, nat_tests)
 
 module _ (reading : Reading) (params : Params) (command bytes : List ℕ) (leaves : LeavesTime params)
-    (sealed : IsSealed reading (request_to_self 0 command bytes))
+    (is_sealed : reading.is_sealed (request_to_self 0 command bytes) ≡ true)
     (owed : verdicts_owed reading params 0 (inbox reading 0 (request_entry (request_to_self 0 command bytes) ∷ [])) 0 ≡ approval) where
   abbrev log : List Entry
   log = note_log (request_to_self 0 command bytes)
@@ -58,7 +58,7 @@ module _ (reading : Reading) (params : Params) (command bytes : List ℕ) (leave
   response_fits (suc (suc (suc k))) e h = absurd (none-some e h)
 
   request_fits : (k : ℕ) (e : Entry) → slice_get log k ≡ Some e → FitsIfRequest reading log k e.message
-  request_fits zero e h = subst (λ (x : Entry). FitsIfRequest reading log 0 x.message) (same_Some _ e h) (record { sealed = sealed; first = refl })
+  request_fits zero e h = subst (λ (x : Entry). FitsIfRequest reading log 0 x.message) (same_Some _ e h) (record { is_sealed = is_sealed; first = refl })
   request_fits (suc zero) e h = subst (λ (x : Entry). FitsIfRequest reading log 1 x.message) (same_Some _ e h) tt
   request_fits (suc (suc zero)) e h = subst (λ (x : Entry). FitsIfRequest reading log 2 x.message) (same_Some _ e h) tt
   request_fits (suc (suc (suc k))) e h = absurd (none-some e h)

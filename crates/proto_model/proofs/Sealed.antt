@@ -2,6 +2,7 @@
 use Rattle.std.proofs.Common.{◌≡◌, ℕ, Bool, true, false, List, [], ◌∷◌, Option, Some, None, nat_eq, eq-eqb, zero, suc, Contains, refl, sym, ap, ◌∙◌, subst, inl, inr, arith}
 use Rattle.std.specs.Prelude.{slice_get, option_map, if◌then◌else◌, ◌||◌}
 use Rattle.std.specs.List.{list_any}
+use Rattle.std.specs.List.Sorted.{IsStrictlyIncreasing}
 use Rattle.std.specs.Cmp.{IsEquivalence}
 use Rattle.std.specs.declared.cmp.Ordering.{Ordering}
 use Rattle.std.specs.declared.cmp.Ordering.TheVariants.{Less, Equal, Greater}
@@ -18,7 +19,7 @@ use Rattle.ledger_model.specs.Forest.{Forest, NoRoots, acts, project, trees_of, 
 use Rattle.ledger_model.specs.Opening.{OpenedView, Shown, roots_in}
 use Rattle.canton_model.specs.Inbox.{is_informed}
 use Rattle.canton_model.specs.Checks.{is_confirmed_by}
-use Rattle.canton_model.specs.Genuine.{IsCovered, IsRootCovered, IsSealed}
+use Rattle.canton_model.specs.Genuine.{Answers, TellsOf, IsCovered, IsRootCovered, IsSealed}
 use Rattle.ledger_model.proofs.Lists.{In, in_from_Contains}
 use Rattle.proto_model.specs.BuiltIn.{built_in_language}
 use Rattle.proto_model.specs.NoteRequest.{IsNoteRequest}
@@ -117,8 +118,38 @@ module _ (hosts : List Host) (request : Request) (form : PlainForm) (party : Lis
   numbered p shown view i a is =
       subst (λ (x : Shown). Contains x.views view → Contains view.core (i, a) → slice_get (acts x.roots) i ≡ Some a) (shown_is p shown is).0 (numbered_here view i a)
 
+  asks_sender : Contains request.confirming request.sender
+  asks_sender = rw r.confirming (0, omega arith, refl)
+
   asked : (p : ℕ) (shown : Shown) → (plain_reading hosts).shown p request ≡ Some shown → Contains request.confirming p
-  asked p shown is = subst (λ (q : ℕ). Contains request.confirming q) (same_place p request.sender (shown_is p shown is).1) r.confirming
+  asked p shown is = subst (λ (q : ℕ). Contains request.confirming q) (same_place p request.sender (shown_is p shown is).1) asks_sender
+
+  tells : (p : ℕ) (shown : Shown) → (plain_reading hosts).shown p request ≡ Some shown → TellsOf (whole_of_form form) shown
+  tells p shown is =
+      subst (TellsOf (whole_of_form form)) (shown_is p shown is).0 (record { ledger_time = refl; requesters = λ names e. sym (same_Some _ names e); path_order = (tt, tt) })
+
+  one_rises : (n : ℕ) → IsStrictlyIncreasing (n ∷ [])
+  one_rises n k lt = absurd (omega (arith, lt))
+
+  confirming_order : IsStrictlyIncreasing request.confirming
+  confirming_order = rw r.confirming (one_rises request.sender)
+
+  sender_answers : Answers (plain_reading hosts) request request.sender
+  sender_answers =
+      record {
+        shown = shown_of_form form;
+        is_shown = ap (option_map shown_of_form) to_sender;
+        view = view_of_form form;
+        is_opened = (0, omega arith, refl);
+        is_confirmed = confirmed;
+      }
+
+  answers : (p : ℕ) → Contains request.confirming p → Answers (plain_reading hosts) request p
+  answers p h = by_place (in_from_Contains (request.sender ∷ []) p (subst (λ (all : List ℕ). Contains all p) r.confirming h))
+    where
+      by_place : In p (request.sender ∷ []) → Answers (plain_reading hosts) request p
+      by_place (inl same) = subst (Answers (plain_reading hosts) request) same sender_answers
+      by_place (inr none) = absurd none
 
   covered : IsCovered (plain_reading hosts) request (root_of form, NoRoots)
   covered =
@@ -152,6 +183,9 @@ module _ (hosts : List Host) (request : Request) (form : PlainForm) (party : Lis
         guarded = guarded;
         viewed = λ p shown i a is e signs. viewed p shown i a is e;
         numbered = numbered;
+        tells = tells;
+        confirming_order = confirming_order;
+        answers = answers;
         asked = λ p shown view is h mine. asked p shown is;
         covers = λ tree h. subst (IsCovered (plain_reading hosts) request) (one_tree tree (in_from_Contains (trees_of (roots_of_form form)) tree h)) covered;
         roots = λ tree h. subst (IsRootCovered (plain_reading hosts) request form.requesters) (one_tree tree (in_from_Contains (root_trees (roots_of_form form)) tree h)) root_covered;

@@ -1,5 +1,5 @@
 -- A request of one note in the plain form.
-use Rattle.std.specs.Prelude.{◌≡◌, ℕ, true, List, [], ◌∷◌, Some, None, Contains, nat_eq, if◌then◌else◌}
+use Rattle.std.specs.Prelude.{◌≡◌, ℕ, true, List, [], ◌∷◌, Some, None, nat_eq, if◌then◌else◌}
 use Rattle.ledger_terms.specs.Hosting.{hosts_at}
 use Rattle.ledger_terms.specs.declared.host.Host.{Host}
 use Rattle.canton_model.specs.declared.request.Request.{Request}
@@ -12,7 +12,7 @@ use Rattle.proto_model.specs.declared.plain_form.PlainForm.{PlainForm}
 pub record IsNoteRequest (hosts : List Host) (request : Request) (form : PlainForm) (party : List ℕ) : Type 0 where
   pub opened : (p : ℕ) → plain_to p request ≡ (if nat_eq p request.sender then Some form else None)
   pub hosted : (p : ℕ) → hosts_at hosts p party ≡ nat_eq p request.sender
-  pub confirming : Contains request.confirming request.sender
+  pub confirming : request.confirming ≡ request.sender ∷ []
   pub has_roles : built_in_language.has_roles (root_of form).action ≡ true
   pub signs : built_in_language.signatories form.instance ≡ party ∷ []
   pub observes : built_in_language.observers form.instance ≡ party ∷ []

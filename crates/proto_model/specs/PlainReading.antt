@@ -1,8 +1,9 @@
 -- How the definitions of the ledger model read requests whose envelopes have the plain form.
-use Rattle.std.specs.Prelude.{ℕ, Bool, false, List, [], ◌∷◌, ◌++◌, Option, Some, None, option_map, option_and_then, nat_eq, slice_get, if◌then◌else◌}
+use Rattle.std.specs.Prelude.{ℕ, zero, suc, Bool, false, List, [], ◌∷◌, ◌++◌, Option, Some, None, not, ◌&&◌, option_map, option_and_then, nat_eq, slice_get, if◌then◌else◌}
+use Rattle.std.specs.List.{list_any}
 use Rattle.std.specs.Str.{bytes_eq}
-use Rattle.ledger_terms.specs.Hosting.{hosts_at}
-use Rattle.ledger_terms.specs.Parties.{has_party}
+use Rattle.ledger_terms.specs.Hosting.{hosts_at, lists_party}
+use Rattle.ledger_terms.specs.Parties.{has_party, same_name}
 use Rattle.ledger_terms.specs.declared.host.Host.{Host}
 use Rattle.ledger_terms.specs.declared.action.Action.TheVariants.{Create, Exercise, Fetch}
 use Rattle.ledger_model.specs.Terms.{Act, Action, Instance, id_of, instance_of}
@@ -56,6 +57,41 @@ envelope_to p (envelope ∷ rest) = if nat_eq envelope.to p then Some envelope.b
 abbrev pub plain_to : ℕ → Request → Option PlainForm
 plain_to p request = option_and_then plain_of (envelope_to p request.envelopes)
 
+-- the party is hosted at this index and nowhere else
+abbrev pub is_sole_host : List Host → ℕ → (party : List ℕ) → Bool
+is_sole_host [] p party = false
+is_sole_host (host ∷ hosts) zero party = lists_party party host && not (list_any (lists_party party) hosts)
+is_sole_host (host ∷ hosts) (suc p) party = not (lists_party party host) && is_sole_host hosts p party
+
+-- one party is all signatories and all observers, and is hosted by this participant alone
+abbrev pub is_of_one_party : List Host → ℕ → (signatories observers : List (List ℕ)) → Bool
+is_of_one_party hosts p [] observers = false
+is_of_one_party hosts p (party ∷ []) [] = false
+is_of_one_party hosts p (party ∷ []) (observer ∷ []) = same_name party observer && is_sole_host hosts p party
+is_of_one_party hosts p (party ∷ []) (a ∷ b ∷ more) = false
+is_of_one_party hosts p (a ∷ b ∷ more) observers = false
+
+-- the form is of a contract of one party of this participant with itself
+abbrev pub is_own_note : List Host → ℕ → Option PlainForm → Bool
+is_own_note hosts p None = false
+is_own_note hosts p (Some form) =
+    built_in_language.has_roles (root_of form).action
+    && is_of_one_party hosts p (built_in_language.signatories form.instance) (built_in_language.observers form.instance)
+
+-- there is one envelope, to this participant
+abbrev pub is_one_envelope_to : ℕ → List Envelope → Bool
+is_one_envelope_to p [] = false
+is_one_envelope_to p (envelope ∷ []) = nat_eq envelope.to p
+is_one_envelope_to p (a ∷ b ∷ more) = false
+
+-- Whether the request is of a note that its sender's party makes to itself: the plain form goes to the sender alone, who is
+-- asked to confirm it.
+unfoldable pub is_note_request : List Host → Request → Bool
+is_note_request hosts request =
+    bytes_eq request.confirming (request.sender ∷ [])
+    && is_one_envelope_to request.sender request.envelopes
+    && is_own_note hosts request.sender (plain_to request.sender request)
+
 abbrev pub vets : Option Host → List ℕ → Bool
 vets None name = false
 vets (Some host) name = has_party host.vetted name
@@ -66,6 +102,7 @@ plain_reading hosts =
     record {
       whole = λ request. option_map whole_of_form (plain_to request.sender request);
       shown = λ p request. option_map shown_of_form (plain_to p request);
+      is_sealed = is_note_request hosts;
       is_authentic = is_authentic;
       language = built_in_language;
       conforms = conforms built_in;

@@ -9,7 +9,10 @@ pub mod plain_form;
 pub mod setup;
 
 pub use built_in::BuiltIn;
-pub use canton_model::{Decision, Entry, EntryList, Envelope, EnvelopeList, LocalVerdict, Message, Outcome, Reason, Request, Response, Verdict, ViewVerdict, ViewVerdictList};
+pub use canton_model::{
+    Decision, Entry, EntryList, Envelope, EnvelopeList, LocalVerdict, Message, Outcome, Reason,
+    Request, Response, Verdict, ViewVerdict, ViewVerdictList,
+};
 pub use ledger_model::Status;
 pub use opened_form::{OpenedForm, open_envelope, root_node};
 pub use plain_form::{PlainForm, decode_plain, encode_plain};

@@ -4,10 +4,10 @@ ghost use Rattle.proto_model.specs.Plain.{IsPlain, plain_of, spell_plain};
 ghost use Rattle.proto_model.specs.NoteForm.{note_of, note_form, note_request, request_to_self, seed_of, root_seed_of};
 
 use crate::plain_form::{PlainForm, encode_plain};
+use canton_model::{Envelope, EnvelopeList, Request};
 use hash_id::{child_seed, root_seed};
 use interpret::contract_id;
 use lang_eval::note_template;
-use canton_model::{Envelope, EnvelopeList, Request};
 use ledger_terms::{
     Bytes, Hash, Instance, Name, ParticipantId, ParticipantIdList, PartySet, Text, Value, ValueList,
 };
