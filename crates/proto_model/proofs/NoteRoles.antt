@@ -1,5 +1,5 @@
 -- Who is involved in a note.
-use Rattle.std.proofs.Common.{◌≡◌, ℕ, Bool, true, false, List, [], ◌∷◌, ◌++◌, Result, Ok, Err, refl}
+use Rattle.std.proofs.Common.{◌≡◌, ℕ, true, List, [], ◌∷◌, ◌++◌, Result, Ok, Err, refl}
 use Rattle.std.specs.Prelude.{if◌then◌else◌}
 use Rattle.ledger_terms.specs.Parties.{set_of}
 use Rattle.ledger_model.specs.declared.roles.Roles.{Roles}
@@ -9,8 +9,8 @@ use Rattle.lang_eval.specs.declared.contract_parties.ContractParties.{ContractPa
 use Rattle.lang_eval.specs.declared.role_fault.RoleFault.{RoleFault}
 use Rattle.lang_eval.specs.declared.role_fault.RoleFault.TheVariants.{NoRoles}
 use Rattle.lang_eval.specs.Language.{parties_if_typed, is_given, signatories_in, observers_in}
-use Rattle.lang_eval.specs.Parts.{parties_of_contract, parties_of_created}
-use Rattle.proto_model.specs.BuiltIn.{built_in, built_in_language, nobody, given_or_nobody, roles_or_nobody}
+use Rattle.lang_eval.specs.Parts.{parties_of_contract}
+use Rattle.proto_model.specs.BuiltIn.{built_in, built_in_language, given_or_nobody, roles_or_nobody}
 use Rattle.proto_model.specs.NoteForm.{note_of}
 
 pub has_kinds : (party text : List ℕ) → built_in_language.has_kinds (note_of party text) ≡ true

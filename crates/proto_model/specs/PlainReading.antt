@@ -1,12 +1,12 @@
 -- How the definitions of the ledger model read requests whose envelopes have the plain form.
-use Rattle.std.specs.Prelude.{ℕ, zero, suc, Bool, false, List, [], ◌∷◌, ◌++◌, Option, Some, None, not, ◌&&◌, option_map, option_and_then, nat_eq, slice_get, if◌then◌else◌}
+use Rattle.std.specs.Prelude.{ℕ, zero, suc, Bool, false, List, [], ◌∷◌, Option, Some, None, not, ◌&&◌, option_map, option_and_then, nat_eq, slice_get, if◌then◌else◌}
 use Rattle.std.specs.List.{list_any}
 use Rattle.std.specs.Str.{bytes_eq}
 use Rattle.ledger_terms.specs.Hosting.{hosts_at, lists_party}
 use Rattle.ledger_terms.specs.Parties.{has_party, same_name}
 use Rattle.ledger_terms.specs.declared.host.Host.{Host}
 use Rattle.ledger_terms.specs.declared.action.Action.TheVariants.{Create, Exercise, Fetch}
-use Rattle.ledger_model.specs.Terms.{Act, Action, Instance, id_of, instance_of}
+use Rattle.ledger_model.specs.Terms.{Act, Action, id_of, instance_of}
 use Rattle.ledger_model.specs.Forest.{Forest, NoRoots, Root}
 use Rattle.canton_model.specs.declared.envelope.Envelope.{Envelope}
 use Rattle.canton_model.specs.declared.request.Request.{Request}
