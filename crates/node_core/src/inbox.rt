@@ -3,7 +3,7 @@ ghost use Rattle.std.specs.Prelude.{◌≡◌, ◌+◌, ◌&&◌, ◌||◌, [], 
 ghost use Rattle.std.specs.List.{list_any};
 ghost use Rattle.ledger_model.specs.Terms.{creates, consumes};
 ghost use Rattle.canton_model.specs.Timeline.{decision_on, verdict_on, is_past, is_approval, is_approved_in};
-ghost use Rattle.canton_model.specs.Inbox.{shown_by, shown_at, verdict_in, moments, item_time, is_received, is_decided_in, past_in, pending_in, status_in_inbox, is_locked_in_inbox, clean, last_time};
+ghost use Rattle.canton_model.specs.Inbox.{shown_by, shown_at, verdict_in, moments, item_time, is_received, is_decided_in, past_in, pending_in, status_in_inbox, is_locked_in_inbox, authentic_below, clean, last_time};
 ghost use Rattle.proto_model.specs.PlainReading.{plain_reading, shown_of_form};
 ghost use Rattle.node_core.specs.Seen.{seen, seen_item, seen_content};
 ghost use Rattle.node_core.specs.Scans.{creates_at, changes_at};
@@ -177,6 +177,20 @@ fn is_created(items: &[Item], place: u64, id: &Hash) -> bool
     let mut created = false;
     'requests: for request in 0..place {
         if creates_at(items, request, id) && was_approved(items, request, place) {
+            created = true;
+        }
+    }
+    created
+}
+
+/// Whether a request below the place that is approved among all items creates the contract.
+#[tactic(auto, using(crate::proofs::Scans::any_more))]
+pub fn is_created_below(items: &[Item], place: u64, id: &Hash) -> bool
+    ensures { result ≡ list_any (creates id.now) (authentic_below (plain_reading []) (seen items.now) place) }
+{
+    let mut created = false;
+    'requests: for request in 0..place {
+        if creates_at(items, request, id) && is_approved(items, request) {
             created = true;
         }
     }

@@ -3,7 +3,6 @@
 
 mod check;
 mod content;
-mod copies;
 mod findings;
 mod finish_fault;
 mod finished;

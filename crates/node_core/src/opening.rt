@@ -6,7 +6,6 @@ ghost use Rattle.node_core.specs.Seen.{seen, seen_content, seen_item};
 ghost use Rattle.node_core.specs.Entries.{content_from, told_if_received};
 
 use crate::content::Content;
-use crate::copies::copy_verdict;
 use crate::inbox::opened_at;
 use crate::item::Item;
 use ledger_terms::ParticipantId;
@@ -46,7 +45,7 @@ fn told(items: &[Item], verdict: &Verdict) -> Result<Content, AllocError>
     ensures { IfOk result (λ content. seen_content content ≡ told_if_received (seen items.now) verdict.now) }
 {
     match opened_at(items, verdict.request) {
-        Some(_) => Ok(Content::Told(copy_verdict(verdict)?)),
+        Some(_) => Ok(Content::Told(verdict.clone()?)),
         None => Ok(Content::Nothing),
     }
 }

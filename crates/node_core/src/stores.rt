@@ -1,13 +1,13 @@
 //! What a participant's approved requests made.
-ghost use Rattle.std.specs.Prelude.{◌≡◌, ◌++◌, [], IfOk, OnOk, if◌then◌else◌};
+ghost use Rattle.std.specs.Prelude.{◌≡◌, ◌++◌, IfOk, OnOk};
 ghost use Rattle.canton_model.specs.Timeline.{is_approved_in};
-ghost use Rattle.canton_model.specs.Inbox.{moments, opened_at, part_if, parts_below, created_at_place, active_row, node_active};
+ghost use Rattle.canton_model.specs.Inbox.{moments, opened_at, part_if, parts_below, active_row, node_active};
 ghost use Rattle.proto_model.specs.PlainReading.{plain_reading, root_of, roots_of_form};
 ghost use Rattle.node_core.specs.Seen.{seen};
-ghost use Rattle.node_core.specs.Scans.{authentic_at};
+ghost use Rattle.node_core.specs.Scans.{first_rows_at};
 
 use crate::check::hosts_stakeholder;
-use crate::inbox::{is_approved, opened_at};
+use crate::inbox::{is_approved, is_created_below, opened_at};
 use crate::item::Item;
 use ledger_model::{Commit, CommitList};
 use ledger_terms::{ActionNodeList, ActiveRow, ActiveRowList, Known, ParticipantId, copy_instance};
@@ -74,13 +74,14 @@ fn push_row(
     place: u64,
     rows: &mut ActiveRowList,
 ) -> Result<(), AllocError>
-    ensures { OnOk result (rows.new ≡ rows.old ++ created_at_place (plain_reading setup.now.topology.hosts) me [] place (if is_approved_in place (moments (seen items.now)) then authentic_at (seen items.now) place else [])) }
+    ensures { OnOk result (rows.new ≡ rows.old ++ first_rows_at setup.now.topology.hosts me (seen items.now) place) }
 {
     match opened_at(items, place) {
         Some(opened) => {
             if opened.authentic
                 && hosts_stakeholder(setup, me, opened)
                 && is_approved(items, place)
+                && !is_created_below(items, place, &opened.form.id)
             {
                 let row = row_of(place, opened)?;
                 rows.push(row)?;
@@ -92,8 +93,8 @@ fn push_row(
 }
 
 /// The contracts with a hosted stakeholder that the approved requests below a place created, by the verdicts among the
-/// items. Creates alone are opened, so none is consumed.
-#[tactic(auto, using(crate::proofs::ActiveFacts::none_consumed))]
+/// items, each as it was created first. Creates alone are opened, so none is consumed.
+#[tactic(auto, using(crate::proofs::ActiveFacts::next_rows, crate::proofs::ActiveFacts::none_consumed))]
 pub fn rows_below(
     alloc: Global,
     setup: &Setup,
