@@ -2,7 +2,6 @@
 use Rattle.std.proofs.Common.{◌≡◌, ℕ, zero, suc, ◌+◌, ◌≤◌, false, List, [], Some, None, nat_lt, refl, sym, ap, subst, arith}
 use Rattle.std.proofs.lemmas.Bool.Decides.{nat_tests}
 use Rattle.std.proofs.lemmas.Option.{same_Some, none-some}
-use Rattle.ledger_terms.specs.declared.host.Host.{Host}
 use Rattle.ledger_terms.specs.declared.params.Params.{Params}
 use Rattle.canton_model.specs.declared.entry.Entry.{Entry}
 use Rattle.canton_model.specs.declared.request.Request.{Request}
@@ -21,16 +20,12 @@ use Rattle.canton_model.proofs.Fits.{sealed_of, opens_of}
 use Rattle.proto_model.specs.PlainReading.{plain_reading}
 use Rattle.proto_model.specs.NoteForm.{request_to_self}
 use Rattle.proto_model.specs.NoteLog.{note_log, LeavesTime}
-use Rattle.proto_model.specs.BuiltIn.{built_in}
-use Rattle.proto_model.proofs.Conforming.{decides}
+use Rattle.proto_model.proofs.Lawful.{lawful}
 use Rattle.proto_model.proofs.OneRequest.{empty_genuine}
 use Rattle.node_core.specs.declared.submit_result.SubmitResult.{SubmitResult}
 use Rattle.canton_run.specs.declared.script.Script.{Script}
 use Rattle.canton_run.specs.Play.{request_of_script}
 use Rattle.canton_run.specs.Run.{IsRun, IsSettled, hosts_of, params_of, requests_in, if_request, results_of}
-
-lawful : (hosts : List Host) → IsReading (plain_reading hosts)
-lawful hosts = record { confirms_hosted = λ p name h. h; conforms_is = λ roots. decides built_in roots }
 
 pub is_run : (script : Script) (log : List Entry) (results : List SubmitResult)
     → Genuine (plain_reading (hosts_of script)) (params_of script) log
@@ -43,8 +38,8 @@ is_run script log results genuine distinct requests settled results_are =
     let R : Reading = plain_reading (hosts_of script) in
     let P : Params = params_of script in
     let ok : IsReading R = lawful (hosts_of script) in
-    let seal = sealed_of R P log genuine in
-    let open' = opens_of R P log genuine in
+    let seal = sealed_of R P log ok genuine in
+    let open' = opens_of R P log ok genuine in
     record {
       genuine = genuine;
       requests = requests;
@@ -55,7 +50,7 @@ is_run script log results genuine distinct requests settled results_are =
       authorised = λ k commit approved whole. (sound R P log genuine seal open' ok k commit approved whole).1;
       projected = λ p n within. node_log_of_inbox R P log p n genuine.timely (open' p) within;
       active = λ p n within. active_sets R P log (informs R ok) distinct genuine seal open' p n within;
-      caused = λ k. cause_holds R P log genuine (informs R ok) distinct seal open' k (outcome_of (timeline_of log) k (decision_time_of P log k)) refl;
+      caused = λ k. cause_holds R P log genuine open' (informs R ok) distinct seal k (outcome_of (timeline_of log) k (decision_time_of P log k)) refl;
     }
 
 -- nothing happened

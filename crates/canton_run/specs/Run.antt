@@ -61,7 +61,7 @@ IsProjected reading params log p n =
 abbrev pub HasActive : Reading → Params → List Entry → (p n : ℕ) → Type 0
 HasActive reading params log p n =
     node_active reading p (inbox reading p (take n log)) (clean params (inbox reading p (take n log)))
-    ≡ active_of reading p (ledger_acts (commits_below reading log (clean params (inbox reading p (take n log))))) (commits_below reading log (clean params (inbox reading p (take n log))))
+    ≡ active_of reading p (commits_below reading log (clean params (inbox reading p (take n log))))
 
 -- the log and the results are those of a run of the script
 pub record IsRun (script : Script) (log : List Entry) (results : List SubmitResult) : Type 0 where
