@@ -1,6 +1,6 @@
 //! The words of the command line.
 ghost use Rattle.std.specs.Prelude.{◌≡◌, ◌≢◌, ◌↔◌, ◌∷◌, [], IfOk, codes, drop, map, string_bytes};
-ghost use Rattle.std.specs.declared.io.kind.ErrorKind.TheVariants.{InvalidData};
+ghost use Rattle.std.specs.declared.io.ErrorKind.TheVariants.{InvalidData};
 ghost use Rattle.canton_run.specs.Words.{are_run};
 
 use ledger_terms::{ListOf, Text};
