@@ -130,6 +130,7 @@ fn nothing(alloc: Global, setup: &Setup) -> Result<Played, AllocError>
 }
 
 /// The same where there is one: it stands at place 0, and the participant had read nothing before.
+#[tactic(auto, using(crate::proofs::LastViews::view_is))]
 fn one_request(alloc: Global, setup: &Setup, request: Request) -> Result<Played, AllocError>
     ensures log { IfOk result (λ played. played.log ≡ log_of_request setup.now.topology.hosts setup.now.topology.params request) }
     ensures results { IfOk result (λ played. played.results ≡ Sent 0 0 ∷ []) }
