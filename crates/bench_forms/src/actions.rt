@@ -80,7 +80,7 @@ fn decoded(alloc: Global, bytes: &[u8], at: usize) -> Option<Decoded<Action>> {
 pub(crate) fn round_trip(alloc: Global, count: u32) -> io::Result<Trip> {
     let first = encoded(alloc, count)?;
     let mut second = Bytes::new(alloc);
-    let mut actions = 0;
+    let mut actions = 0u32;
     let mut at = 0;
     for _ in 0..count {
         let Some(read) = decoded(alloc, first.as_slice(), at) else {
@@ -90,7 +90,7 @@ pub(crate) fn round_trip(alloc: Global, count: u32) -> io::Result<Trip> {
             encode_action(&read.value, &mut second)?;
         }
         at = read.next;
-        actions += 1;
+        actions = actions.saturating_add(1);
     }
     Ok(Trip {
         bytes: first.len(),

@@ -1,4 +1,6 @@
 //! Merkle trees as bytes.
+ghost use Rattle.blind_tree.specs.Vertices.{IsNarrow};
+
 use crate::spelled::fault_line;
 use blind_tree::{Tree, decode_tree, encode_tree, informee_tree, is_spellable, opened, root_of};
 use std::alloc::{AllocError, Global};
@@ -25,7 +27,9 @@ fn tree_line(alloc: Global, tree: &Tree) -> Result<String, AllocError> {
 }
 
 /// How many views are opened to a participant, or the place of the fault.
-fn opened_text(alloc: Global, tree: &Tree) -> Result<String, AllocError> {
+fn opened_text(alloc: Global, tree: &Tree) -> Result<String, AllocError>
+    requires { IsNarrow tree.now.views }
+{
     match opened(alloc, tree) {
         Ok(opened) => format!(in alloc; "{} views", opened.views.len()),
         Err(fault) => fault_line(alloc, &fault),
@@ -33,7 +37,9 @@ fn opened_text(alloc: Global, tree: &Tree) -> Result<String, AllocError> {
 }
 
 /// Of how many views the mediator reads the informees, or the place of the fault.
-fn informees_text(alloc: Global, tree: &Tree) -> Result<String, AllocError> {
+fn informees_text(alloc: Global, tree: &Tree) -> Result<String, AllocError>
+    requires { IsNarrow tree.now.views }
+{
     match informee_tree(alloc, tree) {
         Ok(roles) => format!(in alloc; "{} views", roles.views.len()),
         Err(fault) => fault_line(alloc, &fault),
