@@ -2,7 +2,7 @@
 ghost use Rattle.blind_tree.specs.Vertices.{IsNarrow};
 ghost use Rattle.blind_tree.specs.InRange.{IsSpellableTree};
 
-use crate::lines::{hash_text, put_line, yes};
+use crate::lines::{hash_text, put_line};
 use crate::opened_views::put_opened;
 use blind_tree::{
     Recipient, RecipientList, Tree, are_spellable, blind_all, decode_tree, encode_tree,
@@ -71,14 +71,39 @@ fn put_bytes(alloc: Global, word: &str, tree: &Tree, out: &mut String) -> Result
 {
     let root = root_of(alloc, tree)?;
     let bytes = encode_tree(alloc, tree)?;
-    let digits = hex::encode(alloc, bytes.as_slice())?;
-    let root_digits = hash_text(alloc, &root)?;
+    put_spelling(alloc, word, &root, bytes.as_slice(), out)?;
+    put_decoded(alloc, word, &root, bytes.as_slice(), out)
+}
+
+/// Puts a line at the end with the root hash of a tree and its bytes.
+fn put_spelling(
+    alloc: Global,
+    word: &str,
+    root: &Hash,
+    bytes: &[u8],
+    out: &mut String,
+) -> Result<(), AllocError> {
+    let root_digits = hash_text(alloc, root)?;
+    let digits = hex::encode(alloc, bytes)?;
     put_line(
         out,
         &["envelope", word, root_digits.as_str(), digits.as_str()],
-    )?;
-    let same = is_decoded(alloc, bytes.as_slice(), &root)?;
-    put_line(out, &["decoded", word, yes(same)])
+    )
+}
+
+/// Puts a line at the end that says whether bytes are those of a tree with this root.
+fn put_decoded(
+    alloc: Global,
+    word: &str,
+    root: &Hash,
+    bytes: &[u8],
+    out: &mut String,
+) -> Result<(), AllocError> {
+    if is_decoded(alloc, bytes, root)? {
+        put_line(out, &["decoded", word, "yes"])
+    } else {
+        put_line(out, &["decoded", word, "no"])
+    }
 }
 
 /// Whether bytes are those of a tree with this root.

@@ -11,7 +11,7 @@ use ledger_terms::{Action, ActionNode, ActionNodeList};
 use std::alloc::Global;
 
 /// Whether an action has roles and there is memory for them.
-#[tactic(auto, using(crate::proofs::Given::has_roles_of))]
+#[tactic(auto, using(project::proofs::Given::has_roles_of))]
 pub(crate) fn has_roles(alloc: Global, checked: &Checked, action: &Action) -> bool
     ensures { IsTrue result → has_roles checked.now action.now ≡ true }
 {
