@@ -11,7 +11,7 @@ use crate::built_in::BuiltIn;
 use crate::plain_form::{PlainForm, decode_plain};
 use interpret::{contract_id, reexecute};
 use lang_eval::{RoleFault, Roles, roles};
-use ledger_terms::{Action, ActionNode, ActionNodeList, PartySet, copy_instance};
+use ledger_terms::{Action, ActionNode, ActionNodeList, Exact, PartySet};
 use std::alloc::{AllocError, Global};
 
 /// What an envelope of the plain form says, and what its reader finds of the contract that it creates: whether the id is
@@ -36,7 +36,7 @@ pub fn root_node(alloc: Global, form: &PlainForm) -> Result<ActionNode, AllocErr
         seed: form.root_seed,
         action: Action::Create {
             id: form.id,
-            instance: copy_instance(&form.instance)?,
+            instance: form.instance.copied()?,
         },
         children: ActionNodeList::new(alloc),
     })

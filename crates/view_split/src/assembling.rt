@@ -9,7 +9,7 @@ ghost use Rattle.view_split.specs.Split.{assembled};
 use crate::core_node::{CoreChild, CoreChildList};
 use crate::trees::Trees;
 use crate::view::{View, ViewList};
-use ledger_terms::{ActionNode, ActionNodeList, copy_action};
+use ledger_terms::{ActionNode, ActionNodeList, Exact};
 use std::alloc::{AllocError, Global};
 
 // Puts a core's children at the end, with a tree in the place of each hole.
@@ -29,7 +29,7 @@ fn fill_into(
                 fill_into(alloc, &node.children, trees, &mut children)?;
                 out.push(ActionNode {
                     seed: node.seed,
-                    action: copy_action(&node.action)?,
+                    action: node.action.copied()?,
                     children,
                 })?;
             }
@@ -78,7 +78,7 @@ pub fn assemble(alloc: Global, view: &View) -> Result<ActionNode, AllocError>
     fill_into(alloc, &view.core.children, &mut trees, &mut children)?;
     Ok(ActionNode {
         seed: view.core.seed,
-        action: copy_action(&view.core.action)?,
+        action: view.core.action.copied()?,
         children,
     })
 }

@@ -17,7 +17,7 @@ use crate::split_fault::SplitFault;
 use crate::view::{View, ViewList};
 use crate::views::Views;
 use lang_eval::{Checked, RoleFault, Roles, roles};
-use ledger_terms::{Action, ActionNode, ActionNodeList, PartySet, Path, Tx, copy_action};
+use ledger_terms::{Action, ActionNode, ActionNodeList, Exact, PartySet, Path, Tx};
 use std::alloc::{AllocError, Global};
 
 #[tactic(auto, using(std::proofs::lemmas::List::Elements::same_from_all_zip))]
@@ -71,7 +71,7 @@ fn core_node(node: &ActionNode, children: CoreChildList) -> Result<CoreNode, All
 {
     Ok(CoreNode {
         seed: node.seed,
-        action: copy_action(&node.action)?,
+        action: node.action.copied()?,
         children,
     })
 }
