@@ -1,7 +1,7 @@
 -- Transactions within the limits, and what their views are then.
 use Rattle.std.specs.Prelude.{◌≡◌, ℕ, ◌+◌, ◌≤◌, true, List, length, All}
 use Rattle.ledger_terms.specs.Parties.{IsRising, is_subset}
-use Rattle.ledger_terms.specs.Trees.{Act}
+use Rattle.ledger_terms.specs.declared.act.Act.{Act}
 use Rattle.ledger_terms.specs.Forest.{Forest, NoRoots, Root, size}
 use Rattle.ledger_terms.specs.declared.action.Action.{Action}
 use Rattle.ledger_model.specs.declared.roles.Roles.{Roles}

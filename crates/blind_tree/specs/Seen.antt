@@ -1,6 +1,6 @@
 -- What a tree shows against what is seen, and when what is shown can be read and written again.
 use Rattle.std.specs.Prelude.{ℕ, suc, ◌≤◌, ◌<◌, ◌^◌, max, Bool, true, false, List, [], ◌∷◌, ◌++◌, length, map, if◌then◌else◌, ◌||◌}
-use Rattle.ledger_terms.specs.Trees.{Act}
+use Rattle.ledger_terms.specs.declared.act.Act.{Act}
 use Rattle.ledger_terms.specs.Forest.{Forest, NoRoots, Root, preorder, paths_from}
 use Rattle.ledger_terms.specs.Roots.{trees_count}
 use Rattle.wire_form.specs.InRange.{IsAction, IsHash, IsName, IsPartySet}

@@ -1,7 +1,7 @@
 //! Laws of trees, each the contract of a function with nothing to do.
 ghost use Rattle.std.specs.Prelude.{◌≡◌, ◌⊎◌, ◌||◌, ◌<◌, ◌↔◌, ℕ, Bool, false, true, List, [], length, nat_eq, All, Contains, Some, None, Ok, if◌then◌else◌};
 ghost use Rattle.std.specs.List.{AllPairs, list_any};
-ghost use Rattle.ledger_terms.specs.Trees.{Act};
+ghost use Rattle.ledger_terms.specs.declared.act.Act.{Act};
 ghost use Rattle.ledger_terms.specs.Forest.{Forest};
 ghost use Rattle.ledger_terms.specs.declared.action.Action.{Action};
 ghost use Rattle.ledger_terms.specs.Topologies.{AreApart};

@@ -4,7 +4,7 @@ use Rattle.std.specs.Prelude.{◌≤◌, length, nat_eq, option_to_list, option_
 use Rattle.std.specs.List.{list_any}
 use Rattle.std.proofs.lemmas.Bool.{or_left, or_right}
 use Rattle.sha2.specs.Sha256.{sha256}
-use Rattle.ledger_terms.specs.Trees.{Act}
+use Rattle.ledger_terms.specs.declared.act.Act.{Act}
 use Rattle.ledger_terms.specs.Forest.{Forest, NoRoots, Root, preorder, roots_of}
 use Rattle.ledger_terms.specs.Hosting.{hosts_at}
 use Rattle.ledger_terms.specs.declared.topology.Topology.{Topology}

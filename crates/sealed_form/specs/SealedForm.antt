@@ -2,7 +2,7 @@
 use Rattle.std.specs.Prelude.{◌≡◌, ℕ, ◌≤◌, Bool, true, List, [], ◌∷◌, ◌++◌, length, map, filter, Contains, nat_eq, Option, Some, None}
 use Rattle.std.specs.Prelude.{option_to_list, option_and_then, Result, Ok, Err, if◌then◌else◌}
 use Rattle.sha2.specs.Sha256.{sha256}
-use Rattle.ledger_terms.specs.Trees.{Act}
+use Rattle.ledger_terms.specs.declared.act.Act.{Act}
 use Rattle.std.specs.List.{list_any}
 use Rattle.ledger_terms.specs.Forest.{Forest, preorder}
 use Rattle.ledger_terms.specs.Hosting.{confirms_at, hosts_at}

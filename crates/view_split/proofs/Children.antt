@@ -1,6 +1,6 @@
 -- The children of an action whose view is put back.
 use Rattle.std.proofs.Common.{◌≡◌, ℕ, zero, suc, ◌+◌, List, [], ◌∷◌, drop, map, refl, sym, ap, ◌∙◌, arith}
-use Rattle.ledger_terms.specs.Trees.{Act}
+use Rattle.ledger_terms.specs.declared.act.Act.{Act}
 use Rattle.ledger_terms.specs.Forest.{Forest, NoRoots, Root, roots_of}
 use Rattle.view_split.specs.Holed.{Holed, NoMore, Inner, Hole, after_holes, children_with, fill, holes}
 use Rattle.view_split.specs.SplitView.{SplitView}

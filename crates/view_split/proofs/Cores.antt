@@ -3,7 +3,7 @@ use Rattle.std.proofs.Common.{◌≡◌, List, [], ◌∷◌, ◌++◌, refl, sy
 use Rattle.std.specs.Prelude.{ℕ, suc, Bool, ◌+◌, flat_map}
 use Rattle.std.proofs.lemmas.Bool.{cases_Bool}
 use Rattle.ledger_terms.specs.Parties.{set_of}
-use Rattle.ledger_terms.specs.Trees.{Act}
+use Rattle.ledger_terms.specs.declared.act.Act.{Act}
 use Rattle.ledger_terms.specs.Forest.{Forest, NoRoots, Root, join, project, number_from, size}
 use Rattle.ledger_terms.specs.declared.action.Action.{Action}
 use Rattle.ledger_model.specs.Terms.{PartySet}

@@ -3,7 +3,7 @@ use Rattle.std.proofs.Common.{◌≡◌, suc, length, List, [], ◌∷◌, ◌++
 use Rattle.std.specs.Prelude.{reverse, Option, Some, None, option_to_list}
 use Rattle.std.proofs.lemmas.List.{reverse-append, append-nil}
 use Rattle.ledger_terms.specs.Grown.{forest_of}
-use Rattle.ledger_terms.specs.declared.action_node.ActionNode.{ActionNode}
+use Rattle.ledger_terms.specs.Trees.{ActionNode}
 use Rattle.ledger_terms.specs.Forest.{Root, join}
 use Rattle.ledger_terms.specs.Roots.{trees_count}
 use Rattle.view_split.specs.Holed as holed

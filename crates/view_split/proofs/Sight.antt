@@ -4,7 +4,7 @@ use Rattle.std.specs.Prelude.{ℕ, suc, ◌++◌}
 use Rattle.std.specs.List.{list_any, list_all}
 use Rattle.std.specs.Cmp.Lexicographic.{same_text}
 use Rattle.std.proofs.lemmas.Bool.{cases_Bool, not-false, and_parts, both_ways}
-use Rattle.ledger_terms.specs.Trees.{Act}
+use Rattle.ledger_terms.specs.declared.act.Act.{Act}
 use Rattle.ledger_terms.specs.Forest.{Forest, NoRoots, Root, join, project, paths_from}
 use Rattle.ledger_terms.specs.Parties.{same_name, has_party, is_subset}
 use Rattle.ledger_terms.specs.declared.action.Action.{Action}

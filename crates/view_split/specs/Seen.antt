@@ -1,7 +1,7 @@
 -- The views that somebody sees of a transaction.
 use Rattle.std.specs.Prelude.{◌≡◌, ℕ, Bool, true, List, [], map, Contains}
 use Rattle.std.specs.List.{list_any}
-use Rattle.ledger_terms.specs.Trees.{Act}
+use Rattle.ledger_terms.specs.declared.act.Act.{Act}
 use Rattle.ledger_terms.specs.Forest.{Forest, preorder, project, paths_from, number_from}
 use Rattle.ledger_model.specs.Terms.{Name, Path}
 use Rattle.ledger_model.specs.Opening.{OpenedView}

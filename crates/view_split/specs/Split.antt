@@ -1,7 +1,7 @@
 -- How a transaction is split into views, and how views are put back.
 use Rattle.std.specs.Prelude.{List, ◌∷◌, if◌then◌else◌, flat_map}
 use Rattle.ledger_terms.specs.Parties.{set_of}
-use Rattle.ledger_terms.specs.Trees.{Act}
+use Rattle.ledger_terms.specs.declared.act.Act.{Act}
 use Rattle.ledger_terms.specs.Forest.{Forest, NoRoots, Root, join}
 use Rattle.ledger_terms.specs.declared.action.Action.{Action}
 use Rattle.ledger_model.specs.Terms.{PartySet}

@@ -2,7 +2,7 @@
 use Rattle.std.specs.Prelude.{List, ℕ}
 use Rattle.std.specs.Coded.{codes, Coded}
 use Rattle.ledger_terms.specs.Forest.{Forest, coded_forest}
-use Rattle.ledger_terms.specs.Trees.{Act}
+use Rattle.ledger_terms.specs.declared.act.Act.{Act}
 use Rattle.view_split.specs.Holed.{Holed, coded_holed}
 
 -- A view without the views below it. Its core is its first action with what stands below that, and the holes in pre-order

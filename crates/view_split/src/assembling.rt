@@ -9,7 +9,7 @@ ghost use Rattle.view_split.specs.Split.{assembled};
 use crate::core_node::{CoreChild, CoreChildList};
 use crate::trees::Trees;
 use crate::view::{View, ViewList};
-use ledger_terms::{ActionNode, ActionNodeList, copy_action};
+use ledger_terms::{Act, ActionNode, ActionNodeList, Exact, Tree};
 use std::alloc::{AllocError, Global};
 
 // Puts a core's children at the end, with a tree in the place of each hole.
@@ -27,10 +27,12 @@ fn fill_into(
             CoreChild::Inner(node) => {
                 let mut children = ActionNodeList::new(alloc);
                 fill_into(alloc, &node.children, trees, &mut children)?;
-                out.push(ActionNode {
-                    seed: node.seed,
-                    action: copy_action(&node.action)?,
-                    children,
+                let seed = node.seed;
+                let action = node.action.copied()?;
+                let root = Act { seed, action };
+                out.push(Tree {
+                    root,
+                    below: children,
                 })?;
             }
             CoreChild::Hole => put_next(trees, out)?,
@@ -76,9 +78,10 @@ pub fn assemble(alloc: Global, view: &View) -> Result<ActionNode, AllocError>
     let mut trees = Trees::of(below);
     let mut children = ActionNodeList::new(alloc);
     fill_into(alloc, &view.core.children, &mut trees, &mut children)?;
-    Ok(ActionNode {
-        seed: view.core.seed,
-        action: copy_action(&view.core.action)?,
-        children,
+    let seed = view.core.seed;
+    let action = view.core.action.copied()?;
+    Ok(Tree {
+        root: Act { seed, action },
+        below: children,
     })
 }

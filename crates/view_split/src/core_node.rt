@@ -32,7 +32,7 @@ pub struct CoreChildList {
 }
 
 impl Model for CoreChildList {
-    ghost use Rattle.ledger_terms.specs.Trees.{Act};
+    ghost use Rattle.ledger_terms.specs.declared.act.Act.{Act};
     ghost use Rattle.view_split.specs.Holed.{Holed};
     ghost use Rattle.view_split.specs.SplitView.{coded_below};
 

@@ -9,7 +9,7 @@ ghost use Rattle.view_split.specs.Holed.{Hole, NoMore, beside};
 ghost use Rattle.view_split.specs.ViewLists.{view_tree};
 ghost use Rattle.view_split.specs.Split.{split};
 ghost use Rattle.view_split.specs.Faults.{IsFault, fault_from, roleless_at, views_of_tx};
-ghost use Rattle.view_split.specs.Walked.{IsWalked, node_act, node_fault};
+ghost use Rattle.view_split.specs.Walked.{IsWalked, node_fault};
 
 use crate::begun::Begun;
 use crate::core_node::{CoreChild, CoreChildList, CoreNode};
@@ -17,7 +17,7 @@ use crate::split_fault::SplitFault;
 use crate::view::{View, ViewList};
 use crate::views::Views;
 use lang_eval::{Checked, RoleFault, Roles, roles};
-use ledger_terms::{Action, ActionNode, ActionNodeList, PartySet, Path, Tx, copy_action};
+use ledger_terms::{Act, Action, ActionNode, ActionNodeList, Exact, PartySet, Path, Tx};
 use std::alloc::{AllocError, Global};
 
 #[tactic(auto, using(std::proofs::lemmas::List::Elements::same_from_all_zip))]
@@ -65,13 +65,13 @@ fn add_parties(set: &mut PartySet, more: &PartySet) -> Result<(), AllocError>
     Ok(())
 }
 
-/// The action of a node as one of a core, with what stands below it there.
-fn core_node(node: &ActionNode, children: CoreChildList) -> Result<CoreNode, AllocError>
-    ensures { IfOk result (λ n. n ≡ record { seed = node.now.seed; action = node.now.action; children = children }) }
+/// An action as one of a core, with what stands below it there.
+fn core_node(act: &Act, children: CoreChildList) -> Result<CoreNode, AllocError>
+    ensures { IfOk result (λ n. n ≡ record { seed = act.now.seed; action = act.now.action; children = children }) }
 {
     Ok(CoreNode {
-        seed: node.seed,
-        action: copy_action(&node.action)?,
+        seed: act.seed,
+        action: act.action.copied()?,
         children,
     })
 }
@@ -103,10 +103,10 @@ fn start_view(
     roles: Roles,
     path: &Path,
 ) -> Result<View, SplitFault>
-    requires { roles ≡ roles_in checked.now node.now.action }
+    requires { roles ≡ roles_in checked.now node.now.root.action }
     ensures view { IfOk result (λ v. view_tree v ≡ split (roles_in checked.now) (tree_of node.now)) }
-    ensures fault { MatchResult result (λ _. fault_from checked.now path.now 0 node.now.children ≡ None)
-        (λ e. IsFault (fault_from checked.now path.now 0 node.now.children) e) }
+    ensures fault { MatchResult result (λ _. fault_from checked.now path.now 0 node.now.below ≡ None)
+        (λ e. IsFault (fault_from checked.now path.now 0 node.now.below) e) }
 {
     let mut begun = Begun {
         informees: roles.informees,
@@ -118,7 +118,7 @@ fn start_view(
     split_children(
         alloc,
         checked,
-        &node.children,
+        &node.below,
         path,
         &mut begun,
         &mut children,
@@ -126,7 +126,7 @@ fn start_view(
     Ok(View {
         informees: begun.informees,
         confirmers: begun.confirmers,
-        core: core_node(node, children)?,
+        core: core_node(&node.root, children)?,
         subviews: begun.subviews,
     })
 }
@@ -144,12 +144,12 @@ fn split_node(
     ensures walked { OnOk result (IsWalked (roles_in checked.now) (tree_of node.now) view.old view.new children.old children.new) }
     ensures fault { MatchResult result (λ _. node_fault checked.now path.now node.now ≡ None) (λ e. IsFault (node_fault checked.now path.now node.now) e) }
 {
-    let roles = roles_at(alloc, checked, &node.action, path)?;
+    let roles = roles_at(alloc, checked, &node.root.action, path)?;
     if stays_inside(&roles.informees, &view.informees) {
         add_parties(&mut view.confirmers, &roles.confirmers)?;
         let mut below = CoreChildList::new(alloc);
-        split_children(alloc, checked, &node.children, path, view, &mut below)?;
-        children.push(CoreChild::Inner(core_node(node, below)?))?;
+        split_children(alloc, checked, &node.below, path, view, &mut below)?;
+        children.push(CoreChild::Inner(core_node(&node.root, below)?))?;
     } else {
         let below = start_view(alloc, checked, node, roles, path)?;
         put_view(below, view, children)?;
@@ -189,7 +189,7 @@ fn split_root(
     ensures view { IfOk result (λ v. view_tree v ≡ split (roles_in checked.now) (tree_of node.now)) }
     ensures fault { MatchResult result (λ _. node_fault checked.now path.now node.now ≡ None) (λ e. IsFault (node_fault checked.now path.now node.now) e) }
 {
-    let roles = roles_at(alloc, checked, &node.action, path)?;
+    let roles = roles_at(alloc, checked, &node.root.action, path)?;
     start_view(alloc, checked, node, roles, path)
 }
 
