@@ -17,7 +17,7 @@ use Rattle.wire_form.specs.Spelling.{spell_name, spell_parties, spell_action}
 use Rattle.wire_form.specs.Spellable.{IsSpellableAction}
 use Rattle.wire_form.specs.InRange.{IsName, IsPartySet}
 use Rattle.view_split.specs.Holed.{width}
-use Rattle.view_split.specs.SplitView.{SplitView}
+use Rattle.view_split.specs.declared.split_view.SplitView.{SplitView}
 use Rattle.view_split.specs.Split.{core_of, view_at, split_below, split}
 use Rattle.view_split.specs.declared.views.Views.{Views}
 use Rattle.blind_tree.specs.Cores.{spell_children, AreSpellableChildren, levels}

@@ -23,7 +23,7 @@ use Rattle.ledger_model.specs.Views.{its_informees, starts}
 use Rattle.ledger_model.proofs.Lists.{In, in_any}
 use Rattle.wire_form.specs.InRange.{IsName, IsPartySet}
 use Rattle.view_split.specs.Holed.{inner}
-use Rattle.view_split.specs.SplitView.{SplitView}
+use Rattle.view_split.specs.declared.split_view.SplitView.{SplitView}
 use Rattle.view_split.specs.Split.{confirmers_in, core_of, view_at, split_below, split}
 use Rattle.blind_tree.specs.Limits.{AreFew, AreAmong, AllAmong, HaveSets}
 

@@ -8,7 +8,7 @@ use Rattle.ledger_model.specs.declared.roles.Roles.{Roles}
 use Rattle.wire_form.specs.InRange.{IsName, IsPartySet}
 use Rattle.wire_form.specs.Spelling.{spell_action}
 use Rattle.wire_form.specs.Spellable.{IsSpellableAction}
-use Rattle.view_split.specs.SplitView.{SplitView}
+use Rattle.view_split.specs.declared.split_view.SplitView.{SplitView}
 use Rattle.blind_tree.specs.Seen.{depth}
 
 -- the bytes of the actions, each with its seed

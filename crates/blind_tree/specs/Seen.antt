@@ -6,7 +6,7 @@ use Rattle.ledger_terms.specs.Roots.{trees_count}
 use Rattle.wire_form.specs.InRange.{IsAction, IsHash, IsName, IsPartySet}
 use Rattle.wire_form.specs.Spelling.{spell_parties}
 use Rattle.view_split.specs.Holed.{Holed, NoMore, Inner, Hole, width}
-use Rattle.view_split.specs.SplitView.{SplitView}
+use Rattle.view_split.specs.declared.split_view.SplitView.{SplitView}
 use Rattle.view_split.specs.declared.views.Views.{Views}
 use Rattle.blind_tree.specs.Vertices.{Vertices, NoVertices, BlindVertex, InnerVertex}
 use Rattle.blind_tree.specs.Cores.{levels}

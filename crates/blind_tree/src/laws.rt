@@ -11,10 +11,10 @@ ghost use Rattle.wire_form.specs.InRange.{IsName, IsPartySet};
 ghost use Rattle.wire_form.specs.Reading.{set_at};
 ghost use Rattle.wire_form.specs.Spelling.{spell_parties};
 ghost use Rattle.view_split.specs.Split.{split};
-ghost use Rattle.view_split.specs.SplitView.{SplitView};
+ghost use Rattle.view_split.specs.declared.split_view.SplitView.{SplitView};
 ghost use Rattle.blind_tree.specs.LeafBytes.{AreSpellable, AreSpellableViews};
 ghost use Rattle.blind_tree.specs.Vertices.{IsNarrow};
-ghost use Rattle.view_split.specs.ViewLists.{view_tree};
+ghost use Rattle.ledger_terms.specs.Grown.{tree_of};
 ghost use Rattle.view_split.specs.declared.placed_view.PlacedView.{PlacedView};
 ghost use Rattle.blind_tree.specs.Limits.{AllAmong, AreFew, KeepLimits};
 ghost use Rattle.view_split.specs.Filled.{AreFilled};
@@ -115,7 +115,7 @@ pub fn opened_views_are_filled()
 /// Every view of an opened tree can be encoded again, whatever bytes it was read from.
 pub fn opened_views_are_spellable()
     ensures { (tree : Tree) (opened : OpenedTree) → IsNarrow tree.views → tree_opened tree ≡ Ok opened
-        → All (λ (placed : PlacedView). AreSpellableViews (view_tree placed.view)) opened.views }
+        → All (λ (placed : PlacedView). AreSpellableViews (tree_of placed.view)) opened.views }
 {}
 
 /// A participant's tree shows the contents of exactly the views that it sees, and the mediator's of none.

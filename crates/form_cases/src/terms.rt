@@ -1,8 +1,6 @@
 //! Values, sets of parties, instances and actions as bytes.
 use crate::spelled::{Spelled, fault_line, spelled_line};
-use ledger_terms::{
-    Act, Action, ActionNodeList, Bytes, Hash, Instance, PartySet, Tree, Value,
-};
+use ledger_terms::{Act, Action, ActionNodeList, Bytes, Hash, Instance, PartySet, Tree, Value};
 use report_text::{put_instance, put_names, put_trees, put_value};
 use std::alloc::{AllocError, Global};
 use wire_form::{

@@ -41,7 +41,6 @@ use Rattle.interpret.proofs.Facts.{created_facts, called_facts, exercisable}
 use Rattle.interpret.proofs.Found.{found_facts}
 use Rattle.interpret.proofs.Fetched.{set_members}
 
-
 pub after_all-append : (p : Progress) (xs ys : List Act) → after_all p (xs ++ ys) ≡ after_all (after_all p xs) ys
 after_all-append p [] ys = refl
 after_all-append p (x ∷ xs) ys = after_all-append (after p x) xs ys

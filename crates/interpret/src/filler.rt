@@ -165,11 +165,7 @@ impl<K: KnownContracts> Filler<'_, K> {
     }
 
     /// The action of a draft, where the contracts that it names are known.
-    fn filled_action(
-        &self,
-        seed: &Hash,
-        draft: &DraftAction,
-    ) -> Result<Option<Action>, AllocError>
+    fn filled_action(&self, seed: &Hash, draft: &DraftAction) -> Result<Option<Action>, AllocError>
         ensures { IfOk result (λ a. a ≡ filled_action (K.rows self.now.known.now) seed.now draft.now) }
     {
         match draft {

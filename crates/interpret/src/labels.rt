@@ -5,9 +5,7 @@ ghost use Rattle.interpret.specs.Filled.{all_named, are_named, is_arg_named, is_
 ghost use Rattle.interpret.specs.Usable.{find_salt};
 
 use crate::ids::label_seed;
-use ledger_terms::{
-    Arg, ContractRef, Draft, DraftAction, DraftList, Hash, Input, KnownContracts,
-};
+use ledger_terms::{Arg, ContractRef, Draft, DraftAction, DraftList, Hash, Input, KnownContracts};
 
 fn is_salt_known<K: KnownContracts>(known: &K, salt: &Hash) -> bool
     ensures { result ≡ is_some (find_salt salt.now (K.rows known.now)) }

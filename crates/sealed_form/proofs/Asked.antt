@@ -10,7 +10,7 @@ use Rattle.ledger_model.specs.declared.roles.Roles.{Roles}
 use Rattle.ledger_model.specs.Opening.{confirming_of}
 use Rattle.ledger_model.specs.Terms.{PartySet}
 use Rattle.ledger_model.specs.Views.{View, confirmers_of, views}
-use Rattle.view_split.specs.SplitView.{SplitView}
+use Rattle.view_split.specs.declared.split_view.SplitView.{SplitView}
 use Rattle.view_split.specs.Split.{split}
 use Rattle.view_split.specs.Numbered.{seen_as}
 use Rattle.view_split.specs.Seen.{placed_numbered}

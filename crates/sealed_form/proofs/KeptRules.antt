@@ -26,7 +26,7 @@ use Rattle.ledger_model.proofs.Openings.{opens_projection, numbered_shown, viewe
 use Rattle.ledger_model.proofs.PathOrder.{told_of}
 use Rattle.ledger_model.proofs.ConfirmingViews.{asked_shown}
 use Rattle.view_split.specs.Holed.{inner}
-use Rattle.view_split.specs.SplitView.{SplitView}
+use Rattle.view_split.specs.declared.split_view.SplitView.{SplitView}
 use Rattle.view_split.specs.Split.{confirmers_in, view_at, split}
 use Rattle.view_split.specs.Numbered.{seen_as, with_cores}
 use Rattle.view_split.specs.Seen.{is_sight, seen_views, placed_numbered, opened_as}

@@ -17,7 +17,7 @@ use Rattle.canton_model.specs.declared.request.Request.{Request}
 use Rattle.ledger_model.proofs.Lists.{In, in_any, in_append_right, contains_from_In}
 use Rattle.lang_eval.specs.Found.{Packages}
 use Rattle.interpret.specs.Language.{the_language}
-use Rattle.view_split.specs.SplitView.{SplitView}
+use Rattle.view_split.specs.declared.split_view.SplitView.{SplitView}
 use Rattle.view_split.specs.Split.{split, split_below, assembled}
 use Rattle.view_split.specs.Seen.{is_sight}
 use Rattle.view_split.specs.declared.opened_tree.OpenedTree.{OpenedTree}

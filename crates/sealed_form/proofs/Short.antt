@@ -17,7 +17,7 @@ use Rattle.ledger_model.specs.declared.roles.Roles.{Roles}
 use Rattle.wire_form.specs.Spelling.{spell_name, spell_parties, spell_action}
 use Rattle.wire_form.specs.InRange.{IsHash, IsName, IsPartySet}
 use Rattle.view_split.specs.Holed.{width}
-use Rattle.view_split.specs.SplitView.{SplitView}
+use Rattle.view_split.specs.declared.split_view.SplitView.{SplitView}
 use Rattle.view_split.specs.Split.{core_of, view_at, split_below, split}
 use Rattle.blind_tree.specs.Vertices.{count}
 use Rattle.blind_tree.specs.Cores.{spell_children}

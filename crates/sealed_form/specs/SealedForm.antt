@@ -20,7 +20,7 @@ use Rattle.wire_form.specs.InRange.{IsHash}
 use Rattle.wire_form.specs.declared.wire_fault.WireFault.{WireFault}
 use Rattle.interpret.specs.Language.{the_language}
 use Rattle.interpret.specs.NamedParties.{parties_in_forest}
-use Rattle.view_split.specs.SplitView.{SplitView}
+use Rattle.view_split.specs.declared.split_view.SplitView.{SplitView}
 use Rattle.view_split.specs.Split.{split, assembled}
 use Rattle.sealed_form.specs.Within.{participants_of, is_hosted}
 use Rattle.view_split.specs.declared.opened_tree.OpenedTree.{OpenedTree}

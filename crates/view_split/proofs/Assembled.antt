@@ -12,7 +12,7 @@ use Rattle.ledger_model.specs.Terms.{PartySet}
 use Rattle.ledger_model.specs.declared.roles.Roles.{Roles}
 use Rattle.ledger_model.specs.Views.{its_informees, starts}
 use Rattle.view_split.specs.Holed.{after_holes, fill}
-use Rattle.view_split.specs.SplitView.{SplitView}
+use Rattle.view_split.specs.declared.split_view.SplitView.{SplitView}
 use Rattle.view_split.specs.Split.{core_of, view_at, split_below, split, assembled}
 
 pub assembled-join : (v w : Forest SplitView) → assembled (join v w) ≡ join (assembled v) (assembled w)

@@ -3,7 +3,7 @@ use Rattle.std.proofs.Common.{◌≡◌, ℕ, zero, suc, ◌+◌, List, [], ◌�
 use Rattle.ledger_terms.specs.declared.act.Act.{Act}
 use Rattle.ledger_terms.specs.Forest.{Forest, NoRoots, Root, roots_of}
 use Rattle.view_split.specs.Holed.{Holed, NoMore, Inner, Hole, after_holes, children_with, fill, holes}
-use Rattle.view_split.specs.SplitView.{SplitView}
+use Rattle.view_split.specs.declared.split_view.SplitView.{SplitView}
 use Rattle.view_split.specs.Split.{assembled}
 
 drop_none : {X : Type 0} (n : ℕ) → drop {A = X} n [] ≡ []

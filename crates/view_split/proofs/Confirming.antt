@@ -14,7 +14,7 @@ use Rattle.ledger_model.specs.Views.{View, its_informees, confirmers_of, views}
 use Rattle.ledger_model.proofs.Lists.{In, in_append_left, in_append_right, in_any, from_any, in_map, in_filter, from_filter, contains_from_In}
 use Rattle.ledger_model.proofs.Projected.{filter_project, stands}
 use Rattle.ledger_model.proofs.Sets.{in_set_of, front_of_set}
-use Rattle.view_split.specs.SplitView.{SplitView}
+use Rattle.view_split.specs.declared.split_view.SplitView.{SplitView}
 use Rattle.view_split.specs.Split.{split}
 use Rattle.view_split.specs.Numbered.{seen_as}
 use Rattle.view_split.specs.Seen.{ConfirmsView, is_sight, seen_views, placed_numbered}

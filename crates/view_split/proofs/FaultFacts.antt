@@ -14,7 +14,7 @@ use Rattle.ledger_terms.specs.declared.tx.Tx.{Tx}
 use Rattle.ledger_model.specs.Terms.{PartySet}
 use Rattle.view_split.specs.Faults.{IsFault, fault_from, first_roleless, is_roleless, kept_path, or_else, unless_fault, views_of_tx}
 use Rattle.view_split.specs.Split.{split}
-use Rattle.view_split.specs.SplitView.{SplitView}
+use Rattle.view_split.specs.declared.split_view.SplitView.{SplitView}
 use Rattle.view_split.specs.declared.views.Views.{Views}
 use Rattle.view_split.specs.Walked.{node_fault}
 use Rattle.view_split.specs.declared.split_fault.SplitFault.{SplitFault}

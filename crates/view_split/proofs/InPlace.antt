@@ -10,7 +10,7 @@ use Rattle.ledger_model.specs.Forest.{trees_of}
 use Rattle.ledger_model.specs.Terms.{Path}
 use Rattle.ledger_model.proofs.Lists.{In, in_append_left, in_append_right, in_append_cases}
 use Rattle.view_split.specs.Holed.{Holed, NoMore, Inner, Hole, after_holes, fill, holes}
-use Rattle.view_split.specs.SplitView.{SplitView}
+use Rattle.view_split.specs.declared.split_view.SplitView.{SplitView}
 use Rattle.view_split.specs.Split.{assembled}
 use Rattle.view_split.specs.Filled.{AreFilled}
 use Rattle.view_split.specs.Numbered.{map_forest, held_in, core_in, with_cores}

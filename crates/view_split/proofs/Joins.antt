@@ -9,7 +9,7 @@ use Rattle.ledger_model.specs.Terms.{PartySet}
 use Rattle.ledger_model.specs.declared.roles.Roles.{Roles}
 use Rattle.ledger_model.specs.Views.{its_informees, starts}
 use Rattle.view_split.specs.Holed.{Holed, NoMore, Inner, Hole, inner, beside}
-use Rattle.view_split.specs.SplitView.{SplitView}
+use Rattle.view_split.specs.declared.split_view.SplitView.{SplitView}
 use Rattle.view_split.specs.Split.{confirmers_in, core_of, view_at, split_below, split}
 
 module _ {A : Type 0} where

@@ -13,7 +13,7 @@ use Rattle.ledger_model.specs.Views.{its_informees}
 use Rattle.ledger_model.proofs.Lists.{In, in_append_right}
 use Rattle.ledger_model.proofs.Projected.{preorder_join}
 use Rattle.view_split.specs.Holed.{Holed}
-use Rattle.view_split.specs.SplitView.{SplitView}
+use Rattle.view_split.specs.declared.split_view.SplitView.{SplitView}
 use Rattle.view_split.specs.Split.{view_at, split_below, split}
 use Rattle.view_split.specs.Numbered.{map_forest, core_in, held_in, with_cores}
 use Rattle.view_split.specs.Seen.{is_sight}

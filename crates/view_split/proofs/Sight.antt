@@ -13,7 +13,7 @@ use Rattle.ledger_model.specs.Terms.{Name, PartySet}
 use Rattle.ledger_model.specs.declared.roles.Roles.{Roles}
 use Rattle.ledger_model.specs.Views.{its_informees, starts}
 use Rattle.ledger_model.proofs.Lists.{In, in_any, from_any}
-use Rattle.view_split.specs.SplitView.{SplitView}
+use Rattle.view_split.specs.declared.split_view.SplitView.{SplitView}
 use Rattle.view_split.specs.Split.{view_at, split_below, split, assembled}
 use Rattle.view_split.specs.Numbered.{map_forest}
 use Rattle.view_split.specs.Seen.{is_sight, seen_views, put_back}

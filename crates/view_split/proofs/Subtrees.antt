@@ -10,7 +10,7 @@ use Rattle.ledger_model.specs.Views.{its_informees, starts}
 use Rattle.ledger_model.specs.declared.roles.Roles.{Roles}
 use Rattle.ledger_model.proofs.Lists.{In, in_append_left, in_append_right, in_append_cases}
 use Rattle.view_split.specs.Holed.{fill}
-use Rattle.view_split.specs.SplitView.{SplitView}
+use Rattle.view_split.specs.declared.split_view.SplitView.{SplitView}
 use Rattle.view_split.specs.Split.{split, split_below, view_at, assembled}
 use Rattle.view_split.proofs.Assembled.{refilled}
 

@@ -13,11 +13,10 @@ use Rattle.ledger_model.specs.declared.roles.Roles.{Roles}
 use Rattle.ledger_model.specs.Views.{its_informees, starts}
 use Rattle.lang_eval.proofs.RoleLaws.{with_parties-append}
 use Rattle.view_split.specs.Holed.{Holed, NoMore, Inner, Hole, inner, beside}
-use Rattle.view_split.specs.SplitView.{SplitView}
+use Rattle.view_split.specs.declared.split_view.SplitView.{SplitView}
 use Rattle.view_split.specs.Split.{confirmers_in, core_of, split_below, split}
 use Rattle.view_split.specs.Walked.{IsWalked}
 use Rattle.view_split.specs.CoreLists.{act_of}
-use Rattle.view_split.specs.ViewLists.{view_tree}
 use Rattle.view_split.specs.declared.begun.Begun.{Begun}
 use Rattle.view_split.specs.declared.core_node.CoreNode.{CoreNode}
 use Rattle.view_split.proofs.Joins.{beside-assoc, beside-end, inner-beside, core_of-join, split_below-join, split-join, confirmers_in-append}
@@ -157,7 +156,7 @@ module _ (roles : Action → Roles) where
       }
 
   -- the view that a node's action starts, once its core is walked
-  pub started : (node : ActionNode) (its : Roles) (none : PartySet) (old new : Begun) (start below : Holed Act) (core : CoreNode)
+  pub started : (node : ActionNode) (its : Roles) (none : PartySet) (old new : Begun) (start below : Holed Act) (first : Act)
       → its ≡ roles node.root.action
       → none ≡ []
       → old.informees ≡ its.informees
@@ -165,9 +164,9 @@ module _ (roles : Action → Roles) where
       → old.subviews ≡ NoRoots
       → start ≡ NoMore
       → IsWalked roles node.below old new start below
-      → core ≡ record { seed = node.root.seed; action = node.root.action; children = below }
-      → view_tree (record { informees = new.informees; confirmers = new.confirmers; core = core; subviews = new.subviews }) ≡ split roles (tree_of node)
-  started node its none old new start below core given no_one told confirmed no_view empty h made =
+      → first ≡ node.root
+      → tree_of (record { root = record { informees = new.informees; confirmers = new.confirmers; first = first; below = below }; below = new.subviews }) ≡ split roles (tree_of node)
+  started node its none old new start below act given no_one told confirmed no_view empty h made =
       let e = its_informees roles node.root in
       let first = (roles node.root.action).confirmers in
       let rest = confirmers_in roles (inner (core_of roles e node.below)) in
@@ -180,8 +179,7 @@ module _ (roles : Action → Roles) where
       let children : below ≡ core_of roles e node.below = h.children ∙ (λ i. beside (empty i) (core_of roles (are i) node.below)) in
       let subviews : new.subviews ≡ split_below roles e node.below =
       h.subviews ∙ (λ i. join (no_view i) (split_below roles (are i) node.below)) in
-      ap (λ (n : CoreNode). view_tree (record { informees = new.informees; confirmers = new.confirmers; core = n; subviews = new.subviews })) made
-      ∙ (λ i. Root (record { informees = informees i; confirmers = confirmers i; first = node.root; below = children i }) (subviews i) NoRoots)
+      λ i. Root (record { informees = informees i; confirmers = confirmers i; first = made i; below = children i }) (subviews i) NoRoots
 
   -- the views of one root more
   pub split_more : (ns : List ActionNode) (i : ℕ) (n : ActionNode) (views new tree : Forest SplitView)

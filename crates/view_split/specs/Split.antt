@@ -8,7 +8,7 @@ use Rattle.ledger_model.specs.Terms.{PartySet}
 use Rattle.ledger_model.specs.declared.roles.Roles.{Roles}
 use Rattle.ledger_model.specs.Views.{its_informees, starts}
 use Rattle.view_split.specs.Holed.{Holed, NoMore, Inner, Hole, inner, fill}
-use Rattle.view_split.specs.SplitView.{SplitView}
+use Rattle.view_split.specs.declared.split_view.SplitView.{SplitView}
 
 -- the actions of a core, in pre-order
 abbrev pub core_acts : SplitView → List Act

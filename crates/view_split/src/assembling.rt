@@ -3,12 +3,11 @@ ghost use Rattle.std.specs.Prelude.{◌≡◌, IfOk, OnOk};
 ghost use Rattle.ledger_terms.specs.Forest.{join};
 ghost use Rattle.ledger_terms.specs.Grown.{tree_of};
 ghost use Rattle.view_split.specs.Holed.{Hole, NoMore, fill, after_holes};
-ghost use Rattle.view_split.specs.ViewLists.{view_tree};
 ghost use Rattle.view_split.specs.Split.{assembled};
 
 use crate::core_node::{CoreChild, CoreChildList};
+use crate::split_view::{View, ViewList};
 use crate::trees::Trees;
-use crate::view::{View, ViewList};
 use ledger_terms::{Act, ActionNode, ActionNodeList, Exact, Tree};
 use std::alloc::{AllocError, Global};
 
@@ -71,17 +70,16 @@ fn assemble_into(
 /// dropped; no view that is split off a transaction is so.
 #[cycle(assemble)]
 pub fn assemble(alloc: Global, view: &View) -> Result<ActionNode, AllocError>
-    ensures { IfOk result (λ n. tree_of n ≡ assembled (view_tree view.now)) }
+    ensures { IfOk result (λ n. tree_of n ≡ assembled (tree_of view.now)) }
 {
     let mut below = ActionNodeList::new(alloc);
-    assemble_into(alloc, &view.subviews, &mut below)?;
+    assemble_into(alloc, &view.below, &mut below)?;
     let mut trees = Trees::of(below);
     let mut children = ActionNodeList::new(alloc);
-    fill_into(alloc, &view.core.children, &mut trees, &mut children)?;
-    let seed = view.core.seed;
-    let action = view.core.action.copied()?;
+    fill_into(alloc, &view.root.below, &mut trees, &mut children)?;
+    let root = view.root.first.copied()?;
     Ok(Tree {
-        root: Act { seed, action },
+        root,
         below: children,
     })
 }

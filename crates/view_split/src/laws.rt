@@ -16,7 +16,7 @@ ghost use Rattle.view_split.specs.declared.opened_tree.OpenedTree.{OpenedTree};
 ghost use Rattle.lang_eval.specs.Found.{Packages};
 ghost use Rattle.lang_eval.specs.Language.{has_roles, roles_in};
 ghost use Rattle.ledger_terms.specs.Parties.{has_party};
-ghost use Rattle.view_split.specs.SplitView.{SplitView};
+ghost use Rattle.view_split.specs.declared.split_view.SplitView.{SplitView};
 ghost use Rattle.view_split.specs.Split.{split, assembled};
 ghost use Rattle.view_split.specs.Filled.{AreFilled};
 ghost use Rattle.view_split.specs.Numbered.{map_forest, numbered, seen_as};
