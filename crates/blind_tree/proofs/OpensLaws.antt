@@ -17,7 +17,7 @@ use Rattle.wire_form.proofs.Compose.{both_reads}
 use Rattle.wire_form.proofs.FieldLaws.{name_reads, u64_reads}
 use Rattle.wire_form.proofs.ValueLaws.{set_reads}
 use Rattle.view_split.specs.Holed.{holes}
-use Rattle.view_split.specs.SplitView.{SplitView}
+use Rattle.view_split.specs.declared.split_view.SplitView.{SplitView}
 use Rattle.view_split.specs.Filled.{AreFilled}
 use Rattle.view_split.specs.Numbered.{map_forest}
 use Rattle.view_split.specs.Seen.{is_sight, seen_views}

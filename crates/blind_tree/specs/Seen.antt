@@ -1,6 +1,6 @@
 -- What a tree shows against what is seen, and when what is shown can be read and written again.
 use Rattle.std.specs.Prelude.{ℕ, suc, ◌≤◌, ◌<◌, ◌^◌, max, Bool, true, false, List, [], ◌∷◌, ◌++◌, length, map, if◌then◌else◌, ◌||◌}
-use Rattle.ledger_terms.specs.Trees.{Act}
+use Rattle.ledger_terms.specs.declared.act.Act.{Act}
 use Rattle.ledger_terms.specs.Forest.{Forest, NoRoots, Root, preorder, paths_from}
 use Rattle.ledger_terms.specs.Roots.{trees_count}
 use Rattle.ledger_terms.specs.Names.{IsName}
@@ -8,7 +8,7 @@ use Rattle.ledger_terms.specs.declared.limits.TheConstants.{MOST_ACTIONS, MOST_A
 use Rattle.wire_form.specs.InRange.{IsAction, IsHash, IsPartySet}
 use Rattle.wire_form.specs.Spelling.{spell_parties}
 use Rattle.view_split.specs.Holed.{Holed, NoMore, Inner, Hole, width}
-use Rattle.view_split.specs.SplitView.{SplitView}
+use Rattle.view_split.specs.declared.split_view.SplitView.{SplitView}
 use Rattle.view_split.specs.declared.views.Views.{Views}
 use Rattle.blind_tree.specs.Vertices.{Vertices, NoVertices, BlindVertex, InnerVertex}
 use Rattle.blind_tree.specs.Cores.{levels}

@@ -4,7 +4,7 @@ use Rattle.ledger_terms.specs.declared.value.Value.{Value}
 use Rattle.ledger_terms.specs.declared.value.Value.TheVariants.{Unit as UnitValue}
 use Rattle.ledger_terms.specs.declared.known.Known.{Known}
 use Rattle.ledger_terms.specs.declared.command.Command.{Command}
-use Rattle.ledger_terms.specs.declared.action_node.ActionNode.{ActionNode}
+use Rattle.ledger_terms.specs.Trees.{ActionNode}
 use Rattle.ledger_terms.specs.Trees.{Actions}
 use Rattle.ledger_terms.specs.Parties.{is_subset}
 use Rattle.ledger_terms.specs.declared.limits.TheConstants.{MOST_ACTIONS, MOST_ACTION_DEPTH, MOST_ACTION_BYTES}
@@ -95,7 +95,7 @@ Stops packages known left source by seen seed path index progress Here fault =
 Stops packages known left source by seen seed path index progress (Past node more) fault =
     (demand : Demand) × (source.turn index seen ≡ Child demand) × IsTree packages known left progress (path ++ index ∷ [])
     (child_seed seed index) by demand node
-    × Stops packages known left source by (source.learn seen node.action) seed path (index + 1) (progress_with progress node) more fault
+    × Stops packages known left source by (source.learn seen node.root.action) seed path (index + 1) (progress_with progress node) more fault
 Stops packages known left source by seen seed path index progress (Inside k choice args actors more) fault =
     (demand : Demand) × (source.turn index seen ≡ Child demand) × IsBegun packages known left progress by demand k choice args actors
     × Stops packages known (one_less left) (body_source packages (call_of k choice args) (path ++ index ∷ []))

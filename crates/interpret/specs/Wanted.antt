@@ -6,9 +6,10 @@ use Rattle.ledger_terms.specs.declared.known.Known.{Known}
 use Rattle.ledger_terms.specs.declared.command.Command.{Command}
 use Rattle.ledger_terms.specs.declared.action.Action.{Action}
 use Rattle.ledger_terms.specs.declared.action.Action.TheVariants.{Create, Exercise, Fetch}
-use Rattle.ledger_terms.specs.declared.action_node.ActionNode.{ActionNode}
+use Rattle.ledger_terms.specs.Trees.{ActionNode}
 use Rattle.ledger_terms.specs.Forest.{NoRoots, Root, preorder}
-use Rattle.ledger_terms.specs.Trees.{Act, Actions}
+use Rattle.ledger_terms.specs.declared.act.Act.{Act}
+use Rattle.ledger_terms.specs.Trees.{Actions}
 use Rattle.ledger_terms.specs.declared.limits.TheConstants.{MOST_ACTIONS, MOST_ACTION_DEPTH, MOST_ACTION_BYTES}
 use Rattle.ledger_model.specs.Language.{roles_of}
 use Rattle.ledger_model.specs.Conformance.{Demands, Possible}
@@ -109,11 +110,11 @@ pub record IsTree (packages : Packages) (known : List Known) (left : ℕ) (progr
     (demand : Demand) (node : ActionNode) : Type 0 where
   pub some : 0 < left
   pub room : progress.count < MOST_ACTIONS
-  pub seeded : node.seed ≡ seed
-  pub demanded : Demands (Some (step_of demand)) node.action
-  pub sound : IsSound packages known progress by node.seed node.action
-  pub children : Wanted packages known (one_less left) (source_of packages path node.action) (result_of node.action)
-      (authorisers_below (roles_of (the_language packages)) node.action) [] node.seed path 0 (after_action progress node.seed node.action) node.children
+  pub seeded : node.root.seed ≡ seed
+  pub demanded : Demands (Some (step_of demand)) node.root.action
+  pub sound : IsSound packages known progress by node.root.seed node.root.action
+  pub children : Wanted packages known (one_less left) (source_of packages path node.root.action) (result_of node.root.action)
+      (authorisers_below (roles_of (the_language packages)) node.root.action) [] node.root.seed path 0 (after_action progress node.root.seed node.root.action) node.below
 
 abbrev pub progress_with : Progress → ActionNode → Progress
-progress_with p n = after_all (after_action p n.seed n.action) (preorder n.children)
+progress_with p n = after_all (after p n.root) (preorder n.below)

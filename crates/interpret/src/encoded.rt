@@ -25,8 +25,8 @@ pub fn encoded_bytes(forest: &ActionNodeList) -> u64
     let mut bytes: u64 = 0;
     for node in forest.as_slice() {
         bytes = bytes
-            .saturating_add(action_bytes(&node.action))
-            .saturating_add(encoded_bytes(&node.children));
+            .saturating_add(action_bytes(&node.root.action))
+            .saturating_add(encoded_bytes(&node.below));
     }
     bytes
 }

@@ -1,5 +1,6 @@
 //! Actions, each with its consequences.
 ghost use Rattle.std.specs.Prelude.{◌≡◌, ◌≢◌, ◌<◌, ◌-◌, [], IfOk, Ok, Err};
+ghost use Rattle.ledger_terms.specs.Forest.{NoRoots};
 ghost use Rattle.ledger_terms.specs.declared.action.Action.TheVariants.{Exercise};
 ghost use Rattle.lang_eval.specs.Next.{next};
 ghost use Rattle.interpret.specs.Act.{act, action_answer, body_answer, body_source, do_create, do_demand, do_fetch, exercise_on, follow, most_children, turn_of};
@@ -18,8 +19,8 @@ use lang_eval::{Checked, EvalFault, is_consuming_call, next_step};
 use ledger_model::{ChoiceCall, SeenList, Step};
 use ledger_terms::limits::MOST_ACTIONS;
 use ledger_terms::{
-    Action, ActionNode, ActionNodeList, Exact, Hash, Instance, Known, KnownContracts, Name,
-    PartySet, Path, Value, ValueList,
+    Act, Action, ActionNode, ActionNodeList, Exact, Hash, Instance, Known, KnownContracts, Name, PartySet,
+    Path, Tree, Value, ValueList,
 };
 use std::alloc::{AllocError, Global};
 
@@ -120,6 +121,16 @@ fn exercise_action(
 }
 
 impl<K: KnownContracts> Interpreter<'_, K> {
+    /// An action without consequences.
+    fn leaf(&self, seed: Hash, action: Action) -> ActionNode
+        ensures { result ≡ record { root = record { seed = seed; action = action }; below = NoRoots } }
+    {
+        Tree {
+            root: Act { seed, action },
+            below: ActionNodeList::new(self.alloc),
+        }
+    }
+
     fn create(
         &self,
         progress: &mut Progress,
@@ -143,11 +154,8 @@ impl<K: KnownContracts> Interpreter<'_, K> {
         progress
             .created
             .push(created_known(id, place.seed, &instance)?)?;
-        Ok(ActionNode {
-            seed: place.seed,
-            action: Action::Create { id, instance },
-            children: ActionNodeList::new(self.alloc),
-        })
+        let action = Action::Create { id, instance };
+        Ok(self.leaf(place.seed, action))
     }
 
     fn fetch(
@@ -177,16 +185,13 @@ impl<K: KnownContracts> Interpreter<'_, K> {
         }
         progress.count += 1;
         let Known { id, salt, instance } = contract;
-        Ok(ActionNode {
-            seed: place.seed,
-            action: Action::Fetch {
-                id,
-                salt,
-                instance,
-                actors,
-            },
-            children: ActionNodeList::new(self.alloc),
-        })
+        let action = Action::Fetch {
+            id,
+            salt,
+            instance,
+            actors,
+        };
+        Ok(self.leaf(place.seed, action))
     }
 
     /// What the body of a call does next, of the Exercise at a path.
@@ -230,10 +235,11 @@ impl<K: KnownContracts> Interpreter<'_, K> {
             Ok(value) => value,
             Err(fault) => return Err(fault),
         };
-        Ok(ActionNode {
-            seed: place.seed,
-            action: exercise_action(salt, call, actors, consuming, value),
-            children,
+        let seed = place.seed;
+        let action = exercise_action(salt, call, actors, consuming, value);
+        Ok(Tree {
+            root: Act { seed, action },
+            below: children,
         })
     }
 
@@ -264,7 +270,7 @@ impl<K: KnownContracts> Interpreter<'_, K> {
                 Ok(child) => child,
                 Err(fault) => return Err(fault),
             };
-            seen.push(what_is_seen(&child.action)?)?;
+            seen.push(what_is_seen(&child.root.action)?)?;
             children.push(child)?;
         }
         Err(CommandFault::TooMany {

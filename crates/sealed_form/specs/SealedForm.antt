@@ -2,7 +2,7 @@
 use Rattle.std.specs.Prelude.{◌≡◌, ℕ, ◌≤◌, Bool, true, List, [], ◌∷◌, ◌++◌, length, map, filter, Contains, nat_eq, Option, Some, None}
 use Rattle.std.specs.Prelude.{option_to_list, option_and_then, Result, Ok, Err, if◌then◌else◌}
 use Rattle.sha2.specs.Sha256.{sha256}
-use Rattle.ledger_terms.specs.Trees.{Act}
+use Rattle.ledger_terms.specs.declared.act.Act.{Act}
 use Rattle.std.specs.List.{list_any}
 use Rattle.ledger_terms.specs.Forest.{Forest, preorder}
 use Rattle.ledger_terms.specs.Hosting.{confirms_at, hosts_at}
@@ -21,7 +21,7 @@ use Rattle.wire_form.specs.InRange.{IsHash}
 use Rattle.wire_form.specs.declared.wire_fault.WireFault.{WireFault}
 use Rattle.interpret.specs.Language.{the_language}
 use Rattle.interpret.specs.NamedParties.{parties_in_forest}
-use Rattle.view_split.specs.SplitView.{SplitView}
+use Rattle.view_split.specs.declared.split_view.SplitView.{SplitView}
 use Rattle.view_split.specs.Split.{split, assembled}
 use Rattle.sealed_form.specs.Within.{participants_of, is_hosted}
 use Rattle.view_split.specs.declared.opened_tree.OpenedTree.{OpenedTree}

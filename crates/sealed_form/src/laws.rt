@@ -1,6 +1,7 @@
 //! The laws of the sealed form, as the clauses of functions that do nothing.
 ghost use Rattle.std.specs.Prelude.{◌≡◌, ℕ, Bool, true, List, Some, Contains, ◌≤◌, [], Ok, length, nat_eq};
-ghost use Rattle.ledger_terms.specs.Trees.{Act, Actions};
+ghost use Rattle.ledger_terms.specs.declared.act.Act.{Act};
+ghost use Rattle.ledger_terms.specs.Trees.{Actions};
 ghost use Rattle.ledger_terms.specs.Forest.{Forest, below_at};
 ghost use Rattle.ledger_model.specs.Terms.{Name, ParticipantId};
 ghost use Rattle.ledger_model.specs.Opening.{seen_paths, shown_of, Transaction, Shown, confirming_of};
