@@ -1,7 +1,8 @@
 -- When a topology is one that a synchroniser can be made for.
-use Rattle.std.specs.Prelude.{◌≡◌, ◌≢◌, ℕ, ◌≤◌, ◌^◌, false, length, sum_by}
+use Rattle.std.specs.Prelude.{◌≡◌, ◌≢◌, ℕ, ◌≤◌, ◌^◌, false, length, sum_by, All}
 use Rattle.std.specs.List.{AllPairs}
-use Rattle.ledger_terms.specs.Parties.{meets_set}
+use Rattle.ledger_terms.specs.Names.{IsName}
+use Rattle.ledger_terms.specs.Parties.{IsRising, meets_set}
 use Rattle.ledger_terms.specs.declared.host.Host.{Host}
 use Rattle.ledger_terms.specs.declared.params.Params.{Params}
 use Rattle.ledger_terms.specs.declared.topology.Topology.{Topology}
@@ -10,6 +11,10 @@ use Rattle.ledger_terms.specs.declared.topology.Topology.{Topology}
 pub record AreApart (a b : Host) : Type 0 where
   pub names : a.name ≢ b.name
   pub parties : meets_set a.parties b.parties ≡ false
+
+-- the parties that a participant hosts are names, in their order
+abbrev pub HostsNames : Host → Type 0
+HostsNames host = All IsName host.parties × IsRising host.parties
 
 -- a time in microseconds from a tenth of a second to some eleven days
 pub record IsWait (time : ℕ) : Type 0 where
@@ -22,6 +27,7 @@ pub record IsValid (topology : Topology) : Type 0 where
   pub few_hosts : length topology.hosts ≤ 8
   pub few_parties : sum_by (λ (host : Host). length host.parties) topology.hosts ≤ 128
   pub apart : AllPairs AreApart topology.hosts
+  pub hosts_name_parties : All HostsNames topology.hosts
   pub response_timeout : IsWait (topology.params).response_timeout
   pub reaction_timeout : IsWait (topology.params).reaction_timeout
   pub skew : IsWait (topology.params).skew
