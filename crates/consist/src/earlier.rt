@@ -7,9 +7,9 @@ ghost use Rattle.consist.specs.Breaks.{differs};
 use ledger_terms::{Action, ActionNode, Hash, Instance};
 use std::marker::Model;
 
-/// An action that was met already.
+/// An action that stands before another.
 #[derive(Drop)]
-pub(crate) struct Earlier<'a> {
+pub struct Earlier<'a> {
     node: &'a ActionNode,
 }
 
@@ -67,7 +67,8 @@ fn is_consuming(action: &Action) -> bool
 }
 
 impl<'a> Earlier<'a> {
-    pub(crate) fn of(node: &'a ActionNode) -> Earlier<'a>
+    /// A node's action.
+    pub fn of(node: &'a ActionNode) -> Earlier<'a>
         ensures { result ≡ record { seed = node.now.seed; action = node.now.action } }
     {
         Earlier { node }
