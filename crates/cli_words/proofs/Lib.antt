@@ -1,0 +1,6 @@
+pub mod Built
+pub mod Commands
+pub mod Given
+pub mod Digits
+pub mod Walked
+pub mod Words
