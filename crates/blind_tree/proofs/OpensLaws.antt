@@ -10,7 +10,8 @@ use Rattle.wire_form.specs.Formats.{◌>>=◌, Reading}
 use Rattle.wire_form.specs.Fields.{name_at, number_at}
 use Rattle.wire_form.specs.Reading.{set_at}
 use Rattle.wire_form.specs.Spelling.{spell_name, spell_parties}
-use Rattle.wire_form.specs.InRange.{IsName, IsPartySet}
+use Rattle.ledger_terms.specs.Names.{IsName}
+use Rattle.wire_form.specs.InRange.{IsPartySet}
 use Rattle.wire_form.proofs.FormatLaws.{Reads}
 use Rattle.wire_form.proofs.Compose.{both_reads}
 use Rattle.wire_form.proofs.FieldLaws.{name_reads, u64_reads}

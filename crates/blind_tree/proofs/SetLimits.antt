@@ -21,7 +21,8 @@ use Rattle.ledger_terms.proofs.Rising.{IsRising-with_party}
 use Rattle.ledger_model.specs.declared.roles.Roles.{Roles}
 use Rattle.ledger_model.specs.Views.{its_informees, starts}
 use Rattle.ledger_model.proofs.Lists.{In, in_any}
-use Rattle.wire_form.specs.InRange.{IsName, IsPartySet}
+use Rattle.ledger_terms.specs.Names.{IsName}
+use Rattle.wire_form.specs.InRange.{IsPartySet}
 use Rattle.view_split.specs.Holed.{inner}
 use Rattle.view_split.specs.declared.split_view.SplitView.{SplitView}
 use Rattle.view_split.specs.Split.{confirmers_in, core_of, view_at, split_below, split}

@@ -1,6 +1,7 @@
 //! Whether transactions and trees have room in a spelling.
 ghost use Rattle.std.specs.Prelude.{◌↔◌, ◌≤◌, ◌<◌, ◌^◌, ◌∷◌, [], ℕ, List, IsTrue};
-ghost use Rattle.wire_form.specs.InRange.{IsHash, IsName};
+ghost use Rattle.ledger_terms.specs.Names.{IsName};
+ghost use Rattle.wire_form.specs.InRange.{IsHash};
 ghost use Rattle.view_split.specs.Holed.{Inner, NoMore};
 ghost use Rattle.blind_tree.specs.Seen.{AreChildren, AreInRange, AreViews};
 ghost use Rattle.view_split.specs.CoreLists.{children_of};

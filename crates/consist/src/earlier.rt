@@ -7,9 +7,9 @@ ghost use Rattle.consist.specs.Breaks.{differs};
 use ledger_terms::{Act, Action, Hash, Instance};
 use std::marker::Model;
 
-/// An action that was met already.
+/// An action that stands before another.
 #[derive(Drop)]
-pub(crate) struct Earlier<'a> {
+pub struct Earlier<'a> {
     act: &'a Act,
 }
 
@@ -67,7 +67,8 @@ fn is_consuming(action: &Action) -> bool
 }
 
 impl<'a> Earlier<'a> {
-    pub(crate) fn of(act: &'a Act) -> Earlier<'a>
+    /// An action with its seed.
+    pub fn of(act: &'a Act) -> Earlier<'a>
         ensures { result ≡ act.now }
     {
         Earlier { act }

@@ -18,7 +18,8 @@ pub enum Rule {
     Consistent,
 }
 
-fn is_unordered(earlier: &[Earlier<'_>], action: &Action) -> bool
+/// Whether an action is on a contract that an earlier one consumes, or creates one on which an earlier one is.
+pub fn is_unordered(earlier: &[Earlier<'_>], action: &Action) -> bool
     ensures { result ≡ shows_unordered earlier.now (record { seed = []; action = action.now }) }
 {
     let id = id_of(action);

@@ -23,7 +23,8 @@ use Rattle.lang_eval.specs.Named.{AreKnown, parties_in_action, parties_in_instan
 use Rattle.lang_eval.proofs.Known.{known_append, known_front, known_back}
 use Rattle.interpret.specs.Ids.{Hash}
 use Rattle.interpret.specs.FilledTree.{IsValueOf, AreValuesOf, IsKnownAs, IsInputOf, IsActionOf, AreFilled, IsFilled}
-use Rattle.interpret.specs.NamedParties.{parties_in_act, parties_in_arg, parties_in_args, parties_in_contracts, parties_in_draft, parties_in_drafts, parties_in_forest, parties_in_input, parties_in_known}
+use Rattle.lang_eval.specs.HandedIn.{parties_in_arg, parties_in_args, parties_in_draft, parties_in_drafts, parties_in_input}
+use Rattle.interpret.specs.NamedParties.{parties_in_act, parties_in_contracts, parties_in_forest, parties_in_known}
 use Rattle.interpret.proofs.PartyLaw.{IsKnownContract, each_known}
 use Rattle.interpret.proofs.Used.{AllOf, found}
 

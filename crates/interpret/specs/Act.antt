@@ -10,6 +10,7 @@ use Rattle.ledger_terms.specs.Forest.{NoRoots, join}
 use Rattle.ledger_terms.specs.Trees.{Actions}
 use Rattle.ledger_terms.specs.Grown.{tree_of}
 use Rattle.ledger_terms.specs.Parties.{is_subset}
+use Rattle.ledger_terms.specs.declared.limits.TheConstants.{MOST_ACTIONS}
 use Rattle.ledger_model.specs.Conformance.{seen_of}
 use Rattle.ledger_model.specs.Parties.{is_empty}
 use Rattle.ledger_model.specs.declared.step.ChoiceCall.{ChoiceCall}
@@ -169,7 +170,7 @@ do_demand packages known run progress path seed by (FetchDemand t id) = do_fetch
 -- one action, where its children are run so
 abbrev pub level : Packages → List Known → Runner → Runner
 level packages known run progress path seed by demand =
-    cond (nat_le 64 progress.count) (Err (TooMany path)) (do_demand packages known run progress path seed by demand)
+    cond (nat_le MOST_ACTIONS progress.count) (Err (TooMany path)) (do_demand packages known run progress path seed by demand)
 
 -- an action with so many levels left
 unfoldable pub act : ℕ → Packages → List Known → Runner

@@ -14,10 +14,11 @@ use crate::ids::{contract_id, label_seed};
 use crate::labels::is_draft_named;
 use crate::place::Place;
 use crate::references::{referenced_id, referenced_value, referenced_values};
+use ledger_terms::limits::MOST_ACTIONS;
 use ledger_terms::{
     Act, Action, ActionNode, ActionNodeList, Arg, ArgList, ContractRef, Draft, DraftAction,
-    DraftList, Hash, Input, Instance, Known, KnownContracts, Name, PartySet, Path, TemplateName,
-    Tree, Value, ValueList, copy_known,
+    DraftList, Exact, Hash, Input, Instance, Known, KnownContracts, Name, PartySet, Path, TemplateName,
+    Tree, Value, ValueList,
 };
 use std::alloc::{AllocError, Global};
 use wire_form::is_spellable_instance;
@@ -115,7 +116,7 @@ impl<K: KnownContracts> Filler<'_, K> {
     {
         match input {
             Input::Known(contract) => match known_of(self.known, contract) {
-                Some(found) => Ok(Some(copy_known(found)?)),
+                Some(found) => Ok(Some(found.copied()?)),
                 None => Ok(None),
             },
             Input::Forged {
@@ -204,14 +205,14 @@ impl<K: KnownContracts> Filler<'_, K> {
     ) -> Result<ActionNode, CommandFault>
         ensures filled { result ≢ Err CommandFault.Memory → node_answer result count.new
             ≡ fill_tree (K.rows self.now.known.now) place.now.left place.now.path place.now.seed count.old (tree_of draft.now) }
-        ensures grows { OnOk result ((count.old < count.new) × (count.new ≤ 64)) }
+        ensures grows { OnOk result ((count.old < count.new) × (count.new ≤ MOST_ACTIONS)) }
     {
         if place.left == 0 {
             return Err(CommandFault::TooDeep {
                 path: copy_path(&place.path)?,
             });
         }
-        if *count >= 64 {
+        if *count >= MOST_ACTIONS {
             return Err(CommandFault::TooMany {
                 path: copy_path(&place.path)?,
             });
@@ -241,11 +242,11 @@ impl<K: KnownContracts> Filler<'_, K> {
         place: &Place,
         drafts: &DraftList,
     ) -> Result<ActionNodeList, CommandFault>
-        requires few { count.old ≤ 64 }
+        requires few { count.old ≤ MOST_ACTIONS }
         requires level { 0 < place.now.left }
         ensures filled { result ≢ Err CommandFault.Memory → list_answer result count.new ≡ fill_all (K.rows self.now.known.now)
             (place.now.left - 1) place.now.seed place.now.path 0 count.old drafts.now }
-        ensures grows { OnOk result ((count.old ≤ count.new) × (count.new ≤ 64)) }
+        ensures grows { OnOk result ((count.old ≤ count.new) × (count.new ≤ MOST_ACTIONS)) }
     {
         let mut filled = ActionNodeList::new(self.alloc);
         let items = drafts.as_slice();

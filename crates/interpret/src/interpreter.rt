@@ -17,9 +17,10 @@ use crate::tested::{are_authorised, authorisers, call_controllers, created_signa
 use crate::turn::Turn;
 use lang_eval::{Checked, EvalFault, is_consuming_call, next_step};
 use ledger_model::{ChoiceCall, SeenList, Step};
+use ledger_terms::limits::MOST_ACTIONS;
 use ledger_terms::{
-    Act, Action, ActionNode, ActionNodeList, Hash, Instance, Known, KnownContracts, Name, PartySet,
-    Path, Tree, Value, ValueList, copy_instance,
+    Act, Action, ActionNode, ActionNodeList, Exact, Hash, Instance, Known, KnownContracts, Name, PartySet,
+    Path, Tree, Value, ValueList,
 };
 use std::alloc::{AllocError, Global};
 
@@ -38,7 +39,7 @@ fn created_known(id: Hash, salt: Hash, instance: &Instance) -> Result<Known, All
     Ok(Known {
         id,
         salt,
-        instance: copy_instance(instance)?,
+        instance: instance.copied()?,
     })
 }
 
@@ -164,7 +165,7 @@ impl<K: KnownContracts> Interpreter<'_, K> {
         by: &PartySet,
         contract: Option<Known>,
     ) -> Result<ActionNode, CommandFault>
-        requires { progress.old.count < 64 }
+        requires { progress.old.count < MOST_ACTIONS }
         ensures { result ≢ Err CommandFault.Memory → action_answer result progress.new
             ≡ do_fetch self.now.checked.now progress.old place.now.path place.now.seed by.now contract }
     {
@@ -294,7 +295,7 @@ impl<K: KnownContracts> Interpreter<'_, K> {
                 path: copy_path(&place.path)?,
             });
         }
-        if progress.count >= 64 {
+        if progress.count >= MOST_ACTIONS {
             return Err(CommandFault::TooMany {
                 path: copy_path(&place.path)?,
             });
@@ -312,7 +313,7 @@ impl<K: KnownContracts> Interpreter<'_, K> {
         demand: Demand,
     ) -> Result<ActionNode, CommandFault>
         requires level { 0 < place.now.left }
-        requires few { progress.old.count < 64 }
+        requires few { progress.old.count < MOST_ACTIONS }
         ensures { result ≢ Err CommandFault.Memory → action_answer result progress.new ≡ do_demand self.now.checked.now (K.rows self.now.known.now)
             (act (place.now.left - 1) self.now.checked.now (K.rows self.now.known.now)) progress.old place.now.path place.now.seed by.now demand }
     {

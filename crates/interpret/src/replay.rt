@@ -16,8 +16,7 @@ use lang_eval::{
 };
 use ledger_model::{ChoiceCall, SeenList, Step};
 use ledger_terms::{
-    Action, ActionNode, ActionNodeList, Hash, Instance, Name, PartySet, Value, ValueList,
-    copy_instance, copy_values,
+    Action, ActionNode, ActionNodeList, Exact, Hash, Instance, Name, PartySet, Value, ValueList,
 };
 use std::alloc::{AllocError, Global};
 
@@ -87,9 +86,9 @@ pub(crate) fn call_of(
 {
     Ok(ChoiceCall {
         id: *id,
-        instance: copy_instance(instance)?,
+        instance: instance.copied()?,
         choice,
-        args: copy_values(args)?,
+        args: args.copied()?,
     })
 }
 

@@ -8,6 +8,7 @@ use Rattle.ledger_terms.specs.Forest.{Forest, preorder}
 use Rattle.ledger_terms.specs.Hosting.{confirms_at, hosts_at}
 use Rattle.ledger_terms.specs.declared.topology.Topology.{Topology}
 use Rattle.ledger_terms.specs.declared.action.Action.{Action}
+use Rattle.ledger_terms.specs.declared.limits.TheConstants.{MOST_TREE_BYTES}
 use Rattle.ledger_model.specs.Forest.{acts}
 use Rattle.ledger_model.specs.Language.{roles_of}
 use Rattle.ledger_model.specs.declared.roles.Roles.{Roles}
@@ -158,10 +159,6 @@ pub record CanBeSealed (topology : Topology) (packages : Packages) (sender : ℕ
   pub in_range : AreInRange whole.sender (split_as whole.transaction (views_by packages whole.transaction))
   pub small : IsSmall whole.sender (split_as whole.transaction (views_by packages whole.transaction))
 
--- how many bytes the mediator's tree and each envelope may have: 4 MiB
-abbrev pub byte_limit : ℕ
-byte_limit = 4194304
-
 -- A request is sealed where its whole can be read and can be sealed, making it again gives the request, and its bytes are
 -- within the limit.
 pub record IsSealedForm (topology : Topology) (packages : Packages) (request : Request) : Type 0 where
@@ -169,5 +166,5 @@ pub record IsSealedForm (topology : Topology) (packages : Packages) (request : R
   pub is_whole : whole_of request ≡ Some whole
   pub can_be : CanBeSealed topology packages request.sender whole
   pub again : request ≡ request_of topology packages request.sender whole.sender request.command whole.salts whole.transaction
-  pub short_mediator : length request.mediator ≤ byte_limit
-  pub short : (envelope : Envelope) → Contains request.envelopes envelope → length envelope.bytes ≤ byte_limit
+  pub short_mediator : length request.mediator ≤ MOST_TREE_BYTES
+  pub short : (envelope : Envelope) → Contains request.envelopes envelope → length envelope.bytes ≤ MOST_TREE_BYTES
