@@ -1,13 +1,16 @@
-// A library with one function.
+//! Scripts that are generated from a number: participants that owe one another, and transfer their debts.
 #![tactic(auto)]
 
-ghost use Rattle.std.specs.Prelude.{◌≡◌};
-ghost use Rattle.load_gen.specs.Echo.{echo_of};
+mod choices;
+mod forms;
+mod iou;
+mod names;
+mod numbers;
+mod packages;
+mod submissions;
+mod topology;
 
-// The `ensures` clause is the contract: what `echo` returns is `echo_of` of its argument, a definition
-// in `specs/Echo.antt`, which a caller's clause can cite too.
-pub fn echo(x: usize) -> usize
-    ensures { result ≡ echo_of x }
-{
-    x
-}
+pub use iou::iou_package;
+pub use packages::packages;
+pub use submissions::{debts, transfers};
+pub use topology::topology;
