@@ -1,11 +1,10 @@
 -- The command as `clap` builds it, and a walk over words that ends with the first fault.
-use Rattle.std.proofs.Common.{◌≡◌, ℕ, Bool, true, false, List, [], ◌∷◌, ◌++◌, Option, Some, None, map, refl, sym, subst}
-use Rattle.std.specs.Prelude.{codes, if◌then◌else◌, is_some}
+use Rattle.std.proofs.Common.{◌≡◌, ℕ, true, false, List, [], ◌∷◌, Option, Some, None, refl, sym, subst}
+use Rattle.std.specs.Prelude.{codes, is_some}
 use Rattle.std.specs.List.{fold}
-use Rattle.std.specs.Option.{option_map, option_map_or}
-use Rattle.clap.specs.Walk.{Held, Row, Rule, Step, Waiting, Walk, idle, nothing_held, walk_from, walked, finished, settled, settled_rows, has_row, with_default, after_step}
-use Rattle.clap.specs.Simple.{App, Shape, new_shape, built, entered, matches_of}
-use Rattle.clap.specs.Faults.{settle_fault, defaults_fault, check_fault, turn_fault, step_fault, walk_fault, entered_fault, fault_of, level_fault}
+use Rattle.clap.specs.Walk.{Held, Row, Rule, Walk, nothing_held, walk_from, walked, finished, settled}
+use Rattle.clap.specs.Simple.{App, Shape, new_shape, built, entered}
+use Rattle.clap.specs.Faults.{settle_fault, defaults_fault, check_fault, turn_fault, walk_fault, entered_fault, level_fault}
 use Rattle.clap.specs.Kinds.{Kinds, or_else}
 use Rattle.clap.specs.declared.builder.value_parser.ValueParser.TheVariants as vp
 use Rattle.cli_words.specs.Arguments.{Text}

@@ -1,5 +1,5 @@
 -- What the clauses of `clap` say at the command, in plain variables: a rewrite inside an answer opens the command.
-use Rattle.std.proofs.Common.{◌≡◌, true, List, [], ◌∷◌, Option, Some, None, map, ◌⊎◌, inl, inr, refl, ◌∙◌, ap, sym, subst}
+use Rattle.std.proofs.Common.{◌≡◌, true, List, [], Option, Some, None, ◌⊎◌, inl, inr, refl, ◌∙◌, ap, subst}
 use Rattle.std.specs.Prelude.{codes}
 use Rattle.std.specs.Option.{option_map}
 use Rattle.clap.specs.Walk.{Row, first_of, rows_of}

@@ -1,7 +1,6 @@
 -- The arguments that are given, as rows of `clap`.
-use Rattle.std.proofs.Common.{◌≡◌, ℕ, Bool, true, false, List, [], ◌∷◌, ◌++◌, Option, Some, None, map, refl, ◌∙◌, ap, cond, ◌||◌, sym, append-nil, true≢false}
+use Rattle.std.proofs.Common.{◌≡◌, Bool, true, false, List, [], ◌∷◌, ◌++◌, Some, None, map, refl, ◌∙◌, ap, cond, ◌||◌, sym, append-nil, true≢false}
 use Rattle.std.specs.Prelude.{option_and_then, slice_get, find}
-use Rattle.std.specs.List.{list_any}
 use Rattle.std.specs.Str.{bytes_eq}
 use Rattle.std.proofs.lemmas.List.Folds.{list_any-append}
 use Rattle.std.proofs.lemmas.List.{map-append}

@@ -15,6 +15,8 @@ AreSo texts words = (map (λ (text : Bor Text). text.now) texts ≡ words) × Ar
 pub one_more : (words : List Text) (texts : List (Bor Text)) (text : Bor Text) (i : ℕ) (word : Text) → i < length words → word ≡ get_or words i word
     → text.now ≡ word → is_utf8 word ≡ true → AreSo texts (take i words) → AreSo (texts ++ text ∷ []) (take (i + 1) words)
 one_more words texts text i word lt is same utf8 so =
-    let longer : take (i + 1) words ≡ take i words ++ word ∷ [] = take_more words i word lt ∙ ap (λ (w : Text). take i words ++ w ∷ []) (sym is) in
-    (map_push (λ (t : Bor Text). t.now) texts text ∙ ap (λ (front : List Text). front ++ text.now ∷ []) so.0 ∙ ap (λ (w : Text). take i words ++ w ∷ []) same
-    ∙ sym longer, subst AreUtf8 (sym longer) (utf8-push (take i words) word so.1 utf8))
+    let longer : take (i + 1) words ≡ take i words ++ word ∷ [] = take_more words i word lt ∙ ap (λ (w : Text). take i words ++ w ∷ []) (sym is) in (
+      map_push (λ (t : Bor Text). t.now) texts text ∙ ap (λ (front : List Text). front ++ text.now ∷ []) so.0 ∙ ap (λ (w : Text). take i words ++ w ∷ []) same
+          ∙ sym longer,
+      subst AreUtf8 (sym longer) (utf8-push (take i words) word so.1 utf8),
+    )

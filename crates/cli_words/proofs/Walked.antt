@@ -1,18 +1,18 @@
 -- The states of the walk, and what a turn leaves of them.
-use Rattle.std.proofs.Common.{◌≡◌, ℕ, zero, suc, Bool, true, false, not, ◌&&◌, ◌||◌, List, [], ◌∷◌, ◌++◌, Option, Some, None, map, length, refl, ◌∙◌, ap, sym, cond}
+use Rattle.std.proofs.Common.{◌≡◌, ℕ, suc, Bool, true, false, ◌&&◌, ◌||◌, List, [], ◌∷◌, ◌++◌, Option, Some, None, length, refl, ◌∙◌, ap}
 use Rattle.std.specs.Prelude.{codes, if◌then◌else◌, slice_get}
-use Rattle.std.specs.List.{fold, list_any}
-use Rattle.std.specs.Option.{option_map, option_map_or}
+use Rattle.std.specs.List.{fold}
+use Rattle.std.specs.Option.{option_map_or}
 use Rattle.std.specs.Str.{bytes_eq, chars}
-use Rattle.clap.specs.Walk.{Held, Row, Rule, Step, Waiting, Walk, idle, option as waits_for, next, trailing, value, has_row, with_values, without, used_by_id, settled, settled_rows, pushed, is_pending, is_empty, with_default, default_rows, finished, after_step, arg_by_id, walked}
-use Rattle.clap.specs.Faults.{use_fault, settle_fault, default_fault, defaults_fault, check_fault, step_fault, flags_fault, bundle_fault, bundle_step_fault}
+use Rattle.clap.specs.Walk.{Held, Row, Rule, Waiting, Walk, idle, has_row, with_values, without, used_by_id, settled, settled_rows, pushed, is_pending, with_default, arg_by_id}
+use Rattle.clap.specs.Faults.{use_fault, settle_fault, default_fault, defaults_fault, check_fault, flags_fault, bundle_fault, bundle_step_fault}
 use Rattle.clap.specs.Kinds.{Kinds, or_else}
 use Rattle.clap.specs.declared.error.kind.ErrorKind.{ErrorKind}
 use Rattle.clap.specs.declared.error.kind.ErrorKind.TheVariants.{ArgumentConflict, InvalidValue, UnknownArgument}
 use Rattle.clap.specs.declared.builder.value_parser.Reading.TheVariants as reading
 use Rattle.clap.specs.declared.parser.matches.ValueSource.TheVariants.{CommandLine}
 use Rattle.cli_words.specs.Arguments.{Text, Argument, is_given}
-use Rattle.cli_words.proofs.Built.{option_built, positional_built, rules, shape, unless, end_fault, reads}
+use Rattle.cli_words.proofs.Built.{positional_built, rules, shape, unless, reads}
 use Rattle.cli_words.proofs.Given.{rows_of_given, has_row-given, used-absent, absent-more}
 
 -- which positionals are still to come
@@ -168,6 +168,7 @@ placed is_last i name word given h k words found known hold g after = go (is_pen
   where
     body : unless (settle_fault rules false h) (reads (at is_last idle (pushed name word (settled rules h)) k) words) ≡ found
     body = rw hold.settles (after (pushed name word (settled rules h)) (holds_pending name word given (settled_rows rules h.pending h.rows) h.skip known hold.rows hold.skip g))
+
     go : (b : Bool)
         → unless (if b && false then [] else settle_fault rules false h)
         (reads (at is_last idle (pushed name word (if b && false then h else settled rules h)) k) words) ≡ found
@@ -197,5 +198,6 @@ flag_fault flags h letters s = steps (length flags) h.skip (record h { skip = 0 
     step : (first : Option ℕ) (skip : ℕ) (held : Held) (more : Text → ℕ → Held → Kinds) → first ≡ Some letters.letter → skip ≡ 0
         → bundle_step_fault rules false first flags skip held more ≡ UnknownArgument ∷ []
     step first skip held more e s' = rw (e, s') refl
+
     steps : (n skip : ℕ) (held : Held) → n ≡ suc letters.others → skip ≡ 0 → flags_fault rules false n flags skip held ≡ UnknownArgument ∷ []
     steps n skip held e s' = rw e (step (slice_get (chars flags) 0) skip held (flags_fault rules false letters.others) letters.first s')

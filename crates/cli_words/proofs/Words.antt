@@ -1,13 +1,13 @@
 -- What `clap` makes of the words is what they say.
-use Rattle.std.proofs.Common.{◌≡◌, ℕ, zero, suc, Bool, true, false, not, ◌&&◌, ◌||◌, List, [], ◌∷◌, ◌++◌, Option, Some, None, ◌⊎◌, inl, inr, length, refl, ◌∙◌, ap, ap₂, sym, subst, cond}
-use Rattle.std.specs.Prelude.{codes, if◌then◌else◌, slice_get, nat_lt, option_and_then, ◌==◌}
+use Rattle.std.proofs.Common.{◌≡◌, ℕ, Bool, true, false, ◌&&◌, List, [], ◌∷◌, ◌++◌, Option, Some, None, ◌⊎◌, inl, inr, length, refl, ◌∙◌, ap₂, subst}
+use Rattle.std.specs.Prelude.{codes, if◌then◌else◌, slice_get, option_and_then, ◌==◌}
 use Rattle.std.specs.Option.{option_map, option_map_or}
 use Rattle.std.specs.Char.{encode_utf8}
 use Rattle.std.specs.Str.{bytes_eq, chars, is_utf8, all_scalars, encode_utf8_all}
 use Rattle.std.proofs.lemmas.Bool.{cases_Bool, and_parts, eqb-true, false≢true}
 use Rattle.std.proofs.lemmas.Slice.Eq.{bytes_eq-Decides}
 use Rattle.clap.specs.Lexer.{long_of, short_of, short_of_rest}
-use Rattle.clap.specs.Walk.{Held, Row, Rule, Step, Waiting, Walk, idle, option as waits_for, next, trailing, value, after_flag, after_step, arg_by_id, arg_by_long, has_row, long_met, long_word, nothing_held, walk_from, long_or_other, option_word, plain_word, subcommand_or_other, pushed, settled, settled_rows, short_or_plain, walked, with_values, without}
+use Rattle.clap.specs.Walk.{Held, Row, Rule, Step, Waiting, Walk, idle, option as waits_for, trailing, after_flag, after_step, arg_by_id, arg_by_long, has_row, long_met, long_word, nothing_held, walk_from, long_or_other, subcommand_or_other, settled_rows, short_or_plain, walked, with_values, without}
 use Rattle.clap.specs.Faults.{bundle_fault, flag_word_fault, long_fault, other_fault, settle_fault, step_fault}
 use Rattle.clap.specs.Kinds.{Kinds, or_else}
 use Rattle.clap.specs.declared.builder.value_parser.Reading.TheVariants as reading
@@ -156,6 +156,7 @@ doomed_long name text h more x doom = elim (option_cases name) [
     go : (found : Option Rule) → found ≡ Some (option_built name) → (t : Option Text) → unless (or_else (long_fault rules false found t h) more) x ≡ None
     go found e None = rw (e, doom.settles) refl
     go found e (Some t) = rw (e, doom.settles) refl
+
     unknown : (found : Option Rule) → found ≡ None → unless (or_else (long_fault rules false found text h) more) x ≡ None
     unknown found e = rw e refl
 
@@ -217,8 +218,8 @@ joined_said : (name text : Text) (given : List Argument) (k : Left) (words : Lis
 joined_said name text given k words kinds rs skip known fresh after none e s = elim (cases_Bool (is_given name given)) [
   | inl again ↦ rw (none, has_row-rows name given rs true e again, known.listed, again) refl
   | inr new ↦ rw (none, has_row-rows name given rs false e new, known.listed, new)
-  (after (given ++ (name, text) ∷ []) k _ (fresh-more k name text given known.count known.seed fresh)
-  (record { settles = refl; rows = used-rows name text given rs e new; skip = s }))
+      (after (given ++ (name, text) ∷ []) k _ (fresh-more k name text given known.count known.seed fresh)
+      (record { settles = refl; rows = used-rows name text given rs e new; skip = s }))
 ]
 
 -- an option with its text, or with its text to come
@@ -238,6 +239,7 @@ long_said name text given k h word words fresh hold after after_option = elim (o
     turn found t =
         let met = long_met rules found t h in
         turned (long_fault rules false found t h) (after_flag rules idle word met.0 met.1) (at false idle h k) word words
+
     go : (known : IsKnownOption name) (found : Option Rule) → found ≡ Some (option_built name) → (t : Option Text) → turn found t
         ≡ said (by_form (option name t) (λ _. positionals_from given (names_left k) words)
         (λ name text. with_option given name text (λ given'. arguments_from given' (names_left k) words))
@@ -246,6 +248,7 @@ long_said name text given k h word words fresh hold after after_option = elim (o
     go known found e (Some t) =
         rw e (joined_said name t given k words (settle_fault rules false h) (settled_rows rules h.pending h.rows) h.skip known fresh after hold.settles hold.rows hold.skip)
     go known found e None = rw (e, hold.settles, hold.rows, hold.skip) (after_option given k name known fresh)
+
     unknown : is_option name ≡ false → (found : Option Rule) → found ≡ None → (t : Option Text) → turn found t
         ≡ said (by_form (option name t) (λ _. positionals_from given (names_left k) words)
         (λ name text. with_option given name text (λ given'. arguments_from given' (names_left k) words))
@@ -290,9 +293,9 @@ looks_said_of false None (Some flags) given k name word words letters known fres
 looks_said_of false None None given k name word words letters known fresh utf8 after =
     rw (known.by_id, known.same) (elim (cases_Bool (is_given name given)) [
       | inl again ↦ rw (known.listed, again) (doomed_idle (pending_held (rows_of_given given) name (word ∷ []) 0) k words utf8
-      (doomed_pending name word given (rows_of_given given) 0 known.known refl refl again))
+          (doomed_pending name word given (rows_of_given given) 0 known.known refl refl again))
       | inr new ↦ rw (known.listed, new) (after (given ++ (name, word) ∷ []) k (pending_held (rows_of_given given) name (word ∷ []) 0)
-      (fresh-more k name word given known.count known.seed fresh) (holds_pending name word given (rows_of_given given) 0 known.known refl refl new))
+          (fresh-more k name word given known.count known.seed fresh) (holds_pending name word given (rows_of_given given) 0 known.known refl refl new))
     ])
 
 mutual

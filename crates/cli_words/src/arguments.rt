@@ -36,7 +36,10 @@ fn command<'a>(alloc: Global) -> Result<Command<'a>, AllocError>
 }
 
 /// What the words say.
-pub(crate) fn read_arguments<'a>(alloc: Global, words: &'a [&'a str]) -> Result<ArgMatches<'a>, WordsFault>
+pub(crate) fn read_arguments<'a>(
+    alloc: Global,
+    words: &'a [&'a str],
+) -> Result<ArgMatches<'a>, WordsFault>
     requires { AreUtf8 (map (λ w. w.now) words.now) }
     ensures given { IfOk result (λ m. given_of (map (λ w. w.now) words.entry.now) ≡ Some (matches_given m)) }
     ensures usage { result ≡ Err WordsFault.Usage → given_of (map (λ w. w.now) words.entry.now) ≡ None }

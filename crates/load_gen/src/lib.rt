@@ -11,6 +11,6 @@ mod submissions;
 mod topology;
 
 pub use iou::iou_package;
-pub use packages::packages;
-pub use submissions::{debts, transfers};
-pub use topology::topology;
+pub use packages::generated_packages;
+pub use submissions::{generated_debts, generated_transfers};
+pub use topology::generated_topology;

@@ -8,7 +8,7 @@ use ledger_terms::PackageList;
 use std::alloc::{AllocError, Global};
 
 /// The packages of a generated script: Iou, behind what is built in.
-pub fn packages(alloc: Global) -> Result<Checked, AllocError>
+pub fn generated_packages(alloc: Global) -> Result<Checked, AllocError>
     ensures { IfOk result (λ checked. checked ≡ packages) }
 {
     let mut given = PackageList::new(alloc);

@@ -85,7 +85,7 @@ fn transfer_of(alloc: Global, turn: u32) -> Result<Submission, AllocError>
 }
 
 /// The debts, each of an amount by the next number.
-pub fn debts(alloc: Global, count: u32, seed: u64) -> Result<SubmissionList, AllocError>
+pub fn generated_debts(alloc: Global, count: u32, seed: u64) -> Result<SubmissionList, AllocError>
     ensures { IfOk result (λ s. s ≡ debts seed count) }
 {
     let mut debts = SubmissionList::new(alloc);
@@ -98,7 +98,7 @@ pub fn debts(alloc: Global, count: u32, seed: u64) -> Result<SubmissionList, All
 }
 
 /// The transfers of the debts.
-pub fn transfers(alloc: Global, count: u32) -> Result<SubmissionList, AllocError>
+pub fn generated_transfers(alloc: Global, count: u32) -> Result<SubmissionList, AllocError>
     ensures { IfOk result (λ s. s ≡ transfers count) }
 {
     let mut transfers = SubmissionList::new(alloc);

@@ -50,7 +50,7 @@ fn hosts(alloc: Global) -> Result<HostList, AllocError>
 }
 
 /// The participants of a generated script, each of which has vetted all packages, and the times of a script that gives none.
-pub fn topology(alloc: Global) -> Result<Topology, AllocError>
+pub fn generated_topology(alloc: Global) -> Result<Topology, AllocError>
     ensures { IfOk result (λ t. t ≡ record { hosts = hosts; params = params }) }
 {
     let hosts = hosts(alloc)?;

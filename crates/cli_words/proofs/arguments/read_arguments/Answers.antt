@@ -1,8 +1,8 @@
-use Rattle.std.proofs.Common.{◌≡◌, [], List, refl}
+use Rattle.std.proofs.Common.{◌≡◌, []}
 use Rattle.std.proofs.lemmas.Bool.{false≢true}
-use Rattle.clap.specs.Walk.{Row, rows_of}
+use Rattle.clap.specs.Walk.{rows_of}
 use Rattle.clap.specs.Matches.{found_of}
-use Rattle.clap.specs.Kinds.{Kinds, HasKind}
+use Rattle.clap.specs.Kinds.{HasKind}
 use Rattle.clap.specs.declared.error.kind.ErrorKind.TheVariants.{OutOfMemory}
 use Rattle.cli_words.proofs.Commands.{fault_at, rows_at, none_among, given_where_taken, none_where_refused}
 use Rattle.cli_words.proofs.arguments.read_arguments.Goals as goal

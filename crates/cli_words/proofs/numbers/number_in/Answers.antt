@@ -1,4 +1,4 @@
-use Rattle.std.proofs.Common.{sym, ◌∙◌, rules}
+use Rattle.std.proofs.Common.{rules}
 use Rattle.cli_words.proofs.Digits.{too_large}
 use Rattle.cli_words.proofs.numbers.number_in.Goals as goal
 

@@ -1,4 +1,3 @@
-use Rattle.std.proofs.Common.{rules}
 use Rattle.std.proofs.lemmas.Str.{is_utf8-from_IsUtf8}
 use Rattle.cli_words.proofs.Texts.{one_more}
 use Rattle.cli_words.proofs.read.texts_of.Goals as goal
