@@ -6,4 +6,4 @@ use Rattle.load_gen.proofs.names.numbered.Goals as goal
 pub unwrap-requires : goal.unwrap-requires
 unwrap-requires c =
     let named = numbered_is_name c.args.letter.now c.args.number c.requires (search (rules, arith)) in
-    rw (c.read.ensures, c.as_str.ensures.value, c.in_ok-text.ensures.ok, named) tt
+    rw (c.read.ensures, c.as_str.ensures.value, c.in_ok-text.ensures.ok, named) refl
