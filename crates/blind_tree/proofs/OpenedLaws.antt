@@ -136,7 +136,7 @@ chosen : (b : Bool) (p q : Result Views WireFault) → (if b then p else with_re
 chosen true p q = refl
 chosen false p q = read_on q
 
-pub opened_one : (above : List ℕ) (k : ℕ) (informees contents : Leaf) (subviews : Vertices) (so_far : Views) → opened_after above k (one_vertex (Inner informees contents subviews)) so_far ≡ inner_opened above k informees contents subviews so_far
+pub opened_one : (above : List ℕ) (k : ℕ) (informees contents : Leaf) (subviews : Vertices) (so_far : Views) → opened_after above k (one_vertex (Inner informees contents subviews)) so_far ≡ inner_opened (above ++ k ∷ []) informees contents subviews so_far
 opened_one above k informees contents subviews so_far = chosen (is_open informees contents) _ (opened_after (above ++ k ∷ []) 0 subviews so_far)
 
 -- one vertex, and then those after it

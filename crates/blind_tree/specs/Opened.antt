@@ -34,9 +34,9 @@ opened_after above k (InnerVertex informees contents subviews others) so_far =
     then with_read (view_read informees contents subviews) (λ view. opened_after above (suc k) others (so_far ++ placed (above ++ k ∷ []) view ∷ []))
     else with_read (opened_after (above ++ k ∷ []) 0 subviews so_far) (λ more. opened_after above (suc k) others more)
 
--- the same of one vertex, by its leaves and those below it
-abbrev pub inner_opened : List ℕ → ℕ → (informees contents : Leaf) → Vertices → List PlacedView → Result (List PlacedView) WireFault
-inner_opened above k informees contents subviews so_far =
+-- the same of one vertex at a path, by its leaves and those below it
+abbrev pub inner_opened : List ℕ → (informees contents : Leaf) → Vertices → List PlacedView → Result (List PlacedView) WireFault
+inner_opened path informees contents subviews so_far =
     if is_open informees contents
-    then with_read (view_read informees contents subviews) (λ view. Ok (so_far ++ placed (above ++ k ∷ []) view ∷ []))
-    else opened_after (above ++ k ∷ []) 0 subviews so_far
+    then with_read (view_read informees contents subviews) (λ view. Ok (so_far ++ placed path view ∷ []))
+    else opened_after path 0 subviews so_far

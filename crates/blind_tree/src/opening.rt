@@ -80,30 +80,29 @@ fn open_vertex(
             informees,
             contents,
             subviews,
-        } => open_inner(alloc, above, at, informees, contents, subviews, out),
+        } => {
+            let path = path_below(above, at)?;
+            open_inner(alloc, path, informees, contents, subviews, out)
+        }
     }
 }
 
 #[cycle(open)]
 fn open_inner(
     alloc: Global,
-    above: &Path,
-    at: usize,
+    path: Path,
     informees: &Leaf,
     contents: &Leaf,
     subviews: &VertexList,
     out: &mut PlacedViewList,
 ) -> Result<(), WireFault>
-    requires step { at < 65536 }
-    requires narrow { IsNarrow subviews.now }
-    ensures { FollowsOn WireFault.Memory out.new result (inner_opened above.now at informees.now contents.now subviews.now out.old) }
+    requires { IsNarrow subviews.now }
+    ensures { FollowsOn WireFault.Memory out.new result (inner_opened path informees.now contents.now subviews.now out.old) }
 {
     if are_plain(informees, contents) {
         let view = read_view(alloc, informees, contents, subviews)?;
-        let path = path_below(above, at)?;
         put_view(path, view, out)
     } else {
-        let path = path_below(above, at)?;
         open_all(alloc, &path, subviews, out)
     }
 }
