@@ -190,6 +190,7 @@ fn read_cond(
 }
 
 #[cycle(expr)]
+#[tactic(auto, using(ledger_terms::proofs::ExprLists::list_forms))]
 fn read_operands(
     alloc: Global,
     items: &Vec<Value>,

@@ -49,7 +49,7 @@ pub fn expr_or(
     }
 }
 
-#[tactic(auto, unfolding(crate::specs::Exprs::expr_step))]
+#[tactic(auto, using(ledger_terms::proofs::ExprLists::list_forms), unfolding(crate::specs::Exprs::expr_step))]
 fn push_expr(
     alloc: Global,
     value: &Value,

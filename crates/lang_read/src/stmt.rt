@@ -108,6 +108,7 @@ fn read_block(
 }
 
 #[cycle(stmt)]
+#[tactic(auto, using(ledger_terms::proofs::StmtLists::list_forms))]
 fn read_stmts(
     alloc: Global,
     items: &Vec<Value>,
