@@ -1,7 +1,7 @@
 -- A loop that puts what it reads at the end of a list: one more item.
-use Rattle.std.proofs.Common.{◌≡◌, ℕ, ◌+◌, ◌<◌, ◌×◌, List, [], ◌∷◌, ◌++◌, Result, Ok, length, get_or, drop, refl, sym, ◌∙◌, ap}
+use Rattle.std.proofs.Common.{◌≡◌, ℕ, ◌+◌, ◌<◌, List, [], ◌∷◌, ◌++◌, Result, Ok, length, get_or, drop, refl, sym, ◌∙◌, ap}
 use Rattle.std.proofs.lemmas.List.{drop_more}
-use Rattle.serde_json.specs.Data.{item}
+use Rattle.serde_json.specs.Data.{Items, item}
 use Rattle.serde_json.specs.View.{view, items_view}
 use Rattle.serde_json.specs.declared.value.Value.{Value}
 use Rattle.ledger_terms.specs.Pointers.{at_item}
@@ -32,7 +32,7 @@ module _ (hosts : List Host) (at : Place) (vs : List Value) (i : ℕ) (v : Value
       let rest = items_view (drop (i + 1) vs) in
       let step : operands_from hosts at depth i (exprs_of es) (item (view v) rest) ≡ operands_from hosts at depth (i + 1) (exprs_join (exprs_of es) (one_expr (expr_form e))) rest =
       ap (λ (r : Result ExprForm WalkFault). r >>= (λ f. operands_from hosts at depth (i + 1) (exprs_join (exprs_of es) (one_expr f)) rest)) found in
-      rw (grown, exprs_of-append es (e ∷ [])) (sym step ∙ (rw (← next) before))
+      rw (grown, exprs_of-append es (e ∷ [])) (sym step ∙ (sym (ap (λ (w : Items). operands_from hosts at depth i (exprs_of es) w) next) ∙ before))
 
   pub stmt_pushed : (count after : ℕ) (ss new : List Stmt) (s : Stmt) (all : Result (StmtForms × ℕ) WalkFault)
       → stmt_of hosts (at_item at i) count (view v) ≡ Ok (stmt_form s, after) → new ≡ ss ++ s ∷ []
@@ -42,4 +42,4 @@ module _ (hosts : List Host) (at : Place) (vs : List Value) (i : ℕ) (v : Value
       let rest = items_view (drop (i + 1) vs) in
       let step : stmts_from hosts at i (stmts_of ss, count) (item (view v) rest) ≡ stmts_from hosts at (i + 1) (stmts_join (stmts_of ss) (one_stmt (stmt_form s)), after) rest =
       ap (λ (r : Result (StmtForm × ℕ) WalkFault). r >>= (λ p. stmts_from hosts at (i + 1) (stmts_join (stmts_of ss) (one_stmt p.0), p.1) rest)) found in
-      rw (grown, stmts_of-append ss (s ∷ [])) (sym step ∙ (rw (← next) before))
+      rw (grown, stmts_of-append ss (s ∷ [])) (sym step ∙ (sym (ap (λ (w : Items). stmts_from hosts at i (stmts_of ss, count) w) next) ∙ before))
