@@ -16,7 +16,8 @@ use Rattle.canton_model.specs.Inbox.{Item, item_time, has_hosted_stakeholder, is
 use Rattle.canton_model.specs.Checks.{is_within, verdict_on_view}
 use Rattle.proto_model.specs.declared.plain_form.PlainForm.{PlainForm}
 use Rattle.proto_model.specs.BuiltIn.{built_in, built_in_language, conforms}
-use Rattle.proto_model.specs.PlainReading.{plain_reading, is_authentic, root_of, roots_of_form, vets, shown_of_form, view_of_form}
+use Rattle.interpret.specs.Ids.{is_authentic}
+use Rattle.proto_model.specs.PlainReading.{plain_reading, root_of, roots_of_form, vets, shown_of_form, view_of_form}
 use Rattle.node_core.specs.Findings.{first_reason}
 
 pub any_append : (p : List ℕ → Bool) (xs ys : List (List ℕ)) → list_any p (xs ++ ys) ≡ (list_any p xs || list_any p ys)
