@@ -9,7 +9,8 @@ use Rattle.std.proofs.lemmas.Option.{same_Some, none-some}
 use Rattle.std.proofs.lemmas.Slice.Eq.{bytes_eq-Decides}
 use Rattle.ledger_terms.proofs.Deciding.{lists_decide}
 use Rattle.ledger_terms.specs.Hosting.{hosts_at}
-use Rattle.ledger_terms.specs.Trees.{Act}
+use Rattle.ledger_terms.specs.declared.act.Act.{Act}
+use Rattle.ledger_terms.specs.declared.limits.TheConstants.{MOST_TREE_BYTES}
 use Rattle.ledger_terms.specs.declared.topology.Topology.{Topology}
 use Rattle.ledger_model.specs.Forest.{acts}
 use Rattle.canton_model.specs.declared.envelope.Envelope.{Envelope}
@@ -19,7 +20,7 @@ use Rattle.interpret.specs.Language.{the_language}
 use Rattle.interpret.specs.NamedParties.{parties_in_forest}
 use Rattle.view_split.specs.declared.views.Views.{Views}
 use Rattle.blind_tree.specs.Blind.{is_host_named}
-use Rattle.sealed_form.specs.SealedForm.{CanBeSealed, IsSealedForm, Whole, byte_limit, request_of, roles_by, split_as, views_by, whole_of}
+use Rattle.sealed_form.specs.SealedForm.{CanBeSealed, IsSealedForm, Whole, request_of, roles_by, split_as, views_by, whole_of}
 use Rattle.sealed_form.specs.SealedTest.{are_informees_hosted, are_parties_hosted, can_be_sealed, have_roles, is_made_of, is_sealed_form, is_short, is_spellable, same_envelope, same_request}
 use Rattle.sealed_form.specs.Within.{is_hosted}
 use Rattle.sealed_form.proofs.Deciding.{all_decide, at_most, both_decide, equal, five_decide, four_decide, itself}
@@ -111,11 +112,11 @@ module _ (topology : Topology) (packages : Packages) where
   -- ---- whether a request is sealed
 
   module _ (request : Request) where
-    envelopes_decide : Decides (list_all is_short request.envelopes) ((e : Envelope) → Contains request.envelopes e → length e.bytes ≤ byte_limit)
+    envelopes_decide : Decides (list_all is_short request.envelopes) ((e : Envelope) → Contains request.envelopes e → length e.bytes ≤ MOST_TREE_BYTES)
     envelopes_decide =
         let all = all_decide is_short request.envelopes in (
-          λ h e there. (at_most (length e.bytes) byte_limit).0 (all.0 h e there),
-          λ f. all.1 (λ e there. (at_most (length e.bytes) byte_limit).1 (f e there)),
+          λ h e there. (at_most (length e.bytes) MOST_TREE_BYTES).0 (all.0 h e there),
+          λ f. all.1 (λ e there. (at_most (length e.bytes) MOST_TREE_BYTES).1 (f e there)),
         )
 
     abbrev again : Whole → Request
@@ -125,12 +126,12 @@ module _ (topology : Topology) (packages : Packages) where
     IsMade whole =
         CanBeSealed topology packages request.sender whole
         × (request ≡ again whole)
-        × (length request.mediator ≤ byte_limit)
-        × ((e : Envelope) → Contains request.envelopes e → length e.bytes ≤ byte_limit)
+        × (length request.mediator ≤ MOST_TREE_BYTES)
+        × ((e : Envelope) → Contains request.envelopes e → length e.bytes ≤ MOST_TREE_BYTES)
 
     made_decides : (whole : Whole) → Decides (is_made_of topology packages request (Some whole)) (IsMade whole)
     made_decides whole =
-        four_decide (can_decides request.sender whole) (request_decides request (again whole)) (at_most (length request.mediator) byte_limit) envelopes_decide
+        four_decide (can_decides request.sender whole) (request_decides request (again whole)) (at_most (length request.mediator) MOST_TREE_BYTES) envelopes_decide
 
     tested : (o : Option Whole) → whole_of request ≡ o → is_made_of topology packages request o ≡ true → IsSealedForm topology packages request
     tested None read h = absurd cc

@@ -1,17 +1,18 @@
 -- The parties of a valid topology are few, and what names no others is among them.
 use Rattle.std.proofs.Common.{◌≡◌, ℕ, zero, suc, ◌≤◌, Bool, true, false, List, [], ◌∷◌, ◌++◌, length, Option, Some, None, Contains, refl, sym, ◌∙◌, subst, inl, inr, arith}
-use Rattle.std.specs.Prelude.{All, is_some, option_map, if◌then◌else◌, ◌||◌, sum_by}
+use Rattle.std.specs.Prelude.{is_some, option_map, if◌then◌else◌, ◌||◌}
 use Rattle.std.specs.List.{AllByRecursion, flat_map, list_all}
 use Rattle.std.proofs.lemmas.Bool.{cases_Bool, or_left, or_right}
 use Rattle.std.proofs.lemmas.Grind.{flat_map-append}
 use Rattle.std.proofs.lemmas.List.Concat.{length-flat_map}
 use Rattle.std.proofs.lemmas.List.Elements.{recursion_from_All, All-from_recursion}
 use Rattle.std.proofs.lemmas.List.Folds.{list_any-append}
-use Rattle.std.proofs.lemmas.List.Sums.{sum_by-cons}
+use Rattle.ledger_terms.proofs.Deciding.{bytes_decide}
+use Rattle.ledger_terms.specs.Names.{IsName}
 use Rattle.ledger_terms.specs.Hosting.{host_of, hosts_at, lists_party}
 use Rattle.ledger_terms.specs.Parties.{IsRising, has_party, is_subset, same_name}
-use Rattle.ledger_terms.specs.Topologies.{IsValid}
-use Rattle.ledger_terms.specs.Trees.{Act}
+use Rattle.ledger_terms.specs.Topologies.{HasNames, IsValid}
+use Rattle.ledger_terms.specs.declared.act.Act.{Act}
 use Rattle.ledger_terms.specs.Forest.{Forest, NoRoots, Root, preorder}
 use Rattle.ledger_terms.specs.declared.action.Action.{Action}
 use Rattle.ledger_terms.specs.declared.action.Action.TheVariants.{Create, Exercise, Fetch}
@@ -27,10 +28,9 @@ use Rattle.lang_eval.specs.Parts.{PartyNames}
 use Rattle.lang_eval.proofs.Informed.{no_size}
 use Rattle.lang_eval.proofs.Known.{known_back, known_front}
 use Rattle.lang_eval.proofs.NamedRoles.{roles_known}
-use Rattle.wire_form.specs.InRange.{IsName, IsPartySet}
-use Rattle.wire_form.specs.Spellable.{IsSpellableSet}
 use Rattle.interpret.specs.Language.{the_language}
 use Rattle.interpret.specs.NamedParties.{parties_in_act, parties_in_forest}
+use Rattle.blind_tree.specs.Blind.{is_host_named}
 use Rattle.blind_tree.specs.Limits.{AllAmong, AreAmong, AreFew}
 use Rattle.blind_tree.proofs.SetLimits.{rising_with}
 use Rattle.sealed_form.specs.SealedForm.{roles_by}
@@ -75,33 +75,26 @@ both_named : (xs ys : PartyNames) → AllByRecursion IsName xs → AllByRecursio
 both_named [] ys h g = g
 both_named (x ∷ xs) ys h g = (h.0, both_named xs ys h.1 g)
 
-abbrev HasSet : Host → Type 0
-HasSet host = IsPartySet host.parties
-
-each_named : (hosts : List Host) → AllByRecursion HasSet hosts → AllByRecursion IsName (parties_of hosts)
+each_named : (hosts : List Host) → AllByRecursion HasNames hosts → AllByRecursion IsName (parties_of hosts)
 each_named [] h = tt
 each_named (host ∷ hosts) h =
-    both_named host.parties (parties_of hosts) (recursion_from_All IsName host.parties (h.0).names) (each_named hosts h.1)
+    both_named host.parties (parties_of hosts) (recursion_from_All IsName host.parties (h.0).parties) (each_named hosts h.1)
 
-abbrev pub HasRoom : Host → Type 0
-HasRoom host = IsSpellableSet host.parties
-
-have_room : (hosts : List Host) → sum_by (λ (host : Host). length host.parties) hosts ≤ 128 → AllByRecursion HasRoom hosts
-have_room [] h = tt
-have_room (host ∷ hosts) h =
-    let s = sum_by-cons (λ (host : Host). length host.parties) host hosts in
-    (omega (arith, h, s), have_room hosts (omega (arith, h, s)))
+named_host : (hosts : List Host) (p : ℕ) (name : List ℕ) → AllByRecursion HasNames hosts → is_host_named hosts p name ≡ true → IsName name
+named_host [] p name h sends = absurd cc
+named_host (host ∷ hosts) zero name h sends = subst IsName ((bytes_decide host.name name).0 sends) (h.0).own
+named_host (host ∷ hosts) (suc p) name h sends = named_host hosts p name h.1 sends
 
 module _ (topology : Topology) (valid : IsValid topology) where
-  pub hosts_have_room : All HasRoom topology.hosts
-  hosts_have_room = All-from_recursion HasRoom topology.hosts (have_room topology.hosts valid.few_parties)
-
-  pub are_few : All HasSet topology.hosts → AreFew (parties_of topology.hosts)
-  are_few sets =
+  pub are_few : AreFew (parties_of topology.hosts)
+  are_few =
       record {
         few = let l = length-flat_map (λ (host : Host). host.parties) topology.hosts in omega (arith, l, valid.few_parties);
-        names = All-from_recursion IsName (parties_of topology.hosts) (each_named topology.hosts (recursion_from_All HasSet topology.hosts sets));
+        names = All-from_recursion IsName (parties_of topology.hosts) (each_named topology.hosts (recursion_from_All HasNames topology.hosts valid.named));
       }
+
+  pub sender_named : (p : ℕ) (name : List ℕ) → is_host_named topology.hosts p name ≡ true → IsName name
+  sender_named p name sends = named_host topology.hosts p name (recursion_from_All HasNames topology.hosts valid.named) sends
 
 -- ---- what names no others
 

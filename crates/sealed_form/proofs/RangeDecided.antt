@@ -9,10 +9,11 @@ use Rattle.std.proofs.lemmas.Bool.{ltb-true, lt-ltb}
 use Rattle.std.proofs.lemmas.Bool.Decides.{Decides-by_and}
 use Rattle.ledger_terms.specs.Depth.{depth}
 use Rattle.ledger_terms.specs.Forest.{Forest, NoRoots, Root}
-use Rattle.ledger_terms.specs.Names.{is_name}
+use Rattle.ledger_terms.specs.Names.{IsName, is_name}
 use Rattle.ledger_terms.specs.Parties.{AllAbove, IsRising, name_below}
 use Rattle.ledger_terms.specs.Roots.{trees_count}
-use Rattle.ledger_terms.specs.Trees.{Act}
+use Rattle.ledger_terms.specs.declared.act.Act.{Act}
+use Rattle.ledger_terms.specs.declared.limits.TheConstants.{MOST_ACTIONS, MOST_ACTION_DEPTH, MOST_FIELDS, MOST_PARTIES, MOST_TEXT_BYTES}
 use Rattle.ledger_terms.specs.declared.value.Value.{Value}
 use Rattle.ledger_terms.specs.declared.value.Value.TheVariants.{Unit as UnitValue, Int, Bool as BoolValue, Text, Party, Contract, Parties}
 use Rattle.ledger_terms.specs.declared.instance.Instance.{Instance}
@@ -22,7 +23,7 @@ use Rattle.lang_eval.specs.Value.{fits_i64}
 use Rattle.wire_form.specs.InRange as ranges
 use Rattle.wire_form.specs.Spelling.{spell_parties}
 use Rattle.view_split.specs.Holed.{Holed, NoMore, Inner, Hole, width}
-use Rattle.view_split.specs.SplitView.{SplitView}
+use Rattle.view_split.specs.declared.split_view.SplitView.{SplitView}
 use Rattle.view_split.specs.declared.views.Views.{Views}
 use Rattle.blind_tree.specs.Cores.{levels}
 use Rattle.blind_tree.specs.LeafBytes.{common_bytes, core_bytes, roles_bytes}
@@ -37,7 +38,7 @@ hash_decides hash = equal (length hash) 32
 
 text_decides : (text : List ℕ) → Decides (is_short_text text) (ranges.IsShortText text)
 text_decides text =
-    let d = both_decide (at_most (length text) 256) (itself (is_utf8 text)) in
+    let d = both_decide (at_most (length text) MOST_TEXT_BYTES) (itself (is_utf8 text)) in
     (λ h. let p = d.0 h in record { few = p.0; utf8 = p.1 }, λ s. d.1 (s.few, s.utf8))
 
 above_decides : (a : List ℕ) (s : List (List ℕ)) → Decides (list_all (name_below a) s) (AllAbove a s)
@@ -48,12 +49,12 @@ rising_decides : (s : List (List ℕ)) → Decides (is_rising s) (IsRising s)
 rising_decides [] = (λ h. tt, λ h. refl)
 rising_decides (a ∷ s) = both_decide (above_decides a s) (rising_decides s)
 
-names_decide : (s : List (List ℕ)) → Decides (list_all is_name s) (All ranges.IsName s)
-names_decide s = Decides-by_and is_name ranges.IsName (λ (names : List (List ℕ)). list_all is_name names) (λ name. itself (is_name name)) refl (λ _ _. refl) s
+names_decide : (s : List (List ℕ)) → Decides (list_all is_name s) (All IsName s)
+names_decide s = Decides-by_and is_name IsName (λ (names : List (List ℕ)). list_all is_name names) (λ name. itself (is_name name)) refl (λ _ _. refl) s
 
 pub set_decides : (s : List (List ℕ)) → Decides (is_party_set s) (ranges.IsPartySet s)
 set_decides s =
-    let d = three_decide (at_most (length s) 128) (names_decide s) (rising_decides s) in
+    let d = three_decide (at_most (length s) MOST_PARTIES) (names_decide s) (rising_decides s) in
     (λ h. let p = d.0 h in record { few = p.0; names = p.1; ascend = p.2 }, λ r. d.1 (r.few, r.names, r.ascend))
 
 number_decides : (n : ℤ) → Decides (fits_i64 n) (FitsSigned w64 n)
@@ -75,7 +76,7 @@ each_decides vs =
 
 values_decide : (vs : List Value) → Decides (are_values vs) (ranges.AreInRange vs)
 values_decide vs =
-    let d = both_decide (at_most (length vs) 12) (each_decides vs) in
+    let d = both_decide (at_most (length vs) MOST_FIELDS) (each_decides vs) in
     (λ h. let p = d.0 h in record { few = p.0; each = p.1 }, λ r. d.1 (r.few, r.each))
 
 instance_decides : (i : Instance) → Decides (is_instance i) (ranges.IsInstance i)
@@ -131,14 +132,14 @@ range_decides sender views =
 each_small : (views : Forest SplitView) → Decides (are_small views) (AreSmall views)
 each_small NoRoots = (λ h. tt, λ h. refl)
 each_small (Root view subviews others) =
-    five_decide (below (length (roles_bytes view)) (2 ^ 32)) (below (length (core_bytes view)) (2 ^ 32)) (at_most (trees_count subviews) 64)
+    five_decide (below (length (roles_bytes view)) (2 ^ 32)) (below (length (core_bytes view)) (2 ^ 32)) (at_most (trees_count subviews) MOST_ACTIONS)
     (each_small subviews) (each_small others)
 
 pub small_decides : (sender : List ℕ) (views : Views) → Decides (is_small sender views) (IsSmall sender views)
 small_decides sender views =
     let d =
     five_decide (below (length (common_bytes sender views.ledger_time)) (2 ^ 32)) (below (length (spell_parties views.act_as)) (2 ^ 32))
-    (at_most (trees_count views.roots) 64) (at_most (depth views.roots) 16) (each_small views.roots) in (
+    (at_most (trees_count views.roots) MOST_ACTIONS) (at_most (depth views.roots) MOST_ACTION_DEPTH) (each_small views.roots) in (
       λ h. let p = d.0 h in record { common = p.0; requesters = p.1; few = p.2; nested = p.3; each = p.4 },
       λ r. d.1 (r.common, r.requesters, r.few, r.nested, r.each),
     )

@@ -1,15 +1,13 @@
 -- A submitted transaction within the limits can be sealed, within a valid topology.
 use Rattle.std.proofs.Common.{◌≡◌, ℕ, ◌^◌, ◌<◌, true, List, Ok, Contains, refl, sym, ap, ◌∙◌, subst}
-use Rattle.std.specs.Prelude.{All, Result}
 use Rattle.sha2.specs.Sha256.{sha256}
 use Rattle.sha2.proofs.Facts256.{length-sha256}
 use Rattle.hash_id.specs.Strings.{leaf_salt_string}
-use Rattle.ledger_terms.specs.Forest.{Forest}
+use Rattle.ledger_terms.specs.Names.{IsName}
 use Rattle.ledger_terms.specs.Parties.{IsRising}
 use Rattle.ledger_terms.specs.Topologies.{IsValid}
-use Rattle.ledger_terms.specs.Trees.{Act}
+use Rattle.ledger_terms.specs.declared.act.Act.{Act}
 use Rattle.ledger_terms.specs.declared.action.Action.{Action}
-use Rattle.ledger_terms.specs.declared.host.Host.{Host}
 use Rattle.ledger_terms.specs.declared.known.Known.{Known}
 use Rattle.ledger_terms.specs.declared.topology.Topology.{Topology}
 use Rattle.ledger_terms.specs.declared.tx.Tx.{Tx}
@@ -21,12 +19,11 @@ use Rattle.lang_eval.specs.Language.{roles_in}
 use Rattle.lang_eval.specs.Named.{AreKnown}
 use Rattle.lang_eval.specs.Parts.{PartyNames}
 use Rattle.lang_eval.proofs.Informed.{no_size}
-use Rattle.wire_form.specs.InRange.{IsName, IsPartySet}
+use Rattle.wire_form.specs.InRange.{IsPartySet}
 use Rattle.interpret.specs.Language.{the_language}
 use Rattle.interpret.specs.NamedParties.{parties_in_forest}
 use Rattle.view_split.specs.Faults.{views_of_tx}
 use Rattle.view_split.specs.Split.{split}
-use Rattle.view_split.specs.declared.split_fault.SplitFault.{SplitFault}
 use Rattle.view_split.specs.declared.views.Views.{Views}
 use Rattle.blind_tree.specs.LeafBytes.{AreSpellable}
 use Rattle.blind_tree.specs.Limits.{HaveSets, KeepLimits}
@@ -38,17 +35,12 @@ use Rattle.sealed_form.specs.Submission.{IsSubmission, whole_with_seed}
 use Rattle.sealed_form.specs.Within.{is_hosted}
 use Rattle.sealed_form.proofs.Deciding.{all_decide}
 use Rattle.sealed_form.proofs.Given.{each_has_roles, made_of, roots_are}
-use Rattle.sealed_form.proofs.Parties.{HasRoom, all_among, are_few, hosts_have_room, informees_known, own_known, parties_of, requesters_among}
-
--- what the types of a program keep of a topology, a name and what is split
-pub record IsTyped (topology : Topology) (name : List ℕ) (views : Views) : Type 0 where
-  pub parties : All HasRoom topology.hosts → All (λ (host : Host). IsPartySet host.parties) topology.hosts
-  pub name_is : IsName name
-  pub requesters : IsRising views.act_as
-  pub in_range : AreSpellable views → AreInRange name views
+use Rattle.sealed_form.proofs.Parties.{all_among, are_few, informees_known, own_known, parties_of, requesters_among, sender_named}
 
 module _ (topology : Topology) (valid : IsValid topology) (packages : Packages) (known : List Known) (sender : ℕ) (name : List ℕ) (named : PartyNames)
-    (tx : Tx) (views : Views) (typed : IsTyped topology name views) (submits : IsSubmission topology packages known sender name tx.act_as named)
+    (tx : Tx) (views : Views) (rising : IsRising views.act_as)
+    (keeps_range : (sender : List ℕ) → IsName sender → AreSpellable views → AreInRange sender views)
+    (submits : IsSubmission topology packages known sender name tx.act_as named)
     (is_split : views_of_tx packages tx ≡ Ok views) (limits : KeepLimits tx.roots) (parties : AreKnown (is_hosted topology) (parties_in_forest tx.roots)) where
   same_roles : roles_in packages ≡ roles_by packages
   same_roles = λ i a. sym (no_size packages (the_language packages).is_creatable (the_language packages).is_exercisable a) i
@@ -62,17 +54,17 @@ module _ (topology : Topology) (valid : IsValid topology) (packages : Packages) 
   time_is : views.ledger_time ≡ tx.ledger_time
   time_is = sym (ap (λ (v : Views). v.ledger_time) (made_of packages tx views is_split))
 
-  few_sets : All (λ (host : Host). IsPartySet host.parties) topology.hosts
-  few_sets = typed.parties (hosts_have_room topology valid)
+  name_is : IsName name
+  name_is = sender_named topology valid sender name submits.sender_is
 
   requesters_are : IsPartySet tx.act_as
   requesters_are =
-      set_fits tx.act_as (parties_of topology.hosts) (are_few topology valid few_sets) (subst IsRising act_as_is typed.requesters)
+      set_fits tx.act_as (parties_of topology.hosts) (are_few topology valid) (subst IsRising act_as_is rising)
       (subset_within tx.act_as (parties_of topology.hosts) (requesters_among topology sender tx.act_as submits.requesters))
 
   sets : HaveSets (split (roles_by packages) tx.roots)
   sets =
-      split_sets (roles_by packages) (parties_of topology.hosts) (are_few topology valid few_sets) tx.roots
+      split_sets (roles_by packages) (parties_of topology.hosts) (are_few topology valid) tx.roots
       (all_among topology packages submits.packages tx.roots parties)
 
   pub has_room : AreSpellable views
@@ -87,7 +79,7 @@ module _ (topology : Topology) (valid : IsValid topology) (packages : Packages) 
 
   pub can_be_sealed : CanBeSealed topology packages sender (whole_with_seed name tx)
   can_be_sealed =
-      let range = typed.in_range has_room in
+      let range = keeps_range name name_is has_room in
       record {
         sender_is = submits.sender_is;
         has_roles = each_has_roles packages tx views is_split;
@@ -97,11 +89,11 @@ module _ (topology : Topology) (valid : IsValid topology) (packages : Packages) 
         common_salt = length-sha256 (leaf_salt_string 1 tx.seed);
         requesters_salt = length-sha256 (leaf_salt_string 2 tx.seed);
         in_range = record {
-          sender_is = typed.name_is;
+          sender_is = name_is;
           time_fits = subst (λ (n : ℕ). n < 2 ^ 64) time_is range.time_fits;
           requesters_are = requesters_are;
           each = subst AreViews roots_is range.each;
         };
         small = split_is_small (roles_by packages) (split_as (whole_with_seed name tx).transaction (split (roles_by packages) tx.roots)) name tx.roots refl
-            typed.name_is requesters_are limits sets;
+            name_is requesters_are limits sets;
       }

@@ -7,7 +7,8 @@ use Rattle.ledger_terms.specs.Forest.{Forest, NoRoots, Root}
 use Rattle.ledger_terms.specs.Names.{is_name}
 use Rattle.ledger_terms.specs.Parties.{name_below}
 use Rattle.ledger_terms.specs.Roots.{trees_count}
-use Rattle.ledger_terms.specs.Trees.{Act}
+use Rattle.ledger_terms.specs.declared.act.Act.{Act}
+use Rattle.ledger_terms.specs.declared.limits.TheConstants.{MOST_ACTIONS, MOST_ACTION_DEPTH, MOST_FIELDS, MOST_PARTIES, MOST_TEXT_BYTES}
 use Rattle.ledger_terms.specs.declared.value.Value.{Value}
 use Rattle.ledger_terms.specs.declared.value.Value.TheVariants.{Unit as UnitValue, Int, Bool as BoolValue, Text, Party, Contract, Parties}
 use Rattle.ledger_terms.specs.declared.instance.Instance.{Instance}
@@ -16,7 +17,7 @@ use Rattle.ledger_terms.specs.declared.action.Action.TheVariants.{Create, Exerci
 use Rattle.lang_eval.specs.Value.{fits_i64}
 use Rattle.wire_form.specs.Spelling.{spell_parties}
 use Rattle.view_split.specs.Holed.{Holed, NoMore, Inner, Hole, width}
-use Rattle.view_split.specs.SplitView.{SplitView}
+use Rattle.view_split.specs.declared.split_view.SplitView.{SplitView}
 use Rattle.view_split.specs.declared.views.Views.{Views}
 use Rattle.blind_tree.specs.Cores.{levels}
 use Rattle.blind_tree.specs.LeafBytes.{common_bytes, core_bytes, roles_bytes}
@@ -27,7 +28,7 @@ abbrev pub is_hash : List ℕ → Bool
 is_hash hash = nat_eq (length hash) 32
 
 abbrev pub is_short_text : List ℕ → Bool
-is_short_text text = nat_le (length text) 256 && is_utf8 text
+is_short_text text = nat_le (length text) MOST_TEXT_BYTES && is_utf8 text
 
 -- each name stands below all that follow it
 abbrev pub is_rising : List (List ℕ) → Bool
@@ -35,7 +36,7 @@ is_rising [] = true
 is_rising (a ∷ more) = list_all (name_below a) more && is_rising more
 
 abbrev pub is_party_set : List (List ℕ) → Bool
-is_party_set parties = nat_le (length parties) 128 && (list_all is_name parties && is_rising parties)
+is_party_set parties = nat_le (length parties) MOST_PARTIES && (list_all is_name parties && is_rising parties)
 
 abbrev pub is_in_range : Value → Bool
 is_in_range UnitValue = true
@@ -47,7 +48,7 @@ is_in_range (Contract h) = is_hash h
 is_in_range (Parties s) = is_party_set s
 
 abbrev pub are_values : List Value → Bool
-are_values values = nat_le (length values) 12 && list_all is_in_range values
+are_values values = nat_le (length values) MOST_FIELDS && list_all is_in_range values
 
 abbrev pub is_instance : Instance → Bool
 is_instance i = is_name i.template.package && (is_name i.template.name && are_values i.fields)
@@ -90,10 +91,10 @@ abbrev pub are_small : Forest SplitView → Bool
 are_small NoRoots = true
 are_small (Root view subviews others) =
     nat_lt (length (roles_bytes view)) (2 ^ 32)
-    && (nat_lt (length (core_bytes view)) (2 ^ 32) && (nat_le (trees_count subviews) 64 && (are_small subviews && are_small others)))
+    && (nat_lt (length (core_bytes view)) (2 ^ 32) && (nat_le (trees_count subviews) MOST_ACTIONS && (are_small subviews && are_small others)))
 
 abbrev pub is_small : (sender : List ℕ) → Views → Bool
 is_small sender views =
     nat_lt (length (common_bytes sender views.ledger_time)) (2 ^ 32)
     && (nat_lt (length (spell_parties views.act_as)) (2 ^ 32)
-    && (nat_le (trees_count views.roots) 64 && (nat_le (depth views.roots) 16 && are_small views.roots)))
+    && (nat_le (trees_count views.roots) MOST_ACTIONS && (nat_le (depth views.roots) MOST_ACTION_DEPTH && are_small views.roots)))

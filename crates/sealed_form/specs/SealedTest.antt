@@ -4,7 +4,8 @@ use Rattle.std.specs.List.{list_all}
 use Rattle.std.specs.Str.{bytes_eq}
 use Rattle.std.specs.Cmp.Lexicographic.{pointwise}
 use Rattle.ledger_terms.specs.Hosting.{hosts_at}
-use Rattle.ledger_terms.specs.Trees.{Act}
+use Rattle.ledger_terms.specs.declared.act.Act.{Act}
+use Rattle.ledger_terms.specs.declared.limits.TheConstants.{MOST_TREE_BYTES}
 use Rattle.ledger_terms.specs.declared.topology.Topology.{Topology}
 use Rattle.ledger_model.specs.Forest.{acts}
 use Rattle.canton_model.specs.declared.envelope.Envelope.{Envelope}
@@ -14,7 +15,7 @@ use Rattle.interpret.specs.Language.{the_language}
 use Rattle.interpret.specs.NamedParties.{parties_in_forest}
 use Rattle.blind_tree.specs.Blind.{is_host_named}
 use Rattle.sealed_form.specs.RangeTests.{are_in_range, is_hash, is_small}
-use Rattle.sealed_form.specs.SealedForm.{Whole, byte_limit, request_of, roles_by, split_as, views_by, whole_of}
+use Rattle.sealed_form.specs.SealedForm.{Whole, request_of, roles_by, split_as, views_by, whole_of}
 use Rattle.sealed_form.specs.Within.{is_hosted}
 
 -- ---- whether two requests are one
@@ -58,7 +59,7 @@ can_be_sealed topology packages sender whole = are_parties_hosted topology packa
 -- ---- whether a request is sealed
 
 abbrev pub is_short : Envelope → Bool
-is_short envelope = nat_le (length envelope.bytes) byte_limit
+is_short envelope = nat_le (length envelope.bytes) MOST_TREE_BYTES
 
 -- It is what a sender makes of the whole that is read of it.
 abbrev pub is_made_of : Topology → Packages → Request → Option Whole → Bool
@@ -66,7 +67,7 @@ is_made_of topology packages request None = false
 is_made_of topology packages request (Some whole) =
     can_be_sealed topology packages request.sender whole
     && (same_request request (request_of topology packages request.sender whole.sender request.command whole.salts whole.transaction)
-    && (nat_le (length request.mediator) byte_limit && list_all is_short request.envelopes))
+    && (nat_le (length request.mediator) MOST_TREE_BYTES && list_all is_short request.envelopes))
 
 -- Nothing is searched for: the sender's envelope tells the sender's name, two salts, ledger time and requesters, and the trees of
 -- all envelopes together tell the actions with their seeds. The transaction's seed isn't told, and no byte hangs on it.
