@@ -19,7 +19,7 @@ use Rattle.ledger_terms.specs.declared.action.Action.TheVariants.{Create, Exerci
 use Rattle.ledger_terms.specs.declared.host.Host.{Host}
 use Rattle.ledger_terms.specs.declared.topology.Topology.{Topology}
 use Rattle.ledger_model.proofs.Lists.{In, in_from_Contains}
-use Rattle.ledger_model.specs.Language.{Language, informees_of, roles_of}
+use Rattle.ledger_model.specs.Language.{Language, informees_of, stakeholders}
 use Rattle.ledger_model.specs.declared.roles.Roles.{Roles}
 use Rattle.lang_eval.specs.Found.{Packages}
 use Rattle.lang_eval.specs.Language.{roles_in}
@@ -122,7 +122,11 @@ module _ (topology : Topology) where
 
   informees_rise : (language : Language) (a : Action) → IsRising (informees_of language a)
   informees_rise language (Create id i) = rising_with (language.signatories i ++ language.observers i) [] tt
-  informees_rise language (Exercise id salt i choice args actors consuming result) = rising_with _ [] tt
+  informees_rise language (Exercise id salt i choice args actors consuming result) =
+      rising_with (
+      (if consuming then stakeholders language i else language.signatories i)
+      ++ (actors ++ language.choice_observers (record { id = id; instance = i; choice = choice; args = args }))
+      ) [] tt
   informees_rise language (Fetch id salt i actors) = rising_with (language.signatories i ++ actors) [] tt
 
   module _ (packages : Packages) (fine : Fine (parties_in_packages packages)) where

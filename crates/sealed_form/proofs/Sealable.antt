@@ -60,12 +60,12 @@ module _ (topology : Topology) (valid : IsValid topology) (packages : Packages) 
   requesters_are : IsPartySet tx.act_as
   requesters_are =
       set_fits tx.act_as (parties_of topology.hosts) (are_few topology valid) (subst IsRising act_as_is rising)
-      (subset_within tx.act_as (parties_of topology.hosts) (requesters_among topology sender tx.act_as submits.requesters))
+      (subset_within tx.act_as (parties_of topology.hosts) (requesters_among topology sender tx.act_as submits.hosts_requesters))
 
   sets : HaveSets (split (roles_by packages) tx.roots)
   sets =
       split_sets (roles_by packages) (parties_of topology.hosts) (are_few topology valid) tx.roots
-      (all_among topology packages submits.packages tx.roots parties)
+      (all_among topology packages submits.named_by_packages tx.roots parties)
 
   pub has_room : AreSpellable views
   has_room =
@@ -75,7 +75,7 @@ module _ (topology : Topology) (valid : IsValid topology) (packages : Packages) 
   informees : (a : Act) (party : List ℕ) → Contains (acts tx.roots) a → Contains (roles_by packages a.action).informees party → is_hosted topology party ≡ true
   informees a party there told =
       let own = own_known topology (acts tx.roots) a parties (in_from_Contains (acts tx.roots) a there) in
-      (all_decide (is_hosted topology) (roles_by packages a.action).informees).0 (informees_known topology packages submits.packages a.action own) party told
+      (all_decide (is_hosted topology) (roles_by packages a.action).informees).0 (informees_known topology packages submits.named_by_packages a.action own) party told
 
   pub can_be_sealed : CanBeSealed topology packages sender (whole_with_seed name tx)
   can_be_sealed =
@@ -85,7 +85,7 @@ module _ (topology : Topology) (valid : IsValid topology) (packages : Packages) 
         has_roles = each_has_roles packages tx views is_split;
         informees = informees;
         named = parties;
-        requesters = submits.requesters;
+        requesters = submits.hosts_requesters;
         common_salt = length-sha256 (leaf_salt_string 1 tx.seed);
         requesters_salt = length-sha256 (leaf_salt_string 2 tx.seed);
         in_range = record {

@@ -15,13 +15,13 @@ use Rattle.sealed_form.specs.Within.{is_hosted}
 
 -- The sender has this name and hosts the requesters, and what is handed in, packages and known contracts name only parties of the
 -- topology.
-pub record IsSubmission (topology : Topology) (packages : Packages) (known : List Known) (sender : ℕ) (name : List ℕ) (requesters named : PartyNames)
+pub record IsSubmission (topology : Topology) (packages : Packages) (known : List Known) (sender : ℕ) (name : List ℕ) (act_as handed_in : PartyNames)
     : Type 0 where
   pub sender_is : is_host_named topology.hosts sender name ≡ true
-  pub requesters : (party : List ℕ) → Contains requesters party → hosts_at topology.hosts sender party ≡ true
-  pub packages : AreKnown (is_hosted topology) (parties_in_packages packages)
-  pub known : AreKnown (is_hosted topology) (parties_in_contracts known)
-  pub named : AreKnown (is_hosted topology) named
+  pub hosts_requesters : (party : List ℕ) → Contains act_as party → hosts_at topology.hosts sender party ≡ true
+  pub named_by_packages : AreKnown (is_hosted topology) (parties_in_packages packages)
+  pub named_by_known : AreKnown (is_hosted topology) (parties_in_contracts known)
+  pub named_by_input : AreKnown (is_hosted topology) handed_in
 
 -- a transaction of a sender of this name, with the salts of its seed
 abbrev pub whole_with_seed : (name : List ℕ) → Tx → Whole
