@@ -6,7 +6,8 @@ ghost use Rattle.ledger_terms.specs.Parties.{has_party};
 ghost use Rattle.canton_model.specs.Inbox.{has_hosted_stakeholder, shown_at, is_locked_in_inbox, status_in_inbox};
 ghost use Rattle.ledger_model.specs.Status.{is_unknown};
 ghost use Rattle.canton_model.specs.Checks.{is_within, verdict_on_view, verdicts_owed};
-ghost use Rattle.proto_model.specs.PlainReading.{plain_reading, vets, root_of, shown_of_form, view_of_form};
+ghost use Rattle.ledger_terms.specs.Vetting.{vets};
+ghost use Rattle.proto_model.specs.PlainReading.{plain_reading, root_of, shown_of_form, view_of_form};
 ghost use Rattle.node_core.specs.Seen.{seen};
 ghost use Rattle.node_core.specs.Jobs.{confirms_some_view};
 

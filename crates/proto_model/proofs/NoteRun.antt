@@ -15,7 +15,8 @@ use Rattle.canton_model.specs.Genuine.{Genuine, NoCollision}
 use Rattle.canton_model.specs.Checks.{verdicts_owed, verdicts_on, verdict_on_view, is_confirmed_by, authorises_children, is_requested, is_within}
 use Rattle.canton_model.specs.Inbox.{Received, inbox, received, shown_in}
 use Rattle.proto_model.specs.NoteForm.{root_seed_of, note_of, note_form, note_request, request_to_self}
-use Rattle.proto_model.specs.BuiltIn.{built_in, built_in_language, conforms}
+use Rattle.interpret.specs.Conforming.{conforms}
+use Rattle.proto_model.specs.BuiltIn.{built_in, built_in_language}
 use Rattle.proto_model.specs.NoteLog.{approval, request_entry, note_log, sole_host, LeavesTime}
 use Rattle.proto_model.specs.Plain.{IsPlain, spell_plain, plain_of}
 use Rattle.interpret.specs.Ids.{contract_id, is_authentic}

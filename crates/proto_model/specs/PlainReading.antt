@@ -3,7 +3,8 @@ use Rattle.std.specs.Prelude.{ℕ, zero, suc, Bool, false, List, [], ◌∷◌, 
 use Rattle.std.specs.List.{list_any}
 use Rattle.std.specs.Str.{bytes_eq}
 use Rattle.ledger_terms.specs.Hosting.{confirms_at, hosts_at, lists_party}
-use Rattle.ledger_terms.specs.Parties.{has_party, same_name}
+use Rattle.ledger_terms.specs.Parties.{same_name}
+use Rattle.ledger_terms.specs.Vetting.{vets}
 use Rattle.ledger_terms.specs.declared.host.Host.{Host}
 use Rattle.ledger_terms.specs.declared.action.Action.TheVariants.{Create}
 use Rattle.ledger_model.specs.Terms.{Act}
@@ -14,7 +15,8 @@ use Rattle.ledger_model.specs.Language.{roles_of}
 use Rattle.ledger_model.specs.Opening.{Transaction, OpenedView, Shown}
 use Rattle.canton_model.specs.Reading.{Reading}
 use Rattle.interpret.specs.Ids.{is_authentic}
-use Rattle.proto_model.specs.BuiltIn.{built_in, built_in_language, conforms}
+use Rattle.interpret.specs.Conforming.{conforms}
+use Rattle.proto_model.specs.BuiltIn.{built_in, built_in_language}
 use Rattle.proto_model.specs.Plain.{plain_of}
 use Rattle.proto_model.specs.declared.plain_form.PlainForm.{PlainForm}
 
@@ -78,10 +80,6 @@ is_note_request hosts request =
     bytes_eq request.confirming (request.sender ∷ [])
     && is_one_envelope_to request.sender request.envelopes
     && is_own_note hosts request.sender (plain_to request.sender request)
-
-abbrev pub vets : Option Host → List ℕ → Bool
-vets None name = false
-vets (Some host) name = has_party host.vetted name
 
 -- the reading of a synchroniser with these participants
 abbrev pub plain_reading : List Host → Reading

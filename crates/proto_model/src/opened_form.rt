@@ -4,7 +4,8 @@ ghost use Rattle.ledger_terms.specs.Grown.{tree_of};
 ghost use Rattle.ledger_model.specs.Language.{roles_of};
 ghost use Rattle.wire_form.specs.Spellable.{IsSpellableInstance};
 ghost use Rattle.interpret.specs.Ids.{is_authentic};
-ghost use Rattle.proto_model.specs.BuiltIn.{built_in, built_in_language, conforms, nobody, roles_or_nobody};
+ghost use Rattle.interpret.specs.Conforming.{conforms};
+ghost use Rattle.proto_model.specs.BuiltIn.{built_in, built_in_language, nobody, roles_or_nobody};
 ghost use Rattle.proto_model.specs.Plain.{plain_of};
 ghost use Rattle.proto_model.specs.PlainReading.{root_of, roots_of_form};
 
