@@ -8,6 +8,8 @@ use Rattle.ledger_terms.specs.Parties.{IsRising}
 use Rattle.ledger_terms.specs.Topologies.{IsValid}
 use Rattle.ledger_terms.specs.declared.act.Act.{Act}
 use Rattle.ledger_terms.specs.declared.action.Action.{Action}
+use Rattle.ledger_terms.specs.Drafts.{Drafts}
+use Rattle.ledger_terms.specs.declared.command.Command.{Command}
 use Rattle.ledger_terms.specs.declared.known.Known.{Known}
 use Rattle.ledger_terms.specs.declared.topology.Topology.{Topology}
 use Rattle.ledger_terms.specs.declared.tx.Tx.{Tx}
@@ -15,13 +17,19 @@ use Rattle.ledger_model.specs.Forest.{acts}
 use Rattle.ledger_model.specs.declared.roles.Roles.{Roles}
 use Rattle.ledger_model.proofs.Lists.{in_from_Contains}
 use Rattle.lang_eval.specs.Found.{Packages}
+use Rattle.lang_eval.specs.HandedIn.{parties_in_commands, parties_in_drafts}
 use Rattle.lang_eval.specs.Language.{roles_in}
 use Rattle.lang_eval.specs.Named.{AreKnown}
 use Rattle.lang_eval.specs.Parts.{PartyNames}
 use Rattle.lang_eval.proofs.Informed.{no_size}
 use Rattle.wire_form.specs.InRange.{IsPartySet}
+use Rattle.interpret.specs.FilledTree.{IsFilled}
 use Rattle.interpret.specs.Language.{the_language}
 use Rattle.interpret.specs.NamedParties.{parties_in_forest}
+use Rattle.interpret.specs.Wanted.{IsWanted}
+use Rattle.interpret.proofs.PartyDrafts.{filled_parties}
+use Rattle.interpret.proofs.PartyLaw.{wanted_parties}
+use Rattle.interpret.proofs.Rules.{keeps_rules}
 use Rattle.view_split.specs.Faults.{views_of_tx}
 use Rattle.view_split.specs.Split.{split}
 use Rattle.view_split.specs.declared.views.Views.{Views}
@@ -34,6 +42,8 @@ use Rattle.sealed_form.specs.SealedForm.{CanBeSealed, roles_by, split_as}
 use Rattle.sealed_form.specs.Submission.{IsSubmission, whole_with_seed}
 use Rattle.sealed_form.specs.Within.{is_hosted}
 use Rattle.sealed_form.proofs.Deciding.{all_decide}
+use Rattle.sealed_form.proofs.FromDrafts.{filled_keeps_limits}
+use Rattle.sealed_form.proofs.FromRules.{keeps_limits, wanted_is_seeded}
 use Rattle.sealed_form.proofs.Given.{each_has_roles, made_of, roots_are}
 use Rattle.sealed_form.proofs.Parties.{all_among, are_few, informees_known, own_known, parties_of, requesters_among, sender_named}
 
@@ -97,3 +107,35 @@ module _ (topology : Topology) (valid : IsValid topology) (packages : Packages) 
         small = split_is_small (roles_by packages) (split_as (whole_with_seed name tx).transaction (split (roles_by packages) tx.roots)) name tx.roots refl
             name_is requesters_are limits sets;
       }
+
+-- ---- what is wanted, and what is filled
+
+module _ (topology : Topology) (valid : IsValid topology) (packages : Packages) (known : List Known) (sender : ℕ) (name : List ℕ)
+    (tx : Tx) (views : Views) (rising : IsRising views.act_as)
+    (keeps_range : (sender : List ℕ) → IsName sender → AreSpellable views → AreInRange sender views)
+    (is_split : views_of_tx packages tx ≡ Ok views) where
+  abbrev IsSealable : Type 0
+  IsSealable = AreSpellable views × CanBeSealed topology packages sender (whole_with_seed name tx)
+
+  pub wanted_is_sealable : (commands : List Command) → IsSubmission topology packages known sender name tx.act_as (parties_in_commands commands)
+      → IsWanted packages known tx.seed tx.act_as commands tx.roots → IsSealable
+  wanted_is_sealable commands submits wanted =
+      let limits =
+      keeps_limits packages tx.act_as tx.roots (keeps_rules packages known tx.seed tx.act_as commands tx.roots wanted)
+      (wanted_is_seeded packages known tx.seed tx.act_as commands tx.roots wanted) in
+      let parties =
+      wanted_parties (is_hosted topology) packages known tx.seed tx.act_as commands tx.roots submits.named_by_packages submits.named_by_known
+      submits.named_by_input wanted in (
+        has_room topology valid packages known sender name (parties_in_commands commands) tx views rising keeps_range submits is_split limits parties,
+        can_be_sealed topology valid packages known sender name (parties_in_commands commands) tx views rising keeps_range submits is_split limits parties,
+      )
+
+  pub filled_is_sealable : (drafts : Drafts) → IsSubmission topology packages known sender name tx.act_as (parties_in_drafts drafts)
+      → IsFilled known tx.seed drafts tx.roots → IsSealable
+  filled_is_sealable drafts submits filled =
+      let limits = filled_keeps_limits known tx.seed drafts tx.roots filled in
+      let parties =
+      filled_parties (is_hosted topology) known tx.seed drafts tx.roots submits.named_by_known submits.named_by_input filled in (
+        has_room topology valid packages known sender name (parties_in_drafts drafts) tx views rising keeps_range submits is_split limits parties,
+        can_be_sealed topology valid packages known sender name (parties_in_drafts drafts) tx views rising keeps_range submits is_split limits parties,
+      )
