@@ -39,7 +39,7 @@ use Rattle.blind_tree.specs.Seen.{AreInRange, AreViews}
 use Rattle.blind_tree.proofs.LimitLaws.{split_is_small, split_is_spellable}
 use Rattle.blind_tree.proofs.SetLimits.{set_fits, split_sets, subset_within}
 use Rattle.sealed_form.specs.SealedForm.{CanBeSealed, roles_by, split_as}
-use Rattle.sealed_form.specs.Submission.{IsSubmission, whole_with_seed}
+use Rattle.sealed_form.specs.Submission.{IsSubmittedWithin, whole_with_seed}
 use Rattle.sealed_form.specs.Within.{is_hosted}
 use Rattle.sealed_form.proofs.Deciding.{all_decide}
 use Rattle.sealed_form.proofs.FromDrafts.{filled_keeps_limits}
@@ -50,7 +50,7 @@ use Rattle.sealed_form.proofs.Parties.{all_among, are_few, informees_known, own_
 module _ (topology : Topology) (valid : IsValid topology) (packages : Packages) (known : List Known) (sender : ℕ) (name : List ℕ) (named : PartyNames)
     (tx : Tx) (views : Views) (rising : IsRising views.act_as)
     (keeps_range : (sender : List ℕ) → IsName sender → AreSpellable views → AreInRange sender views)
-    (submits : IsSubmission topology packages known sender name tx.act_as named)
+    (submits : IsSubmittedWithin topology packages known sender name tx.act_as named)
     (is_split : views_of_tx packages tx ≡ Ok views) (limits : KeepLimits tx.roots) (parties : AreKnown (is_hosted topology) (parties_in_forest tx.roots)) where
   same_roles : roles_in packages ≡ roles_by packages
   same_roles = λ i a. sym (no_size packages (the_language packages).is_creatable (the_language packages).is_exercisable a) i
@@ -117,7 +117,7 @@ module _ (topology : Topology) (valid : IsValid topology) (packages : Packages) 
   abbrev IsSealable : Type 0
   IsSealable = AreSpellable views × CanBeSealed topology packages sender (whole_with_seed name tx)
 
-  pub wanted_is_sealable : (commands : List Command) → IsSubmission topology packages known sender name tx.act_as (parties_in_commands commands)
+  pub wanted_is_sealable : (commands : List Command) → IsSubmittedWithin topology packages known sender name tx.act_as (parties_in_commands commands)
       → IsWanted packages known tx.seed tx.act_as commands tx.roots → IsSealable
   wanted_is_sealable commands submits wanted =
       let limits =
@@ -130,7 +130,7 @@ module _ (topology : Topology) (valid : IsValid topology) (packages : Packages) 
         can_be_sealed topology valid packages known sender name (parties_in_commands commands) tx views rising keeps_range submits is_split limits parties,
       )
 
-  pub filled_is_sealable : (drafts : Drafts) → IsSubmission topology packages known sender name tx.act_as (parties_in_drafts drafts)
+  pub filled_is_sealable : (drafts : Drafts) → IsSubmittedWithin topology packages known sender name tx.act_as (parties_in_drafts drafts)
       → IsFilled known tx.seed drafts tx.roots → IsSealable
   filled_is_sealable drafts submits filled =
       let limits = filled_keeps_limits known tx.seed drafts tx.roots filled in

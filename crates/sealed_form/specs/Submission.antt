@@ -15,7 +15,7 @@ use Rattle.sealed_form.specs.Within.{is_hosted}
 
 -- The sender has this name and hosts the requesters, and what is handed in, packages and known contracts name only parties of the
 -- topology.
-pub record IsSubmission (topology : Topology) (packages : Packages) (known : List Known) (sender : ℕ) (name : List ℕ) (act_as handed_in : PartyNames)
+pub record IsSubmittedWithin (topology : Topology) (packages : Packages) (known : List Known) (sender : ℕ) (name : List ℕ) (act_as handed_in : PartyNames)
     : Type 0 where
   pub sender_is : is_host_named topology.hosts sender name ≡ true
   pub hosts_requesters : (party : List ℕ) → Contains act_as party → hosts_at topology.hosts sender party ≡ true

@@ -13,7 +13,7 @@ ghost use Rattle.interpret.specs.Wanted.{IsWanted};
 ghost use Rattle.view_split.specs.Faults.{views_of_tx};
 ghost use Rattle.blind_tree.specs.LeafBytes.{AreSpellable};
 ghost use Rattle.sealed_form.specs.SealedForm.{CanBeSealed};
-ghost use Rattle.sealed_form.specs.Submission.{IsSubmission, whole_with_seed};
+ghost use Rattle.sealed_form.specs.Submission.{IsSubmittedWithin, whole_with_seed};
 
 use blind_tree::are_spellable;
 use view_split::Views;
@@ -25,13 +25,13 @@ pub fn is_sealable(views: &Views) -> bool
     ensures exact { IsTrue result ↔ AreSpellable views.now }
     ensures wanted { (topology : Topology) (packages : Packages) (known : List Known) (commands : List Command) (tx : Tx) (sender : ℕ) (name : List ℕ)
         → IsValid topology
-        → IsSubmission topology packages known sender name tx.act_as (parties_in_commands commands)
+        → IsSubmittedWithin topology packages known sender name tx.act_as (parties_in_commands commands)
         → views_of_tx packages tx ≡ Ok views.now
         → IsWanted packages known tx.seed tx.act_as commands tx.roots
         → IsTrue result × CanBeSealed topology packages sender (whole_with_seed name tx) }
     ensures filled { (topology : Topology) (packages : Packages) (known : List Known) (drafts : Drafts) (tx : Tx) (sender : ℕ) (name : List ℕ)
         → IsValid topology
-        → IsSubmission topology packages known sender name tx.act_as (parties_in_drafts drafts)
+        → IsSubmittedWithin topology packages known sender name tx.act_as (parties_in_drafts drafts)
         → views_of_tx packages tx ≡ Ok views.now
         → IsFilled known tx.seed drafts tx.roots
         → IsTrue result × CanBeSealed topology packages sender (whole_with_seed name tx) }
