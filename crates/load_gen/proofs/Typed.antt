@@ -35,12 +35,11 @@ down_is_typed =
       params = (refl, tt);
       controllers = ((refl, tt), refl);
       observers = (tt, refl);
-      body =
-          (
-            _,
-            (_, ((refl, refl, refl), (_, (_, (loop_form, refl, down_form, refl, refl, ((refl, refl, refl), tt), refl, refl), refl)), (_, refl), refl), refl),
-            refl,
-          );
+      body = (
+        _,
+        (_, ((refl, refl, refl), (_, (_, (loop_form, refl, down_form, refl, refl, ((refl, refl, refl), tt), refl, refl), refl)), (_, refl), refl), refl),
+        refl,
+      );
     }
 
 iou_is_typed : IsTemplate all iou_form

@@ -120,7 +120,14 @@ pub(crate) fn grow(alloc: Global) -> Result<Choice, AllocError>
     let param = field(Name::read("by").unwrap(), Kind::Int);
     let stmt = new_iou(alloc, "this.owner", larger_amount(alloc)?)?;
     let body = only(alloc, stmt)?;
-    choice_with(alloc, Name::read("Grow").unwrap(), true, param, "this.issuer", body)
+    choice_with(
+        alloc,
+        Name::read("Grow").unwrap(),
+        true,
+        param,
+        "this.issuer",
+        body,
+    )
 }
 
 /// The number that is less by one, as the only argument.
@@ -168,5 +175,12 @@ pub(crate) fn down(alloc: Global) -> Result<Choice, AllocError>
 {
     let param = field(Name::read("n").unwrap(), Kind::Int);
     let body = down_body(alloc)?;
-    choice_with(alloc, Name::read("Down").unwrap(), false, param, "this.owner", body)
+    choice_with(
+        alloc,
+        Name::read("Down").unwrap(),
+        false,
+        param,
+        "this.owner",
+        body,
+    )
 }

@@ -20,7 +20,12 @@ fn in_turn(turn: u32, step: u32) -> u8
     ((u64::from(turn) + u64::from(step)) % u64::from(PARTICIPANTS)) as u8
 }
 
-fn submitted(alloc: Global, place: u8, name: Name, command: Command) -> Result<Submission, AllocError>
+fn submitted(
+    alloc: Global,
+    place: u8,
+    name: Name,
+    command: Command,
+) -> Result<Submission, AllocError>
     ensures { IfOk result (λ s. s ≡ submitted place name command) }
 {
     let mut act_as = PartySet::new(alloc);
@@ -54,7 +59,12 @@ fn debt_by(alloc: Global, turn: u32, number: u64) -> Result<Submission, AllocErr
         template: iou_template(),
         fields,
     };
-    submitted(alloc, in_turn(turn, 0), numbered(alloc, "c", turn)?, command)
+    submitted(
+        alloc,
+        in_turn(turn, 0),
+        numbered(alloc, "c", turn)?,
+        command,
+    )
 }
 
 /// The contract of a debt.
@@ -81,7 +91,12 @@ fn transfer_of(alloc: Global, turn: u32) -> Result<Submission, AllocError>
         choice: transfer_name(),
         args,
     };
-    submitted(alloc, in_turn(turn, 1), numbered(alloc, "t", turn)?, command)
+    submitted(
+        alloc,
+        in_turn(turn, 1),
+        numbered(alloc, "t", turn)?,
+        command,
+    )
 }
 
 /// The debts, each of an amount by the next number.
