@@ -1,5 +1,5 @@
 -- The package Iou is well typed.
-use Rattle.std.proofs.Common.{◌≡◌, List, [], ◌∷◌, refl}
+use Rattle.std.proofs.Common.{List, [], ◌∷◌, refl}
 use Rattle.lang_eval.specs.Builtin.{note_form}
 use Rattle.lang_eval.specs.Typed.{IsChoice, IsTemplate, ArePackages}
 use Rattle.ledger_terms.specs.Packages.{PackageForm}

@@ -1,5 +1,5 @@
 -- What is submitted: debts, and their transfers.
-use Rattle.std.specs.Prelude.{ℕ, zero, ◌+◌, ◌%◌, pos, List, [], ◌∷◌, None, map, codes}
+use Rattle.std.specs.Prelude.{ℕ, ◌+◌, ◌%◌, pos, List, [], ◌∷◌, None, map, codes}
 use Rattle.std.specs.List.{range_with_len}
 use Rattle.ledger_terms.specs.declared.arg.Arg.{Arg}
 use Rattle.ledger_terms.specs.declared.arg.Arg.TheVariants.{Plain}

@@ -1,5 +1,4 @@
-use Rattle.std.proofs.Common.{◌≡◌, Option, Some, refl, ◌∙◌, sym, rules, arith}
-use Rattle.ledger_terms.specs.Names.{is_name}
+use Rattle.std.proofs.Common.{refl, rules, arith}
 use Rattle.load_gen.proofs.Named.{numbered_is_name}
 use Rattle.load_gen.proofs.names.numbered.Goals as goal
 
