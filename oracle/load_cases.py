@@ -24,13 +24,15 @@ def transfers(count):
         yield '%d t%d A%d exercise Iou.Iou #G%d:c%d:0 Transfer A%d' % (b, i, b + 1, a + 1, i, c + 1)
 
 
-def rows():
-    """Each line of input with the lines that answer it."""
-    yield '# Words and generated submissions', ['# Words and generated submissions']
+def word_rows():
     for given, job in words.ACCEPTED:
         yield ' '.join(['words'] + given), [job]
     for given in words.REFUSED:
         yield ' '.join(['words'] + given), ['usage']
+
+
+def submission_rows():
+    """Each line of input with the lines that answer it."""
     first = list(debts(1, 7))
     if first != ['0 c0 A1 create Iou.Iou A1 A2 211']:
         raise SystemExit('the first debt from 7 is %s' % first)

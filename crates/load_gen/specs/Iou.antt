@@ -4,7 +4,8 @@ use Rattle.ledger_terms.specs.declared.kind.Kind.TheVariants.{Party as PartyKind
 use Rattle.ledger_terms.specs.declared.value.Value.TheVariants.{Bool as BoolValue, Int as IntValue, Unit as UnitValue}
 use Rattle.ledger_terms.specs.declared.field_decl.FieldDecl.{FieldDecl}
 use Rattle.ledger_terms.specs.declared.template_name.TemplateName.{TemplateName}
-use Rattle.ledger_terms.specs.Syntax.{ExprForm, Literal, Var, Add, Sub, Less, SetOf, NoExprs, MoreExprs, StmtForm, StmtForms, Create, Exercise, When, NoStmts, MoreStmts}
+use Rattle.ledger_terms.specs.Syntax.{ExprForm, Literal, Var, Add, Sub, Less, SetOf, NoExprs, MoreExprs}
+use Rattle.ledger_terms.specs.Syntax.{StmtForm, StmtForms, Create, Exercise, When, NoStmts, MoreStmts}
 use Rattle.ledger_terms.specs.Packages.{PackageForm, TemplateForm, ChoiceForm}
 use Rattle.lang_eval.specs.Builtin.{one_party, declared}
 
