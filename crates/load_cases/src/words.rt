@@ -19,11 +19,13 @@ pub(crate) fn words_answer(alloc: Global, text: Option<&str>) -> Result<String, 
     let words = words_in(alloc, text)?;
     match read_words(alloc, &words) {
         Ok(Job::Run { workers, log }) => format!(in alloc; "run workers {workers} log {log}"),
-        Ok(Job::Gen {
-            count,
-            seed,
-            workers,
-        }) => format!(in alloc; "gen {count} {seed} workers {workers}"),
+        Ok(
+            Job::Gen {
+                count,
+                seed,
+                workers,
+            },
+        ) => format!(in alloc; "gen {count} {seed} workers {workers}"),
         Err(WordsFault::Usage) => "usage".to_string(alloc),
         Err(WordsFault::Memory) => Err(AllocError),
     }
