@@ -98,7 +98,7 @@ module _ (read kept : List Host) (same : AreSame read kept) where
   create_read : (at : Place) (d : Data) (s : StmtForm) → create_of read at d ≡ Ok s → IsSimple s
   unfolding create_of
   create_read at d s h =
-      let c = after (check (has_members _ _ d) (Shape at)) _ s h in
+      let c = after (check (has_members (codes "bind" ∷ codes "template" ∷ codes "fields" ∷ []) [] d) (Shape at)) _ s h in
       let b = after (name_in at (codes "bind") d) _ s c.2 in
       let t = after (template_in at d) _ s b.2 in
       let f = after (exprs_in read at (codes "fields") d) _ s t.2 in
@@ -118,7 +118,7 @@ module _ (read kept : List Host) (same : AreSame read kept) where
   fetch_read : (at : Place) (d : Data) (s : StmtForm) → fetch_of read at d ≡ Ok s → IsSimple s
   unfolding fetch_of
   fetch_read at d s h =
-      let c = after (check (has_members _ _ d) (Shape at)) _ s h in
+      let c = after (check (has_members (codes "bind" ∷ codes "template" ∷ codes "contract" ∷ []) [] d) (Shape at)) _ s h in
       let b = after (name_in at (codes "bind") d) _ s c.2 in
       let t = after (template_in at d) _ s b.2 in
       let e = after (expr_in read at (codes "contract") d) _ s t.2 in
