@@ -6,7 +6,8 @@ use Rattle.ledger_terms.specs.Drafts.{Drafts, DraftAction, DraftCreate, DraftExe
 use Rattle.ledger_terms.specs.Forest.{preorder, size}
 use Rattle.ledger_terms.specs.Names.{IsName}
 use Rattle.ledger_terms.specs.Roots.{trees_count}
-use Rattle.ledger_terms.specs.declared.limits.TheConstants.{MOST_TEXT_BYTES, MOST_FIELDS, MOST_PARAMS, MOST_COMMANDS, MOST_DRAFTS, MOST_DRAFT_DEPTH, MOST_LABEL_STEPS, MOST_LABEL_STEP}
+use Rattle.ledger_terms.specs.declared.limits.TheConstants.{MOST_TEXT_BYTES, MOST_FIELDS, MOST_PARAMS, MOST_COMMANDS}
+use Rattle.ledger_terms.specs.declared.limits.TheConstants.{MOST_DRAFTS, MOST_DRAFT_DEPTH, MOST_LABEL_STEPS, MOST_LABEL_STEP}
 use Rattle.ledger_terms.specs.declared.arg.Arg.{Arg}
 use Rattle.ledger_terms.specs.declared.arg.Arg.TheVariants.{Plain, Contract}
 use Rattle.ledger_terms.specs.declared.command.Command.{Command}

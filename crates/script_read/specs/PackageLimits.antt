@@ -1,9 +1,12 @@
 -- The limits that packages keep, and whom they name.
 use Rattle.std.specs.Prelude.{◌≡◌, ℕ, suc, ◌+◌, max, ◌≤◌, List, [], ◌∷◌, ◌++◌, length, sum_by, All}
 use Rattle.ledger_terms.specs.Packages.{PackageForm, TemplateForm, ChoiceForm}
-use Rattle.ledger_terms.specs.Syntax.{ExprForm, ExprForms, Literal, Var, Add, Sub, Mul, Less, LessEq, Equal, Both, Either, Negate, Cond, Cat, SetOf, Union, Has, NoExprs, MoreExprs, StmtForm, StmtForms, Bind, Assert, Create, Exercise, Fetch, When, NoStmts, MoreStmts}
+use Rattle.ledger_terms.specs.Syntax.{ExprForm, ExprForms, Literal, Var, Add, Sub, Mul, Less, LessEq, Equal}
+use Rattle.ledger_terms.specs.Syntax.{Both, Either, Negate, Cond, Cat, SetOf, Union, Has, NoExprs, MoreExprs}
+use Rattle.ledger_terms.specs.Syntax.{StmtForm, StmtForms, Bind, Assert, Create, Exercise, Fetch, When, NoStmts, MoreStmts}
 use Rattle.ledger_terms.specs.declared.host.Host.{Host}
-use Rattle.ledger_terms.specs.declared.limits.TheConstants.{MOST_PACKAGES, MOST_TEMPLATES, MOST_FIELDS, MOST_PARAMS, MOST_CHOICES, MOST_EXPR_DEPTH, MOST_STATEMENTS}
+use Rattle.ledger_terms.specs.declared.limits.TheConstants.{MOST_PACKAGES, MOST_TEMPLATES, MOST_FIELDS, MOST_PARAMS}
+use Rattle.ledger_terms.specs.declared.limits.TheConstants.{MOST_CHOICES, MOST_EXPR_DEPTH, MOST_STATEMENTS}
 use Rattle.ledger_terms.specs.declared.value.Value.{Value}
 use Rattle.lang_eval.specs.Builtin.{checked_packages}
 use Rattle.lang_eval.specs.Found.{Packages}
