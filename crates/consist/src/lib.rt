@@ -2,6 +2,7 @@
 #![tactic(auto)]
 
 mod earlier;
+mod inactive;
 pub mod laws;
 pub mod ledger;
 pub mod ledger_place;
@@ -9,7 +10,10 @@ pub mod order;
 mod rule;
 mod walk;
 
+pub use earlier::Earlier;
+pub use inactive::is_inactive;
 pub use ledger::inconsistent;
 pub use ledger_model::{Commit, CommitList};
 pub use ledger_place::LedgerPlace;
 pub use order::unordered;
+pub use rule::is_unordered;

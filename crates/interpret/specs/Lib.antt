@@ -15,3 +15,4 @@ pub mod Plain
 pub mod Filled
 pub mod FilledTree
 pub mod NamedParties
+pub mod Conforming

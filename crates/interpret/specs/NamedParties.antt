@@ -3,7 +3,8 @@ use Rattle.std.specs.Prelude.{List}
 use Rattle.std.specs.List.{flat_map}
 use Rattle.ledger_terms.specs.declared.known.Known.{Known}
 use Rattle.ledger_terms.specs.Forest.{preorder}
-use Rattle.ledger_terms.specs.Trees.{Act, Actions}
+use Rattle.ledger_terms.specs.declared.act.Act.{Act}
+use Rattle.ledger_terms.specs.Trees.{Actions}
 use Rattle.lang_eval.specs.Parts.{PartyNames}
 use Rattle.lang_eval.specs.Named.{parties_in_action, parties_in_instance}
 

@@ -1,17 +1,15 @@
 //! Expressions of the contract language.
-ghost use Rattle.std.specs.Prelude.{◌≡◌, ◌==◌, OnOk, OnErr, IfOk, option_copied, slice_get};
-ghost use Rattle.ledger_terms.specs.Syntax.{NoExprs};
-ghost use Rattle.ledger_terms.specs.SyntaxLists.{exprs_count, exprs_join, one_expr};
-ghost use Rattle.ledger_terms.specs.ExprForms.{expr_form, exprs_in, list_form};
+ghost use Rattle.std.specs.Prelude.{◌≡◌, IfOk};
+ghost use Rattle.ledger_terms.specs.ExprForms.{expr_form, list_form};
 
 use crate::exact::Exact;
+use crate::list::ListOf;
 use crate::text::Text;
 use crate::value::Value;
-use std::alloc::{AllocError, Global};
+use std::alloc::AllocError;
 use std::boxed::Box;
 
 /// An expression.
-#[cycle(expr)]
 #[derive(Drop)]
 pub enum Expr {
     Literal(Value),
@@ -33,62 +31,7 @@ pub enum Expr {
 }
 
 /// Expressions in order.
-#[cycle(expr)]
-#[derive(Drop)]
-pub struct ExprList {
-    items: Vec<Expr>,
-}
-
-impl ExprList {
-    /// No expressions.
-    pub fn new(alloc: Global) -> ExprList
-        ensures { list_form result ≡ NoExprs }
-    {
-        ExprList {
-            items: Vec::new(alloc),
-        }
-    }
-
-    /// How many expressions there are.
-    #[tactic(auto, using(crate::proofs::ExprLists::list_forms))]
-    pub fn len(&self) -> usize
-        ensures { result ≡ exprs_count (list_form self.now) }
-    {
-        self.items.len()
-    }
-
-    /// Whether there is none.
-    #[tactic(auto, using(crate::proofs::ExprLists::list_forms))]
-    pub fn is_empty(&self) -> bool
-        ensures { result ≡ (exprs_count (list_form self.now) == 0) }
-    {
-        self.items.is_empty()
-    }
-
-    /// The expression at `at`, where there is one.
-    pub fn get(&self, at: usize) -> Option<&Expr>
-        ensures { option_copied result ≡ slice_get (exprs_in self.now) at }
-    {
-        self.items.get(at)
-    }
-
-    /// The expressions as a slice.
-    pub fn as_slice(&self) -> &[Expr]
-        ensures { result.now ≡ exprs_in self.now }
-    {
-        self.items.as_slice()
-    }
-
-    /// Puts an expression at the end.
-    #[tactic(auto, using(crate::proofs::ExprLists::list_forms))]
-    pub fn push(&mut self, expr: Expr) -> Result<(), AllocError>
-        ensures ok { OnOk result (list_form self.new ≡ exprs_join (list_form self.old) (one_expr (expr_form expr))) }
-        ensures err { OnErr result (list_form self.new ≡ list_form self.old) }
-    {
-        self.items.push(expr)?;
-        Ok(())
-    }
-}
+pub type ExprList = ListOf<Expr>;
 
 #[cycle(copy)]
 fn copy_boxed(expr: &Box<Expr>) -> Result<Box<Expr>, AllocError>
@@ -102,8 +45,8 @@ fn copy_boxed(expr: &Box<Expr>) -> Result<Box<Expr>, AllocError>
 fn copy_list(list: &ExprList) -> Result<ExprList, AllocError>
     ensures { IfOk result (λ l. list_form l ≡ list_form list.now) }
 {
-    let mut copy = ExprList::new(*list.items.allocator());
-    for expr in &list.items {
+    let mut copy = ExprList::new(*list.allocator());
+    for expr in list.as_slice() {
         copy.push(copy_expr(expr)?)?;
     }
     Ok(copy)
@@ -145,15 +88,5 @@ impl Clone for Expr {
 
     fn clone(&self) -> Result<Expr, AllocError> {
         copy_expr(self)
-    }
-}
-
-impl Clone for ExprList {
-    ghost use Rattle.ledger_terms.specs.ExprForms.{list_form};
-
-    ghost is_clone = { λ e f. list_form f ≡ list_form e };
-
-    fn clone(&self) -> Result<ExprList, AllocError> {
-        copy_list(self)
     }
 }

@@ -3,7 +3,9 @@ use Rattle.std.proofs.Common.{◌≡◌, ℕ, ◌++◌, true, List, length, Opti
 use Rattle.std.specs.Prelude.{codes, MatchOption}
 use Rattle.serde_json.specs.Data.{Data, null, boolean, number, string, array, object}
 use Rattle.ledger_terms.specs.Answers.{check}
-use Rattle.ledger_terms.specs.Drafts.{Drafts, DraftAction, DraftCreate, DraftExercise, DraftFetch}
+use Rattle.ledger_terms.specs.Drafts.{Drafts}
+use Rattle.ledger_terms.specs.declared.draft_action.DraftAction.{DraftAction}
+use Rattle.ledger_terms.specs.declared.draft_action.DraftAction.TheVariants.{Create as DraftCreate, Exercise as DraftExercise, Fetch as DraftFetch}
 use Rattle.ledger_terms.specs.Pointers.{at_member}
 use Rattle.ledger_terms.specs.declared.arg.Arg.{Arg}
 use Rattle.ledger_terms.specs.declared.contract_ref.ContractRef.{ContractRef}

@@ -9,7 +9,7 @@ use Rattle.serde_json.specs.Data.{Data, Items}
 use Rattle.ledger_terms.specs.Names.{is_name, IsName}
 use Rattle.ledger_terms.specs.Parties.{has_party, set_of}
 use Rattle.ledger_terms.specs.Pointers.{at_item, at_member}
-use Rattle.ledger_terms.specs.Topologies.{AreApart, HostsNames}
+use Rattle.ledger_terms.specs.Topologies.{AreApart, HasNames}
 use Rattle.ledger_terms.specs.declared.host.Host.{Host}
 use Rattle.json_walk.specs.declared.limits.TheConstants.{PARTIES, PARTICIPANTS}
 use Rattle.json_walk.specs.Walk.{within_limit, few_items_of, Place, name_of, name_in, items_of, walk_items, item_count, member_of}
@@ -69,7 +69,7 @@ pub record AreHosts (i : ℕ) (s : List Host × ℕ) : Type 0 where
   pub counted : sum_by (λ (host : Host). length host.parties) s.0 ≤ s.1
   pub few : s.1 ≤ 128
   pub apart : AllPairs AreApart s.0
-  pub named : AllByRecursion HostsNames s.0
+  pub named : AllByRecursion HasNames s.0
 
 name_free : (hosts : List Host) (at : Place) (d : Data) (name : List ℕ) → new_name_in hosts at d ≡ Ok name → is_participant hosts name ≡ false
 unfolding new_name_in
@@ -77,6 +77,14 @@ name_free hosts at d name h =
     let s = after (name_in at (codes "name") d) _ name h in
     let t = after (check (not (is_participant hosts s.0)) (Repeated (at_member at (codes "name")))) _ name s.2 in
     rw (given s.0 name t.2) (not_false (is_participant hosts s.0) (passed _ _ t.0 t.1))
+
+name_named : (hosts : List Host) (at : Place) (d : Data) (name : List ℕ) → new_name_in hosts at d ≡ Ok name → IsName name
+unfolding new_name_in name_in
+name_named hosts at d name h =
+    let s = after (name_in at (codes "name") d) _ name h in
+    let t = after (check (not (is_participant hosts s.0)) (Repeated (at_member at (codes "name")))) _ name s.2 in
+    let m = after (member_of at (codes "name") d) _ s.0 s.1 in
+    rw (given s.0 name t.2) (name_read (at_member at (codes "name")) m.0 s.0 m.2)
 
 few_items : (count : ℕ) (at : Place) (d : Data) (items : Items) → party_items_in count at d ≡ Ok items → count + item_count items ≤ 128
 unfolding party_items_in
@@ -107,7 +115,7 @@ host_kept at i s t d p h =
       counted = omega (arith, sum, shorter, p.counted, new.many);
       few = few;
       apart = all_pairs_push AreApart s.0 host p.apart (λ k d w. new_apart s.0 b.0 e.0 [] k d w free new.free);
-      named = push_each HostsNames s.0 host p.named (names, IsRising-set_of e.0);
+      named = push_each HasNames s.0 host p.named (record { own = name_named s.0 (at_item at i) d b.0 b.1; parties = names; rising = IsRising-set_of e.0 });
     })
 
 -- the participants of a list

@@ -7,7 +7,7 @@ use Rattle.serde_json.specs.Data.{Data, Items}
 use Rattle.serde_json.specs.Find.{as_number, as_i64, get}
 use Rattle.ledger_terms.specs.Pointers.{at_member}
 use Rattle.ledger_terms.specs.Packages.{PackageForm}
-use Rattle.ledger_terms.specs.Topologies.{HostsNames, IsWait, IsValid}
+use Rattle.ledger_terms.specs.Topologies.{HasNames, IsWait, IsValid}
 use Rattle.ledger_terms.specs.declared.host.Host.{Host}
 use Rattle.ledger_terms.specs.declared.params.Params.{Params}
 use Rattle.ledger_terms.specs.declared.topology.Topology.{Topology}
@@ -121,7 +121,7 @@ known_valid packages d known hosts params r t h =
       few_hosts = omega (arith, many, r.kept.many, r.few);
       few_parties = omega (arith, sum, r.kept.counted, r.kept.few);
       apart = keys_apart hosts known keys r.kept.apart;
-      hosts_name_parties = all_of HostsNames hosts (keys_names hosts known keys r.kept.named);
+      named = all_of HasNames hosts (keys_names hosts known keys r.kept.named);
       response_timeout = t.response;
       reaction_timeout = t.reaction;
       skew = t.skew;

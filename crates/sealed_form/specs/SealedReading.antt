@@ -1,29 +1,16 @@
 -- How the definitions of the ledger model read requests in the sealed form.
-use Rattle.std.specs.Prelude.{◌≡◌, Bool, true, false, ◌&&◌, List, Option, Some, None, option_map, slice_get, ℕ}
+use Rattle.std.specs.Prelude.{◌≡◌, Bool, true, option_map, slice_get}
 use Rattle.ledger_terms.specs.Hosting.{confirms_at, hosts_at}
-use Rattle.ledger_terms.specs.Parties.{has_party}
-use Rattle.ledger_terms.specs.Trees.{Act}
-use Rattle.ledger_terms.specs.Forest.{Forest, NoRoots, Root}
-use Rattle.ledger_terms.specs.declared.host.Host.{Host}
+pub use Rattle.ledger_terms.specs.Vetting.{vets}
 use Rattle.ledger_terms.specs.declared.topology.Topology.{Topology}
 use Rattle.canton_model.specs.Reading.{Reading}
 use Rattle.canton_model.specs.declared.request.Request.{Request}
 use Rattle.lang_eval.specs.Found.{Packages}
 use Rattle.interpret.specs.Ids.{is_authentic}
 use Rattle.interpret.specs.Language.{the_language}
-use Rattle.interpret.specs.Tries.{is_tree_possible}
+pub use Rattle.interpret.specs.Conforming.{conforms}
 use Rattle.view_split.specs.Placed.{shown_by}
 use Rattle.sealed_form.specs.SealedForm.{IsSealedForm, Whole, opened_to, whole_of}
-
--- each root is possible with all that stands below it
-abbrev pub conforms : Packages → Forest Act → Bool
-conforms packages NoRoots = true
-conforms packages (Root act consequences others) = is_tree_possible packages act.action consequences && conforms packages others
-
--- the participant there has vetted the package
-abbrev pub vets : Option Host → List ℕ → Bool
-vets None name = false
-vets (Some host) name = has_party host.vetted name
 
 -- What passes the test is in the sealed form.
 pub record IsTestOf (topology : Topology) (packages : Packages) (test : Request → Bool) : Type 0 where

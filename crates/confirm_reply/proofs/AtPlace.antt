@@ -1,0 +1,84 @@
+-- Facts as at a place give the verdict at that place.
+use Rattle.std.proofs.Common.{◌≡◌, ℕ, Bool, true, false, List, [], ◌∷◌, take, refl, sym, ap, ◌∙◌, inl, inr}
+use Rattle.std.specs.Prelude.{◌&&◌, not, slice_get, if◌then◌else◌}
+use Rattle.std.specs.List.{list_any}
+use Rattle.ledger_terms.specs.Trees.{Act}
+use Rattle.ledger_model.specs.Forest.{acts}
+use Rattle.ledger_model.specs.Opening.{OpenedView, Shown}
+use Rattle.ledger_model.specs.Status.{Status, is_active, is_unknown, shows_inactive, shows_locked, shows_not_fresh}
+use Rattle.ledger_model.specs.Terms.{Hash, ParticipantId, id_of, is_create, creates}
+use Rattle.ledger_model.proofs.Lists.{In, contains_from_In}
+use Rattle.canton_model.specs.Checks.{Check, first_place, first_shown, verdict_by, verdict_on_view}
+use Rattle.canton_model.specs.Inbox.{Item, has_hosted_stakeholder, is_locked_in_inbox, item_time, status_in_inbox}
+use Rattle.canton_model.specs.Log.{Params, Reject, Locked, Inactive, NotFresh}
+use Rattle.canton_model.specs.Reading.{Reading}
+use Rattle.confirm_reply.specs.Facts.{AreAsAt, is_known_locked, known_status}
+use Rattle.confirm_reply.specs.declared.id_facts.IdFacts.{IdFacts}
+use Rattle.confirm_reply.proofs.Placed.{EachIn}
+use Rattle.confirm_reply.proofs.Trying.{shown_same}
+
+abbrev Numbered : Type 0
+Numbered = ℕ × Act
+
+each_in : (P : Numbered → Type 0) (core : List Numbered) → ((a : Numbered) → In a core → P a) → EachIn P core
+each_in P [] all = tt
+each_in P (a ∷ core) all = (all a (inl refl), each_in P core (λ b i. all b (inr i)))
+
+under : (b x y : Bool) → (b ≡ true → x ≡ y) → (b && x) ≡ (b && y)
+under true x y same = same refl
+under false x y same = refl
+
+kept : (check : Check) (more others : List Check) (core : List Numbered) → first_shown more core ≡ first_shown others core
+    → first_shown (check ∷ more) core ≡ first_shown (check ∷ others) core
+kept check more others core later =
+    λ i. if list_any check.is_shown_by core then Reject check.reason (first_place check.is_shown_by core) else later i
+
+module _ (reading : Reading) (params : Params) (p : ParticipantId) (items : List Item) (k time : ℕ) (shown : Shown) (view : OpenedView) (facts : List IdFacts)
+    (as_at : AreAsAt reading params p items k facts view.core) where
+  abbrev hosted : Numbered → Bool
+  hosted a = has_hosted_stakeholder reading p a.1
+
+  abbrev earlier : Numbered → List Act
+  earlier a = take a.0 (acts shown.roots)
+
+  abbrev locks : (Hash → Bool) → Numbered → Bool
+  locks locked a = hosted a && shows_locked locked a.1
+
+  abbrev is_inactive : (Hash → Status) → Numbered → Bool
+  is_inactive status a = hosted a && shows_inactive status (earlier a) a.1
+
+  abbrev is_used : (Hash → Status) → Numbered → Bool
+  is_used status a = hosted a && shows_not_fresh status a.1
+
+  status : (a : Numbered) → In a view.core → hosted a ≡ true → known_status facts (id_of (a.1).action) ≡ status_in_inbox reading items k (id_of (a.1).action)
+  status a i h = as_at.status a (contains_from_In view.core a i) h
+
+  same_locks : EachIn (λ (a : Numbered). locks (is_known_locked facts) a ≡ locks (is_locked_in_inbox reading params items k) a) view.core
+  same_locks =
+      each_in (λ (a : Numbered). locks (is_known_locked facts) a ≡ locks (is_locked_in_inbox reading params items k) a) view.core (λ a i.
+      under (hosted a) (shows_locked (is_known_locked facts) a.1) (shows_locked (is_locked_in_inbox reading params items k) a.1) (λ h. as_at.locked a (contains_from_In view.core a i) h))
+
+  same_inactive : EachIn (λ (a : Numbered). is_inactive (known_status facts) a ≡ is_inactive (status_in_inbox reading items k) a) view.core
+  same_inactive =
+      each_in (λ (a : Numbered). is_inactive (known_status facts) a ≡ is_inactive (status_in_inbox reading items k) a) view.core (λ a i.
+      under (hosted a) (shows_inactive (known_status facts) (earlier a) a.1) (shows_inactive (status_in_inbox reading items k) (earlier a) a.1) (λ h.
+      ap (λ (s : Status). not (is_create (a.1).action) && (not (is_active s) && not (list_any (creates (id_of (a.1).action)) (earlier a)))) (status a i h)))
+
+  same_used : EachIn (λ (a : Numbered). is_used (known_status facts) a ≡ is_used (status_in_inbox reading items k) a) view.core
+  same_used =
+      each_in (λ (a : Numbered). is_used (known_status facts) a ≡ is_used (status_in_inbox reading items k) a) view.core (λ a i.
+      under (hosted a) (shows_not_fresh (known_status facts) a.1) (shows_not_fresh (status_in_inbox reading items k) a.1) (λ h.
+      ap (λ (s : Status). is_create (a.1).action && not (is_unknown s)) (status a i h)))
+
+  same_facts : verdict_by reading params p time shown view (known_status facts) (is_known_locked facts)
+      ≡ verdict_by reading params p time shown view (status_in_inbox reading items k) (is_locked_in_inbox reading params items k)
+  same_facts =
+      kept _ _ _ view.core (kept _ _ _ view.core (kept _ _ _ view.core
+      (shown_same Locked (locks (is_known_locked facts)) (locks (is_locked_in_inbox reading params items k)) _ _ view.core same_locks
+      (shown_same Inactive (is_inactive (known_status facts)) (is_inactive (status_in_inbox reading items k)) _ _ view.core same_inactive
+      (shown_same NotFresh (is_used (known_status facts)) (is_used (status_in_inbox reading items k)) _ _ view.core same_used refl)))))
+
+  pub as_at_place : time ≡ item_time (slice_get items k)
+      → verdict_by reading params p time shown view (known_status facts) (is_known_locked facts) ≡ verdict_on_view reading params p items k shown view
+  as_at_place same =
+      same_facts ∙ ap (λ (t : ℕ). verdict_by reading params p t shown view (status_in_inbox reading items k) (is_locked_in_inbox reading params items k)) same

@@ -1,0 +1,7 @@
+mod Stakeholders
+mod Conformance
+mod Located
+mod Placed
+mod Trying
+mod Verdicts
+mod AtPlace

@@ -1,0 +1,35 @@
+-- What a participant knows of contracts, as it is handed to a check.
+use Rattle.std.specs.Prelude.{◌≡◌, ℕ, Bool, true, false, List, Option, Some, None, find, Contains}
+use Rattle.std.specs.Str.{bytes_eq}
+use Rattle.ledger_model.specs.Terms.{Act, Hash, ParticipantId, id_of}
+use Rattle.ledger_model.specs.Status.{Status, Unknown}
+use Rattle.canton_model.specs.Log.{Params}
+use Rattle.canton_model.specs.Reading.{Reading}
+use Rattle.canton_model.specs.Inbox.{Item, has_hosted_stakeholder, is_locked_in_inbox, status_in_inbox}
+use Rattle.confirm_reply.specs.declared.id_facts.IdFacts.{IdFacts}
+
+-- the first fact on a contract
+abbrev pub fact_on : List IdFacts → Hash → Option IdFacts
+fact_on facts c = find (λ (fact : IdFacts). bytes_eq fact.id c) facts
+
+abbrev pub status_of : Option IdFacts → Status
+status_of None = Unknown
+status_of (Some fact) = fact.status
+
+abbrev pub lock_of : Option IdFacts → Bool
+lock_of None = false
+lock_of (Some fact) = fact.locked
+
+-- a contract without a fact is unknown, and no request holds it
+abbrev pub known_status : List IdFacts → Hash → Status
+known_status facts c = status_of (fact_on facts c)
+
+abbrev pub is_known_locked : List IdFacts → Hash → Bool
+is_known_locked facts c = lock_of (fact_on facts c)
+
+-- Of each contract with a hosted stakeholder in a core the facts say what the first k + 1 items of an inbox say.
+pub record AreAsAt (reading : Reading) (params : Params) (p : ParticipantId) (items : List Item) (k : ℕ) (facts : List IdFacts) (core : List (ℕ × Act)) : Type 0 where
+  pub status : (a : ℕ × Act) → Contains core a → has_hosted_stakeholder reading p a.1 ≡ true
+      → known_status facts (id_of (a.1).action) ≡ status_in_inbox reading items k (id_of (a.1).action)
+  pub locked : (a : ℕ × Act) → Contains core a → has_hosted_stakeholder reading p a.1 ≡ true
+      → is_known_locked facts (id_of (a.1).action) ≡ is_locked_in_inbox reading params items k (id_of (a.1).action)

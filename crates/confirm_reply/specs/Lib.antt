@@ -1,0 +1,9 @@
+pub mod LocalReading
+pub mod Facts
+pub mod Opened
+pub mod Verdict
+pub mod Numbers
+pub mod Nodes
+pub mod Located
+pub mod Tried
+pub mod Fit

@@ -1,0 +1,87 @@
+-- The reasons as they are tried, by what stands at an action's number.
+use Rattle.std.specs.Prelude.{ℕ, suc, Bool, false, List, [], ◌∷◌, Option, Some, None, option_map, if◌then◌else◌, not, ◌&&◌, ◌||◌, nat_eq, slice_get, take, map}
+use Rattle.ledger_terms.specs.Trees.{Act, Actions}
+use Rattle.ledger_terms.specs.Vetting.{vets}
+use Rattle.ledger_terms.specs.declared.action_node.ActionNode.{ActionNode}
+use Rattle.ledger_model.specs.Terms.{instance_of}
+use Rattle.ledger_model.specs.Status.{shows_locked, shows_inactive, shows_not_fresh, shows_unordered}
+use Rattle.canton_model.specs.Log.{LocalVerdict, Approve, Reject, Reason, IdMismatch, NotVetted, TimeSkew, Locked, Inactive, NotFresh, Unordered, NotConformant, NotAuthorised}
+use Rattle.canton_model.specs.Inbox.{has_hosted_stakeholder}
+use Rattle.canton_model.specs.Checks.{is_within, is_authorised_by_known}
+use Rattle.lang_eval.specs.Language.{roles_in}
+use Rattle.interpret.specs.Ids.{is_authentic}
+use Rattle.interpret.specs.Tries.{is_tree_possible}
+use Rattle.authorise.specs.Below.{are_authorised_below}
+use Rattle.confirm_reply.specs.Facts.{known_status, is_known_locked}
+use Rattle.confirm_reply.specs.LocalReading.{local_reading}
+use Rattle.confirm_reply.specs.declared.check_input.CheckInput.{CheckInput}
+
+-- a stakeholder of the action's contract is hosted
+abbrev pub is_hosted : CheckInput → Act → Bool
+is_hosted input act = has_hosted_stakeholder (local_reading input.setup.now.topology input.setup.now.checked) input.me act
+
+abbrev pub is_requested : CheckInput → Act → Bool
+is_requested input act = is_authorised_by_known (roles_in input.setup.now.checked) input.tree.requesters act.action
+
+-- An action shows a reason, by what stands below it and before it. `asks` tells whether the requesters have to authorise it.
+abbrev pub shows : CheckInput → Reason → Act → (below : Actions) → (earlier : List Act) → (asks : Bool) → Bool
+shows input IdMismatch act below earlier asks = not (is_authentic act)
+shows input NotVetted act below earlier asks =
+    not (vets (slice_get input.setup.now.topology.hosts input.me) (instance_of act.action).template.«package»)
+shows input TimeSkew act below earlier asks = not (is_within input.setup.now.topology.params.skew input.tree.ledger_time input.time)
+shows input Locked act below earlier asks = shows_locked (is_known_locked input.facts) act && is_hosted input act
+shows input Inactive act below earlier asks = shows_inactive (known_status input.facts) earlier act && is_hosted input act
+shows input NotFresh act below earlier asks = shows_not_fresh (known_status input.facts) act && is_hosted input act
+shows input Unordered act below earlier asks = shows_unordered earlier act && is_hosted input act
+shows input NotConformant act below earlier asks = not (is_tree_possible input.setup.now.checked act.action below)
+shows input NotAuthorised act below earlier asks =
+    not (are_authorised_below (roles_in input.setup.now.checked) act.action below && (not asks || is_requested input act))
+
+-- What a core is tried by: all that is opened in pre-order, each with what stands below it, and the numbers of the core.
+pub record Matter : Type 0 where
+  pub trees : List (Act × Actions)
+  pub core : List ℕ
+  pub is_root : Bool
+
+abbrev pub acts_in : List (Act × Actions) → List Act
+acts_in trees = map (λ (tree : Act × Actions). tree.0) trees
+
+-- the number is that of the core's first action
+abbrev pub is_first : List ℕ → ℕ → Bool
+is_first [] n = false
+is_first (first ∷ rest) n = nat_eq first n
+
+abbrev pub tree_shows : CheckInput → Matter → Reason → ℕ → Option (Act × Actions) → Bool
+tree_shows input matter reason n None = false
+tree_shows input matter reason n (Some tree) =
+    shows input reason tree.0 tree.1 (take n (acts_in matter.trees)) (matter.is_root && is_first matter.core n)
+
+abbrev pub shows_at : CheckInput → Matter → Reason → ℕ → Bool
+shows_at input matter reason n = tree_shows input matter reason n (slice_get matter.trees n)
+
+-- the place of the first that passes
+abbrev pub place_shown : (ℕ → Bool) → List ℕ → Option ℕ
+place_shown test [] = None
+place_shown test (n ∷ ns) = if test n then Some 0 else option_map suc (place_shown test ns)
+
+-- the first alone
+abbrev pub first_alone : (ℕ → Bool) → List ℕ → Option ℕ
+first_alone test [] = None
+first_alone test (n ∷ ns) = if test n then Some 0 else None
+
+-- Time and conformance are the whole view's.
+abbrev pub place_of : CheckInput → Matter → Reason → Option ℕ
+place_of input matter TimeSkew = first_alone (shows_at input matter TimeSkew) matter.core
+place_of input matter NotConformant = first_alone (shows_at input matter NotConformant) matter.core
+place_of input matter reason = place_shown (shows_at input matter reason) matter.core
+
+abbrev pub all_reasons : List Reason
+all_reasons = IdMismatch ∷ NotVetted ∷ TimeSkew ∷ Locked ∷ Inactive ∷ NotFresh ∷ Unordered ∷ NotConformant ∷ NotAuthorised ∷ []
+
+abbrev pub rejected_or : Reason → Option ℕ → LocalVerdict → LocalVerdict
+rejected_or reason None rest = rest
+rejected_or reason (Some place) rest = Reject reason place
+
+abbrev pub verdict_after : CheckInput → Matter → List Reason → LocalVerdict
+verdict_after input matter [] = Approve
+verdict_after input matter (reason ∷ rest) = rejected_or reason (place_of input matter reason) (verdict_after input matter rest)

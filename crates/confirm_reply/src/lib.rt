@@ -1,0 +1,22 @@
+//! What one participant checks of a view, and its verdict.
+#![tactic(auto)]
+
+mod check_input;
+mod cores;
+mod facts;
+mod hosting;
+mod id_facts;
+mod numbered;
+mod numbering;
+mod opened;
+mod places;
+mod reasons;
+mod setup;
+mod trial;
+mod view_check;
+
+pub use canton_model::{LocalVerdict, Reason, ViewVerdict, ViewVerdictList};
+pub use check_input::CheckInput;
+pub use id_facts::{IdFacts, IdFactsList};
+pub use setup::Setup;
+pub use view_check::check_view;

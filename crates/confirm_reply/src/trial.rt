@@ -1,0 +1,16 @@
+//! What a core is tried by.
+use crate::check_input::CheckInput;
+use consist::Earlier;
+use ledger_terms::ActionNode;
+use std::alloc::Global;
+
+/// What is opened to a participant, in pre-order, with the numbers of a view's core.
+#[derive(Drop)]
+pub(crate) struct Trial<'a> {
+    pub(crate) alloc: Global,
+    pub(crate) input: &'a CheckInput<'a>,
+    pub(crate) nodes: &'a [&'a ActionNode],
+    pub(crate) earlier: &'a [Earlier<'a>],
+    pub(crate) core: &'a [usize],
+    pub(crate) is_root: bool,
+}

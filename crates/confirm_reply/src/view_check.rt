@@ -1,0 +1,80 @@
+//! The local check of a view.
+ghost use Rattle.std.specs.Prelude.{◌≡◌, ℕ, List, Some, IfOk, IsSome};
+ghost use Rattle.ledger_model.specs.Opening.{OpenedView};
+ghost use Rattle.canton_model.specs.Checks.{verdict_on_view};
+ghost use Rattle.canton_model.specs.Inbox.{Item, item_time};
+ghost use Rattle.std.specs.Prelude.{slice_get};
+ghost use Rattle.view_split.specs.Placed.{shown_by};
+ghost use Rattle.confirm_reply.specs.Facts.{AreAsAt};
+ghost use Rattle.confirm_reply.specs.LocalReading.{local_reading};
+ghost use Rattle.confirm_reply.specs.Opened.{CanBeChecked, view_at};
+ghost use Rattle.confirm_reply.specs.Verdict.{verdict_of};
+
+use crate::check_input::CheckInput;
+use crate::cores::core_at;
+use crate::numbering::numbered;
+use crate::opened::{actions_of, nodes_of, roots_of};
+use crate::trial::Trial;
+use canton_model::{LocalVerdict, Reason};
+use ledger_terms::{ActionNode, Path};
+use std::alloc::{AllocError, Global};
+
+/// A participant's verdict on the view with this path, which is opened to it. Each reason is tried over the whole core before the
+/// next, and the action is the first in pre-order that shows it.
+pub fn check_view(
+    alloc: Global,
+    input: &CheckInput<'_>,
+    view: &Path,
+) -> Result<LocalVerdict, AllocError>
+    requires opened { IsSome (view_at view.now input.now.tree) }
+    requires checkable { CanBeChecked input.now.setup.now.checked input.now.tree }
+    ensures by_facts { IfOk result (λ verdict. (opened : OpenedView) → view_at view.now input.now.tree ≡ Some opened → verdict ≡ verdict_of input.now opened) }
+    ensures at_place { IfOk result (λ verdict. (opened : OpenedView) (items : List Item) (k : ℕ) → view_at view.now input.now.tree ≡ Some opened
+        → input.now.time ≡ item_time (slice_get items k)
+        → AreAsAt (local_reading input.now.setup.now.topology input.now.setup.now.checked) input.now.setup.now.topology.params input.now.me items k input.now.facts opened.core
+        → verdict ≡ verdict_on_view (local_reading input.now.setup.now.topology input.now.setup.now.checked) input.now.setup.now.topology.params input.now.me items k
+        (shown_by input.now.tree) opened) }
+{
+    let roots = roots_of(alloc, &input.tree.views)?;
+    let nodes = nodes_of(alloc, &roots)?;
+    let trees = numbered(alloc, &roots, 0)?;
+    match core_at(alloc, &input.tree.views, trees.as_slice(), view)? {
+        Some(core) => verdict_on(
+            alloc,
+            input,
+            nodes.as_slice(),
+            core.as_slice(),
+            view.len() == 1,
+        ),
+        None => Ok(LocalVerdict::Approve),
+    }
+}
+
+fn verdict_on(
+    alloc: Global,
+    input: &CheckInput<'_>,
+    nodes: &[&ActionNode],
+    core: &[usize],
+    is_root: bool,
+) -> Result<LocalVerdict, AllocError> {
+    let earlier = actions_of(alloc, nodes)?;
+    let trial = Trial {
+        alloc,
+        input,
+        nodes,
+        earlier: earlier.as_slice(),
+        core,
+        is_root,
+    };
+    trial.verdict(&[
+        Reason::IdMismatch,
+        Reason::NotVetted,
+        Reason::TimeSkew,
+        Reason::Locked,
+        Reason::Inactive,
+        Reason::NotFresh,
+        Reason::Unordered,
+        Reason::NotConformant,
+        Reason::NotAuthorised,
+    ])
+}

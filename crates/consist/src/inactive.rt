@@ -1,0 +1,24 @@
+//! Actions on contracts that aren't active.
+ghost use Rattle.std.specs.Prelude.{◌≡◌, []};
+ghost use Rattle.ledger_model.specs.Status.{is_active, shows_inactive};
+
+use crate::earlier::{Earlier, id_of, is_create, some_creates};
+use ledger_model::Status;
+use ledger_terms::Action;
+
+fn is_active(status: Status) -> bool
+    ensures { result ≡ is_active status }
+{
+    match status {
+        Status::Unknown => false,
+        Status::Active => true,
+        Status::Consumed => false,
+    }
+}
+
+/// Whether an Exercise or Fetch is on a contract that isn't active and that no earlier action creates.
+pub fn is_inactive(status: Status, earlier: &[Earlier<'_>], action: &Action) -> bool
+    ensures { result ≡ shows_inactive (λ c. status) earlier.now (record { seed = []; action = action.now }) }
+{
+    !is_create(action) && (!is_active(status) && !some_creates(earlier, id_of(action)))
+}

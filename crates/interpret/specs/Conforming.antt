@@ -1,0 +1,11 @@
+-- Whether whole transactions are possible in the model.
+use Rattle.std.specs.Prelude.{Bool, true, ◌&&◌}
+use Rattle.ledger_terms.specs.Trees.{Act}
+use Rattle.ledger_terms.specs.Forest.{Forest, NoRoots, Root}
+use Rattle.lang_eval.specs.Found.{Packages}
+use Rattle.interpret.specs.Tries.{is_tree_possible}
+
+-- each root is possible with all that stands below it
+abbrev pub conforms : Packages → Forest Act → Bool
+conforms packages NoRoots = true
+conforms packages (Root act consequences others) = is_tree_possible packages act.action consequences && conforms packages others
