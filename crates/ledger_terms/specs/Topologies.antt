@@ -5,7 +5,6 @@ use Rattle.ledger_terms.specs.Names.{IsName}
 use Rattle.ledger_terms.specs.Parties.{meets_set, IsRising}
 use Rattle.ledger_terms.specs.declared.limits.TheConstants.{MOST_PARTICIPANTS, MOST_PARTIES, LEAST_WAIT, MOST_WAIT}
 use Rattle.ledger_terms.specs.declared.host.Host.{Host}
-use Rattle.ledger_terms.specs.declared.params.Params.{Params}
 use Rattle.ledger_terms.specs.declared.topology.Topology.{Topology}
 
 -- two participants have names of their own and share no party
