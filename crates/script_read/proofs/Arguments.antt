@@ -12,7 +12,7 @@ use Rattle.ledger_terms.specs.declared.arg.Arg.TheVariants.{Plain, Contract}
 use Rattle.ledger_terms.specs.declared.command.Command.{Command}
 use Rattle.ledger_terms.specs.declared.command.Command.TheVariants.{Create, Exercise}
 use Rattle.ledger_terms.specs.declared.host.Host.{Host}
-use Rattle.ledger_terms.specs.declared.limits.TheConstants.{MOST_FIELDS, MOST_PARAMS}
+use Rattle.ledger_terms.specs.declared.limits.TheConstants.{MOST_FIELDS, MOST_PARAMETERS}
 use Rattle.ledger_terms.specs.declared.value.Value.{Value}
 use Rattle.ledger_terms.specs.declared.value.Value.TheVariants.{Unit as UnitValue, Int, Bool as BoolValue, Text, Party, Parties}
 use Rattle.ledger_terms.proofs.SetsOf.{all_set_of}

@@ -5,8 +5,8 @@ use Rattle.ledger_terms.specs.Syntax.{ExprForm, ExprForms, Literal, Var, Add, Su
 use Rattle.ledger_terms.specs.Syntax.{Both, Either, Negate, Cond, Cat, SetOf, Union, Has, NoExprs, MoreExprs}
 use Rattle.ledger_terms.specs.Syntax.{StmtForm, StmtForms, Bind, Assert, Create, Exercise, Fetch, When, NoStmts, MoreStmts}
 use Rattle.ledger_terms.specs.declared.host.Host.{Host}
-use Rattle.ledger_terms.specs.declared.limits.TheConstants.{MOST_PACKAGES, MOST_TEMPLATES, MOST_FIELDS, MOST_PARAMS}
-use Rattle.ledger_terms.specs.declared.limits.TheConstants.{MOST_CHOICES, MOST_EXPR_DEPTH, MOST_STATEMENTS}
+use Rattle.ledger_terms.specs.declared.limits.TheConstants.{MOST_PACKAGES, MOST_TEMPLATES, MOST_FIELDS, MOST_PARAMETERS}
+use Rattle.ledger_terms.specs.declared.limits.TheConstants.{MOST_CHOICES, MOST_EXPRESSION_DEPTH, MOST_STATEMENTS}
 use Rattle.ledger_terms.specs.declared.value.Value.{Value}
 use Rattle.lang_eval.specs.Builtin.{checked_packages}
 use Rattle.lang_eval.specs.Found.{Packages}
@@ -65,7 +65,7 @@ abbrev mutual
   literals_among (MoreExprs e es) = literals_in e ++ literals_among es
 
 pub record IsSmallExpr (e : ExprForm) : Type 0 where
-  pub shallow : expr_depth e ≤ MOST_EXPR_DEPTH
+  pub shallow : expr_depth e ≤ MOST_EXPRESSION_DEPTH
   pub short : All IsShort (literals_in e)
 
 -- ---- statements
@@ -108,7 +108,7 @@ abbrev pub exprs_in_choice : ChoiceForm → List ExprForm
 exprs_in_choice c = c.controllers ∷ (c.observers ∷ (c.result ∷ exprs_in_stmts c.body))
 
 pub record IsSmallChoice (c : ChoiceForm) : Type 0 where
-  pub params : length c.params ≤ MOST_PARAMS
+  pub params : length c.params ≤ MOST_PARAMETERS
   pub body : stmts_size c.body ≤ MOST_STATEMENTS
   pub exprs : All IsSmallExpr (exprs_in_choice c)
 
