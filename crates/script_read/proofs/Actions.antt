@@ -1,5 +1,5 @@
 -- Prepared actions without their children, as they are accepted.
-use Rattle.std.proofs.Common.{◌≡◌, ℕ, ◌++◌, Bool, true, List, length, Option, Some, None, Ok, refl}
+use Rattle.std.proofs.Common.{◌≡◌, ℕ, ◌++◌, Bool, List, Option, Some, None, Ok, refl}
 use Rattle.std.specs.Prelude.{codes, MatchOption}
 use Rattle.serde_json.specs.Data.{Data, null, boolean, number, string, array, object}
 use Rattle.ledger_terms.specs.Answers.{check}
@@ -25,10 +25,10 @@ use Rattle.lang_eval.specs.Named.{AreKnown}
 use Rattle.lang_eval.proofs.Known.{known_append}
 use Rattle.lang_read.specs.Parties.{is_hosted}
 use Rattle.script_read.specs.Accepted.{IsTemplate, IsReference, AreArgs, IsInput, IsDraft}
-use Rattle.script_read.specs.Args.{arg_of, args_in}
+use Rattle.script_read.specs.Args.{args_in}
 use Rattle.script_read.specs.Commands.{reference_in, has_create_members, is_create}
 use Rattle.script_read.specs.Drafts.{is_known, has_forged_members, some_id_of, id_of, id_in, salt_in, instance_of, instance_in, forged_of, known_of, input_of, input_in, actors_in, result_in, alone, create_draft_of, has_fetch_members, fetch_draft_of, create_draft_in, fetch_draft_in, has_draft_members, call_of, effect_of, exercise_draft_of, leaf_of}
-use Rattle.script_read.specs.Refs.{hash_of, reference_of}
+use Rattle.script_read.specs.Refs.{reference_of}
 use Rattle.script_read.proofs.Arguments.{IsArgRead, AreArgsRead, arg_read, args_read, parties_hosted}
 use Rattle.script_read.proofs.Cases.{by_test}
 use Rattle.script_read.proofs.References.{member_name, template_read, hash_read, reference_read, member_reference}

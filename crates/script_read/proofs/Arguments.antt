@@ -1,7 +1,6 @@
 -- Fields, arguments and commands, as they are accepted.
-use Rattle.std.proofs.Common.{◌≡◌, ℕ, ◌≤◌, Bool, true, List, [], ◌∷◌, length, Result, Ok, ok_or, refl, arith}
+use Rattle.std.proofs.Common.{◌≡◌, ℕ, true, List, [], ◌∷◌, length, Result, Ok, ok_or, refl}
 use Rattle.std.specs.Prelude.{codes}
-use Rattle.std.specs.List.{AllByRecursion}
 use Rattle.serde_json.specs.Data.{Num, Data, null, boolean, number, string, array, object}
 use Rattle.serde_json.specs.Find.{as_i64}
 use Rattle.ledger_terms.specs.Answers.{◌>>=◌, check}
@@ -12,11 +11,10 @@ use Rattle.ledger_terms.specs.declared.arg.Arg.TheVariants.{Plain, Contract}
 use Rattle.ledger_terms.specs.declared.command.Command.{Command}
 use Rattle.ledger_terms.specs.declared.command.Command.TheVariants.{Create, Exercise}
 use Rattle.ledger_terms.specs.declared.host.Host.{Host}
-use Rattle.ledger_terms.specs.declared.limits.TheConstants.{MOST_FIELDS, MOST_PARAMETERS}
 use Rattle.ledger_terms.specs.declared.value.Value.{Value}
 use Rattle.ledger_terms.specs.declared.value.Value.TheVariants.{Unit as UnitValue, Int, Bool as BoolValue, Text, Party, Parties}
 use Rattle.ledger_terms.proofs.SetsOf.{all_set_of}
-use Rattle.json_walk.specs.Lists.{few_of, list_of}
+use Rattle.json_walk.specs.Lists.{list_of}
 use Rattle.json_walk.specs.Texts.{text_of, template_in}
 use Rattle.json_walk.specs.Walk.{Place, name_of, name_in, has_members, member_of, within_limit}
 use Rattle.json_walk.specs.declared.limit.Limit.{Limit}

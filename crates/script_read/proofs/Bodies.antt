@@ -1,6 +1,5 @@
 -- Bodies of choices, as they are accepted.
-use Rattle.std.proofs.Common.{◌≡◌, ℕ, ◌+◌, ◌≤◌, Bool, List, [], ◌∷◌, ◌++◌, Option, Some, None, Result, Ok, Err, refl, arith}
-use Rattle.std.specs.Bool.{⊤}
+use Rattle.std.proofs.Common.{◌≡◌, ℕ, ◌+◌, ◌≤◌, List, [], ◌∷◌, ◌++◌, Option, Some, None, Result, Ok, Err, refl, arith}
 use Rattle.std.specs.List.{AllByRecursion}
 use Rattle.std.specs.Ordering.{nat_cmp}
 use Rattle.std.specs.Prelude.{codes}
@@ -14,7 +13,7 @@ use Rattle.ledger_terms.specs.Syntax.{ExprForm, ExprForms, NoExprs, StmtForm, St
 use Rattle.ledger_terms.specs.SyntaxLists.{exprs_join, one_expr, stmts_join, one_stmt}
 use Rattle.ledger_terms.specs.declared.host.Host.{Host}
 use Rattle.json_walk.specs.Texts.{template_in}
-use Rattle.json_walk.specs.Walk.{Place, within_limit, two_of, name_of, name_in, has_members, items_of, walk_items, item_count, member_of}
+use Rattle.json_walk.specs.Walk.{Place, within_limit, two_of, name_of, name_in, has_members, items_of, item_count, member_of}
 use Rattle.json_walk.specs.declared.limits.TheConstants.{STATEMENTS}
 use Rattle.json_walk.specs.declared.walk_fault.WalkFault.{WalkFault}
 use Rattle.json_walk.specs.declared.walk_fault.WalkFault.TheVariants.{Shape}

@@ -1,7 +1,6 @@
 -- The walk of a submission keeps its limits, and the participants and parties that it names.
 use Rattle.std.proofs.Common.{◌≡◌, ℕ, suc, ◌<◌, ◌≤◌, ◌^◌, Bool, true, false, List, [], ◌∷◌, length, Option, Some, None, Ok, option_map, refl, sym, ap, subst, arith}
 use Rattle.std.specs.Prelude.{◌||◌, codes, MatchOption, if◌then◌else◌}
-use Rattle.std.specs.List.{AllByRecursion}
 use Rattle.serde_json.specs.Data.{Data, Items, null, boolean, number, string, array, object}
 use Rattle.serde_json.specs.Find.{get}
 use Rattle.ledger_terms.specs.Answers.{check}
