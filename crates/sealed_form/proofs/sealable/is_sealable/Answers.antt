@@ -1,4 +1,4 @@
-use Rattle.sealed_form.proofs.Sealable.{filled_is_sealable, wanted_is_sealable}
+use Rattle.sealed_form.proofs.Submitted.{filled_is_sealable, wanted_is_sealable}
 use Rattle.sealed_form.proofs.sealable.is_sealable.Goals as goal
 
 pub returns-clause-wanted : goal.returns-clause-wanted
