@@ -1,4 +1,4 @@
-"""Writes the inputs and the expected outputs of crates/tree_cases, crates/form_cases, crates/load_cases and crates/run_cases from the
+"""Writes the inputs and the expected outputs of crates/tree_cases, crates/form_cases and crates/run_cases from the
 tables of this folder.
 
 What a table says of a case by hand is compared with what is computed here, where both are there.
@@ -8,7 +8,6 @@ import os
 
 import form_cases
 import language
-import load_cases
 import tree_cases
 from tables import bytes as byte_tables
 from tables import expressions, package_faults, runs, script_faults, transactions
@@ -96,7 +95,6 @@ def write(crate, parts):
 def main():
     write('tree_cases', [('Transactions, and scripts with their first fault', tree_rows())])
     write('form_cases', [('Terms and trees as bytes', byte_rows()), ('Expressions', expression_rows()), ('Packages', package_rows())])
-    write('load_cases', [('Words', load_cases.word_rows()), ('Generated submissions', load_cases.submission_rows())])
     write('run_cases', [('Whole runs', run_rows())])
 
 
