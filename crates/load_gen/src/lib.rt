@@ -7,9 +7,11 @@ mod iou;
 mod names;
 mod numbers;
 mod packages;
+mod script;
 mod submissions;
 mod topology;
 
+pub use script::generate;
 pub use iou::iou_package;
 pub use packages::generated_packages;
 pub use submissions::{generated_debts, generated_transfers};
