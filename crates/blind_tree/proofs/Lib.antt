@@ -21,3 +21,4 @@ pub mod Overlaid
 mod FilledLaws
 mod Ranged
 mod SpelledViews
+mod OpenedActions

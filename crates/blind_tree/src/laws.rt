@@ -21,7 +21,10 @@ ghost use Rattle.view_split.specs.Filled.{AreFilled};
 ghost use Rattle.view_split.specs.Placed.{placed_forest, tops};
 ghost use Rattle.view_split.specs.Numbered.{map_forest};
 ghost use Rattle.view_split.specs.declared.opened_tree.OpenedTree.{OpenedTree};
-ghost use Rattle.view_split.specs.Seen.{seen_views};
+ghost use Rattle.view_split.specs.Seen.{put_back, seen_views};
+ghost use Rattle.ledger_model.specs.Forest.{acts};
+ghost use Rattle.ledger_model.specs.Terms.{instance_of};
+ghost use Rattle.wire_form.specs.Spellable.{IsSpellableInstance};
 ghost use Rattle.ledger_terms.specs.declared.host.Host.{Host};
 ghost use Rattle.view_split.specs.declared.views.Views.{Views};
 ghost use Rattle.blind_tree.specs.declared.recipient.Recipient.{Recipient};
@@ -116,6 +119,12 @@ pub fn opened_views_are_filled()
 pub fn opened_views_are_spellable()
     ensures { (tree : Tree) (opened : OpenedTree) → IsNarrow tree.views → tree_opened tree ≡ Ok opened
         → All (λ (placed : PlacedView). AreSpellableViews (view_tree placed.view)) opened.views }
+{}
+
+/// The instance of each action that is opened can be encoded, so that its contract's id can be told.
+pub fn opened_actions_are_spellable()
+    ensures { (tree : Tree) (opened : OpenedTree) → IsNarrow tree.views → tree_opened tree ≡ Ok opened
+        → All (λ (act : Act). IsSpellableInstance (instance_of act.action)) (acts (put_back (placed_forest opened.views))) }
 {}
 
 /// A participant's tree shows the contents of exactly the views that it sees, and the mediator's of none.

@@ -5,3 +5,8 @@ mod Placed
 mod Trying
 mod Verdicts
 mod AtPlace
+mod CoreSteps
+mod FindSteps
+mod Gathering
+mod NumberSteps
+mod Checked

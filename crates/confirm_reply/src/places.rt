@@ -29,7 +29,7 @@ fn is_first(core: &[usize], number: usize) -> bool
     }
 }
 
-impl Trial<'_> {
+impl Trial<'_, '_, '_> {
     fn node_shows(
         &self,
         reason: Reason,

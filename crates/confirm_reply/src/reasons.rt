@@ -43,7 +43,7 @@ fn is_used(status: Status, action: &Action) -> bool
     }
 }
 
-impl Trial<'_> {
+impl Trial<'_, '_, '_> {
     fn is_mismatched(&self, node: &ActionNode) -> Result<bool, AllocError>
         requires { IsSpellableInstance (instance_of node.now.action) }
         ensures { IfOk result (λ b. b ≡ not (is_authentic (act_of node.now))) }
