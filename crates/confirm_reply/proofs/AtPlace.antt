@@ -1,5 +1,5 @@
 -- Facts as at a place give the verdict at that place.
-use Rattle.std.proofs.Common.{◌≡◌, ℕ, Bool, true, false, List, [], ◌∷◌, take, refl, sym, ap, ◌∙◌, inl, inr}
+use Rattle.std.proofs.Common.{◌≡◌, ℕ, Bool, true, false, List, [], ◌∷◌, take, refl, ap, ◌∙◌, inl, inr}
 use Rattle.std.specs.Prelude.{◌&&◌, not, slice_get, if◌then◌else◌}
 use Rattle.std.specs.List.{list_any}
 use Rattle.ledger_terms.specs.Trees.{Act}

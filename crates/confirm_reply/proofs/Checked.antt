@@ -1,7 +1,6 @@
 -- What a check has in hand is what its verdict asks.
-use Rattle.std.proofs.Common.{◌≡◌, ◌≤◌, ◌<◌, ◌^◌, ℕ, zero, suc, Bool, true, false, List, [], ◌∷◌, ◌++◌, length, map, Option, Some, None, refl, sym, ap, ◌∙◌, subst, inl, inr, arith}
+use Rattle.std.proofs.Common.{◌≡◌, ◌≤◌, ℕ, zero, suc, Bool, true, List, [], ◌∷◌, length, map, Option, Some, refl, sym, ap, ◌∙◌, subst, inl, inr}
 use Rattle.std.specs.Prelude.{All, find, option_map, slice_get}
-use Rattle.std.specs.Bool.{Decides}
 use Rattle.std.specs.Str.{bytes_eq}
 use Rattle.std.proofs.lemmas.Bool.{cases_Bool}
 use Rattle.std.proofs.lemmas.List.{length-map}
@@ -9,7 +8,7 @@ use Rattle.std.proofs.lemmas.List.Elements.{All-cons, All-contains, All-nil}
 use Rattle.std.proofs.lemmas.Option.{none-some, same_Some}
 use Rattle.std.proofs.lemmas.Slice.Eq.{bytes_eq-Decides}
 use Rattle.ledger_terms.specs.Trees.{Act, Actions}
-use Rattle.ledger_terms.specs.Forest.{Forest, NoRoots, Root, number_from, preorder, roots_of, size}
+use Rattle.ledger_terms.specs.Forest.{Forest, NoRoots, Root, number_from, preorder, roots_of}
 use Rattle.ledger_model.specs.Forest.{acts, trees_of}
 use Rattle.ledger_model.specs.Opening.{OpenedView}
 use Rattle.ledger_model.specs.Terms.{Path, instance_of}
@@ -18,19 +17,14 @@ use Rattle.lang_eval.specs.Found.{Packages}
 use Rattle.lang_eval.specs.Language.{has_roles}
 use Rattle.view_split.specs.Placed.{placed_forest, shown_by}
 use Rattle.view_split.specs.Seen.{opened_as, placed_numbered, put_back}
-use Rattle.view_split.specs.SplitView.{SplitView}
 use Rattle.view_split.specs.declared.opened_tree.OpenedTree.{OpenedTree}
 use Rattle.wire_form.specs.Spellable.{IsSpellableInstance}
 use Rattle.confirm_reply.specs.Fit.{IsCheckable}
 use Rattle.confirm_reply.specs.Located.{core_found_in}
 use Rattle.confirm_reply.specs.Numbers.{numbers_of}
 use Rattle.confirm_reply.specs.Opened.{CanBeChecked, view_at}
-use Rattle.confirm_reply.specs.Tried.{all_reasons, verdict_after}
-use Rattle.confirm_reply.specs.Verdict.{verdict_of}
-use Rattle.confirm_reply.specs.declared.check_input.CheckInput.{CheckInput}
 use Rattle.confirm_reply.proofs.Located.{first_is_found}
-use Rattle.confirm_reply.proofs.Placed.{CoreHas, EachIn, StandsIn, Tree, all_stand, cores_each}
-use Rattle.confirm_reply.proofs.Verdicts.{verdict_is}
+use Rattle.confirm_reply.proofs.Placed.{EachIn, StandsIn, Tree, all_stand, cores_each}
 
 -- ---- lists
 

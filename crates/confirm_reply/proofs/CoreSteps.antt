@@ -3,7 +3,7 @@ use Rattle.std.proofs.Common.{◌≡◌, ℕ, suc, ◌+◌, ◌<◌, ◌≤◌, 
 use Rattle.std.proofs.lemmas.List.{drop_more, map-append}
 use Rattle.std.proofs.Math.ListN.{drop_of_length-le}
 use Rattle.ledger_terms.specs.Trees.{Act}
-use Rattle.ledger_terms.specs.Forest.{Forest, NoRoots, Root, join, number_from}
+use Rattle.ledger_terms.specs.Forest.{Forest, NoRoots, join, number_from}
 use Rattle.ledger_terms.proofs.Grow.{join-assoc, join-end}
 use Rattle.view_split.specs.Holed as holed
 use Rattle.view_split.specs.Holed.{Holed, NoMore}
@@ -11,7 +11,7 @@ use Rattle.view_split.specs.CoreLists.{children_of}
 use Rattle.view_split.specs.Numbered.{core_in, held_in}
 use Rattle.view_split.specs.declared.core_node.CoreChild.{CoreChild}
 use Rattle.view_split.specs.declared.core_node.CoreChild.TheVariants.{Inner, Hole}
-use Rattle.confirm_reply.specs.Numbers.{act_of, numbered_trees, numbers_of}
+use Rattle.confirm_reply.specs.Numbers.{numbered_trees, numbers_of}
 use Rattle.confirm_reply.specs.declared.numbered.Numbered.{Numbered}
 
 abbrev Below : Type 0

@@ -3,7 +3,6 @@ use Rattle.std.proofs.Common.{◌≡◌, ℕ, suc, ◌+◌, ◌<◌, ◌≤◌, 
 use Rattle.std.specs.Prelude.{option_or}
 use Rattle.std.proofs.lemmas.List.{drop_more}
 use Rattle.std.proofs.Math.ListN.{drop_of_length-le}
-use Rattle.ledger_terms.specs.Trees.{Act}
 use Rattle.ledger_terms.specs.Forest.{Forest, NoRoots, Root, number_from}
 use Rattle.view_split.specs.SplitView.{SplitView}
 use Rattle.view_split.specs.Numbered.{held_in}

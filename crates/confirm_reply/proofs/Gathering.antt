@@ -1,11 +1,11 @@
 -- Trees put back and gathered, one at a time.
-use Rattle.std.proofs.Common.{◌≡◌, ℕ, suc, ◌+◌, ◌<◌, ◌≤◌, List, [], ◌∷◌, ◌++◌, length, get_or, drop, map, refl, sym, ◌∙◌, ap, append_assoc, append-nil}
+use Rattle.std.proofs.Common.{◌≡◌, ℕ, suc, ◌+◌, ◌<◌, ◌≤◌, List, [], ◌∷◌, ◌++◌, length, get_or, drop, refl, sym, ◌∙◌, ap, append_assoc, append-nil}
 use Rattle.std.specs.Borrow.{Bor}
 use Rattle.std.proofs.lemmas.List.{drop_more, map-append}
 use Rattle.std.proofs.Math.ListN.{drop_of_length-le}
 use Rattle.ledger_terms.specs.Trees.{Act, Actions}
 use Rattle.ledger_terms.specs.Forest.{Forest, NoRoots, Root, join, paths_from}
-use Rattle.ledger_terms.specs.Grown.{forest_of, tree_of}
+use Rattle.ledger_terms.specs.Grown.{forest_of}
 use Rattle.ledger_terms.specs.declared.action_node.ActionNode.{ActionNode}
 use Rattle.ledger_terms.proofs.Grow.{join-assoc, join-end}
 use Rattle.ledger_model.specs.Forest.{trees_of}

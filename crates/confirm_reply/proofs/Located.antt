@@ -1,5 +1,5 @@
 -- The core that a walk finds is that of the first view with the path.
-use Rattle.std.proofs.Common.{◌≡◌, ℕ, suc, Bool, true, false, List, [], ◌∷◌, ◌++◌, map, Option, Some, None, refl, sym, ap, ◌∙◌, inl, inr}
+use Rattle.std.proofs.Common.{◌≡◌, ℕ, suc, Bool, List, [], ◌∷◌, ◌++◌, map, Option, Some, None, refl, sym, ap, ◌∙◌, inl, inr}
 use Rattle.std.specs.Prelude.{find, nat_eq, option_map, option_or}
 use Rattle.std.specs.Str.{bytes_eq}
 use Rattle.std.proofs.lemmas.Bool.{cases_Bool}
@@ -9,7 +9,6 @@ use Rattle.ledger_terms.specs.Trees.{Act}
 use Rattle.ledger_terms.specs.Forest.{Forest, NoRoots, Root, preorder, paths_from}
 use Rattle.ledger_model.specs.Terms.{Path}
 use Rattle.ledger_model.specs.Opening.{OpenedView}
-use Rattle.view_split.specs.Holed.{Holed}
 use Rattle.view_split.specs.SplitView.{SplitView}
 use Rattle.view_split.specs.ViewLists.{part_of}
 use Rattle.view_split.specs.Numbered.{core_in, held_in, with_cores}

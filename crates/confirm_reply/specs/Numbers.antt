@@ -1,6 +1,6 @@
 -- Trees whose roots have numbers.
 use Rattle.std.specs.Prelude.{ℕ, suc, List, [], ◌∷◌, map}
-use Rattle.ledger_terms.specs.Trees.{Act, Actions}
+use Rattle.ledger_terms.specs.Trees.{Act}
 use Rattle.ledger_terms.specs.Forest.{Forest, NoRoots, Root, number_from}
 use Rattle.ledger_terms.specs.declared.action_node.ActionNode.{ActionNode}
 use Rattle.confirm_reply.specs.declared.numbered.Numbered.{Numbered}

@@ -1,5 +1,5 @@
 -- What is opened to who checks it.
-use Rattle.std.specs.Prelude.{◌≡◌, ◌≤◌, true, All, List, Option, find, length}
+use Rattle.std.specs.Prelude.{◌≡◌, ◌≤◌, true, All, Option, find, length}
 use Rattle.std.specs.Str.{bytes_eq}
 use Rattle.ledger_model.specs.Terms.{Act, Path, instance_of}
 use Rattle.ledger_model.specs.Forest.{acts}

@@ -2,7 +2,6 @@
 use Rattle.std.specs.Prelude.{ℕ, suc, Bool, false, List, [], ◌∷◌, Option, Some, None, option_map, if◌then◌else◌, not, ◌&&◌, ◌||◌, nat_eq, slice_get, take, map}
 use Rattle.ledger_terms.specs.Trees.{Act, Actions}
 use Rattle.ledger_terms.specs.Vetting.{vets}
-use Rattle.ledger_terms.specs.declared.action_node.ActionNode.{ActionNode}
 use Rattle.ledger_model.specs.Terms.{instance_of}
 use Rattle.ledger_model.specs.Status.{shows_locked, shows_inactive, shows_not_fresh, shows_unordered}
 use Rattle.canton_model.specs.Log.{LocalVerdict, Approve, Reject, Reason, IdMismatch, NotVetted, TimeSkew, Locked, Inactive, NotFresh, Unordered, NotConformant, NotAuthorised}
