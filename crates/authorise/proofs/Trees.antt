@@ -7,30 +7,27 @@ use Rattle.std.proofs.lemmas.List.Folds.{list_all-append}
 use Rattle.std.proofs.lemmas.List.Elements.{recursion_from_All}
 use Rattle.std.proofs.Math.ListN.{drop_of_length-le}
 use Rattle.ledger_terms.specs.declared.action.Action.{Action}
-use Rattle.ledger_terms.specs.Trees.{Act}
+use Rattle.ledger_terms.specs.declared.act.Act.{Act}
 use Rattle.ledger_terms.specs.Forest.{Forest, NoRoots, Root, roots_of}
 use Rattle.ledger_terms.specs.Grown.{forest_of}
-use Rattle.ledger_terms.specs.declared.action_node.ActionNode.{ActionNode}
+use Rattle.ledger_terms.specs.Trees.{ActionNode}
 use Rattle.ledger_model.specs.Terms.{PartySet}
 use Rattle.ledger_model.specs.Forest.{trees_of}
 use Rattle.ledger_model.specs.declared.roles.Roles.{Roles}
 use Rattle.ledger_model.specs.Authority.{is_authorised, is_forest_authorised, authorisers_below}
 use Rattle.authorise.specs.Below.{are_authorised_below}
 
-abbrev pub act_of : ActionNode → Act
-act_of n = record { seed = n.seed; action = n.action }
-
-node_by_recursion : (P : Act → Type 0) (ns : List ActionNode) (i : ℕ) (d : ActionNode) → i < length ns → AllByRecursion P (roots_of (forest_of ns)) → P (act_of (get_or ns i d))
+node_by_recursion : (P : Act → Type 0) (ns : List ActionNode) (i : ℕ) (d : ActionNode) → i < length ns → AllByRecursion P (roots_of (forest_of ns)) → P (get_or ns i d).root
 node_by_recursion P [] i d h all = absurd (omega arith)
 node_by_recursion P (n ∷ ns) zero d h all = all.0
 node_by_recursion P (n ∷ ns) (suc i) d h all = node_by_recursion P ns i d (omega arith) all.1
 
 -- what holds of the roots of a list of nodes holds of each node
-pub node_at : (P : Act → Type 0) (ns : List ActionNode) (i : ℕ) (n : ActionNode) → i < length ns → n ≡ get_or ns i n → All P (roots_of (forest_of ns)) → P (act_of n)
+pub node_at : (P : Act → Type 0) (ns : List ActionNode) (i : ℕ) (n : ActionNode) → i < length ns → n ≡ get_or ns i n → All P (roots_of (forest_of ns)) → P n.root
 node_at P ns i n h e all = rw e (node_by_recursion P ns i n h (recursion_from_All P _ all))
 
 -- where a fact follows from what holds of the nodes left, and it holds of the next, it follows from what holds of the rest
-pub roots_step : (P : Act → Type 0) (ns : List ActionNode) (i : ℕ) (n : ActionNode) (W : Type 0) → i < length ns → n ≡ get_or ns i n → P (act_of n)
+pub roots_step : (P : Act → Type 0) (ns : List ActionNode) (i : ℕ) (n : ActionNode) (W : Type 0) → i < length ns → n ≡ get_or ns i n → P n.root
     → (AllByRecursion P (roots_of (forest_of (drop i ns))) → W) → AllByRecursion P (roots_of (forest_of (drop (i + 1) ns))) → W
 roots_step P ns i n W h e p f rest = f (rw (drop_more ns i n h, ← e) (p, rest))
 

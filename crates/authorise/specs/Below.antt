@@ -2,7 +2,7 @@
 use Rattle.std.specs.Prelude.{Bool}
 use Rattle.std.specs.List.{list_all}
 use Rattle.ledger_terms.specs.declared.action.Action.{Action}
-use Rattle.ledger_terms.specs.Trees.{Act}
+use Rattle.ledger_terms.specs.declared.act.Act.{Act}
 use Rattle.ledger_terms.specs.Forest.{Forest, roots_of}
 use Rattle.ledger_model.specs.declared.roles.Roles.{Roles}
 use Rattle.ledger_model.specs.Authority.{is_authorised, authorisers_below}

@@ -3,7 +3,7 @@ ghost use Rattle.std.specs.Prelude.{◌≡◌, true, All, IfOk};
 ghost use Rattle.std.specs.List.{list_all};
 ghost use Rattle.ledger_terms.specs.Forest.{roots_of};
 ghost use Rattle.ledger_terms.specs.Grown.{forest_of};
-ghost use Rattle.ledger_terms.specs.Trees.{Act};
+ghost use Rattle.ledger_terms.specs.declared.act.Act.{Act};
 ghost use Rattle.ledger_model.specs.Authority.{is_authorised};
 ghost use Rattle.lang_eval.specs.Language.{has_roles, roles_in};
 ghost use Rattle.authorise.specs.Below.{are_authorised_below};
@@ -56,7 +56,7 @@ fn all_authorised(
     ensures { IfOk result (λ b. b ≡ list_all (λ (child : Act). is_authorised (roles_in checked.now) by.now child.action) (roots_of (forest_of children.now))) }
 {
     for child in children {
-        if !authorised(alloc, checked, &child.action, by)? {
+        if !authorised(alloc, checked, &child.root.action, by)? {
             return Ok(false);
         }
     }
@@ -70,14 +70,14 @@ pub fn children_authorised(
     checked: &Checked,
     node: &ActionNode,
 ) -> Result<bool, AllocError>
-    requires action { has_roles checked.now (node.now).action ≡ true }
-    requires consequences { All (λ (child : Act). has_roles checked.now child.action ≡ true) (roots_of (node.now).children) }
-    ensures { IfOk result (λ b. b ≡ are_authorised_below (roles_in checked.now) (node.now).action (node.now).children) }
+    requires action { has_roles checked.now node.now.root.action ≡ true }
+    requires consequences { All (λ (child : Act). has_roles checked.now child.action ≡ true) (roots_of node.now.below) }
+    ensures { IfOk result (λ b. b ≡ are_authorised_below (roles_in checked.now) node.now.root.action node.now.below) }
 {
-    let children = node.children.as_slice();
+    let children = node.below.as_slice();
     if children.is_empty() {
         return Ok(true);
     }
-    let by = authorisers_below(alloc, checked, &node.action)?;
+    let by = authorisers_below(alloc, checked, &node.root.action)?;
     all_authorised(alloc, checked, children, &by)
 }

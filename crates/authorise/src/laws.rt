@@ -2,7 +2,7 @@
 ghost use Rattle.std.specs.Prelude.{◌≡◌, ◌&&◌};
 ghost use Rattle.std.specs.List.{list_all};
 ghost use Rattle.ledger_terms.specs.declared.action.Action.{Action};
-ghost use Rattle.ledger_terms.specs.Trees.{Act};
+ghost use Rattle.ledger_terms.specs.declared.act.Act.{Act};
 ghost use Rattle.ledger_model.specs.Terms.{PartySet};
 ghost use Rattle.ledger_terms.specs.Forest.{Forest, roots_of};
 ghost use Rattle.ledger_model.specs.Forest.{trees_of};

@@ -2,13 +2,13 @@
 use crate::work::Work;
 use cn_io::{ReadFault, Source, read_all};
 use ledger_terms::Bytes;
+use ledger_terms::limits::MOST_SCRIPT_BYTES;
 use script_read::{Script, read_script};
 use serde_json::Value;
 use std::alloc::Global;
 use std::io;
 
 /// How many bytes are taken at most.
-const MOST_BYTES: usize = 4_194_304;
 
 /// What was found: how many submissions, or the fault's word.
 #[derive(Drop)]
@@ -29,7 +29,7 @@ fn submissions_of(script: &Script) -> usize {
 
 /// The bytes of the whole source.
 pub(crate) fn read_source<S: Source>(alloc: Global, source: &mut S) -> io::Result<Bytes> {
-    match read_all(alloc, source, MOST_BYTES) {
+    match read_all(alloc, source, MOST_SCRIPT_BYTES) {
         Ok(bytes) => Ok(bytes),
         Err(ReadFault::Memory) => Err(io::Error::from(io::ErrorKind::OutOfMemory)),
         Err(_) => Err(io::Error::from(io::ErrorKind::InvalidData)),

@@ -10,7 +10,7 @@ use Rattle.ledger_terms.specs.declared.host.Host.{Host}
 use Rattle.hash_id.specs.Strings.{leaf_hash_string, view_hash_string, tree_hash_string}
 use Rattle.wire_form.specs.Spelling.{spell_parties}
 use Rattle.ledger_model.specs.Opening.{Transaction}
-use Rattle.view_split.specs.SplitView.{SplitView}
+use Rattle.view_split.specs.declared.split_view.SplitView.{SplitView}
 use Rattle.view_split.specs.Numbered.{map_forest}
 use Rattle.view_split.specs.Seen.{is_sight}
 use Rattle.view_split.specs.declared.views.Views.{Views}

@@ -1,7 +1,7 @@
 -- Cores written child by child.
 use Rattle.std.proofs.Common.{◌≡◌, ℕ, max, zero, suc, ◌+◌, ◌-◌, ◌^◌, ◌<◌, ◌≤◌, List, [], ◌∷◌, ◌++◌, length, get_or, drop, refl, sym, ◌∙◌, subst, ap, arith, append_assoc}
 use Rattle.std.proofs.lemmas.List.{drop_all, drop_more}
-use Rattle.ledger_terms.specs.Trees.{Act}
+use Rattle.ledger_terms.specs.declared.act.Act.{Act}
 use Rattle.view_split.specs.Holed as holed
 use Rattle.view_split.specs.Holed.{Holed, NoMore, holes}
 use Rattle.view_split.specs.CoreLists.{act_of, children_of, core_weight}

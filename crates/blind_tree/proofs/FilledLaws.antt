@@ -8,13 +8,13 @@ use Rattle.ledger_terms.specs.Roots.{trees_count}
 use Rattle.wire_form.specs.Reading.{set_at}
 use Rattle.wire_form.specs.declared.wire_fault.WireFault.{WireFault}
 use Rattle.view_split.specs.Holed.{holes}
-use Rattle.view_split.specs.SplitView.{SplitView}
+use Rattle.view_split.specs.declared.split_view.SplitView.{SplitView}
 use Rattle.view_split.specs.Filled.{AreFilled}
 use Rattle.view_split.specs.Numbered.{map_forest}
 use Rattle.view_split.specs.Placed.{placed_forest}
-use Rattle.view_split.specs.ViewLists.{view_tree}
+use Rattle.ledger_terms.specs.Grown.{tree_of}
 use Rattle.view_split.specs.declared.core_node.CoreNode.{CoreNode}
-use Rattle.view_split.specs.declared.view.View.{View}
+use Rattle.view_split.specs.ViewTrees.{View}
 use Rattle.view_split.specs.declared.placed_view.PlacedView.{PlacedView}
 use Rattle.view_split.specs.declared.opened_tree.OpenedTree.{OpenedTree}
 use Rattle.blind_tree.specs.Vertices.{Vertices, NoVertices, BlindVertex, InnerVertex, count}
@@ -59,20 +59,20 @@ all_filled (InnerVertex informees contents subviews others) f e =
     let rest = read_ok (views_read others) _ f below.2 in
     let b = all_filled subviews below.0 below.1 in
     let r = all_filled others rest.0 rest.1 in
-    subst (Filled (InnerVertex informees contents subviews others)) (same_ok (join (view_tree (view_of parts.0 below.0)) rest.0) f rest.2)
+    subst (Filled (InnerVertex informees contents subviews others)) (same_ok (join (tree_of (view_of parts.0 below.0)) rest.0) f rest.2)
     (record { count_is = ap suc r.count_is; each = (parts_hold informees contents (count subviews) parts.0 parts.1 ∙ sym b.count_is, b.each, r.each) })
 
-view_filled : (informees contents : Leaf) (subviews : Vertices) (view : View) → view_read informees contents subviews ≡ Ok view → AreFilled (view_tree view)
+view_filled : (informees contents : Leaf) (subviews : Vertices) (view : View) → view_read informees contents subviews ≡ Ok view → AreFilled (tree_of view)
 view_filled informees contents subviews view e =
     let parts = read_ok (parts_read informees contents (count subviews)) _ view e in
     let below = read_ok (views_read subviews) _ view parts.2 in
     let b = all_filled subviews below.0 below.1 in
-    subst (λ (w : View). AreFilled (view_tree w)) (same_ok (view_of parts.0 below.0) view below.2)
+    subst (λ (w : View). AreFilled (tree_of w)) (same_ok (view_of parts.0 below.0) view below.2)
     (parts_hold informees contents (count subviews) parts.0 parts.1 ∙ sym b.count_is, b.each, tt)
 
 abbrev AllFilled : List PlacedView → Type 0
 AllFilled [] = Unit {0}
-AllFilled (p ∷ ps) = AreFilled (view_tree p.view) × AllFilled ps
+AllFilled (p ∷ ps) = AreFilled (tree_of p.view) × AllFilled ps
 
 filled_append : (ps qs : List PlacedView) → AllFilled ps → AllFilled qs → AllFilled (ps ++ qs)
 filled_append [] qs h i = i
@@ -100,7 +100,7 @@ opened_filled above k (InnerVertex informees contents subviews others) ps e =
 
 placed_filled : (ps : List PlacedView) → AllFilled ps → AreFilled (map_forest (λ (v : List ℕ × SplitView). v.1) (placed_forest ps))
 placed_filled [] h = tt
-placed_filled (p ∷ ps) h = rw (paths_bare p.path 0 (p.view).subviews) (h.0.0, h.0.1, placed_filled ps h.1)
+placed_filled (p ∷ ps) h = rw (paths_bare p.path 0 (p.view).below) (h.0.0, h.0.1, placed_filled ps h.1)
 
 pub views_are_filled : (tree : Tree) (opened : OpenedTree) → tree_opened tree ≡ Ok opened → AreFilled (map_forest (λ (v : List ℕ × SplitView). v.1) (placed_forest opened.views))
 views_are_filled tree opened e =

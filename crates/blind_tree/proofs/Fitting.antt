@@ -1,9 +1,9 @@
 -- What a list of views, children or vertices is asked, where there is room for each.
 use Rattle.std.proofs.Common.{ℕ, List, arith}
 use Rattle.view_split.specs.CoreLists.{children_of}
-use Rattle.view_split.specs.ViewLists.{views_of}
+use Rattle.ledger_terms.specs.Grown.{forest_of}
 use Rattle.view_split.specs.declared.core_node.CoreChild.{CoreChild}
-use Rattle.view_split.specs.declared.view.View.{View}
+use Rattle.view_split.specs.ViewTrees.{View}
 use Rattle.blind_tree.specs.Cores.{AreSpellableChildren}
 use Rattle.blind_tree.specs.LeafBytes.{AreSpellableViews}
 use Rattle.blind_tree.specs.InRange.{FitLevels, AreSpellable, IsSpellableTree}
@@ -13,7 +13,7 @@ use Rattle.blind_tree.specs.declared.vertex.Vertex.{Vertex}
 use Rattle.blind_tree.specs.declared.tree.Tree.{Tree}
 
 abbrev pub AllViews : List View → Type 0
-AllViews vs = AreSpellableViews (views_of vs)
+AllViews vs = AreSpellableViews (forest_of vs)
 
 abbrev pub AllChildren : List CoreChild → Type 0
 AllChildren cs = AreSpellableChildren (children_of cs)

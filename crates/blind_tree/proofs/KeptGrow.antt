@@ -8,10 +8,10 @@ use Rattle.sha2.specs.Sha256.{sha256}
 use Rattle.ledger_terms.specs.Forest.{Forest, NoRoots, Root, join, preorder}
 use Rattle.ledger_terms.specs.Roots.{trees_count}
 use Rattle.ledger_terms.proofs.Grow.{join-assoc, join-end}
-use Rattle.view_split.specs.ViewLists.{view_tree, views_of, view_count}
-use Rattle.view_split.specs.SplitView.{SplitView}
+use Rattle.ledger_terms.specs.Grown.{tree_of, forest_of}
+use Rattle.view_split.specs.declared.split_view.SplitView.{SplitView}
 use Rattle.view_split.specs.Seen.{is_sight}
-use Rattle.view_split.specs.declared.view.View.{View}
+use Rattle.view_split.specs.ViewTrees.{View}
 use Rattle.blind_tree.specs.Vertices.{Vertices, NoVertices, beside}
 use Rattle.blind_tree.specs.Blind.{has_sight}
 use Rattle.blind_tree.specs.LeafBytes.{AreSpellableViews}
@@ -30,34 +30,24 @@ kept_pushed vs v = kept_of-append vs (v ∷ [])
 
 -- ---- the views of a transaction, one at a time
 
-next_of : (vs : List View) (i : ℕ) (v : View) → i < length vs → v ≡ get_or vs i v → views_of (drop i vs) ≡ join (view_tree v) (views_of (drop (i + 1) vs))
+next_of : (vs : List View) (i : ℕ) (v : View) → i < length vs → v ≡ get_or vs i v → forest_of (drop i vs) ≡ join (tree_of v) (forest_of (drop (i + 1) vs))
 next_of vs i v h at = rw (drop_more vs i v h, ← at) refl
 
-pub view_at : (vs : List View) (i : ℕ) (d : View) → i < length vs → view_count (view_tree (get_or vs i d)) ≤ view_count (views_of vs)
-view_at [] i d h = absurd (omega arith)
-view_at (v ∷ vs) zero d h = omega arith
-view_at (v ∷ vs) (suc i) d h = omega (arith, view_at vs i d (omega arith))
-
-pub view_below : (vs : List View) (i : ℕ) (d : View) → i < length vs → view_count (get_or vs i d).subviews < view_count (views_of vs)
-view_below [] i d h = absurd (omega arith)
-view_below (v ∷ vs) zero d h = omega arith
-view_below (v ∷ vs) (suc i) d h = omega (arith, view_below vs i d (omega arith))
-
-spellable_parts : (v : View) (rest : Forest SplitView) → AreSpellableViews (join (view_tree v) rest) → AreSpellableViews (view_tree v) × AreSpellableViews rest
+spellable_parts : (v : View) (rest : Forest SplitView) → AreSpellableViews (join (tree_of v) rest) → AreSpellableViews (tree_of v) × AreSpellableViews rest
 spellable_parts v rest s = ((s.0, s.1, s.2, tt), s.3)
 
-pub spellable_view : (vs : List View) (i : ℕ) (v : View) → i < length vs → v ≡ get_or vs i v → AreSpellableViews (views_of (drop i vs)) → AreSpellableViews (view_tree v) × AreSpellableViews (views_of (drop (i + 1) vs))
-spellable_view vs i v h at s = spellable_parts v (views_of (drop (i + 1) vs)) (rw (next_of vs i v h at) at s)
+pub spellable_view : (vs : List View) (i : ℕ) (v : View) → i < length vs → v ≡ get_or vs i v → AreSpellableViews (forest_of (drop i vs)) → AreSpellableViews (tree_of v) × AreSpellableViews (forest_of (drop (i + 1) vs))
+spellable_view vs i v h at s = spellable_parts v (forest_of (drop (i + 1) vs)) (rw (next_of vs i v h at) at s)
 
 pub kept_step : (vs : List View) (i : ℕ) (v : View) (all out new : Forest KeptPart) (k : KeptView) → i < length vs → v ≡ get_or vs i v
-    → one_kept k ≡ kept_views sha256 (view_tree v) → new ≡ join out (one_kept k) → join out (kept_views sha256 (views_of (drop i vs))) ≡ all → join new (kept_views sha256 (views_of (drop (i + 1) vs))) ≡ all
+    → one_kept k ≡ kept_views sha256 (tree_of v) → new ≡ join out (one_kept k) → join out (kept_views sha256 (forest_of (drop i vs))) ≡ all → join new (kept_views sha256 (forest_of (drop (i + 1) vs))) ≡ all
 kept_step vs i v all out new k h at is grown before =
-    let rest = kept_views sha256 (views_of (drop (i + 1) vs)) in
-    let next : kept_views sha256 (views_of (drop i vs)) ≡ join (kept_views sha256 (view_tree v)) rest = ap (kept_views sha256) (next_of vs i v h at) in
+    let rest = kept_views sha256 (forest_of (drop (i + 1) vs)) in
+    let next : kept_views sha256 (forest_of (drop i vs)) ≡ join (kept_views sha256 (tree_of v)) rest = ap (kept_views sha256) (next_of vs i v h at) in
     ap (λ (f : Forest KeptPart). join f rest) (grown ∙ ap (join out) is)
-    ∙ (join-assoc out (kept_views sha256 (view_tree v)) rest ∙ (ap (join out) (sym next) ∙ before))
+    ∙ (join-assoc out (kept_views sha256 (tree_of v)) rest ∙ (ap (join out) (sym next) ∙ before))
 
-pub kept_end : (vs : List View) (i : ℕ) (all out : Forest KeptPart) → length vs ≤ i → join out (kept_views sha256 (views_of (drop i vs))) ≡ all → out ≡ all
+pub kept_end : (vs : List View) (i : ℕ) (all out : Forest KeptPart) → length vs ≤ i → join out (kept_views sha256 (forest_of (drop i vs))) ≡ all → out ≡ all
 kept_end vs i all out past before = sym (join-end out) ∙ (rw (drop_of_length-le vs past) at before)
 
 -- ---- views with their hashes, one at a time
@@ -108,11 +98,11 @@ sight_step hosts vs i v all h at before =
     ∙ (ap (λ (b : Bool). list_any hosts v.informees || b) (sym (any_parts (is_kept_sight hosts) (preorder v.subviews) (preorder (kept_of (drop (i + 1) vs)))))
     ∙ (ap (has_kept_sight hosts) (sym (next_kept vs i v h at)) ∙ before))
 
-pub view_sight_step : (hosts : List ℕ → Bool) (vs : List View) (i : ℕ) (v : View) (all : Bool) → i < length vs → v ≡ get_or vs i v → has_sight hosts (views_of (drop i vs)) ≡ all
-    → ((list_any hosts v.informees || has_sight hosts v.subviews) || has_sight hosts (views_of (drop (i + 1) vs))) ≡ all
+pub view_sight_step : (hosts : List ℕ → Bool) (vs : List View) (i : ℕ) (v : View) (all : Bool) → i < length vs → v ≡ get_or vs i v → has_sight hosts (forest_of (drop i vs)) ≡ all
+    → ((list_any hosts v.root.informees || has_sight hosts v.below) || has_sight hosts (forest_of (drop (i + 1) vs))) ≡ all
 view_sight_step hosts vs i v all h at before =
-    sym (or_assoc (list_any hosts v.informees) (has_sight hosts v.subviews) (has_sight hosts (views_of (drop (i + 1) vs))))
-    ∙ (ap (λ (b : Bool). list_any hosts v.informees || b) (sym (any_parts (is_sight hosts) (preorder v.subviews) (preorder (views_of (drop (i + 1) vs)))))
+    sym (or_assoc (list_any hosts v.root.informees) (has_sight hosts v.below) (has_sight hosts (forest_of (drop (i + 1) vs))))
+    ∙ (ap (λ (b : Bool). list_any hosts v.root.informees || b) (sym (any_parts (is_sight hosts) (preorder v.below) (preorder (forest_of (drop (i + 1) vs)))))
     ∙ (ap (has_sight hosts) (sym (next_of vs i v h at)) ∙ before))
 
 pub root_step : (hosts : List ℕ → Bool) (vs : List KeptView) (i : ℕ) (v : KeptView) (all : Bool) → i < length vs → v ≡ get_or vs i v → sees_kept_root hosts (kept_of (drop i vs)) ≡ all

@@ -7,7 +7,7 @@ use Rattle.ledger_terms.specs.Hosting.{hosts_at}
 use Rattle.ledger_terms.specs.Forest.{Forest, NoRoots, Root, preorder}
 use Rattle.ledger_terms.specs.declared.host.Host.{Host}
 use Rattle.hash_id.specs.Strings.{view_hash_string}
-use Rattle.view_split.specs.SplitView.{SplitView}
+use Rattle.view_split.specs.declared.split_view.SplitView.{SplitView}
 use Rattle.view_split.specs.Numbered.{map_forest}
 use Rattle.view_split.specs.Seen.{is_sight}
 use Rattle.view_split.specs.declared.views.Views.{Views}

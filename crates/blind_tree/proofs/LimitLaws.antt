@@ -1,13 +1,13 @@
 -- The views of a transaction within the limits are few, short and not deep.
 use Rattle.std.proofs.Common.{◌≡◌, ℕ, suc, ◌+◌, ◌*◌, ◌^◌, ◌<◌, ◌≤◌, max, Bool, true, false, List, [], ◌∷◌, ◌++◌, length, refl, ap, subst, inl, inr, arith}
 use Rattle.std.specs.Prelude.{nat_le, ◌&&◌}
-use Rattle.ledger_terms.specs.Names.{is_spelled}
+use Rattle.ledger_terms.specs.Names.{is_spelled, IsName}
 use Rattle.std.specs.Int.{w16, w64, to_be_bytes}
 use Rattle.std.specs.List.{flat_map, AllByRecursion}
 use Rattle.std.proofs.lemmas.Bool.{cases_Bool, leb-true}
 use Rattle.std.proofs.lemmas.List.{length-append}
 use Rattle.std.proofs.lemmas.List.Elements.{recursion_from_All}
-use Rattle.ledger_terms.specs.Trees.{Act}
+use Rattle.ledger_terms.specs.declared.act.Act.{Act}
 use Rattle.ledger_terms.specs.Forest.{Forest, NoRoots, Root, join, size}
 use Rattle.ledger_terms.specs.Roots.{trees_count}
 use Rattle.ledger_terms.specs.declared.action.Action.{Action}
@@ -15,9 +15,9 @@ use Rattle.ledger_model.specs.Views.{its_informees, starts}
 use Rattle.ledger_model.specs.declared.roles.Roles.{Roles}
 use Rattle.wire_form.specs.Spelling.{spell_name, spell_parties, spell_action}
 use Rattle.wire_form.specs.Spellable.{IsSpellableAction}
-use Rattle.wire_form.specs.InRange.{IsName, IsPartySet}
+use Rattle.wire_form.specs.InRange.{IsPartySet}
 use Rattle.view_split.specs.Holed.{width}
-use Rattle.view_split.specs.SplitView.{SplitView}
+use Rattle.view_split.specs.declared.split_view.SplitView.{SplitView}
 use Rattle.view_split.specs.Split.{core_of, view_at, split_below, split}
 use Rattle.view_split.specs.declared.views.Views.{Views}
 use Rattle.blind_tree.specs.Cores.{spell_children, AreSpellableChildren, levels}

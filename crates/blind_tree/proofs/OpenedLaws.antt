@@ -10,10 +10,10 @@ use Rattle.wire_form.specs.Lengths.{capped}
 use Rattle.wire_form.specs.Reading.{set_at}
 use Rattle.wire_form.specs.declared.wire_fault.WireFault.{WireFault}
 use Rattle.view_split.specs.Holed.{holes}
-use Rattle.view_split.specs.SplitView.{SplitView}
-use Rattle.view_split.specs.ViewLists.{view_tree}
+use Rattle.view_split.specs.declared.split_view.SplitView.{SplitView}
+use Rattle.ledger_terms.specs.Grown.{tree_of}
 use Rattle.view_split.specs.declared.core_node.CoreNode.{CoreNode}
-use Rattle.view_split.specs.declared.view.View.{View}
+use Rattle.view_split.specs.ViewTrees.{View}
 use Rattle.view_split.specs.declared.placed_view.PlacedView.{PlacedView}
 use Rattle.view_split.specs.declared.opened_tree.OpenedTree.{OpenedTree}
 use Rattle.blind_tree.specs.Vertices.{Vertices, NoVertices, BlindVertex, InnerVertex, count}
@@ -32,18 +32,18 @@ use Rattle.blind_tree.proofs.ToldLaws.{read_same, read_then, read_on}
 
 -- a view and those after it, behind those before them
 joined : (so_far : Forest SplitView) (q : Result (Forest SplitView) WireFault) (parts : ViewParts) (p : Result (Forest SplitView) WireFault)
-    → with_read (with_read p (λ below. Ok (view_of parts below))) (λ view. with_read q (λ rest. Ok (join (join so_far (view_tree view)) rest)))
-    ≡ with_read (with_read p (λ below. with_read q (λ rest. Ok (join (view_tree (view_of parts below)) rest)))) (λ f. Ok (join so_far f))
+    → with_read (with_read p (λ below. Ok (view_of parts below))) (λ view. with_read q (λ rest. Ok (join (join so_far (tree_of view)) rest)))
+    ≡ with_read (with_read p (λ below. with_read q (λ rest. Ok (join (tree_of (view_of parts below)) rest)))) (λ f. Ok (join so_far f))
 joined so_far q parts (Err e) = refl
 joined so_far (Err e) parts (Ok below) = refl
-joined so_far (Ok rest) parts (Ok below) = ap (λ (f : Forest SplitView). Ok f) (join-assoc so_far (view_tree (view_of parts below)) rest)
+joined so_far (Ok rest) parts (Ok below) = ap (λ (f : Forest SplitView). Ok f) (join-assoc so_far (tree_of (view_of parts below)) rest)
 
 read_behind : (v : Vertices) (so_far : Forest SplitView) → views_after v so_far ≡ with_read (views_read v) (λ f. Ok (join so_far f))
 read_behind NoVertices so_far = ap (λ (f : Forest SplitView). Ok f) (sym (join-end so_far))
 read_behind (BlindVertex hash others) so_far = refl
 read_behind (InnerVertex informees contents subviews others) so_far =
     let parts = parts_read informees contents (count subviews) in
-    read_same (view_read informees contents subviews) _ _ (λ view. read_behind others (join so_far (view_tree view)))
+    read_same (view_read informees contents subviews) _ _ (λ view. read_behind others (join so_far (tree_of view)))
     ∙ (read_then parts _ _
     ∙ (read_same parts _ _ (λ p. joined so_far (views_read others) p (views_read subviews))
     ∙ sym (read_then parts _ _)))
@@ -51,28 +51,28 @@ read_behind (InnerVertex informees contents subviews others) so_far =
 pub read_start : (v : Vertices) → views_after v NoRoots ≡ views_read v
 read_start v = read_behind v NoRoots ∙ read_on (views_read v)
 
-read_with : (v : Vertex) (rest : Vertices) (so_far : Forest SplitView) → views_after (with_vertex v rest) so_far ≡ with_read (vertex_read v) (λ view. views_after rest (join so_far (view_tree view)))
+read_with : (v : Vertex) (rest : Vertices) (so_far : Forest SplitView) → views_after (with_vertex v rest) so_far ≡ with_read (vertex_read v) (λ view. views_after rest (join so_far (tree_of view)))
 read_with (Blind hash) rest so_far = refl
 read_with (Inner informees contents subviews) rest so_far = refl
 
 read_at : (vs : List Vertex) (i : ℕ) (v : Vertex) (so_far : Forest SplitView) → i < length vs → v ≡ get_or vs i v
-    → views_after (vertices_of (drop i vs)) so_far ≡ with_read (vertex_read v) (λ view. views_after (vertices_of (drop (i + 1) vs)) (join so_far (view_tree view)))
+    → views_after (vertices_of (drop i vs)) so_far ≡ with_read (vertex_read v) (λ view. views_after (vertices_of (drop (i + 1) vs)) (join so_far (tree_of view)))
 read_at vs i v so_far h at = ap (λ (w : Vertices). views_after w so_far) (next_vertex vs i v h at) ∙ read_with v (vertices_of (drop (i + 1) vs)) so_far
 
 abbrev done : {A : Type 0} → A → Result A WireFault
 done x = Ok x
 
 pub read_step : (vs : List Vertex) (i : ℕ) (v : Vertex) (so_far new : Forest SplitView) (view : View) (all : Result (Forest SplitView) WireFault) → i < length vs → v ≡ get_or vs i v
-    → vertex_read v ≡ Ok view → done (join so_far (view_tree view)) ≡ Ok new → views_after (vertices_of (drop i vs)) so_far ≡ all → views_after (vertices_of (drop (i + 1) vs)) new ≡ all
+    → vertex_read v ≡ Ok view → done (join so_far (tree_of view)) ≡ Ok new → views_after (vertices_of (drop i vs)) so_far ≡ all → views_after (vertices_of (drop (i + 1) vs)) new ≡ all
 read_step vs i v so_far new view all h at one grown before =
-    let same : new ≡ join so_far (view_tree view) = cc in
+    let same : new ≡ join so_far (tree_of view) = cc in
     ap (views_after (vertices_of (drop (i + 1) vs))) same
-    ∙ (sym (read_at vs i v so_far h at ∙ ap (λ (p : Result View WireFault). with_read p (λ w. views_after (vertices_of (drop (i + 1) vs)) (join so_far (view_tree w)))) one) ∙ before)
+    ∙ (sym (read_at vs i v so_far h at ∙ ap (λ (p : Result View WireFault). with_read p (λ w. views_after (vertices_of (drop (i + 1) vs)) (join so_far (tree_of w)))) one) ∙ before)
 
 pub read_fault : (vs : List Vertex) (i : ℕ) (v : Vertex) (so_far : Forest SplitView) (all : Result (Forest SplitView) WireFault) (e : WireFault) → i < length vs → v ≡ get_or vs i v
     → vertex_read v ≡ Err e → views_after (vertices_of (drop i vs)) so_far ≡ all → all ≡ Err e
 read_fault vs i v so_far all e h at one before =
-    sym before ∙ (read_at vs i v so_far h at ∙ ap (λ (p : Result View WireFault). with_read p (λ w. views_after (vertices_of (drop (i + 1) vs)) (join so_far (view_tree w)))) one)
+    sym before ∙ (read_at vs i v so_far h at ∙ ap (λ (p : Result View WireFault). with_read p (λ w. views_after (vertices_of (drop (i + 1) vs)) (join so_far (tree_of w)))) one)
 
 pub read_end : (vs : List Vertex) (i : ℕ) (so_far : Forest SplitView) (all : Result (Forest SplitView) WireFault) → length vs ≤ i → views_after (vertices_of (drop i vs)) so_far ≡ all → all ≡ Ok so_far
 read_end vs i so_far all past before = sym (rw (drop_of_length-le vs past) at before)
@@ -136,7 +136,7 @@ chosen : (b : Bool) (p q : Result Views WireFault) → (if b then p else with_re
 chosen true p q = refl
 chosen false p q = read_on q
 
-pub opened_one : (above : List ℕ) (k : ℕ) (informees contents : Leaf) (subviews : Vertices) (so_far : Views) → opened_after above k (one_vertex (Inner informees contents subviews)) so_far ≡ inner_opened above k informees contents subviews so_far
+pub opened_one : (above : List ℕ) (k : ℕ) (informees contents : Leaf) (subviews : Vertices) (so_far : Views) → opened_after above k (one_vertex (Inner informees contents subviews)) so_far ≡ inner_opened (above ++ k ∷ []) informees contents subviews so_far
 opened_one above k informees contents subviews so_far = chosen (is_open informees contents) _ (opened_after (above ++ k ∷ []) 0 subviews so_far)
 
 -- one vertex, and then those after it

@@ -10,13 +10,14 @@ use Rattle.wire_form.specs.Formats.{◌>>=◌, Reading}
 use Rattle.wire_form.specs.Fields.{name_at, number_at}
 use Rattle.wire_form.specs.Reading.{set_at}
 use Rattle.wire_form.specs.Spelling.{spell_name, spell_parties}
-use Rattle.wire_form.specs.InRange.{IsName, IsPartySet}
+use Rattle.ledger_terms.specs.Names.{IsName}
+use Rattle.wire_form.specs.InRange.{IsPartySet}
 use Rattle.wire_form.proofs.FormatLaws.{Reads}
 use Rattle.wire_form.proofs.Compose.{both_reads}
 use Rattle.wire_form.proofs.FieldLaws.{name_reads, u64_reads}
 use Rattle.wire_form.proofs.ValueLaws.{set_reads}
 use Rattle.view_split.specs.Holed.{holes}
-use Rattle.view_split.specs.SplitView.{SplitView}
+use Rattle.view_split.specs.declared.split_view.SplitView.{SplitView}
 use Rattle.view_split.specs.Filled.{AreFilled}
 use Rattle.view_split.specs.Numbered.{map_forest}
 use Rattle.view_split.specs.Seen.{is_sight, seen_views}

@@ -13,7 +13,7 @@ use Rattle.std.proofs.lemmas.List.Folds.{list_any-append}
 use Rattle.std.proofs.lemmas.Map.Made.{length-le_from_is_member}
 use Rattle.ledger_terms.proofs.Deciding.{bytes_decide}
 use Rattle.ledger_terms.specs.Parties.{same_name, AllAbove, IsRising, with_parties, set_of, has_party, is_subset}
-use Rattle.ledger_terms.specs.Trees.{Act}
+use Rattle.ledger_terms.specs.declared.act.Act.{Act}
 use Rattle.ledger_terms.specs.Forest.{Forest, NoRoots, Root, join}
 use Rattle.ledger_terms.specs.declared.action.Action.{Action}
 use Rattle.ledger_terms.proofs.Members.{has_party-set_of}
@@ -21,9 +21,10 @@ use Rattle.ledger_terms.proofs.Rising.{IsRising-with_party}
 use Rattle.ledger_model.specs.declared.roles.Roles.{Roles}
 use Rattle.ledger_model.specs.Views.{its_informees, starts}
 use Rattle.ledger_model.proofs.Lists.{In, in_any}
-use Rattle.wire_form.specs.InRange.{IsName, IsPartySet}
+use Rattle.ledger_terms.specs.Names.{IsName}
+use Rattle.wire_form.specs.InRange.{IsPartySet}
 use Rattle.view_split.specs.Holed.{inner}
-use Rattle.view_split.specs.SplitView.{SplitView}
+use Rattle.view_split.specs.declared.split_view.SplitView.{SplitView}
 use Rattle.view_split.specs.Split.{confirmers_in, core_of, view_at, split_below, split}
 use Rattle.blind_tree.specs.Limits.{AreFew, AreAmong, AllAmong, HaveSets}
 

@@ -4,7 +4,7 @@ use Rattle.std.specs.Prelude.{All, nat_eq, if◌then◌else◌}
 use Rattle.std.specs.List.{AllByRecursion}
 use Rattle.std.proofs.lemmas.Bool.{cases_Bool}
 use Rattle.std.proofs.lemmas.List.Elements.{All-from_recursion}
-use Rattle.ledger_terms.specs.Trees.{Act}
+use Rattle.ledger_terms.specs.declared.act.Act.{Act}
 use Rattle.ledger_terms.specs.declared.action.Action.{Action}
 use Rattle.ledger_terms.specs.Forest.{Forest, NoRoots, Root, join}
 use Rattle.ledger_terms.specs.Roots.{trees_count}
@@ -16,13 +16,13 @@ use Rattle.wire_form.specs.declared.wire_fault.WireFault.{WireFault}
 use Rattle.wire_form.proofs.FormatLaws.{ok_is}
 use Rattle.wire_form.proofs.Bounded.{Gives, action_gives, anything, both_give, count_gives, counted_give, seen_gives, set_gives}
 use Rattle.view_split.specs.Holed.{Holed, holes, width}
-use Rattle.view_split.specs.SplitView.{SplitView}
+use Rattle.view_split.specs.declared.split_view.SplitView.{SplitView}
 use Rattle.view_split.specs.CoreLists.{act_of, children_of}
-use Rattle.view_split.specs.ViewLists.{view_tree}
+use Rattle.ledger_terms.specs.Grown.{tree_of}
 use Rattle.view_split.specs.declared.core_node.CoreNode.{CoreNode}
 use Rattle.view_split.specs.declared.core_node.CoreChild.{CoreChild}
 use Rattle.view_split.specs.declared.core_node.CoreChild.TheVariants as children
-use Rattle.view_split.specs.declared.view.View.{View}
+use Rattle.view_split.specs.ViewTrees.{View}
 use Rattle.view_split.specs.declared.placed_view.PlacedView.{PlacedView}
 use Rattle.view_split.specs.declared.opened_tree.OpenedTree.{OpenedTree}
 use Rattle.blind_tree.specs.Vertices.{Vertices, NoVertices, BlindVertex, InnerVertex, count, AreNarrow, IsNarrow}
@@ -127,14 +127,14 @@ leaf_gives Is read h (Plain salt bytes) x e = let r = all_read (length bytes) (r
 -- ---- views
 
 parts_room : (informees contents : Leaf) (n : ℕ) (parts : ViewParts) (below : Forest SplitView) → parts_read informees contents n ≡ Ok parts
-    → AreSpellableViews below → trees_count below ≤ 65536 → AreSpellableViews (view_tree (view_of parts below))
+    → AreSpellableViews below → trees_count below ≤ 65536 → AreSpellableViews (tree_of (view_of parts below))
 parts_room informees contents n parts below e each few =
     let sets = read_ok (read_leaf roles_at informees) _ parts e in
     let core = read_ok (read_leaf core_at contents) _ parts sets.2 in
     let test = tested (nat_eq (holes (core.0).children) n) (done (sets.0, core.0)) _ parts core.2 in
     let s = leaf_gives (λ (p : List (List ℕ) × List (List ℕ)). IsSpellableSet p.0 × IsSpellableSet p.1) roles_at sets_give informees sets.0 sets.1 in
     let k = leaf_gives (IsNodeWithin 15) core_at core_gives contents core.0 core.1 in
-    subst (λ (p : ViewParts). AreSpellableViews (view_tree (view_of p below))) (same_ok (sets.0, core.0) parts test.1)
+    subst (λ (p : ViewParts). AreSpellableViews (tree_of (view_of p below))) (same_ok (sets.0, core.0) parts test.1)
     (record { informees_are = s.0; confirmers_are = s.1; core = k.spellable; nested = k.nested }, few, each, tt)
 
 all_room : (v : Vertices) (f : Forest SplitView) → AreNarrow v → views_read v ≡ Ok f → AreSpellableViews f
@@ -146,19 +146,19 @@ all_room (InnerVertex informees contents subviews others) f narrow e =
     let rest = read_ok (views_read others) _ f below.2 in
     let few : trees_count below.0 ≤ 65536 = let c = (all_filled subviews below.0 below.1).count_is in omega (arith, c, narrow.0) in
     let one = parts_room informees contents (count subviews) parts.0 below.0 parts.1 (all_room subviews below.0 narrow.1 below.1) few in
-    subst AreSpellableViews (same_ok (join (view_tree (view_of parts.0 below.0)) rest.0) f rest.2) (one.0, one.1, one.2, all_room others rest.0 narrow.2 rest.1)
+    subst AreSpellableViews (same_ok (join (tree_of (view_of parts.0 below.0)) rest.0) f rest.2) (one.0, one.1, one.2, all_room others rest.0 narrow.2 rest.1)
 
 view_room : (informees contents : Leaf) (subviews : Vertices) (view : View) → count subviews ≤ 65536 → AreNarrow subviews → view_read informees contents subviews ≡ Ok view
-    → AreSpellableViews (view_tree view)
+    → AreSpellableViews (tree_of view)
 view_room informees contents subviews view most narrow e =
     let parts = read_ok (parts_read informees contents (count subviews)) _ view e in
     let below = read_ok (views_read subviews) _ view parts.2 in
     let few : trees_count below.0 ≤ 65536 = let c = (all_filled subviews below.0 below.1).count_is in omega (arith, c, most) in
-    subst (λ (w : View). AreSpellableViews (view_tree w)) (same_ok (view_of parts.0 below.0) view below.2)
+    subst (λ (w : View). AreSpellableViews (tree_of w)) (same_ok (view_of parts.0 below.0) view below.2)
     (parts_room informees contents (count subviews) parts.0 below.0 parts.1 (all_room subviews below.0 narrow below.1) few)
 
 abbrev PlacedRoom : PlacedView → Type 0
-PlacedRoom p = AreSpellableViews (view_tree p.view)
+PlacedRoom p = AreSpellableViews (tree_of p.view)
 
 room_append : (ps qs : List PlacedView) → AllByRecursion PlacedRoom ps → AllByRecursion PlacedRoom qs → AllByRecursion PlacedRoom (ps ++ qs)
 room_append [] qs h i = i
@@ -184,7 +184,7 @@ opened_room above k (InnerVertex informees contents subviews others) ps narrow e
           (room_append first.0 rest.0 (opened_room path 0 subviews first.0 narrow.1 first.1) (opened_room above (suc k) others rest.0 narrow.2 rest.1))
     ]
 
-pub views_have_room : (tree : Tree) (opened : OpenedTree) → IsNarrow tree.views → tree_opened tree ≡ Ok opened → All (λ (p : PlacedView). AreSpellableViews (view_tree p.view)) opened.views
+pub views_have_room : (tree : Tree) (opened : OpenedTree) → IsNarrow tree.views → tree_opened tree ≡ Ok opened → All (λ (p : PlacedView). AreSpellableViews (tree_of p.view)) opened.views
 views_have_room tree opened narrow e =
     let head = read_ok (read_leaf head_at tree.common) _ opened e in
     let requesters = read_ok (read_if_plain set_at tree.requesters) _ opened head.2 in

@@ -1,7 +1,7 @@
 -- The reading of cores. In one core actions stand on 16 levels at most, as in a transaction: below an action on the last of
 -- them stand holes alone.
 use Rattle.std.specs.Prelude.{ℕ, zero, suc, List, length, Result, Ok, Err}
-use Rattle.ledger_terms.specs.Trees.{Act}
+use Rattle.ledger_terms.specs.declared.act.Act.{Act}
 use Rattle.ledger_terms.specs.declared.action.Action.{Action}
 use Rattle.wire_form.specs.Formats.{◌>>=◌, Reading, both_at, seen_at, counted_at, any_item}
 use Rattle.wire_form.specs.Fields.{byte_at, count_at, hash_at}

@@ -7,6 +7,7 @@ use Rattle.blind_tree.specs.declared.leaf.Leaf.TheVariants.{Blind, Plain}
 use Rattle.blind_tree.specs.declared.vertex.Vertex.{Vertex}
 use Rattle.blind_tree.specs.declared.vertex.Vertex.TheVariants as vertices
 use Rattle.blind_tree.specs.declared.tree.Tree.{Tree}
+use Rattle.ledger_terms.specs.declared.limits.TheConstants.{MOST_ACTIONS, MOST_ACTION_DEPTH}
 
 -- a hash, or a salt and fewer than 2^32 bytes
 abbrev pub IsLeaf : Leaf → Type 0
@@ -24,14 +25,14 @@ abbrev pub AreVertices : Vertices → Type 0
 AreVertices NoVertices = Unit {0}
 AreVertices (BlindVertex hash others) = IsHash hash × AreVertices others
 AreVertices (InnerVertex informees contents subviews others) =
-    IsLeaf informees × IsLeaf contents × (count subviews ≤ 64) × AreVertices subviews × AreVertices others
+    IsLeaf informees × IsLeaf contents × (count subviews ≤ MOST_ACTIONS) × AreVertices subviews × AreVertices others
 
 -- at most 64 side by side and 16 one below another
 pub record IsTree (tree : Tree) : Type 0 where
   pub common_is : IsLeaf tree.common
   pub requesters_is : IsLeaf tree.requesters
-  pub few : count tree.views ≤ 64
-  pub nested : nesting tree.views ≤ 16
+  pub few : count tree.views ≤ MOST_ACTIONS
+  pub nested : nesting tree.views ≤ MOST_ACTION_DEPTH
   pub vertices : AreVertices tree.views
 
 -- fewer than 2^32 bytes
@@ -44,21 +45,21 @@ abbrev pub AreSpellable : Vertices → Type 0
 AreSpellable NoVertices = Unit {0}
 AreSpellable (BlindVertex hash others) = AreSpellable others
 AreSpellable (InnerVertex informees contents subviews others) =
-    IsSpellableLeaf informees × IsSpellableLeaf contents × (count subviews ≤ 64) × AreSpellable subviews × AreSpellable others
+    IsSpellableLeaf informees × IsSpellableLeaf contents × (count subviews ≤ MOST_ACTIONS) × AreSpellable subviews × AreSpellable others
 
 -- the same of one vertex
 abbrev pub IsSpellable : Vertex → Type 0
 IsSpellable (vertices.Blind hash) = Unit {0}
 IsSpellable (vertices.Inner informees contents subviews) =
-    IsSpellableLeaf informees × IsSpellableLeaf contents × (count subviews ≤ 64) × AreSpellable subviews
+    IsSpellableLeaf informees × IsSpellableLeaf contents × (count subviews ≤ MOST_ACTIONS) × AreSpellable subviews
 
 -- What has room in a spelling: leaves of fewer than 2^32 bytes, and vertices of which at most 64 stand side by side and 16 one
 -- below another.
 pub record IsSpellableTree (tree : Tree) : Type 0 where
   pub common_is : IsSpellableLeaf tree.common
   pub requesters_is : IsSpellableLeaf tree.requesters
-  pub few : count tree.views ≤ 64
-  pub nested : nesting tree.views ≤ 16
+  pub few : count tree.views ≤ MOST_ACTIONS
+  pub nested : nesting tree.views ≤ MOST_ACTION_DEPTH
   pub vertices : AreSpellable tree.views
 
 -- vertices on so many levels at most, which have room in a spelling

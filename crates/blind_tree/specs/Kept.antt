@@ -6,7 +6,7 @@ use Rattle.ledger_terms.specs.Forest.{Forest, NoRoots, Root, preorder}
 use Rattle.ledger_terms.specs.declared.host.Host.{Host}
 use Rattle.hash_id.specs.Strings.{view_hash_string}
 use Rattle.wire_form.specs.Spelling.{spell_parties}
-use Rattle.view_split.specs.SplitView.{SplitView}
+use Rattle.view_split.specs.declared.split_view.SplitView.{SplitView}
 use Rattle.view_split.specs.declared.views.Views.{Views}
 use Rattle.blind_tree.specs.Vertices.{Vertices, NoVertices, BlindVertex, InnerVertex}
 use Rattle.blind_tree.specs.Digests.{Hashing}

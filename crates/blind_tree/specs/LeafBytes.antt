@@ -5,7 +5,7 @@ use Rattle.ledger_terms.specs.Forest.{Forest, NoRoots, Root}
 use Rattle.ledger_terms.specs.Roots.{trees_count}
 use Rattle.wire_form.specs.Spelling.{spell_name, spell_parties}
 use Rattle.wire_form.specs.Spellable.{IsSpellableSet}
-use Rattle.view_split.specs.SplitView.{SplitView}
+use Rattle.view_split.specs.declared.split_view.SplitView.{SplitView}
 use Rattle.view_split.specs.declared.views.Views.{Views}
 use Rattle.blind_tree.specs.Cores.{IsSpellableCore, levels, spell_core}
 

@@ -1,6 +1,7 @@
 -- What each kind of leaf holds: its one spelling, and what of it is in range.
 use Rattle.std.specs.Prelude.{ℕ, ◌<◌, ◌^◌, List, ◌++◌}
-use Rattle.wire_form.specs.InRange.{IsName, IsPartySet}
+use Rattle.ledger_terms.specs.Names.{IsName}
+use Rattle.wire_form.specs.InRange.{IsPartySet}
 use Rattle.wire_form.specs.Spelling.{spell_parties}
 use Rattle.view_split.specs.CoreLists.{act_of}
 use Rattle.view_split.specs.declared.core_node.CoreNode.{CoreNode}

@@ -1,14 +1,16 @@
 -- Transactions within the limits, and what their views are then.
 use Rattle.std.specs.Prelude.{◌≡◌, ℕ, ◌+◌, ◌≤◌, true, List, length, All}
 use Rattle.ledger_terms.specs.Parties.{IsRising, is_subset}
-use Rattle.ledger_terms.specs.Trees.{Act}
+use Rattle.ledger_terms.specs.declared.act.Act.{Act}
 use Rattle.ledger_terms.specs.Forest.{Forest, NoRoots, Root, size}
 use Rattle.ledger_terms.specs.declared.action.Action.{Action}
 use Rattle.ledger_model.specs.declared.roles.Roles.{Roles}
-use Rattle.wire_form.specs.InRange.{IsName, IsPartySet}
+use Rattle.ledger_terms.specs.Names.{IsName}
+use Rattle.ledger_terms.specs.declared.limits.TheConstants.{MOST_ACTIONS, MOST_ACTION_DEPTH, MOST_ACTION_BYTES, MOST_PARTIES}
+use Rattle.wire_form.specs.InRange.{IsPartySet}
 use Rattle.wire_form.specs.Spelling.{spell_action}
 use Rattle.wire_form.specs.Spellable.{IsSpellableAction}
-use Rattle.view_split.specs.SplitView.{SplitView}
+use Rattle.view_split.specs.declared.split_view.SplitView.{SplitView}
 use Rattle.blind_tree.specs.Seen.{depth}
 
 -- the bytes of the actions, each with its seed
@@ -23,14 +25,14 @@ AreSpellableActs (Root act below others) = IsSpellableAction act.action × AreSp
 
 -- at most 64 actions, 16 of them one below another, with at most 32,768 bytes
 pub record KeepLimits (roots : Forest Act) : Type 0 where
-  pub few : size roots ≤ 64
-  pub nested : depth roots ≤ 16
-  pub short : acts_length roots ≤ 32768
+  pub few : size roots ≤ MOST_ACTIONS
+  pub nested : depth roots ≤ MOST_ACTION_DEPTH
+  pub short : acts_length roots ≤ MOST_ACTION_BYTES
   pub each : AreSpellableActs roots
 
 -- at most 128 names, as the parties of a topology
 pub record AreFew (parties : List (List ℕ)) : Type 0 where
-  pub few : length parties ≤ 128
+  pub few : length parties ≤ MOST_PARTIES
   pub names : All IsName parties
 
 -- the informees are a set of some of these parties, and the confirmers are some of them

@@ -3,9 +3,9 @@ use Rattle.std.specs.Prelude.{ℕ, suc, List, [], ◌∷◌, ◌++◌, Result, O
 use Rattle.ledger_terms.specs.Forest.{Forest, join}
 use Rattle.wire_form.specs.declared.wire_fault.WireFault.{WireFault}
 use Rattle.wire_form.specs.declared.wire_fault.WireFault.TheVariants.{Bad}
-use Rattle.view_split.specs.SplitView.{SplitView}
-use Rattle.view_split.specs.ViewLists.{view_tree}
-use Rattle.view_split.specs.declared.view.View.{View}
+use Rattle.view_split.specs.declared.split_view.SplitView.{SplitView}
+use Rattle.ledger_terms.specs.Grown.{tree_of}
+use Rattle.view_split.specs.ViewTrees.{View}
 use Rattle.view_split.specs.declared.placed_view.PlacedView.{PlacedView}
 use Rattle.blind_tree.specs.Vertices.{Vertices, NoVertices, BlindVertex, InnerVertex}
 use Rattle.blind_tree.specs.Opening.{with_read, view_read, is_open, placed}
@@ -23,7 +23,7 @@ abbrev pub views_after : Vertices → Forest SplitView → Result (Forest SplitV
 views_after NoVertices so_far = Ok so_far
 views_after (BlindVertex hash others) so_far = Err (Bad 0)
 views_after (InnerVertex informees contents subviews others) so_far =
-    with_read (view_read informees contents subviews) (λ view. views_after others (join so_far (view_tree view)))
+    with_read (view_read informees contents subviews) (λ view. views_after others (join so_far (tree_of view)))
 
 -- the topmost views that are opened, behind those before them
 abbrev pub opened_after : List ℕ → ℕ → Vertices → List PlacedView → Result (List PlacedView) WireFault
@@ -34,9 +34,9 @@ opened_after above k (InnerVertex informees contents subviews others) so_far =
     then with_read (view_read informees contents subviews) (λ view. opened_after above (suc k) others (so_far ++ placed (above ++ k ∷ []) view ∷ []))
     else with_read (opened_after (above ++ k ∷ []) 0 subviews so_far) (λ more. opened_after above (suc k) others more)
 
--- the same of one vertex, by its leaves and those below it
-abbrev pub inner_opened : List ℕ → ℕ → (informees contents : Leaf) → Vertices → List PlacedView → Result (List PlacedView) WireFault
-inner_opened above k informees contents subviews so_far =
+-- the same of one vertex at a path, by its leaves and those below it
+abbrev pub inner_opened : List ℕ → (informees contents : Leaf) → Vertices → List PlacedView → Result (List PlacedView) WireFault
+inner_opened path informees contents subviews so_far =
     if is_open informees contents
-    then with_read (view_read informees contents subviews) (λ view. Ok (so_far ++ placed (above ++ k ∷ []) view ∷ []))
-    else opened_after (above ++ k ∷ []) 0 subviews so_far
+    then with_read (view_read informees contents subviews) (λ view. Ok (so_far ++ placed path view ∷ []))
+    else opened_after path 0 subviews so_far

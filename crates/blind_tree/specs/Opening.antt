@@ -9,10 +9,11 @@ use Rattle.wire_form.specs.declared.wire_fault.WireFault.{WireFault}
 use Rattle.wire_form.specs.declared.wire_fault.WireFault.TheVariants.{Bad}
 use Rattle.ledger_terms.specs.Forest.{Forest, NoRoots, join}
 use Rattle.view_split.specs.Holed.{holes}
-use Rattle.view_split.specs.SplitView.{SplitView}
-use Rattle.view_split.specs.ViewLists.{view_tree}
+use Rattle.view_split.specs.CoreLists.{act_of}
+use Rattle.view_split.specs.declared.split_view.SplitView.{SplitView}
+use Rattle.ledger_terms.specs.Grown.{tree_of}
 use Rattle.view_split.specs.declared.core_node.CoreNode.{CoreNode}
-use Rattle.view_split.specs.declared.view.View.{View}
+use Rattle.view_split.specs.ViewTrees.{View}
 use Rattle.view_split.specs.declared.placed_view.PlacedView.{PlacedView}
 use Rattle.view_split.specs.declared.opened_tree.OpenedTree.{OpenedTree}
 use Rattle.blind_tree.specs.Vertices.{Vertices, NoVertices, BlindVertex, InnerVertex, count}
@@ -74,7 +75,8 @@ abbrev pub ViewParts : Type 0
 ViewParts = (List (List ℕ) × List (List ℕ)) × CoreNode
 
 abbrev pub view_of : ViewParts → Forest SplitView → View
-view_of parts below = record { informees = parts.0.0; confirmers = parts.0.1; core = parts.1; subviews = below }
+view_of parts below =
+    record { root = record { informees = parts.0.0; confirmers = parts.0.1; first = act_of parts.1; below = (parts.1).children }; below = below }
 
 -- The leaves of a vertex with so many vertices below it: the informees leaf, then the contents leaf, and then whether its core
 -- has as many holes.
@@ -89,7 +91,7 @@ views_read NoVertices = Ok NoRoots
 views_read (BlindVertex hash others) = Err (Bad 0)
 views_read (InnerVertex informees contents subviews others) =
     with_read (parts_read informees contents (count subviews)) (λ parts. with_read (views_read subviews) (λ below.
-    with_read (views_read others) (λ rest. Ok (join (view_tree (view_of parts below)) rest))))
+    with_read (views_read others) (λ rest. Ok (join (tree_of (view_of parts below)) rest))))
 
 -- a view with all below it
 abbrev pub view_read : (informees contents : Leaf) → Vertices → Result View WireFault

@@ -14,6 +14,7 @@ use Rattle.blind_tree.specs.declared.leaf.Leaf.TheVariants as leaves
 use Rattle.blind_tree.specs.declared.vertex.Vertex.{Vertex}
 use Rattle.blind_tree.specs.declared.vertex.Vertex.TheVariants.{Blind, Inner}
 use Rattle.blind_tree.specs.declared.tree.Tree.{Tree}
+use Rattle.ledger_terms.specs.declared.limits.TheConstants.{MOST_ACTIONS, MOST_ACTION_DEPTH}
 
 -- four bytes of length, and that many bytes as one field
 unfoldable pub long_bytes_at : Reading (List ℕ)
@@ -55,7 +56,7 @@ tagged_vertex_at below (suc (suc n)) rest here = Err here
 -- how many vertices may stand side by side, where so many levels are left
 abbrev pub most_beside : ℕ → ℕ
 most_beside zero = 0
-most_beside (suc levels) = 64
+most_beside (suc levels) = MOST_ACTIONS
 
 -- a count that isn't above a limit, and so many vertices that are read so
 abbrev pub list_at : (limit : ℕ) → Reading Vertex → Reading Vertices
@@ -80,7 +81,7 @@ abbrev pub tree_of : TreeParts → Tree
 tree_of parts = record { common = parts.0.0; requesters = parts.0.1; views = parts.1 }
 
 unfoldable pub tree_at : Reading Tree
-tree_at = seen_at tree_of (both_at (both_at leaf_at leaf_at) (vertices_at 16))
+tree_at = seen_at tree_of (both_at (both_at leaf_at leaf_at) (vertices_at MOST_ACTION_DEPTH))
 
 -- What was read, where nothing comes after it; else the bytes after it can't be read.
 abbrev pub ended : {A : Type 0} → A → List ℕ → Result A ℕ

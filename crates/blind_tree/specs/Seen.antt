@@ -1,12 +1,14 @@
 -- What a tree shows against what is seen, and when what is shown can be read and written again.
 use Rattle.std.specs.Prelude.{ℕ, suc, ◌≤◌, ◌<◌, ◌^◌, max, Bool, true, false, List, [], ◌∷◌, ◌++◌, length, map, if◌then◌else◌, ◌||◌}
-use Rattle.ledger_terms.specs.Trees.{Act}
+use Rattle.ledger_terms.specs.declared.act.Act.{Act}
 use Rattle.ledger_terms.specs.Forest.{Forest, NoRoots, Root, preorder, paths_from}
 use Rattle.ledger_terms.specs.Roots.{trees_count}
-use Rattle.wire_form.specs.InRange.{IsAction, IsHash, IsName, IsPartySet}
+use Rattle.ledger_terms.specs.Names.{IsName}
+use Rattle.ledger_terms.specs.declared.limits.TheConstants.{MOST_ACTIONS, MOST_ACTION_DEPTH}
+use Rattle.wire_form.specs.InRange.{IsAction, IsHash, IsPartySet}
 use Rattle.wire_form.specs.Spelling.{spell_parties}
 use Rattle.view_split.specs.Holed.{Holed, NoMore, Inner, Hole, width}
-use Rattle.view_split.specs.SplitView.{SplitView}
+use Rattle.view_split.specs.declared.split_view.SplitView.{SplitView}
 use Rattle.view_split.specs.declared.views.Views.{Views}
 use Rattle.blind_tree.specs.Vertices.{Vertices, NoVertices, BlindVertex, InnerVertex}
 use Rattle.blind_tree.specs.Cores.{levels}
@@ -82,12 +84,12 @@ depth (Root root below others) = max (suc (depth below)) (depth others)
 abbrev pub AreSmall : Forest SplitView → Type 0
 AreSmall NoRoots = Unit {0}
 AreSmall (Root view subviews others) =
-    (length (roles_bytes view) < 2 ^ 32) × (length (core_bytes view) < 2 ^ 32) × (trees_count subviews ≤ 64) × AreSmall subviews × AreSmall others
+    (length (roles_bytes view) < 2 ^ 32) × (length (core_bytes view) < 2 ^ 32) × (trees_count subviews ≤ MOST_ACTIONS) × AreSmall subviews × AreSmall others
 
 -- the same, and at most 64 root views and 16 one below another
 pub record IsSmall (sender : List ℕ) (views : Views) : Type 0 where
   pub common : length (common_bytes sender views.ledger_time) < 2 ^ 32
   pub requesters : length (spell_parties views.act_as) < 2 ^ 32
-  pub few : trees_count views.roots ≤ 64
-  pub nested : depth views.roots ≤ 16
+  pub few : trees_count views.roots ≤ MOST_ACTIONS
+  pub nested : depth views.roots ≤ MOST_ACTION_DEPTH
   pub each : AreSmall views.roots

@@ -12,15 +12,16 @@ ghost use Rattle.blind_tree.specs.Reading.{tagged_leaf_at, tagged_vertex_at, tre
 use crate::leaf::Leaf;
 use crate::tree::Tree;
 use crate::vertex::{Vertex, VertexList};
+use ledger_terms::limits::{MOST_ACTIONS, MOST_ACTION_DEPTH};
 use ledger_terms::{Bytes, ListOf};
 use std::alloc::Global;
 use wire_form::{Reader, ReaderFault, WireFault};
 
 /// The greatest number of levels on which vertices stand.
-pub(crate) const LEVELS_MAX: u8 = 16;
+pub(crate) const LEVELS_MAX: u8 = MOST_ACTION_DEPTH as u8;
 
 /// The greatest number of vertices side by side.
-pub(crate) const VERTICES_MAX: u16 = 64;
+pub(crate) const VERTICES_MAX: u16 = MOST_ACTIONS as u16;
 
 /// The tree that the bytes spell. A fault is at the first byte of the first field that can't be read: the count that announces
 /// a vertex on a seventeenth level is such a field, and so are bytes after the tree.

@@ -7,6 +7,7 @@ ghost use Rattle.blind_tree.specs.Spelling.{spell_leaf, spell_tree, spell_vertex
 use crate::leaf::Leaf;
 use crate::tree::Tree;
 use crate::vertex::{Vertex, VertexList};
+use ledger_terms::limits::MOST_ACTIONS;
 use ledger_terms::Bytes;
 use std::alloc::{AllocError, Global};
 use wire_form::{encode_hash, encode_u32};
@@ -45,7 +46,7 @@ fn encode_leaf(leaf: &Leaf, out: &mut Bytes) -> Result<(), AllocError>
 // Puts the spelling of vertices at the end, their count first.
 #[cycle(vertices)]
 fn encode_vertices(vertices: &VertexList, out: &mut Bytes) -> Result<(), AllocError>
-    requires few { count vertices.now ≤ 64 }
+    requires few { count vertices.now ≤ MOST_ACTIONS }
     requires each { AreSpellable vertices.now }
     ensures { OnOk result (out.new ≡ out.old ++ spell_vertices vertices.now) }
 {

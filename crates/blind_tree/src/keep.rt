@@ -4,10 +4,8 @@ ghost use Rattle.ledger_terms.specs.Forest.{join};
 ghost use Rattle.sha2.specs.Sha256.{sha256};
 ghost use Rattle.wire_form.specs.Spelling.{spell_parties};
 ghost use Rattle.wire_form.specs.Spellable.{IsSpellableSet};
-ghost use Rattle.view_split.specs.CoreLists.{act_of};
-ghost use Rattle.view_split.specs.ViewLists.{part_of, view_tree};
-ghost use Rattle.blind_tree.specs.Cores.{IsSpellableCore, spell_core};
-ghost use Rattle.blind_tree.specs.LeafBytes.{AreSpellable, AreSpellableViews, IsSpellableView, common_bytes, roles_bytes};
+ghost use Rattle.ledger_terms.specs.Grown.{tree_of};
+ghost use Rattle.blind_tree.specs.LeafBytes.{AreSpellable, AreSpellableViews, IsSpellableView, common_bytes, core_bytes, roles_bytes};
 ghost use Rattle.blind_tree.specs.KeptLists.{one_kept};
 ghost use Rattle.blind_tree.specs.Kept.{kept_views, kept_digests, kept_leaf, kept_tree};
 
@@ -18,7 +16,7 @@ use crate::kept_tree::KeptTree;
 use hash_id::{leaf_hash, leaf_salt, view_hash};
 use ledger_terms::{Bytes, Hash, Name, PartySet};
 use std::alloc::{AllocError, Global};
-use view_split::{CoreNode, View, ViewList, Views};
+use view_split::{SplitView, View, ViewList, Views};
 use wire_form::{encode_name, encode_parties, encode_u64};
 
 /// The tree of a transaction with every hash: each leaf is spelled and hashed once, and each view hashed once.
@@ -68,9 +66,9 @@ fn spelled_set(alloc: Global, parties: &PartySet) -> Result<Bytes, AllocError>
     Ok(bytes)
 }
 
-fn spelled_roles(alloc: Global, view: &View) -> Result<Bytes, AllocError>
-    requires { IsSpellableView (part_of view.now) }
-    ensures { IfOk result (λ bytes. bytes ≡ roles_bytes (part_of view.now)) }
+fn spelled_roles(alloc: Global, view: &SplitView) -> Result<Bytes, AllocError>
+    requires { IsSpellableView view.now }
+    ensures { IfOk result (λ bytes. bytes ≡ roles_bytes view.now) }
 {
     let mut bytes = Bytes::new(alloc);
     encode_parties(&view.informees, &mut bytes)?;
@@ -78,12 +76,13 @@ fn spelled_roles(alloc: Global, view: &View) -> Result<Bytes, AllocError>
     Ok(bytes)
 }
 
-fn spelled_core(alloc: Global, core: &CoreNode) -> Result<Bytes, AllocError>
-    requires { IsSpellableCore (act_of core.now) core.now.children }
-    ensures { IfOk result (λ bytes. bytes ≡ spell_core (act_of core.now) core.now.children) }
+fn spelled_core(alloc: Global, view: &SplitView) -> Result<Bytes, AllocError>
+    requires { IsSpellableView view.now }
+    ensures { IfOk result (λ bytes. bytes ≡ core_bytes view.now) }
 {
     let mut bytes = Bytes::new(alloc);
-    encode_core(core, &mut bytes)?;
+    let SplitView { first, below, .. } = view;
+    encode_core(&first.seed, &first.action, below, &mut bytes)?;
     Ok(bytes)
 }
 
@@ -102,17 +101,18 @@ fn keep_into(alloc: Global, views: &ViewList, out: &mut KeptList) -> Result<(), 
 
 #[cycle(keep)]
 fn keep_view(alloc: Global, view: &View) -> Result<KeptView, AllocError>
-    requires { AreSpellableViews (view_tree view.now) }
-    ensures { IfOk result (λ one. one_kept one ≡ kept_views sha256 (view_tree view.now)) }
+    requires { AreSpellableViews (tree_of view.now) }
+    ensures { IfOk result (λ one. one_kept one ≡ kept_views sha256 (tree_of view.now)) }
 {
     let mut subviews = KeptList::new(alloc);
-    keep_into(alloc, &view.subviews, &mut subviews)?;
+    keep_into(alloc, &view.below, &mut subviews)?;
     let below = hashes_of(alloc, &subviews)?;
-    let informees_leaf = keep_leaf(3, &view.core.seed, spelled_roles(alloc, view)?);
-    let contents_leaf = keep_leaf(4, &view.core.seed, spelled_core(alloc, &view.core)?);
+    let seed = &view.root.first.seed;
+    let informees_leaf = keep_leaf(3, seed, spelled_roles(alloc, &view.root)?);
+    let contents_leaf = keep_leaf(4, seed, spelled_core(alloc, &view.root)?);
     let hash = view_hash(&informees_leaf.hash, &contents_leaf.hash, below.as_slice());
     Ok(KeptView {
-        informees: view.informees.clone()?,
+        informees: view.root.informees.clone()?,
         informees_leaf,
         contents_leaf,
         hash,

@@ -1,20 +1,21 @@
 //! Laws of trees, each the contract of a function with nothing to do.
 ghost use Rattle.std.specs.Prelude.{◌≡◌, ◌⊎◌, ◌||◌, ◌<◌, ◌↔◌, ℕ, Bool, false, true, List, [], length, nat_eq, All, Contains, Some, None, Ok, if◌then◌else◌};
 ghost use Rattle.std.specs.List.{AllPairs, list_any};
-ghost use Rattle.ledger_terms.specs.Trees.{Act};
+ghost use Rattle.ledger_terms.specs.declared.act.Act.{Act};
 ghost use Rattle.ledger_terms.specs.Forest.{Forest};
 ghost use Rattle.ledger_terms.specs.declared.action.Action.{Action};
 ghost use Rattle.ledger_terms.specs.Topologies.{AreApart};
 ghost use Rattle.ledger_model.specs.declared.roles.Roles.{Roles};
 ghost use Rattle.ledger_model.specs.Opening.{Transaction, is_root_path, seen_paths};
-ghost use Rattle.wire_form.specs.InRange.{IsName, IsPartySet};
+ghost use Rattle.ledger_terms.specs.Names.{IsName};
+ghost use Rattle.wire_form.specs.InRange.{IsPartySet};
 ghost use Rattle.wire_form.specs.Reading.{set_at};
 ghost use Rattle.wire_form.specs.Spelling.{spell_parties};
 ghost use Rattle.view_split.specs.Split.{split};
-ghost use Rattle.view_split.specs.SplitView.{SplitView};
+ghost use Rattle.view_split.specs.declared.split_view.SplitView.{SplitView};
 ghost use Rattle.blind_tree.specs.LeafBytes.{AreSpellable, AreSpellableViews};
 ghost use Rattle.blind_tree.specs.Vertices.{IsNarrow};
-ghost use Rattle.view_split.specs.ViewLists.{view_tree};
+ghost use Rattle.ledger_terms.specs.Grown.{tree_of};
 ghost use Rattle.view_split.specs.declared.placed_view.PlacedView.{PlacedView};
 ghost use Rattle.blind_tree.specs.Limits.{AllAmong, AreFew, KeepLimits};
 ghost use Rattle.view_split.specs.Filled.{AreFilled};
@@ -118,7 +119,7 @@ pub fn opened_views_are_filled()
 /// Every view of an opened tree can be encoded again, whatever bytes it was read from.
 pub fn opened_views_are_spellable()
     ensures { (tree : Tree) (opened : OpenedTree) → IsNarrow tree.views → tree_opened tree ≡ Ok opened
-        → All (λ (placed : PlacedView). AreSpellableViews (view_tree placed.view)) opened.views }
+        → All (λ (placed : PlacedView). AreSpellableViews (tree_of placed.view)) opened.views }
 {}
 
 /// The instance of each action that is opened can be encoded, so that its contract's id can be told.

@@ -2,11 +2,11 @@
 ghost use Rattle.std.specs.Prelude.{◌≡◌, ◌<◌, ◌++◌, ◌∷◌, [], Ok, OnOk};
 ghost use Rattle.ledger_terms.specs.Answers.{Follows, FollowsOn};
 ghost use Rattle.wire_form.specs.declared.wire_fault.WireFault.TheVariants as WireFault;
-ghost use Rattle.view_split.specs.ViewLists.{view_tree};
+ghost use Rattle.ledger_terms.specs.Grown.{tree_of};
 ghost use Rattle.ledger_terms.specs.Forest.{join};
 ghost use Rattle.blind_tree.specs.Vertices.{AreNarrow, IsNarrow};
 ghost use Rattle.blind_tree.specs.VertexLists.{one_vertex};
-ghost use Rattle.blind_tree.specs.Opening.{placed, tree_opened, view_read, views_read};
+ghost use Rattle.blind_tree.specs.Opening.{placed, tree_opened, view_of, view_read, views_read};
 ghost use Rattle.blind_tree.specs.Opened.{inner_opened, opened_after, vertex_read};
 
 use crate::core_read::read_core;
@@ -14,11 +14,11 @@ use crate::holes::hole_count;
 use crate::informees::path_below;
 use crate::leaf::Leaf;
 use crate::leaves::{are_plain, read_head, read_requesters, read_roles, shown_len};
-use crate::tree::Tree;
+use crate::tree::Tree as BlindTree;
 use crate::vertex::{Vertex, VertexList};
-use ledger_terms::Path;
+use ledger_terms::{Act, PartySet, Path, Tree};
 use std::alloc::Global;
-use view_split::{OpenedTree, PlacedView, PlacedViewList, View, ViewList};
+use view_split::{CoreNode, OpenedTree, PlacedView, PlacedViewList, SplitView, View, ViewList};
 use wire_form::WireFault;
 
 /// What a participant reads in its tree: sender, ledger time, the requesters where they are shown, and the topmost views that
@@ -27,7 +27,7 @@ use wire_form::WireFault;
 /// Faults are a leaf that isn't plain or isn't one spelling of its kind, a blind vertex below such a vertex, and a core that
 /// hasn't as many holes as its vertex has subviews. The place is that in the leaf's bytes, the number of those bytes where the
 /// holes differ, and 0 where there are no bytes.
-pub fn opened(alloc: Global, tree: &Tree) -> Result<OpenedTree, WireFault>
+pub fn opened(alloc: Global, tree: &BlindTree) -> Result<OpenedTree, WireFault>
     requires { IsNarrow tree.now.views }
     ensures { Follows WireFault.Memory result (tree_opened tree.now) }
 {
@@ -80,30 +80,29 @@ fn open_vertex(
             informees,
             contents,
             subviews,
-        } => open_inner(alloc, above, at, informees, contents, subviews, out),
+        } => {
+            let path = path_below(above, at)?;
+            open_inner(alloc, path, informees, contents, subviews, out)
+        }
     }
 }
 
 #[cycle(open)]
 fn open_inner(
     alloc: Global,
-    above: &Path,
-    at: usize,
+    path: Path,
     informees: &Leaf,
     contents: &Leaf,
     subviews: &VertexList,
     out: &mut PlacedViewList,
 ) -> Result<(), WireFault>
-    requires step { at < 65536 }
-    requires narrow { IsNarrow subviews.now }
-    ensures { FollowsOn WireFault.Memory out.new result (inner_opened above.now at informees.now contents.now subviews.now out.old) }
+    requires { IsNarrow subviews.now }
+    ensures { FollowsOn WireFault.Memory out.new result (inner_opened path informees.now contents.now subviews.now out.old) }
 {
     if are_plain(informees, contents) {
         let view = read_view(alloc, informees, contents, subviews)?;
-        let path = path_below(above, at)?;
         put_view(path, view, out)
     } else {
-        let path = path_below(above, at)?;
         open_all(alloc, &path, subviews, out)
     }
 }
@@ -114,6 +113,25 @@ fn put_view(path: Path, view: View, out: &mut PlacedViewList) -> Result<(), Wire
     match out.push(PlacedView { path, view }) {
         Ok(()) => Ok(()),
         Err(_) => Err(WireFault::Memory),
+    }
+}
+
+fn view_of(informees: PartySet, confirmers: PartySet, core: CoreNode, below: ViewList) -> View
+    ensures { result ≡ view_of ((informees, confirmers), core) below }
+{
+    let CoreNode {
+        seed,
+        action,
+        children,
+    } = core;
+    Tree {
+        root: SplitView {
+            informees,
+            confirmers,
+            first: Act { seed, action },
+            below: children,
+        },
+        below,
     }
 }
 
@@ -135,12 +153,7 @@ fn read_view(
         });
     }
     let subviews = read_views(alloc, subviews)?;
-    Ok(View {
-        informees,
-        confirmers,
-        core,
-        subviews,
-    })
+    Ok(view_of(informees, confirmers, core, subviews))
 }
 
 #[cycle(read)]
@@ -170,7 +183,7 @@ fn read_vertex(alloc: Global, vertex: &Vertex) -> Result<View, WireFault>
 }
 
 fn push_view(view: View, views: &mut ViewList) -> Result<(), WireFault>
-    ensures { FollowsOn WireFault.Memory views.new result (Ok (join views.old (view_tree view))) }
+    ensures { FollowsOn WireFault.Memory views.new result (Ok (join views.old (tree_of view))) }
 {
     match views.push(view) {
         Ok(()) => Ok(()),

@@ -13,7 +13,8 @@ pub fn sees_any_view(views: &ViewList, topology: &Topology, at: ParticipantId) -
     ensures { result ≡ has_sight (hosts_at topology.now.hosts at) views.now }
 {
     for view in views.as_slice() {
-        if hosts_any(topology, at, &view.informees) || sees_any_view(&view.subviews, topology, at) {
+        let informees = &view.root.informees;
+        if hosts_any(topology, at, informees) || sees_any_view(&view.below, topology, at) {
             return true;
         }
     }

@@ -1,10 +1,11 @@
 //! Whether transactions and trees have room in a spelling.
 ghost use Rattle.std.specs.Prelude.{◌↔◌, ◌≤◌, ◌<◌, ◌^◌, ◌∷◌, [], ℕ, List, IsTrue};
-ghost use Rattle.wire_form.specs.InRange.{IsHash, IsName};
+ghost use Rattle.ledger_terms.specs.Names.{IsName};
+ghost use Rattle.wire_form.specs.InRange.{IsHash};
 ghost use Rattle.view_split.specs.Holed.{Inner, NoMore};
 ghost use Rattle.blind_tree.specs.Seen.{AreChildren, AreInRange, AreViews};
-ghost use Rattle.view_split.specs.CoreLists.{act_of, children_of};
-ghost use Rattle.view_split.specs.ViewLists.{view_tree};
+ghost use Rattle.view_split.specs.CoreLists.{children_of};
+ghost use Rattle.ledger_terms.specs.Grown.{tree_of};
 ghost use Rattle.blind_tree.specs.Cores.{AreSpellableChildren, IsSpellableChild, IsSpellableCore, levels};
 ghost use Rattle.blind_tree.specs.LeafBytes.{AreSpellable, AreSpellableViews};
 ghost use Rattle.blind_tree.specs.InRange.{FitLevels, IsSpellableLeaf, IsSpellableTree};
@@ -16,8 +17,8 @@ use crate::decode::{LEVELS_MAX, VERTICES_MAX};
 use crate::leaf::Leaf;
 use crate::tree::Tree;
 use crate::vertex::{Vertex, VertexList};
-use ledger_terms::Hash;
-use view_split::{CoreChild, CoreChildList, CoreNode, View, ViewList, Views};
+use ledger_terms::{Action, Hash};
+use view_split::{CoreChild, CoreChildList, SplitView, View, ViewList, Views};
 use wire_form::{is_spellable_action, is_spellable_set};
 
 // The greatest number of views side by side: a step of a path has two bytes.
@@ -64,26 +65,32 @@ fn are_views(views: &ViewList) -> bool
 
 #[cycle(views)]
 fn is_view(view: &View) -> bool
-    ensures exact { IsTrue result ↔ AreSpellableViews (view_tree view.now) }
-    ensures in_range { IsTrue result → AreViews (view_tree view.now) }
+    ensures exact { IsTrue result ↔ AreSpellableViews (tree_of view.now) }
+    ensures in_range { IsTrue result → AreViews (tree_of view.now) }
 {
-    is_spellable_set(&view.informees)
-        && is_spellable_set(&view.confirmers)
-        && is_core(&view.core)
-        && is_nested(&view.core.children, LEVELS_BELOW)
-        && view.subviews.len() <= VIEWS_MAX
-        && are_views(&view.subviews)
+    let SplitView {
+        informees,
+        confirmers,
+        first,
+        below,
+    } = &view.root;
+    is_spellable_set(informees)
+        && is_spellable_set(confirmers)
+        && is_core(&first.seed, &first.action, below)
+        && is_nested(below, LEVELS_BELOW)
+        && view.below.len() <= VIEWS_MAX
+        && are_views(&view.below)
 }
 
 #[cycle(cores)]
-fn is_core(core: &CoreNode) -> bool
-    ensures exact { IsTrue result ↔ IsSpellableCore (act_of core.now) core.now.children }
-    ensures in_range { IsTrue result → AreChildren (Inner (act_of core.now) core.now.children NoMore) }
+fn is_core(seed: &Hash, action: &Action, children: &CoreChildList) -> bool
+    ensures exact { IsTrue result ↔ IsSpellableCore (record { seed = seed.now; action = action.now }) children.now }
+    ensures in_range { IsTrue result → AreChildren (Inner (record { seed = seed.now; action = action.now }) children.now NoMore) }
 {
-    is_hash(&core.seed)
-        && is_spellable_action(&core.action)
-        && core.children.len() <= CHILDREN_MAX as usize
-        && are_children(&core.children)
+    is_hash(seed)
+        && is_spellable_action(action)
+        && children.len() <= CHILDREN_MAX as usize
+        && are_children(children)
 }
 
 #[cycle(cores)]
@@ -105,7 +112,7 @@ fn is_child(child: &CoreChild) -> bool
     ensures in_range { IsTrue result → AreChildren (children_of (child.now ∷ [])) }
 {
     match child {
-        CoreChild::Inner(core) => is_core(core),
+        CoreChild::Inner(core) => is_core(&core.seed, &core.action, &core.children),
         CoreChild::Hole => true,
     }
 }

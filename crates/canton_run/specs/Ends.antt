@@ -10,10 +10,7 @@ use Rattle.canton_run.specs.Script.{script_of}
 use Rattle.canton_run.specs.Play.{views_of}
 use Rattle.canton_run.specs.Run.{IsRun, hosts_of, params_of}
 use Rattle.canton_run.specs.Words.{are_run}
-
--- the greatest number of bytes of a script
-abbrev pub most_bytes : ℕ
-most_bytes = 4194304
+use Rattle.ledger_terms.specs.declared.limits.TheConstants.{MOST_SCRIPT_BYTES}
 
 -- one of the statuses
 abbrev pub IsStatus : ℕ → Type 0
@@ -21,7 +18,7 @@ IsStatus s = (s ≡ 0) ⊎ ((s ≡ 2) ⊎ ((s ≡ 3) ⊎ ((s ≡ 4) ⊎ ((s ≡ 
 
 -- the bytes that the source gave, which was read to its end, within the limit
 abbrev pub ReadWhole : Option (List ℕ) → Option (List ℕ) → List ℕ → Type 0
-ReadWhole left left' bytes = Consumes left left' bytes × IsAtEnd left' × (length bytes ≤ most_bytes)
+ReadWhole left left' bytes = Consumes left left' bytes × IsAtEnd left' × (length bytes ≤ MOST_SCRIPT_BYTES)
 
 -- the report of a script's run, with what each participant knows at its clean place
 abbrev pub report_text_of : Script → Finish → List ℕ
@@ -42,7 +39,7 @@ KeepsFault words left left' finish =
 -- At most one byte past the limit was taken, and that one exactly at status 6. Without the word run none was.
 abbrev pub TakesUpTo : List (List ℕ) → Option (List ℕ) → Option (List ℕ) → Finish → Type 0
 TakesUpTo words left left' finish =
-    (bytes : List ℕ) × Consumes left left' bytes × (length bytes ≤ most_bytes + 1) × (finish.status ≡ 6 ↔ (most_bytes < length bytes)) × (are_run words ≢ true → bytes ≡ [])
+    (bytes : List ℕ) × Consumes left left' bytes × (length bytes ≤ MOST_SCRIPT_BYTES + 1) × (finish.status ≡ 6 ↔ (MOST_SCRIPT_BYTES < length bytes)) × (are_run words ≢ true → bytes ≡ [])
 
 -- nothing was run and nothing was written
 abbrev pub RanNothing : Option (List ℕ) → Option (List ℕ) → Finish → Type 0
@@ -50,7 +47,7 @@ RanNothing held held' finish = (finish.log ≡ []) × (finish.results ≡ []) ×
 
 -- the source gives a script within the limit
 abbrev pub HasScript : Option (List ℕ) → Type 0
-HasScript left = (bytes : List ℕ) × (script : Script) × (left ≡ Some bytes) × (length bytes ≤ most_bytes) × (script_of bytes ≡ Ok script)
+HasScript left = (bytes : List ℕ) × (script : Script) × (left ≡ Some bytes) × (length bytes ≤ MOST_SCRIPT_BYTES) × (script_of bytes ≡ Ok script)
 
 -- no take failed, the source was not too long and memory was found
 abbrev pub IsReadWhole : ℕ → Type 0

@@ -14,5 +14,5 @@ mod words;
 
 pub use finish::{Finish, ended};
 pub use lines::line;
-pub use top_call::{MOST_BYTES, run};
+pub use top_call::run;
 pub use words::{WordList, status_without_words, words_after_name};

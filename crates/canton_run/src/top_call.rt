@@ -14,12 +14,10 @@ use crate::play::play;
 use crate::script::{Script, read_script};
 use crate::words::{WordList, are_run};
 use cn_io::{ReadFault, Sink, Source, read_all, write_all};
+use ledger_terms::limits::MOST_SCRIPT_BYTES;
 use report_text::report;
 use script_read::ScriptFault;
 use std::alloc::Global;
-
-/// How many bytes a script may have.
-pub const MOST_BYTES: usize = 4_194_304;
 
 /// Runs the script and writes its report. The text is made whole before anything of it is written.
 fn carry_out<K: Sink>(alloc: Global, script: &Script, sink: &mut K) -> Finish
@@ -88,7 +86,7 @@ pub fn run<S: Source, K: Sink>(
     if !are_run(words) {
         return ended(alloc, 2, None);
     }
-    match read_all(alloc, source, MOST_BYTES) {
+    match read_all(alloc, source, MOST_SCRIPT_BYTES) {
         Ok(bytes) => match read_script(alloc, bytes.as_slice()) {
             Ok(script) => carry_out(alloc, &script, sink),
             Err(ScriptFault::Memory) => ended(alloc, 70, None),

@@ -5,7 +5,7 @@ use Rattle.std.specs.List.{list_any}
 use Rattle.std.specs.Bool.{Decides}
 use Rattle.std.proofs.lemmas.Bool.{cases_Bool, cases_order, and_from, and_parts, or_cases, or_left, or_right, both_ways}
 use Rattle.std.proofs.lemmas.Option.{same_Some, none-some}
-use Rattle.ledger_terms.specs.Trees.{Act}
+use Rattle.ledger_terms.specs.declared.act.Act.{Act}
 use Rattle.ledger_terms.proofs.SameInstances.{instance_decides}
 use Rattle.ledger_terms.specs.contracts.instance.InstancePartialEq.TheImpl as instance_eq
 use Rattle.ledger_model.specs.Terms.{id_of, instance_of, is_create, is_on, creates, consumes}

@@ -3,7 +3,8 @@ use Rattle.std.proofs.Common.{◌≡◌, ℕ, suc, ◌+◌, ◌<◌, ◌%◌, �
 use Rattle.std.specs.Prelude.{option_map}
 use Rattle.std.proofs.lemmas.List.{drop_more}
 use Rattle.std.proofs.lemmas.Bool.{cases_Bool}
-use Rattle.ledger_terms.specs.Trees.{Act, Actions}
+use Rattle.ledger_terms.specs.declared.act.Act.{Act}
+use Rattle.ledger_terms.specs.Trees.{Actions}
 use Rattle.ledger_terms.specs.Forest.{NoRoots, Root, preorder, paths_from}
 use Rattle.ledger_model.specs.Forest.{Commit, ledger_acts}
 use Rattle.ledger_model.specs.declared.commit.Commit.{Commit as Part}

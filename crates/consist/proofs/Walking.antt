@@ -2,14 +2,11 @@
 use Rattle.std.proofs.Common.{◌≡◌, ℕ, zero, suc, ◌+◌, ◌<◌, ◌≤◌, ◌%◌, ◌^◌, ◌-◌, Bool, true, false, List, [], ◌∷◌, ◌++◌, Option, Some, None, length, get_or, take, drop, refl, sym, ◌∙◌, ap, arith, append_assoc, append-nil, length-append, add-one, inl, inr}
 use Rattle.std.proofs.lemmas.List.{drop_more}
 use Rattle.std.proofs.lemmas.Bool.{cases_Bool}
-use Rattle.ledger_terms.specs.Trees.{Act}
-use Rattle.ledger_terms.specs.Grown.{forest_of, tree_of, node_count}
-use Rattle.ledger_terms.specs.declared.action_node.ActionNode.{ActionNode}
+use Rattle.ledger_terms.specs.declared.act.Act.{Act}
+use Rattle.ledger_terms.specs.Grown.{forest_of}
+use Rattle.ledger_terms.specs.Trees.{ActionNode}
 use Rattle.consist.specs.First.{acts_in, first_found}
 use Rattle.consist.specs.Walked.{placed_from, IsWalked}
-
-abbrev pub act_of : ActionNode → Act
-act_of n = record { seed = n.seed; action = n.action }
 
 module _ {P : Type 0} (test : List Act → Act → Bool) where
   pub found_front : (before : List Act) (xs ys : List (P × Act)) (at : P) → first_found test before xs ≡ Some at → first_found test before (xs ++ ys) ≡ Some at
@@ -34,16 +31,11 @@ acts_in-append {P} (x ∷ xs) ys = ap (λ (acts : List Act). x.1 ∷ acts) (acts
 
 -- the actions of one tree below a path, of which it is root k
 abbrev pub tree_places : List ℕ → ActionNode → List (List ℕ × Act)
-tree_places path n = (path, act_of n) ∷ placed_from path 0 n.children
+tree_places path n = (path, n.root) ∷ placed_from path 0 n.below
 
 pub next_tree : (above : List ℕ) (ns : List ActionNode) (i : ℕ) (n : ActionNode) → i < length ns → n ≡ get_or ns i n
     → placed_from above i (forest_of (drop i ns)) ≡ tree_places (above ++ i % 2 ^ 16 ∷ []) n ++ placed_from above (i + 1) (forest_of (drop (i + 1) ns))
 next_tree above ns i n h e = rw (drop_more ns i n h, ← e, add-one) refl
-
-pub node_within : (ns : List ActionNode) (i : ℕ) (d : ActionNode) → i < length ns → node_count (tree_of (get_or ns i d)) ≤ node_count (forest_of ns)
-node_within [] i d h = absurd (omega arith)
-node_within (n ∷ ns) zero d h = omega arith
-node_within (n ∷ ns) (suc i) d h = omega (arith, node_within ns i d (omega arith))
 
 pub stop_of : (test : List Act → Act → Bool) (e : List Act) (path : List ℕ) (placed : List (List ℕ × Act)) (stopped : Bool) (met : List Act) (left : List ℕ) → stopped ≡ true → IsWalked test e path placed stopped met left → first_found test e placed ≡ Some left
 stop_of test e path placed true met left h w = w

@@ -1,7 +1,7 @@
 -- How an action breaks consistency with those before it.
 use Rattle.std.specs.Prelude.{◌≡◌, ◌≢◌, Bool, true, false, List, Contains, not, ◌&&◌, ◌||◌, if◌then◌else◌}
 use Rattle.std.specs.List.{list_any}
-use Rattle.ledger_terms.specs.Trees.{Act}
+use Rattle.ledger_terms.specs.declared.act.Act.{Act}
 use Rattle.ledger_terms.specs.declared.instance.Instance.{Instance}
 use Rattle.ledger_terms.specs.contracts.instance.InstancePartialEq.TheImpl as instance_eq
 use Rattle.ledger_model.specs.Terms.{Hash, id_of, instance_of, is_create, is_on, creates, consumes}

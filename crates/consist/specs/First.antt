@@ -1,6 +1,6 @@
 -- The first of placed actions that something shows after those before it.
 use Rattle.std.specs.Prelude.{◌≡◌, ℕ, ◌<◌, Bool, List, [], ◌∷◌, ◌++◌, Option, Some, None, map, take, slice_get, if◌then◌else◌}
-use Rattle.ledger_terms.specs.Trees.{Act}
+use Rattle.ledger_terms.specs.declared.act.Act.{Act}
 
 -- the actions alone
 abbrev pub acts_in : {P : Type 0} → List (P × Act) → List Act

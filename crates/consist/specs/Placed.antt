@@ -1,6 +1,7 @@
 -- Actions with their places, in order.
 use Rattle.std.specs.Prelude.{ℕ, ◌%◌, ◌^◌, List, [], map, flat_map}
-use Rattle.ledger_terms.specs.Trees.{Act, Actions}
+use Rattle.ledger_terms.specs.declared.act.Act.{Act}
+use Rattle.ledger_terms.specs.Trees.{Actions}
 use Rattle.ledger_terms.specs.Forest.{preorder, paths_from}
 use Rattle.ledger_model.specs.Forest.{Commit}
 use Rattle.ledger_model.specs.declared.commit.Commit.{Commit as Part}

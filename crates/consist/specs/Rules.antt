@@ -1,6 +1,6 @@
 -- The two rules on the order of actions.
 use Rattle.std.specs.Prelude.{◌≡◌, Bool, true, List}
-use Rattle.ledger_terms.specs.Trees.{Act}
+use Rattle.ledger_terms.specs.declared.act.Act.{Act}
 use Rattle.ledger_model.specs.Status.{shows_unordered}
 use Rattle.consist.specs.declared.rule.Rule.{Rule}
 use Rattle.consist.specs.declared.rule.Rule.TheVariants.{Ordered, Consistent}

@@ -4,24 +4,24 @@ ghost use Rattle.std.specs.List.{list_any};
 ghost use Rattle.ledger_model.specs.Terms.{id_of, instance_of, is_create, is_consuming, is_on, creates, consumes};
 ghost use Rattle.consist.specs.Breaks.{differs};
 
-use ledger_terms::{Action, ActionNode, Hash, Instance};
+use ledger_terms::{Act, Action, Hash, Instance};
 use std::marker::Model;
 
 /// An action that stands before another.
 #[derive(Drop)]
 pub struct Earlier<'a> {
-    node: &'a ActionNode,
+    act: &'a Act,
 }
 
 impl<'a> Model for Earlier<'a> {
-    ghost use Rattle.ledger_terms.specs.Trees.{Act};
+    ghost use Rattle.ledger_terms.specs.declared.act.Act.{Act};
     ghost use Rattle.std.specs.Coded.{codes};
 
     ghost Value = { Act };
 
     ghost coded = { Prim.hlevel codes };
 
-    ghost view = { λ e. record { seed = e.node.now.seed; action = e.node.now.action } };
+    ghost view = { λ e. e.act.now };
 }
 
 /// The contract that an action is on.
@@ -67,35 +67,35 @@ fn is_consuming(action: &Action) -> bool
 }
 
 impl<'a> Earlier<'a> {
-    /// A node's action.
-    pub fn of(node: &'a ActionNode) -> Earlier<'a>
-        ensures { result ≡ record { seed = node.now.seed; action = node.now.action } }
+    /// An action with its seed.
+    pub fn of(act: &'a Act) -> Earlier<'a>
+        ensures { result ≡ act.now }
     {
-        Earlier { node }
+        Earlier { act }
     }
 
     fn is_on(&self, id: Hash) -> bool
         ensures { result ≡ is_on id self.now }
     {
-        id_of(&self.node.action) == id
+        id_of(&self.act.action) == id
     }
 
     fn creates(&self, id: Hash) -> bool
         ensures { result ≡ creates id self.now }
     {
-        self.is_on(id) && is_create(&self.node.action)
+        self.is_on(id) && is_create(&self.act.action)
     }
 
     fn consumes(&self, id: Hash) -> bool
         ensures { result ≡ consumes id self.now }
     {
-        self.is_on(id) && is_consuming(&self.node.action)
+        self.is_on(id) && is_consuming(&self.act.action)
     }
 
     fn differs(&self, id: Hash, instance: &Instance) -> bool
         ensures { result ≡ differs id instance.now self.now }
     {
-        self.is_on(id) && *instance_of(&self.node.action) != *instance
+        self.is_on(id) && *instance_of(&self.act.action) != *instance
     }
 }
 

@@ -1,6 +1,7 @@
 //! What breaking consistency is to the ledger model, as the clauses of functions that do nothing.
 ghost use Rattle.std.specs.Prelude.{◌≡◌, ◌↔◌, ◌++◌, ◌∷◌, [], List, map};
-ghost use Rattle.ledger_terms.specs.Trees.{Act, Actions};
+ghost use Rattle.ledger_terms.specs.declared.act.Act.{Act};
+ghost use Rattle.ledger_terms.specs.Trees.{Actions};
 ghost use Rattle.ledger_model.specs.Forest.{Commit, acts, ledger_acts};
 ghost use Rattle.ledger_model.specs.declared.commit.Commit.{Commit as Part};
 ghost use Rattle.ledger_model.specs.Consistency.{Consistent};

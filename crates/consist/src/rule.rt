@@ -7,7 +7,7 @@ ghost use Rattle.consist.specs.Rules.{fails};
 use crate::earlier::{
     Earlier, id_of, instance_of, is_create, some_consumes, some_creates, some_differs, some_on,
 };
-use ledger_terms::{Action, ActionNode};
+use ledger_terms::{Act, Action};
 
 /// What each action has to keep after those before it.
 #[derive(Clone, Copy)]
@@ -38,12 +38,12 @@ fn is_breaking(earlier: &[Earlier<'_>], action: &Action) -> bool
     unwanted || some_consumes(earlier, id) || some_differs(earlier, id, instance_of(action))
 }
 
-/// Whether a node's action fails the rule after those before it.
-pub(crate) fn fails(rule: Rule, earlier: &[Earlier<'_>], node: &ActionNode) -> bool
-    ensures { result ≡ fails rule earlier.now (record { seed = node.now.seed; action = node.now.action }) }
+/// Whether an action fails the rule after those before it.
+pub(crate) fn fails(rule: Rule, earlier: &[Earlier<'_>], act: &Act) -> bool
+    ensures { result ≡ fails rule earlier.now act.now }
 {
     match rule {
-        Rule::Ordered => is_unordered(earlier, &node.action),
-        Rule::Consistent => is_breaking(earlier, &node.action),
+        Rule::Ordered => is_unordered(earlier, &act.action),
+        Rule::Consistent => is_breaking(earlier, &act.action),
     }
 }

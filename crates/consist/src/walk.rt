@@ -19,13 +19,13 @@ fn walk_tree<'a>(
     path: &mut Vec<u16>,
 ) -> Result<bool, AllocError>
     ensures { IfOk result (λ stopped. IsWalked (fails rule) earlier.old.items path.old.items
-        ((path.old.items, record { seed = node.now.seed; action = node.now.action }) ∷ placed_from path.old.items 0 node.now.children) stopped earlier.new.items path.new.items) }
+        ((path.old.items, node.now.root) ∷ placed_from path.old.items 0 node.now.below) stopped earlier.new.items path.new.items) }
 {
-    if fails(rule, earlier.as_slice(), node) {
+    if fails(rule, earlier.as_slice(), &node.root) {
         return Ok(true);
     }
-    earlier.push(Earlier::of(node))?;
-    walk_trees(rule, &node.children, earlier, path)
+    earlier.push(Earlier::of(&node.root))?;
+    walk_trees(rule, &node.below, earlier, path)
 }
 
 /// The same of trees whose roots stand below the path.

@@ -1,7 +1,7 @@
 -- The active rows of a store are the contracts that the actions create and none of them consumes.
 use Rattle.std.specs.Prelude.{◌≡◌, ℕ, ◌≤◌, Bool, List, [], ◌∷◌, not, map, filter}
 use Rattle.std.specs.List.{list_any}
-use Rattle.ledger_terms.specs.Trees.{Act}
+use Rattle.ledger_terms.specs.declared.act.Act.{Act}
 use Rattle.ledger_terms.specs.declared.active_row.ActiveRow.{ActiveRow}
 use Rattle.ledger_model.specs.Terms.{ParticipantId, is_create, consumes}
 use Rattle.canton_model.specs.Reading.{Reading}

@@ -1,6 +1,6 @@
 -- A store into which the approved requests of an inbox were written, place by place.
 use Rattle.std.specs.Prelude.{◌≡◌, ℕ, zero, suc, List, [], ◌++◌, if◌then◌else◌, map, filter}
-use Rattle.ledger_terms.specs.Trees.{Act}
+use Rattle.ledger_terms.specs.declared.act.Act.{Act}
 use Rattle.ledger_terms.specs.declared.active_row.ActiveRow.{ActiveRow}
 use Rattle.ledger_model.specs.Forest.{acts}
 use Rattle.ledger_model.specs.Terms.{ParticipantId}

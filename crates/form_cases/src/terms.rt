@@ -1,6 +1,6 @@
 //! Values, sets of parties, instances and actions as bytes.
 use crate::spelled::{Spelled, fault_line, spelled_line};
-use ledger_terms::{Action, ActionNode, ActionNodeList, Bytes, Hash, Instance, PartySet, Value};
+use ledger_terms::{Act, Action, ActionNodeList, Bytes, Hash, Instance, PartySet, Tree, Value};
 use report_text::{put_instance, put_names, put_trees, put_value};
 use std::alloc::{AllocError, Global};
 use wire_form::{
@@ -86,10 +86,10 @@ pub(crate) fn instance_answer(alloc: Global, bytes: &[u8]) -> Result<String, All
 /// The text of an action, as a report has it for an action without consequences.
 fn action_text(alloc: Global, action: Action) -> Result<String, AllocError> {
     let mut roots = ActionNodeList::new(alloc);
-    roots.push(ActionNode {
-        seed: Hash([0; 32]),
-        action,
-        children: ActionNodeList::new(alloc),
+    let seed = Hash([0; 32]);
+    roots.push(Tree {
+        root: Act { seed, action },
+        below: ActionNodeList::new(alloc),
     })?;
     let mut text = String::new(alloc);
     put_trees(&mut text, 0, &roots)?;

@@ -10,9 +10,10 @@ use Rattle.ledger_terms.specs.declared.known.Known.{Known}
 use Rattle.ledger_terms.specs.declared.template_name.TemplateName.{TemplateName}
 use Rattle.ledger_terms.specs.declared.action.Action.{Action}
 use Rattle.ledger_terms.specs.declared.action.Action.TheVariants.{Create, Exercise, Fetch}
-use Rattle.ledger_terms.specs.declared.action_node.ActionNode.{ActionNode}
+use Rattle.ledger_terms.specs.Trees.{ActionNode}
 use Rattle.ledger_terms.specs.Forest.{NoRoots, Root, preorder, join}
-use Rattle.ledger_terms.specs.Trees.{Act, Actions}
+use Rattle.ledger_terms.specs.declared.act.Act.{Act}
+use Rattle.ledger_terms.specs.Trees.{Actions}
 use Rattle.ledger_terms.specs.Grown.{tree_of}
 use Rattle.ledger_terms.proofs.Grow.{join-assoc, join-end}
 use Rattle.ledger_model.specs.Parties.{is_empty}
@@ -42,7 +43,7 @@ after_all-grows p [] = omega arith
 after_all-grows p (x ∷ xs) = omega (arith, after_all-grows (after p x) xs, after_action-count p x.seed x.action)
 
 pub one_grows : (p : Progress) (n : ActionNode) → p.count + 1 ≤ (progress_with p n).count
-one_grows p n = omega (arith, after_action-count p n.seed n.action, after_all-grows (after_action p n.seed n.action) (preorder n.children))
+one_grows p n = omega (arith, after_action-count p n.root.seed n.root.action, after_all-grows (after p n.root) (preorder n.below))
 
 module _ (packages : Packages) (known : List Known) where
   -- a wanted forest keeps the limit on actions
@@ -63,9 +64,9 @@ module _ (packages : Packages) (known : List Known) where
   abbrev pub Complete : ℕ → Runner → Type 0
   Complete left run =
       (progress : Progress) (path : List ℕ) (seed : Hash) (by : PartyNames) (demand : Demand) (s : Hash) (action : Action) (children : Actions)
-      → IsTree packages known left progress path seed by demand (record { seed = s; action = action; children = children })
+      → IsTree packages known left progress path seed by demand (record { root = record { seed = s; action = action }; below = children })
       → run progress path seed by demand
-      ≡ Ok (record { seed = s; action = action; children = children }, after_all (after_action progress s action) (preorder children))
+      ≡ Ok (record { root = record { seed = s; action = action }; below = children }, after_all (after_action progress s action) (preorder children))
 
   module _ (left : ℕ) (run : Runner) (complete : Complete left run) (source : Source) (result : Value) (by : PartyNames) (seed : Hash) (path : List ℕ) where
     pub follow_done : (forest : Actions) (n : ℕ) (progress : Progress) (seen : List Seen) (children : Actions) (index : ℕ) → 64 < n + progress.count
@@ -78,7 +79,7 @@ module _ (packages : Packages) (known : List Known) where
         (ap (λ (f : Actions). Ok (record { children = f; result = result; progress = progress })) (sym (join-end children)))
     follow_done (Root a consequences others) zero progress seen children index turns room w = absurd (omega (arith, turns, room))
     follow_done (Root a consequences others) (suc n) progress seen children index turns room w =
-        let node : ActionNode = record { seed = a.seed; action = a.action; children = consequences } in
+        let node : ActionNode = record { root = record { seed = a.seed; action = a.action }; below = consequences } in
         let tree : IsTree packages known left progress (path ++ index ∷ []) (child_seed seed index) by w.0.0 node =
         record { some = w.1; room = w.2; seeded = w.3; demanded = w.0.2; sound = w.4; children = w.5 } in
         let ran = complete progress (path ++ index ∷ []) (child_seed seed index) by w.0.0 a.seed a.action consequences tree in
@@ -104,9 +105,9 @@ module _ (packages : Packages) (known : List Known) where
   created : (left : ℕ) (run : Runner) (progress : Progress) (path : List ℕ) (seed : Hash) (by : PartyNames) (t : TemplateName) (fields : List Value)
       (s id : Hash) (i : Instance) (children : Actions)
       → IsTree packages known (suc left) progress path seed by (CreateDemand t fields)
-      (record { seed = s; action = Create id i; children = children })
+      (record { root = record { seed = s; action = Create id i }; below = children })
       → do_demand packages known run progress path seed by (CreateDemand t fields)
-      ≡ Ok (record { seed = s; action = Create id i; children = children }, after_all (after_action progress s (Create id i)) (preorder children))
+      ≡ Ok (record { root = record { seed = s; action = Create id i }; below = children }, after_all (after_action progress s (Create id i)) (preorder children))
   created left run progress path seed by t fields s id i children h =
       let none = none_below left _ s path (after_action progress s (Create id i)) children _ h.children in
       let made = created_back packages i (signatories_in (parties_if_typed packages i)) h.sound.possible.0 h.sound.possible.1 refl in
@@ -117,10 +118,10 @@ module _ (packages : Packages) (known : List Known) where
         (args : List Value) (s id' salt : Hash) (i : Instance) (choice' : List ℕ) (args' : List Value) (actors : PartyNames) (consuming : Bool)
         (result : Value) (children : Actions)
         → IsTree packages known (suc left) progress path seed by (ExerciseDemand t id choice args)
-        (record { seed = s; action = Exercise id' salt i choice' args' actors consuming result; children = children })
+        (record { root = record { seed = s; action = Exercise id' salt i choice' args' actors consuming result }; below = children })
         → do_demand packages known run progress path seed by (ExerciseDemand t id choice args)
         ≡ Ok (
-          record { seed = s; action = Exercise id' salt i choice' args' actors consuming result; children = children },
+          record { root = record { seed = s; action = Exercise id' salt i choice' args' actors consuming result }; below = children },
           after_all
               (after_action progress s (Exercise id' salt i choice' args' actors consuming result)) (preorder children),
         )
@@ -150,10 +151,10 @@ module _ (packages : Packages) (known : List Known) where
   fetched : (left : ℕ) (run : Runner) (progress : Progress) (path : List ℕ) (seed : Hash) (by : PartyNames) (t : TemplateName) (id s id' salt : Hash)
       (i : Instance) (actors : PartyNames) (children : Actions)
       → IsTree packages known (suc left) progress path seed by (FetchDemand t id)
-      (record { seed = s; action = Fetch id' salt i actors; children = children })
+      (record { root = record { seed = s; action = Fetch id' salt i actors }; below = children })
       → do_demand packages known run progress path seed by (FetchDemand t id)
       ≡ Ok (
-        record { seed = s; action = Fetch id' salt i actors; children = children },
+        record { root = record { seed = s; action = Fetch id' salt i actors }; below = children },
         after_all (after_action progress s (Fetch id' salt i actors))
             (preorder children),
       )
@@ -171,9 +172,9 @@ module _ (packages : Packages) (known : List Known) where
   module _ (left : ℕ) (run : Runner) (complete : Complete left run) where
     stepped : (progress : Progress) (path : List ℕ) (seed : Hash) (by : PartyNames) (demand : Demand) (s : Hash) (action : Action)
         (children : Actions) → IsTree packages known (suc left) progress path seed by demand
-        (record { seed = s; action = action; children = children })
+        (record { root = record { seed = s; action = action }; below = children })
         → do_demand packages known run progress path seed by demand
-        ≡ Ok (record { seed = s; action = action; children = children }, after_all (after_action progress s action) (preorder children))
+        ≡ Ok (record { root = record { seed = s; action = action }; below = children }, after_all (after_action progress s action) (preorder children))
     stepped progress path seed by (CreateDemand t fields) s (Create id i) children h = created left run progress path seed by t fields s id i children h
     stepped progress path seed by (ExerciseDemand t id choice args) s (Exercise id' salt i choice' args' actors consuming result) children h =
         exercised left run complete progress path seed by t id choice args s id' salt i choice' args' actors consuming result children h

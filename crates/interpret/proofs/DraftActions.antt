@@ -14,7 +14,8 @@ use Rattle.ledger_terms.specs.declared.input.Input.{Input}
 use Rattle.ledger_terms.specs.declared.input.Input.TheVariants.{Known as KnownInput, Forged}
 use Rattle.ledger_terms.specs.declared.action.Action.{Action}
 use Rattle.ledger_terms.specs.declared.action.Action.TheVariants.{Create, Exercise, Fetch}
-use Rattle.ledger_terms.specs.Drafts.{DraftAction, DraftCreate, DraftExercise, DraftFetch}
+use Rattle.ledger_terms.specs.declared.draft_action.DraftAction.{DraftAction}
+use Rattle.ledger_terms.specs.declared.draft_action.DraftAction.TheVariants.{Create as DraftCreate, Exercise as DraftExercise, Fetch as DraftFetch}
 use Rattle.interpret.specs.Ids.{Hash, label_seed}
 use Rattle.interpret.specs.Usable.{find_salt}
 use Rattle.interpret.specs.Commands.{referenced_id, id_of_known, contract_value, referenced_value, with_first, referenced_values}

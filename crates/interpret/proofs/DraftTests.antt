@@ -18,7 +18,9 @@ use Rattle.ledger_terms.specs.declared.input.Input.{Input}
 use Rattle.ledger_terms.specs.declared.input.Input.TheVariants.{Known as KnownInput, Forged}
 use Rattle.ledger_terms.specs.declared.action.Action.{Action}
 use Rattle.ledger_terms.specs.declared.action.Action.TheVariants.{Create, Exercise, Fetch}
-use Rattle.ledger_terms.specs.Drafts.{Drafts, DraftAction, DraftCreate, DraftExercise, DraftFetch}
+use Rattle.ledger_terms.specs.Drafts.{Drafts}
+use Rattle.ledger_terms.specs.declared.draft_action.DraftAction.{DraftAction}
+use Rattle.ledger_terms.specs.declared.draft_action.DraftAction.TheVariants.{Create as DraftCreate, Exercise as DraftExercise, Fetch as DraftFetch}
 use Rattle.ledger_terms.specs.Forest.{NoRoots, Root, join, preorder, size, number_from, paths_from}
 use Rattle.ledger_terms.specs.Trees.{Actions}
 use Rattle.interpret.specs.declared.command_fault.CommandFault.{CommandFault}

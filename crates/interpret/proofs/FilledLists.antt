@@ -3,9 +3,8 @@ use Rattle.std.proofs.Common.{◌≡◌, ℕ, zero, suc, ◌+◌, ◌-◌, cond,
 use Rattle.std.proofs.lemmas.List.{drop_more}
 use Rattle.std.proofs.Math.ListN.{drop_of_length-le}
 use Rattle.ledger_terms.specs.declared.known.Known.{Known}
-use Rattle.ledger_terms.specs.declared.draft.Draft.{Draft}
-use Rattle.ledger_terms.specs.declared.draft.Draft.TheVariants.{Create, Exercise, Fetch}
-use Rattle.ledger_terms.specs.DraftsGrown.{drafts_of, draft_tree, draft_count}
+use Rattle.ledger_terms.specs.Drafts.{Draft}
+use Rattle.ledger_terms.specs.Grown.{forest_of, tree_of, node_count}
 use Rattle.ledger_terms.specs.Forest.{NoRoots, Root, join}
 use Rattle.ledger_terms.specs.Trees.{Actions}
 use Rattle.ledger_terms.proofs.Grow.{join-assoc, join-end}
@@ -13,26 +12,23 @@ use Rattle.interpret.specs.declared.command_fault.CommandFault.{CommandFault}
 use Rattle.std.specs.Prelude.{◌&&◌, ◌↔◌, IsTrue, IfOk, nat_le, slice_get}
 use Rattle.std.proofs.lemmas.Bool.Decides.{nat_tests}
 use Rattle.std.proofs.lemmas.Option.{slice_get_within, get_or_from_slice_get, slice_get_read}
-use Rattle.ledger_terms.proofs.DraftLists.{draft_within}
+use Rattle.ledger_terms.proofs.Grow.{tree_within}
 use Rattle.ledger_terms.specs.declared.action.Action.{Action}
 use Rattle.interpret.specs.Stops.{is_zero}
 use Rattle.interpret.specs.declared.command_fault.CommandFault.TheVariants.{ContractUnknown}
 use Rattle.ledger_terms.specs.declared.instance.Instance.{Instance}
-use Rattle.ledger_terms.specs.Drafts.{DraftCreate, DraftExercise, DraftFetch}
 use Rattle.wire_form.specs.Spellable.{IsSpellableInstance}
 use Rattle.interpret.proofs.Spelled.{values_are}
 use Rattle.interpret.specs.Ids.{Hash, child_seed, contract_id}
 use Rattle.interpret.specs.Act.{on}
-use Rattle.interpret.specs.Filled.{all_named, behind, draft_action, fill_all, fill_below, fill_one, fill_roots, fill_tree, filled_action, id_of, is_draft_named}
+use Rattle.interpret.specs.Filled.{all_named, behind, fill_all, fill_roots, fill_tree, filled_action, id_of, is_draft_named}
 
 -- one more draft, and those after it
 all_cons : (known : List Known) (left : ℕ) (seed : Hash) (path : List ℕ) (index count : ℕ) (d : Draft) (ds : List Draft)
-    → fill_all known left seed path index count (drafts_of (d ∷ ds))
-    ≡ on (fill_tree known left (path ++ index ∷ []) (child_seed seed index) count (draft_tree d))
-    (λ x. on (fill_all known left seed path (index + 1) x.1 (drafts_of ds)) (λ y. Ok (join x.0 y.0, y.1)))
-all_cons known left seed path index count (Create t fields) ds = refl
-all_cons known left seed path index count (Exercise i choice args actors consuming result children) ds = refl
-all_cons known left seed path index count (Fetch i actors) ds = refl
+    → fill_all known left seed path index count (forest_of (d ∷ ds))
+    ≡ on (fill_tree known left (path ++ index ∷ []) (child_seed seed index) count (tree_of d))
+    (λ x. on (fill_all known left seed path (index + 1) x.1 (forest_of ds)) (λ y. Ok (join x.0 y.0, y.1)))
+all_cons known left seed path index count d ds = refl
 
 behind_more : (front x : Actions) (r : Result (Actions × ℕ) CommandFault) → behind front (on r (λ y. Ok (join x y.0, y.1))) ≡ behind (join front x) r
 behind_more front x (Ok y) = ap (λ (f : Actions). Ok (f, y.1)) (sym (join-assoc front x y.0))
@@ -40,16 +36,16 @@ behind_more front x (Err e) = refl
 
 pub all_step : (known : List Known) (left : ℕ) (seed : Hash) (path : List ℕ) (index count count' : ℕ) (d : Draft) (ds : List Draft)
     (front tree : Actions) → index < length ds → d ≡ get_or ds index d
-    → fill_tree known left (path ++ index ∷ []) (child_seed seed index) count (draft_tree d) ≡ Ok (tree, count')
-    → behind front (fill_all known left seed path index count (drafts_of (drop index ds))) ≡ behind (join front tree)
-    (fill_all known left seed path (index + 1) count' (drafts_of (drop (index + 1) ds)))
+    → fill_tree known left (path ++ index ∷ []) (child_seed seed index) count (tree_of d) ≡ Ok (tree, count')
+    → behind front (fill_all known left seed path index count (forest_of (drop index ds))) ≡ behind (join front tree)
+    (fill_all known left seed path (index + 1) count' (forest_of (drop (index + 1) ds)))
 all_step known left seed path index count count' d ds front tree within at ran =
-    let here : drafts_of (drop index ds) ≡ drafts_of (d ∷ drop (index + 1) ds) = rw (drop_more ds index d within, ← at) refl in
+    let here : forest_of (drop index ds) ≡ forest_of (d ∷ drop (index + 1) ds) = rw (drop_more ds index d within, ← at) refl in
     rw here (ap (λ r. behind front r) (all_cons known left seed path index count d (drop (index + 1) ds))
-    ∙ rw ran (behind_more front tree (fill_all known left seed path (index + 1) count' (drafts_of (drop (index + 1) ds)))))
+    ∙ rw ran (behind_more front tree (fill_all known left seed path (index + 1) count' (forest_of (drop (index + 1) ds)))))
 
 pub all_end : (known : List Known) (left : ℕ) (seed : Hash) (path : List ℕ) (index count : ℕ) (ds : List Draft) (front : Actions) → length ds ≤ index
-    → behind front (fill_all known left seed path index count (drafts_of (drop index ds))) ≡ Ok (front, count)
+    → behind front (fill_all known left seed path index count (forest_of (drop index ds))) ≡ Ok (front, count)
 all_end known left seed path index count ds front past = rw (drop_of_length-le ds past) (ap (λ (f : Actions). Ok (f, count)) (join-end front))
 
 spelled_id : (salt : Hash) (i : Instance) (b : Bool) → IsTrue b ↔ IsSpellableInstance i → b ≡ true → id_of salt i ≡ contract_id salt i
@@ -70,51 +66,41 @@ and_order true false false = refl
 and_order false b c = refl
 
 named_cons : (known : List Known) (d : Draft) (ds : List Draft)
-    → all_named known (drafts_of (d ∷ ds)) ≡ (all_named known (draft_tree d) && all_named known (drafts_of ds))
-named_cons known (Create t fields) ds = and_order true (all_named known (drafts_of ds)) (is_draft_named known (DraftCreate t fields))
-named_cons known (Exercise i choice args actors consuming result children) ds =
-    and_order (all_named known children) (all_named known (drafts_of ds)) (is_draft_named known (DraftExercise i choice args actors consuming result))
-named_cons known (Fetch i actors) ds = and_order true (all_named known (drafts_of ds)) (is_draft_named known (DraftFetch i actors))
+    → all_named known (forest_of (d ∷ ds)) ≡ (all_named known (tree_of d) && all_named known (forest_of ds))
+named_cons known d ds = and_order (all_named known d.below) (all_named known (forest_of ds)) (is_draft_named known d.root)
 
 pub named_next : (known : List Known) (index : ℕ) (d : Draft) (ds : List Draft) → index < length ds → d ≡ get_or ds index d
-    → all_named known (drafts_of (drop index ds)) ≡ (all_named known (draft_tree d) && all_named known (drafts_of (drop (index + 1) ds)))
+    → all_named known (forest_of (drop index ds)) ≡ (all_named known (tree_of d) && all_named known (forest_of (drop (index + 1) ds)))
 named_next known index d ds within at = rw (drop_more ds index d within, ← at) (named_cons known d (drop (index + 1) ds))
-
-tree_is : (known : List Known) (left : ℕ) (path : List ℕ) (seed : Hash) (count : ℕ) (d : Draft)
-    → fill_tree known left path seed count (draft_tree d) ≡ fill_one known left path seed count (draft_action d)
-    (λ n. fill_below known (left - 1) path seed n (draft_tree d))
-tree_is known left path seed count (Create t fields) = refl
-tree_is known left path seed count (Exercise i choice args actors consuming result children) = refl
-tree_is known left path seed count (Fetch i actors) = refl
 
 not_zero : (n : ℕ) → 0 < n → is_zero n ≡ false
 not_zero zero h = absurd (omega arith)
 not_zero (suc n) h = refl
 
 module _ (known : List Known) (left : ℕ) (path : List ℕ) (seed : Hash) (count : ℕ) (d : Draft) (a : Action) (some : 0 < left) (room : count < 64)
-    (there : Some a ≡ filled_action known seed (draft_action d)) where
-  pub tree_err : (e : CommandFault) → Err e ≡ fill_below known (left - 1) path seed (count + 1) (draft_tree d)
-      → fill_tree known left path seed count (draft_tree d) ≡ Err e
+    (there : Some a ≡ filled_action known seed d.root) where
+  pub tree_err : (e : CommandFault) → Err e ≡ fill_all known (left - 1) seed path 0 (count + 1) d.below
+      → fill_tree known left path seed count (tree_of d) ≡ Err e
   tree_err e h =
       let few : nat_le 64 count ≡ false = grind (arith, nat_tests, room) in
-      tree_is known left path seed count d ∙ rw (not_zero left some, few, ← there, ← h) refl
+      rw (not_zero left some, few, ← there, ← h) refl
 
-  pub tree_ok : (f : Actions) (n : ℕ) → Ok (f, n) ≡ fill_below known (left - 1) path seed (count + 1) (draft_tree d)
-      → fill_tree known left path seed count (draft_tree d) ≡ Ok (Root (record { seed = seed; action = a }) f NoRoots, n)
+  pub tree_ok : (f : Actions) (n : ℕ) → Ok (f, n) ≡ fill_all known (left - 1) seed path 0 (count + 1) d.below
+      → fill_tree known left path seed count (tree_of d) ≡ Ok (Root (record { seed = seed; action = a }) f NoRoots, n)
   tree_ok f n h =
       let few : nat_le 64 count ≡ false = grind (arith, nat_tests, room) in
-      tree_is known left path seed count d ∙ rw (not_zero left some, few, ← there, ← h) refl
+      rw (not_zero left some, few, ← there, ← h) refl
 
 -- the draft at a place is no greater than the list
-pub place_within : (ds all : _) (i : ℕ) (d : Draft) → drafts_of ds ≡ all → Some d ≡ slice_get ds i → draft_count (draft_tree d) ≤ draft_count all
+pub place_within : (ds all : _) (i : ℕ) (d : Draft) → forest_of ds ≡ all → Some d ≡ slice_get ds i → node_count (tree_of d) ≤ node_count all
 place_within ds all i d is at =
-    rw (← is, ← get_or_from_slice_get ds i d d (sym at)) (draft_within ds i d (slice_get_within ds i d (sym at)))
+    rw (← is, ← get_or_from_slice_get ds i d d (sym at)) (tree_within ds i d (slice_get_within ds i d (sym at)))
 
 all_err_step : (known : List Known) (left : ℕ) (seed : Hash) (path : List ℕ) (index count : ℕ) (d : Draft) (ds : List Draft) (front : Actions)
-    (e : CommandFault) → Some d ≡ slice_get ds index → fill_tree known left (path ++ index ∷ []) (child_seed seed index) count (draft_tree d) ≡ Err e
-    → behind front (fill_all known left seed path index count (drafts_of (drop index ds))) ≡ Err e
+    (e : CommandFault) → Some d ≡ slice_get ds index → fill_tree known left (path ++ index ∷ []) (child_seed seed index) count (tree_of d) ≡ Err e
+    → behind front (fill_all known left seed path index count (forest_of (drop index ds))) ≡ Err e
 all_err_step known left seed path index count d ds front e at ran =
-    let here : drafts_of (drop index ds) ≡ drafts_of (d ∷ drop (index + 1) ds) = rw
+    let here : forest_of (drop index ds) ≡ forest_of (d ∷ drop (index + 1) ds) = rw
     (drop_more ds index d (slice_get_within ds index d (sym at)), get_or_from_slice_get ds index d d (sym at)) refl in
     rw here (ap (λ r. behind front r) (all_cons known left seed path index count d (drop (index + 1) ds)) ∙ rw ran refl)
 
@@ -122,63 +108,61 @@ all_err_step known left seed path index count d ds front e at ran =
 module _ (known : List Known) (left : ℕ) (seed : Hash) (path : List ℕ) (index count : ℕ) (d : Draft) (ds : List Draft) (front : Actions) (l : ℕ)
     (q : List ℕ) (sd : Hash) (at : Some d ≡ slice_get ds index) (at_left : l ≡ left) (at_path : q ≡ path ++ index ∷ [])
     (at_seed : sd ≡ child_seed seed index) where
-  tree_here : fill_tree known l q sd count (draft_tree d) ≡ fill_tree known left (path ++ index ∷ []) (child_seed seed index) count (draft_tree d)
+  tree_here : fill_tree known l q sd count (tree_of d) ≡ fill_tree known left (path ++ index ∷ []) (child_seed seed index) count (tree_of d)
   tree_here =
-      ap (λ (n : ℕ). fill_tree known n q sd count (draft_tree d)) at_left
-      ∙ (ap (λ (p : List ℕ). fill_tree known left p sd count (draft_tree d)) at_path
-      ∙ ap (λ (s : Hash). fill_tree known left (path ++ index ∷ []) s count (draft_tree d)) at_seed)
+      ap (λ (n : ℕ). fill_tree known n q sd count (tree_of d)) at_left
+      ∙ (ap (λ (p : List ℕ). fill_tree known left p sd count (tree_of d)) at_path
+      ∙ ap (λ (s : Hash). fill_tree known left (path ++ index ∷ []) s count (tree_of d)) at_seed)
 
-  pub all_err : (e : CommandFault) → Err e ≡ fill_tree known l q sd count (draft_tree d)
-      → behind front (fill_all known left seed path index count (drafts_of (drop index ds))) ≡ Err e
+  pub all_err : (e : CommandFault) → Err e ≡ fill_tree known l q sd count (tree_of d)
+      → behind front (fill_all known left seed path index count (forest_of (drop index ds))) ≡ Err e
   all_err e h = all_err_step known left seed path index count d ds front e at (sym tree_here ∙ sym h)
 
-  pub all_more : (tree front' : Actions) (count' : ℕ) → Ok (tree, count') ≡ fill_tree known l q sd count (draft_tree d) → front' ≡ join front tree
-      → behind front (fill_all known left seed path index count (drafts_of (drop index ds)))
-      ≡ behind front' (fill_all known left seed path (index + 1) count' (drafts_of (drop (index + 1) ds)))
+  pub all_more : (tree front' : Actions) (count' : ℕ) → Ok (tree, count') ≡ fill_tree known l q sd count (tree_of d) → front' ≡ join front tree
+      → behind front (fill_all known left seed path index count (forest_of (drop index ds)))
+      ≡ behind front' (fill_all known left seed path (index + 1) count' (forest_of (drop (index + 1) ds)))
   all_more tree front' count' h joins =
       all_step known left seed path index count count' d ds front tree (slice_get_within ds index d (sym at))
       (sym (get_or_from_slice_get ds index d d (sym at))) (sym tree_here ∙ sym h)
-      ∙ ap (λ (f : Actions). behind f (fill_all known left seed path (index + 1) count' (drafts_of (drop (index + 1) ds)))) (sym joins)
+      ∙ ap (λ (f : Actions). behind f (fill_all known left seed path (index + 1) count' (forest_of (drop (index + 1) ds)))) (sym joins)
 
 -- the same of roots
 roots_cons : (known : List Known) (seed : Hash) (index count : ℕ) (d : Draft) (ds : List Draft)
-    → fill_roots known seed index count (drafts_of (d ∷ ds)) ≡ cond (all_named known (draft_tree d))
-    (on (fill_tree known 16 (index ∷ []) (child_seed seed index) count (draft_tree d))
-    (λ x. on (fill_roots known seed (index + 1) x.1 (drafts_of ds)) (λ y. Ok (join x.0 y.0, y.1)))) (Err (ContractUnknown (index ∷ [])))
-roots_cons known seed index count (Create t fields) ds = refl
-roots_cons known seed index count (Exercise i choice args actors consuming result children) ds = refl
-roots_cons known seed index count (Fetch i actors) ds = refl
+    → fill_roots known seed index count (forest_of (d ∷ ds)) ≡ cond (all_named known (tree_of d))
+    (on (fill_tree known 16 (index ∷ []) (child_seed seed index) count (tree_of d))
+    (λ x. on (fill_roots known seed (index + 1) x.1 (forest_of ds)) (λ y. Ok (join x.0 y.0, y.1)))) (Err (ContractUnknown (index ∷ [])))
+roots_cons known seed index count d ds = refl
 
 pub roots_end : (known : List Known) (seed : Hash) (index count : ℕ) (ds : List Draft) (front : Actions) → length ds ≤ index
-    → behind front (fill_roots known seed index count (drafts_of (drop index ds))) ≡ Ok (front, count)
+    → behind front (fill_roots known seed index count (forest_of (drop index ds))) ≡ Ok (front, count)
 roots_end known seed index count ds front past = rw (drop_of_length-le ds past) (ap (λ (f : Actions). Ok (f, count)) (join-end front))
 
 module _ (known : List Known) (seed : Hash) (index count : ℕ) (d : Draft) (ds : List Draft) (front : Actions) (l : ℕ) (q : List ℕ) (sd : Hash)
     (at : Some d ≡ slice_get ds index) (at_left : l ≡ 16) (at_path : q ≡ index ∷ []) (at_seed : sd ≡ child_seed seed index) where
-  here : drafts_of (drop index ds) ≡ drafts_of (d ∷ drop (index + 1) ds)
+  here : forest_of (drop index ds) ≡ forest_of (d ∷ drop (index + 1) ds)
   here = rw (drop_more ds index d (slice_get_within ds index d (sym at)), get_or_from_slice_get ds index d d (sym at)) refl
 
-  root_here : fill_tree known l q sd count (draft_tree d) ≡ fill_tree known 16 (index ∷ []) (child_seed seed index) count (draft_tree d)
+  root_here : fill_tree known l q sd count (tree_of d) ≡ fill_tree known 16 (index ∷ []) (child_seed seed index) count (tree_of d)
   root_here =
-      ap (λ (n : ℕ). fill_tree known n q sd count (draft_tree d)) at_left
-      ∙ (ap (λ (p : List ℕ). fill_tree known 16 p sd count (draft_tree d)) at_path
-      ∙ ap (λ (s : Hash). fill_tree known 16 (index ∷ []) s count (draft_tree d)) at_seed)
+      ap (λ (n : ℕ). fill_tree known n q sd count (tree_of d)) at_left
+      ∙ (ap (λ (p : List ℕ). fill_tree known 16 p sd count (tree_of d)) at_path
+      ∙ ap (λ (s : Hash). fill_tree known 16 (index ∷ []) s count (tree_of d)) at_seed)
 
-  pub roots_unnamed : (b : Bool) → b ≡ all_named known (draft_tree d) → b ≡ false
-      → behind front (fill_roots known seed index count (drafts_of (drop index ds))) ≡ Err (ContractUnknown q)
+  pub roots_unnamed : (b : Bool) → b ≡ all_named known (tree_of d) → b ≡ false
+      → behind front (fill_roots known seed index count (forest_of (drop index ds))) ≡ Err (ContractUnknown q)
   roots_unnamed b is none = rw (here, roots_cons known seed index count d (drop (index + 1) ds), ← is, none, at_path) refl
 
-  pub roots_err : (b : Bool) (e : CommandFault) → b ≡ all_named known (draft_tree d) → b ≡ true → Err e ≡ fill_tree known l q sd count (draft_tree d)
-      → behind front (fill_roots known seed index count (drafts_of (drop index ds))) ≡ Err e
+  pub roots_err : (b : Bool) (e : CommandFault) → b ≡ all_named known (tree_of d) → b ≡ true → Err e ≡ fill_tree known l q sd count (tree_of d)
+      → behind front (fill_roots known seed index count (forest_of (drop index ds))) ≡ Err e
   roots_err b e is yes' h = rw (here, roots_cons known seed index count d (drop (index + 1) ds), ← is, yes', ← root_here, ← h) refl
 
-  pub roots_more : (b : Bool) (tree front' : Actions) (count' : ℕ) → b ≡ all_named known (draft_tree d) → b ≡ true
-      → Ok (tree, count') ≡ fill_tree known l q sd count (draft_tree d) → front' ≡ join front tree
-      → behind front (fill_roots known seed index count (drafts_of (drop index ds)))
-      ≡ behind front' (fill_roots known seed (index + 1) count' (drafts_of (drop (index + 1) ds)))
+  pub roots_more : (b : Bool) (tree front' : Actions) (count' : ℕ) → b ≡ all_named known (tree_of d) → b ≡ true
+      → Ok (tree, count') ≡ fill_tree known l q sd count (tree_of d) → front' ≡ join front tree
+      → behind front (fill_roots known seed index count (forest_of (drop index ds)))
+      ≡ behind front' (fill_roots known seed (index + 1) count' (forest_of (drop (index + 1) ds)))
   roots_more b tree front' count' is yes' h joins =
       rw (here, roots_cons known seed index count d (drop (index + 1) ds), ← is, yes', ← root_here, ← h, joins)
-      (behind_more front tree (fill_roots known seed (index + 1) count' (drafts_of (drop (index + 1) ds))))
+      (behind_more front tree (fill_roots known seed (index + 1) count' (forest_of (drop (index + 1) ds))))
 
 -- what stands at a place that is inside
 pub some_at : (ds : List Draft) (i : ℕ) (d : Draft) → i < length ds → d ≡ get_or ds i d → Some d ≡ slice_get ds i

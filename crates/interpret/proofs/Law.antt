@@ -7,9 +7,10 @@ use Rattle.ledger_terms.proofs.Deciding.{both_true}
 use Rattle.ledger_terms.specs.declared.value.Value.{Value}
 use Rattle.ledger_terms.specs.declared.known.Known.{Known}
 use Rattle.ledger_terms.specs.declared.template_name.TemplateName.{TemplateName}
-use Rattle.ledger_terms.specs.declared.action_node.ActionNode.{ActionNode}
+use Rattle.ledger_terms.specs.Trees.{ActionNode}
 use Rattle.ledger_terms.specs.Forest.{NoRoots, Root, preorder, join}
-use Rattle.ledger_terms.specs.Trees.{Act, Actions}
+use Rattle.ledger_terms.specs.declared.act.Act.{Act}
+use Rattle.ledger_terms.specs.Trees.{Actions}
 use Rattle.ledger_terms.specs.Grown.{tree_of}
 use Rattle.ledger_terms.specs.Parties.{is_subset}
 use Rattle.ledger_terms.proofs.Grow.{join-assoc, join-end}
@@ -39,9 +40,6 @@ use Rattle.interpret.specs.Wanted.{Wanted, IsTree, after, after_all, progress_wi
 use Rattle.interpret.proofs.Facts.{created_facts, called_facts, exercisable}
 use Rattle.interpret.proofs.Found.{found_facts}
 use Rattle.interpret.proofs.Fetched.{set_members}
-
-abbrev pub label : ActionNode → Act
-label n = record { seed = n.seed; action = n.action }
 
 pub after_all-append : (p : Progress) (xs ys : List Act) → after_all p (xs ++ ys) ≡ after_all (after_all p xs) ys
 after_all-append p [] ys = refl
@@ -77,11 +75,11 @@ module _ (packages : Packages) (known : List Known) where
 
     one_more : (progress : Progress) (seen : List Seen) (children : Actions) (index : ℕ) (d : Demand) (node : ActionNode) (p : Progress)
         → source.turn index seen ≡ Child d → Right packages known left progress (path ++ index ∷ []) (child_seed seed index) by d node p
-        → Rest packages known left source by (source.learn seen node.action) seed path (index + 1) p (join children (tree_of node)) f
+        → Rest packages known left source by (source.learn seen node.root.action) seed path (index + 1) p (join children (tree_of node)) f
         → Rest packages known left source by seen seed path index progress children f
     one_more progress seen children index d node p asked right more =
         record {
-          rest = Root (label node) node.children more.rest;
+          rest = Root node.root node.below more.rest;
           joins = more.joins ∙ join-assoc children (tree_of node) more.rest;
           wanted = (
             (d, asked, right.tree.demanded),
@@ -90,11 +88,11 @@ module _ (packages : Packages) (known : List Known) where
             right.tree.seeded,
             right.tree.sound,
             right.tree.children,
-            subst (λ (q : Progress). Wanted packages known left source f.result by (source.learn seen node.action) seed path (index + 1) q more.rest)
+            subst (λ (q : Progress). Wanted packages known left source f.result by (source.learn seen node.root.action) seed path (index + 1) q more.rest)
                 right.grown more.wanted,
           );
           grown = more.grown ∙ (ap (λ (q : Progress). after_all q (preorder more.rest)) right.grown
-              ∙ sym (after_all-append (after progress (label node)) (preorder node.children) (preorder more.rest)));
+              ∙ sym (after_all-append (after progress node.root) (preorder node.below) (preorder more.rest)));
         }
 
     child_case : (n : ℕ) → Ahead n → (progress : Progress) (seen : List Seen) (children : Actions) (index : ℕ) (d : Demand)

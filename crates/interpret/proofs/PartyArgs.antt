@@ -12,7 +12,7 @@ use Rattle.lang_eval.specs.Named.{AreKnown, parties_in_value, parties_in_values}
 use Rattle.lang_eval.proofs.Known.{known_append, known_front, known_back}
 use Rattle.interpret.specs.Ids.{Hash}
 use Rattle.interpret.specs.Commands.{contract_value, referenced_id, referenced_value, referenced_values, with_first}
-use Rattle.interpret.specs.NamedParties.{parties_in_arg, parties_in_args}
+use Rattle.lang_eval.specs.HandedIn.{parties_in_arg, parties_in_args}
 
 module _ (is_party : List ℕ → Bool) (known : List Known) where
   contract_known : (o : Option Hash) (v : Value) → contract_value o ≡ Some v → AreKnown is_party (parties_in_value v)

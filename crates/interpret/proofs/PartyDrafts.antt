@@ -13,7 +13,9 @@ use Rattle.ledger_terms.specs.declared.input.Input.{Input}
 use Rattle.ledger_terms.specs.declared.input.Input.TheVariants.{Known as KnownInput, Forged}
 use Rattle.ledger_terms.specs.declared.action.Action.{Action}
 use Rattle.ledger_terms.specs.declared.action.Action.TheVariants.{Create, Exercise, Fetch}
-use Rattle.ledger_terms.specs.Drafts.{Drafts, DraftAction, DraftCreate, DraftExercise, DraftFetch}
+use Rattle.ledger_terms.specs.Drafts.{Drafts}
+use Rattle.ledger_terms.specs.declared.draft_action.DraftAction.{DraftAction}
+use Rattle.ledger_terms.specs.declared.draft_action.DraftAction.TheVariants.{Create as DraftCreate, Exercise as DraftExercise, Fetch as DraftFetch}
 use Rattle.ledger_terms.specs.Forest.{NoRoots, Root, preorder}
 use Rattle.ledger_terms.specs.Trees.{Actions}
 use Rattle.lang_eval.specs.Parts.{PartyNames}
@@ -21,7 +23,8 @@ use Rattle.lang_eval.specs.Named.{AreKnown, parties_in_action, parties_in_instan
 use Rattle.lang_eval.proofs.Known.{known_append, known_front, known_back}
 use Rattle.interpret.specs.Ids.{Hash}
 use Rattle.interpret.specs.FilledTree.{IsValueOf, AreValuesOf, IsKnownAs, IsInputOf, IsActionOf, AreFilled, IsFilled}
-use Rattle.interpret.specs.NamedParties.{parties_in_act, parties_in_arg, parties_in_args, parties_in_contracts, parties_in_draft, parties_in_drafts, parties_in_forest, parties_in_input, parties_in_known}
+use Rattle.lang_eval.specs.HandedIn.{parties_in_arg, parties_in_args, parties_in_draft, parties_in_drafts, parties_in_input}
+use Rattle.interpret.specs.NamedParties.{parties_in_act, parties_in_contracts, parties_in_forest, parties_in_known}
 use Rattle.interpret.proofs.PartyLaw.{IsKnownContract, each_known}
 use Rattle.interpret.proofs.Used.{AllOf, found}
 

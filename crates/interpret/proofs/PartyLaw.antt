@@ -51,7 +51,8 @@ use Rattle.interpret.specs.Tested.{fetchers}
 use Rattle.interpret.specs.Act.{Source, End, Child, body_source, step_of, turn_of}
 use Rattle.interpret.specs.Commands.{args_have_kinds, called_demand, command_demand, command_turn, commands_source, demand_turn, referenced_id, referenced_values, where_there}
 use Rattle.interpret.specs.Interpreted.{nothing_done}
-use Rattle.interpret.specs.NamedParties.{parties_in_act, parties_in_args, parties_in_command, parties_in_commands, parties_in_contracts, parties_in_forest, parties_in_known}
+use Rattle.lang_eval.specs.HandedIn.{parties_in_args, parties_in_command, parties_in_commands}
+use Rattle.interpret.specs.NamedParties.{parties_in_act, parties_in_contracts, parties_in_forest, parties_in_known}
 use Rattle.interpret.specs.Wanted.{Wanted, IsWanted, IsInput, IsFetchedBy, after, after_action, after_all, no_source, one_less, source_of, result_of}
 use Rattle.interpret.proofs.Facts.{exercised_back}
 use Rattle.interpret.proofs.Law.{after_all-append}

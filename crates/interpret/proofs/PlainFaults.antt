@@ -191,7 +191,7 @@ module _ (packages : Packages) (known : List Known) where
   stops_plain Here left source p by seen seed path index progress g (inr asked) = first_plain packages known left progress
       (path ++ index ∷ []) by asked.0 g asked.2
   stops_plain (Past node more) left source p by seen seed path index progress g s =
-      stops_plain more left source p by (source.learn seen node.action) seed path (index + 1) (progress_with progress node) g s.3
+      stops_plain more left source p by (source.learn seen node.root.action) seed path (index + 1) (progress_with progress node) g s.3
   stops_plain (Inside k choice args actors more) left source p by seen seed path index progress g s =
       stops_plain more (one_less left) (body_source packages (call_of k choice args) (path ++ index ∷ []))
       (body_plain packages (call_of k choice args) (path ++ index ∷ [])) (authorisers packages k.instance actors) [] (child_seed seed index)

@@ -4,7 +4,7 @@ use Rattle.std.specs.Prelude.{nat_le}
 use Rattle.std.proofs.lemmas.Bool.Decides.{nat_tests}
 use Rattle.ledger_terms.specs.declared.known.Known.{Known}
 use Rattle.ledger_terms.specs.declared.value.Value.{Value}
-use Rattle.ledger_terms.specs.declared.action_node.ActionNode.{ActionNode}
+use Rattle.ledger_terms.specs.Trees.{ActionNode}
 use Rattle.ledger_terms.specs.Forest.{join}
 use Rattle.ledger_terms.specs.Trees.{Actions}
 use Rattle.ledger_terms.specs.Grown.{tree_of}
@@ -87,7 +87,7 @@ module _ (source : Source) (run : Runner) (seed : Hash) (path : List ℕ) (by : 
   -- a child that is run
   pub follow_child : (n m : ℕ) (d : Demand) (node : ActionNode) (next_progress : Progress) (q : List ℕ) (sd : Hash) (seen' : List Seen)
       (children' : Actions) → n ≡ m + 1 → Child d ≡ source.turn index seen → q ≡ path ++ index ∷ [] → sd ≡ child_seed seed index
-      → Ok (node, next_progress) ≡ run progress q sd by d → seen' ≡ source.learn seen node.action → children' ≡ join children (tree_of node)
+      → Ok (node, next_progress) ≡ run progress q sd by d → seen' ≡ source.learn seen node.root.action → children' ≡ join children (tree_of node)
       → follow n source run seed path by progress seen children index ≡ follow m source run seed path by next_progress seen' children' (index + 1)
   unfolding follow
   follow_child zero m d node next_progress q sd seen' children' h is at at_seed ran grown joins = absurd (omega arith)
@@ -96,7 +96,7 @@ module _ (source : Source) (run : Runner) (seed : Hash) (path : List ℕ) (by : 
       let here : Ok (node, next_progress) ≡ run progress (path ++ index ∷ []) (child_seed seed index) by d =
       ran ∙ (ap (λ (sd : Hash). run progress q sd by d) at_seed ∙ ap (λ (q : List ℕ). run progress q (child_seed seed index) by d) at) in
       rw (← is, ← here, grown, joins)
-      (ap (λ (m : ℕ). follow m source run seed path by next_progress (source.learn seen node.action) (join children (tree_of node)) (index + 1)) same)
+      (ap (λ (m : ℕ). follow m source run seed path by next_progress (source.learn seen node.root.action) (join children (tree_of node)) (index + 1)) same)
 
 -- what the code answers for the next thing
 pub end_shown : (n : Next) (v : Value) (t : Turn) → n ≡ NextEnd v → turn_shown (Ok n) ≡ t → End v ≡ t

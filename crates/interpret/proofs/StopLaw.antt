@@ -6,7 +6,7 @@ use Rattle.std.proofs.lemmas.Bool.Decides.{nat_tests}
 use Rattle.ledger_terms.specs.declared.value.Value.{Value}
 use Rattle.ledger_terms.specs.declared.known.Known.{Known}
 use Rattle.ledger_terms.specs.declared.template_name.TemplateName.{TemplateName}
-use Rattle.ledger_terms.specs.declared.action_node.ActionNode.{ActionNode}
+use Rattle.ledger_terms.specs.Trees.{ActionNode}
 use Rattle.ledger_terms.specs.Forest.{NoRoots, join}
 use Rattle.ledger_terms.specs.Trees.{Actions}
 use Rattle.ledger_terms.specs.Grown.{tree_of}
@@ -43,8 +43,8 @@ module _ (packages : Packages) (known : List Known) where
   tree_room : (left : ℕ) (progress : Progress) (path : List ℕ) (seed : Hash) (by : PartyNames) (demand : Demand) (node : ActionNode)
       → IsTree packages known left progress path seed by demand node → (progress_with progress node).count ≤ 64
   tree_room left progress path seed by demand node t =
-      wanted_room packages known (one_less left) (source_of packages path node.action) (result_of node.action) _ [] node.seed path 0
-      (after_action progress node.seed node.action) node.children (omega (arith, after_action-count progress node.seed node.action, t.room)) t.children
+      wanted_room packages known (one_less left) (source_of packages path node.root.action) (result_of node.root.action) _ [] node.root.seed path 0
+      (after_action progress node.root.seed node.root.action) node.below (omega (arith, after_action-count progress node.root.seed node.root.action, t.room)) t.children
 
   abbrev pub Refusing : ℕ → Runner → Type 0
   Refusing left run =
@@ -121,10 +121,10 @@ module _ (packages : Packages) (known : List Known) where
       follow_halts Here (suc n) progress seen children index turns room (inr asked) =
           rw (asked.1, refused progress (path ++ index ∷ []) (child_seed seed index) by asked.0 fault (inl asked.2)) refl
       follow_halts (Past node more) (suc n) progress seen children index turns room s =
-          let ran = complete progress (path ++ index ∷ []) (child_seed seed index) by s.0 node.seed node.action node.children s.2 in
+          let ran = complete progress (path ++ index ∷ []) (child_seed seed index) by s.0 node.root.seed node.root.action node.below s.2 in
           let grows = one_grows progress node in
           let within = tree_room left progress (path ++ index ∷ []) (child_seed seed index) by s.0 node s.2 in
-          rw (s.1, ran) (follow_halts more n (progress_with progress node) (source.learn seen node.action) (join children (tree_of node)) (index + 1)
+          rw (s.1, ran) (follow_halts more n (progress_with progress node) (source.learn seen node.root.action) (join children (tree_of node)) (index + 1)
           (omega (arith, grows, turns)) within s.3)
       follow_halts (Inside k choice args actors more) (suc n) progress seen children index turns room s =
           rw (

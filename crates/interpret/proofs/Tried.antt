@@ -10,7 +10,7 @@ use Rattle.ledger_terms.specs.declared.action.Action.TheVariants.{Create, Exerci
 use Rattle.ledger_terms.specs.Forest.{NoRoots, Root}
 use Rattle.ledger_terms.specs.Trees.{Actions}
 use Rattle.ledger_terms.specs.Grown.{tree_of}
-use Rattle.ledger_terms.specs.declared.action_node.ActionNode.{ActionNode}
+use Rattle.ledger_terms.specs.Trees.{ActionNode}
 use Rattle.ledger_model.specs.Conformance.{Body, NoBody, BodyOf, body_of, seen_of, Demands, Possible, Ends, Continues, AreRest, Conforms}
 use Rattle.ledger_model.specs.declared.step.Seen.{Seen}
 use Rattle.ledger_model.specs.declared.step.Step.{Step}
@@ -123,7 +123,7 @@ module _ (packages : Packages) where
     λ h. both_true _ _ ((possible a).1 h.0) (test_from_rest consequences (body_of a) [] h.1),
   )
 
-  pub answer_decides : {E : Type 0} → (node : ActionNode) (r : Result Bool E) → IfOk r (λ b. b ≡ is_tree_possible packages node.action node.children)
+  pub answer_decides : {E : Type 0} → (node : ActionNode) (r : Result Bool E) → IfOk r (λ b. b ≡ is_tree_possible packages node.root.action node.below)
       → IfOk r (λ b. Decides b (Conforms (the_language packages) (tree_of node)))
-  answer_decides node (Ok b) h = rw h (tree_decides node.action node.children node.seed)
+  answer_decides node (Ok b) h = rw h (tree_decides node.root.action node.below node.root.seed)
   answer_decides node (Err e) h = tt

@@ -5,11 +5,12 @@ use Rattle.ledger_terms.specs.declared.instance.Instance.{Instance}
 use Rattle.ledger_terms.specs.declared.known.Known.{Known}
 use Rattle.ledger_terms.specs.declared.action.Action.{Action}
 use Rattle.ledger_terms.specs.declared.action.Action.TheVariants.{Create, Exercise, Fetch}
-use Rattle.ledger_terms.specs.declared.action_node.ActionNode.{ActionNode}
+use Rattle.ledger_terms.specs.Trees.{ActionNode}
 use Rattle.ledger_terms.specs.Forest.{NoRoots, join}
 use Rattle.ledger_terms.specs.Trees.{Actions}
 use Rattle.ledger_terms.specs.Grown.{tree_of}
 use Rattle.ledger_terms.specs.Parties.{is_subset}
+use Rattle.ledger_terms.specs.declared.limits.TheConstants.{MOST_ACTIONS}
 use Rattle.ledger_model.specs.Conformance.{seen_of}
 use Rattle.ledger_model.specs.Parties.{is_empty}
 use Rattle.ledger_model.specs.declared.step.ChoiceCall.{ChoiceCall}
@@ -88,7 +89,7 @@ follow zero source run seed path by progress seen children index = Err (TooMany 
 follow (suc turns) source run seed path by progress seen children index =
     by_turn (source.turn index seen) (λ v. Ok (record { children = children; result = v; progress = progress })) (λ demand.
     on (run progress (path ++ index ∷ []) (child_seed seed index) by demand) (λ x.
-    follow turns source run seed path by x.1 (source.learn seen x.0.action) (join children (tree_of x.0)) (index + 1)))
+    follow turns source run seed path by x.1 (source.learn seen x.0.root.action) (join children (tree_of x.0)) (index + 1)))
 
 -- one more than a transaction may have
 unfoldable pub most_children : ℕ
@@ -114,7 +115,7 @@ body_source packages call path =
     }
 
 abbrev pub created_node : Hash → Instance → ActionNode
-created_node seed i = record { seed = seed; action = Create (contract_id seed i) i; children = NoRoots }
+created_node seed i = record { root = record { seed = seed; action = Create (contract_id seed i) i }; below = NoRoots }
 
 abbrev pub created_known : Hash → Instance → Known
 created_known seed i = record { id = contract_id seed i; salt = seed; instance = i }
@@ -132,9 +133,8 @@ call_of k choice args = record { id = k.id; instance = k.instance; choice = choi
 abbrev pub exercised_node : Hash → Hash → ChoiceCall → PartyNames → Bool → BodyRun → ActionNode
 exercised_node seed salt call actors consuming f =
     record {
-      seed = seed;
-      action = Exercise call.id salt call.instance call.choice call.args actors consuming f.result;
-      children = f.children;
+      root = record { seed = seed; action = Exercise call.id salt call.instance call.choice call.args actors consuming f.result };
+      below = f.children;
     }
 
 -- A consuming Exercise consumes before its body runs.
@@ -152,7 +152,7 @@ do_exercise packages run progress path seed by None choice args = Err (ContractU
 do_exercise packages run progress path seed by (Some k) choice args = exercise_on packages run (with_action progress) path seed by k.salt (call_of k choice args)
 
 abbrev pub fetched_node : Hash → Known → PartyNames → ActionNode
-fetched_node seed k actors = record { seed = seed; action = Fetch k.id k.salt k.instance actors; children = NoRoots }
+fetched_node seed k actors = record { root = record { seed = seed; action = Fetch k.id k.salt k.instance actors }; below = NoRoots }
 
 abbrev pub do_fetch : Packages → Progress → List ℕ → Hash → PartyNames → Option Known → Result (ActionNode × Progress) CommandFault
 do_fetch packages progress path seed by None = Err (ContractUnknown path)
@@ -170,7 +170,7 @@ do_demand packages known run progress path seed by (FetchDemand t id) = do_fetch
 -- one action, where its children are run so
 abbrev pub level : Packages → List Known → Runner → Runner
 level packages known run progress path seed by demand =
-    cond (nat_le 64 progress.count) (Err (TooMany path)) (do_demand packages known run progress path seed by demand)
+    cond (nat_le MOST_ACTIONS progress.count) (Err (TooMany path)) (do_demand packages known run progress path seed by demand)
 
 -- an action with so many levels left
 unfoldable pub act : ℕ → Packages → List Known → Runner

@@ -13,13 +13,14 @@ use Rattle.ledger_terms.specs.declared.input.Input.{Input}
 use Rattle.ledger_terms.specs.declared.input.Input.TheVariants.{Known as KnownInput, Forged}
 use Rattle.ledger_terms.specs.declared.action.Action.{Action}
 use Rattle.ledger_terms.specs.declared.action.Action.TheVariants.{Create, Exercise, Fetch}
-use Rattle.ledger_terms.specs.Drafts.{Drafts, DraftAction, DraftCreate, DraftExercise, DraftFetch}
+use Rattle.ledger_terms.specs.Drafts.{Drafts}
+use Rattle.ledger_terms.specs.declared.draft_action.DraftAction.{DraftAction}
+use Rattle.ledger_terms.specs.declared.draft_action.DraftAction.TheVariants.{Create as DraftCreate, Exercise as DraftExercise, Fetch as DraftFetch}
 use Rattle.ledger_terms.specs.Forest.{NoRoots, Root, join}
 use Rattle.ledger_terms.specs.Trees.{Actions}
 use Rattle.ledger_terms.specs.Grown.{tree_of}
-use Rattle.ledger_terms.specs.declared.action_node.ActionNode.{ActionNode}
-use Rattle.ledger_terms.specs.declared.draft.Draft.{Draft}
-use Rattle.ledger_terms.specs.declared.draft.Draft.TheVariants.{Create as CreateDraft, Exercise as ExerciseDraft, Fetch as FetchDraft}
+use Rattle.ledger_terms.specs.Trees.{ActionNode}
+use Rattle.ledger_terms.specs.declared.limits.TheConstants.{MOST_ACTIONS, MOST_ACTION_DEPTH}
 use Rattle.interpret.specs.declared.command_fault.CommandFault.{CommandFault}
 use Rattle.interpret.specs.declared.command_fault.CommandFault.TheVariants.{ContractUnknown, TooDeep, TooMany}
 use Rattle.interpret.specs.Ids.{Hash, child_seed, contract_id, label_seed}
@@ -115,7 +116,7 @@ filled_action known seed (DraftFetch input actors) = fetch_of_draft known input 
 -- one tree: depth, number and contract are tried, and then what stands below
 abbrev pub fill_one : List Known → ℕ → List ℕ → Hash → ℕ → DraftAction → (ℕ → Result (Actions × ℕ) CommandFault) → Result (Actions × ℕ) CommandFault
 fill_one known left path seed count d below =
-    cond (is_zero left) (Err (TooDeep path)) (cond (nat_le 64 count) (Err (TooMany path))
+    cond (is_zero left) (Err (TooDeep path)) (cond (nat_le MOST_ACTIONS count) (Err (TooMany path))
     (where_there (filled_action known seed d) (ContractUnknown path) (λ action.
     on (below (count + 1)) (λ b. Ok (Root (record { seed = seed; action = action }) b.0 NoRoots, b.1)))))
 
@@ -145,21 +146,12 @@ list_answer (Err e) count = Err e
 abbrev pub behind : Actions → Result (Actions × ℕ) CommandFault → Result (Actions × ℕ) CommandFault
 behind front r = on r (λ y. Ok (join front y.0, y.1))
 
-abbrev pub draft_action : Draft → DraftAction
-draft_action (CreateDraft template fields) = DraftCreate template fields
-draft_action (ExerciseDraft input choice args actors consuming result children) = DraftExercise input choice args actors consuming result
-draft_action (FetchDraft input actors) = DraftFetch input actors
-
-abbrev pub fill_below : List Known → ℕ → List ℕ → Hash → ℕ → Drafts → Result (Actions × ℕ) CommandFault
-fill_below known left path seed count NoRoots = Ok (NoRoots, count)
-fill_below known left path seed count (Root d children others) = fill_all known left seed path 0 count children
-
 -- roots, the labels of each of which are resolved first
 abbrev pub fill_roots : List Known → Hash → ℕ → ℕ → Drafts → Result (Actions × ℕ) CommandFault
 fill_roots known seed index count NoRoots = Ok (NoRoots, count)
 fill_roots known seed index count (Root d children others) =
     cond (all_named known (Root d children NoRoots))
-    (on (fill_tree known 16 (index ∷ []) (child_seed seed index) count (Root d children NoRoots)) (λ x.
+    (on (fill_tree known MOST_ACTION_DEPTH (index ∷ []) (child_seed seed index) count (Root d children NoRoots)) (λ x.
     on (fill_roots known seed (index + 1) x.1 others) (λ y. Ok (join x.0 y.0, y.1))))
     (Err (ContractUnknown (index ∷ [])))
 

@@ -12,7 +12,9 @@ use Rattle.ledger_terms.specs.declared.input.Input.{Input}
 use Rattle.ledger_terms.specs.declared.input.Input.TheVariants.{Known as KnownInput, Forged}
 use Rattle.ledger_terms.specs.declared.action.Action.{Action}
 use Rattle.ledger_terms.specs.declared.action.Action.TheVariants.{Create, Exercise, Fetch}
-use Rattle.ledger_terms.specs.Drafts.{Drafts, DraftAction, DraftCreate, DraftExercise, DraftFetch}
+use Rattle.ledger_terms.specs.Drafts.{Drafts}
+use Rattle.ledger_terms.specs.declared.draft_action.DraftAction.{DraftAction}
+use Rattle.ledger_terms.specs.declared.draft_action.DraftAction.TheVariants.{Create as DraftCreate, Exercise as DraftExercise, Fetch as DraftFetch}
 use Rattle.ledger_terms.specs.Forest.{Forest, NoRoots, Root, preorder, size, number_from, paths_from}
 use Rattle.ledger_terms.specs.Trees.{Actions}
 use Rattle.wire_form.specs.Lengths.{capped}
@@ -22,6 +24,7 @@ use Rattle.interpret.specs.Ids.{Hash, child_seed, label_seed}
 use Rattle.interpret.specs.Usable.{find_known, find_salt}
 use Rattle.wire_form.specs.Encoded.{encoded_bytes}
 use Rattle.ledger_terms.specs.Depth.{depth}
+use Rattle.ledger_terms.specs.declared.limits.TheConstants.{MOST_ACTIONS, MOST_ACTION_DEPTH, MOST_ACTION_BYTES}
 use Rattle.interpret.specs.Filled.{id_of, is_draft_named}
 
 -- the contract that a reference names: an id itself, and a label the first known contract whose salt is its seed
@@ -76,9 +79,9 @@ AreFilled known seed index drafts actions = ⊥
 -- the transaction that drafts ask for
 pub record IsFilled (known : List Known) (seed : Hash) (drafts : Drafts) (forest : Actions) : Type 0 where
   pub trees : AreFilled known seed 0 drafts forest
-  pub few : size forest ≤ 64
-  pub shallow : depth forest ≤ 16
-  pub small : encoded_bytes forest ≤ 32768
+  pub few : size forest ≤ MOST_ACTIONS
+  pub shallow : depth forest ≤ MOST_ACTION_DEPTH
+  pub small : encoded_bytes forest ≤ MOST_ACTION_BYTES
 
 -- ---- where drafts stop
 
@@ -100,8 +103,8 @@ is_contract_known known (DraftFetch input actors) = is_input_known known input
 -- what an action has to pass, in order, each with the fault where it doesn't
 abbrev pub action_tests : List Known → Placed → List (Bool × CommandFault)
 action_tests known x =
-    (nat_le (length (x.1).0) 16, TooDeep (x.1).0)
-    ∷ (nat_lt x.0 64, TooMany (x.1).0)
+    (nat_le (length (x.1).0) MOST_ACTION_DEPTH, TooDeep (x.1).0)
+    ∷ (nat_lt x.0 MOST_ACTIONS, TooMany (x.1).0)
     ∷ (is_contract_known known (x.1).1, ContractUnknown (x.1).0)
     ∷ []
 
@@ -129,5 +132,5 @@ first_failing (t ∷ ts) = if t.0 then first_failing ts else Some t.1
 abbrev pub FillStops : List Known → Hash → Drafts → CommandFault → Type 0
 FillStops known seed drafts fault =
     (first_failing (tests_of known drafts) ≡ Some fault)
-    ⊎ ((forest : Actions) × AreFilled known seed 0 drafts forest × (size forest ≤ 64) × (depth forest ≤ 16)
-    × (32768 < encoded_bytes forest) × (fault ≡ TooBig (capped (encoded_bytes forest))))
+    ⊎ ((forest : Actions) × AreFilled known seed 0 drafts forest × (size forest ≤ MOST_ACTIONS) × (depth forest ≤ MOST_ACTION_DEPTH)
+    × (MOST_ACTION_BYTES < encoded_bytes forest) × (fault ≡ TooBig (capped (encoded_bytes forest))))

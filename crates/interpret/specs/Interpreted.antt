@@ -4,6 +4,7 @@ use Rattle.ledger_terms.specs.declared.known.Known.{Known}
 use Rattle.ledger_terms.specs.declared.command.Command.{Command}
 use Rattle.ledger_terms.specs.Forest.{NoRoots}
 use Rattle.ledger_terms.specs.Trees.{Actions}
+use Rattle.ledger_terms.specs.declared.limits.TheConstants.{MOST_ACTION_DEPTH, MOST_ACTION_BYTES}
 use Rattle.wire_form.specs.Lengths.{capped}
 use Rattle.lang_eval.specs.Found.{Packages}
 use Rattle.lang_eval.specs.Parts.{PartyNames}
@@ -22,14 +23,14 @@ nothing_done = record { created = []; spent = []; count = 0 }
 -- the roots, 16 levels deep at most
 abbrev pub run_commands : Packages → List Known → Hash → PartyNames → List Command → Result BodyRun CommandFault
 run_commands packages known seed by commands =
-    follow most_children (commands_source packages known commands) (act 16 packages known) seed [] by nothing_done [] NoRoots 0
+    follow most_children (commands_source packages known commands) (act MOST_ACTION_DEPTH packages known) seed [] by nothing_done [] NoRoots 0
 
 abbrev pub run_roots : Packages → List Known → Hash → PartyNames → List Command → Result Actions CommandFault
 run_roots packages known seed by commands = on (run_commands packages known seed by commands) (λ f. Ok f.children)
 
 -- the last test, of the sum of all encoded actions
 abbrev pub if_small : Actions → Result Actions CommandFault
-if_small forest = cond (nat_le (encoded_bytes forest) 32768) (Ok forest) (Err (TooBig (capped (encoded_bytes forest))))
+if_small forest = cond (nat_le (encoded_bytes forest) MOST_ACTION_BYTES) (Ok forest) (Err (TooBig (capped (encoded_bytes forest))))
 
 unfoldable pub interp : Packages → List Known → Hash → PartyNames → List Command → Result Actions CommandFault
 interp packages known seed by commands = on (run_roots packages known seed by commands) if_small

@@ -3,6 +3,7 @@ use Rattle.std.specs.Prelude.{◌≡◌, ◌≤◌, true}
 use Rattle.ledger_terms.specs.Depth.{depth}
 use Rattle.ledger_terms.specs.Forest.{size}
 use Rattle.ledger_terms.specs.Trees.{Actions}
+use Rattle.ledger_terms.specs.declared.limits.TheConstants.{MOST_ACTIONS, MOST_ACTION_DEPTH, MOST_ACTION_BYTES}
 use Rattle.ledger_model.specs.Language.{roles_of}
 use Rattle.ledger_model.specs.Conformance.{Conforms}
 use Rattle.ledger_model.specs.Authority.{is_forest_authorised}
@@ -15,6 +16,6 @@ use Rattle.wire_form.specs.Encoded.{encoded_bytes}
 pub record KeepsRules (packages : Packages) (act_as : PartyNames) (forest : Actions) : Type 0 where
   pub conforms : Conforms (the_language packages) forest
   pub authorised : is_forest_authorised (roles_of (the_language packages)) act_as forest ≡ true
-  pub few : size forest ≤ 64
-  pub shallow : depth forest ≤ 16
-  pub small : encoded_bytes forest ≤ 32768
+  pub few : size forest ≤ MOST_ACTIONS
+  pub shallow : depth forest ≤ MOST_ACTION_DEPTH
+  pub small : encoded_bytes forest ≤ MOST_ACTION_BYTES

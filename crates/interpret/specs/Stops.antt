@@ -4,9 +4,10 @@ use Rattle.ledger_terms.specs.declared.value.Value.{Value}
 use Rattle.ledger_terms.specs.declared.value.Value.TheVariants.{Unit as UnitValue}
 use Rattle.ledger_terms.specs.declared.known.Known.{Known}
 use Rattle.ledger_terms.specs.declared.command.Command.{Command}
-use Rattle.ledger_terms.specs.declared.action_node.ActionNode.{ActionNode}
+use Rattle.ledger_terms.specs.Trees.{ActionNode}
 use Rattle.ledger_terms.specs.Trees.{Actions}
 use Rattle.ledger_terms.specs.Parties.{is_subset}
+use Rattle.ledger_terms.specs.declared.limits.TheConstants.{MOST_ACTIONS, MOST_ACTION_DEPTH, MOST_ACTION_BYTES}
 use Rattle.ledger_model.specs.Parties.{is_empty}
 use Rattle.ledger_model.specs.declared.step.Seen.{Seen}
 use Rattle.wire_form.specs.Lengths.{capped}
@@ -62,7 +63,7 @@ is_zero (suc n) = false
 -- actions, the contract, the evaluations, the authority.
 abbrev pub first_fault : Packages → List Known → ℕ → Progress → List ℕ → PartyNames → Demand → Option CommandFault
 first_fault packages known left progress path by demand =
-    fault_where (is_zero left) (TooDeep path) (fault_where (nat_le 64 progress.count) (TooMany path) (demand_fault packages known progress path by demand))
+    fault_where (is_zero left) (TooDeep path) (fault_where (nat_le MOST_ACTIONS progress.count) (TooMany path) (demand_fault packages known progress path by demand))
 
 -- What stands before the place of the stop. It is next; or the next action is a whole tree, with what follows; or it is an
 -- Exercise that was begun by these actors, and the stop is inside.
@@ -75,7 +76,7 @@ pub data Before : Type 0 where
 pub record IsBegun (packages : Packages) (known : List Known) (left : ℕ) (progress : Progress) (by : PartyNames) (demand : Demand) (k : Known)
     (choice : List ℕ) (args : List Value) (actors : PartyNames) : Type 0 where
   pub some : 0 < left
-  pub room : progress.count < 64
+  pub room : progress.count < MOST_ACTIONS
   pub asked : demand ≡ ExerciseDemand k.instance.template k.id choice args
   pub found : usable packages known progress k.id k.instance.template ≡ Some k
   pub entered : call_controllers packages (call_of k choice args) ≡ Ok actors
@@ -94,7 +95,7 @@ Stops packages known left source by seen seed path index progress Here fault =
 Stops packages known left source by seen seed path index progress (Past node more) fault =
     (demand : Demand) × (source.turn index seen ≡ Child demand) × IsTree packages known left progress (path ++ index ∷ [])
     (child_seed seed index) by demand node
-    × Stops packages known left source by (source.learn seen node.action) seed path (index + 1) (progress_with progress node) more fault
+    × Stops packages known left source by (source.learn seen node.root.action) seed path (index + 1) (progress_with progress node) more fault
 Stops packages known left source by seen seed path index progress (Inside k choice args actors more) fault =
     (demand : Demand) × (source.turn index seen ≡ Child demand) × IsBegun packages known left progress by demand k choice args actors
     × Stops packages known (one_less left) (body_source packages (call_of k choice args) (path ++ index ∷ []))
@@ -121,6 +122,6 @@ IsRefused packages known left progress path seed by demand fault =
 -- Commands stop with a fault: at a place, or after all of them, where the encoded actions exceed their limit.
 abbrev pub StopsWith : Packages → List Known → Hash → PartyNames → List Command → CommandFault → Type 0
 StopsWith packages known seed act_as commands fault =
-    ((before : Before) × Stops packages known 16 (commands_source packages known commands) act_as [] seed [] 0 nothing_done before fault)
-    ⊎ ((forest : Actions) × Wanted packages known 16 (commands_source packages known commands) UnitValue act_as [] seed [] 0 nothing_done forest
-    × (32768 < encoded_bytes forest) × (fault ≡ TooBig (capped (encoded_bytes forest))))
+    ((before : Before) × Stops packages known MOST_ACTION_DEPTH (commands_source packages known commands) act_as [] seed [] 0 nothing_done before fault)
+    ⊎ ((forest : Actions) × Wanted packages known MOST_ACTION_DEPTH (commands_source packages known commands) UnitValue act_as [] seed [] 0 nothing_done forest
+    × (MOST_ACTION_BYTES < encoded_bytes forest) × (fault ≡ TooBig (capped (encoded_bytes forest))))

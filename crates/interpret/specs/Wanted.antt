@@ -6,9 +6,11 @@ use Rattle.ledger_terms.specs.declared.known.Known.{Known}
 use Rattle.ledger_terms.specs.declared.command.Command.{Command}
 use Rattle.ledger_terms.specs.declared.action.Action.{Action}
 use Rattle.ledger_terms.specs.declared.action.Action.TheVariants.{Create, Exercise, Fetch}
-use Rattle.ledger_terms.specs.declared.action_node.ActionNode.{ActionNode}
+use Rattle.ledger_terms.specs.Trees.{ActionNode}
 use Rattle.ledger_terms.specs.Forest.{NoRoots, Root, preorder}
-use Rattle.ledger_terms.specs.Trees.{Act, Actions}
+use Rattle.ledger_terms.specs.declared.act.Act.{Act}
+use Rattle.ledger_terms.specs.Trees.{Actions}
+use Rattle.ledger_terms.specs.declared.limits.TheConstants.{MOST_ACTIONS, MOST_ACTION_DEPTH, MOST_ACTION_BYTES}
 use Rattle.ledger_model.specs.Language.{roles_of}
 use Rattle.ledger_model.specs.Conformance.{Demands, Possible}
 use Rattle.ledger_model.specs.Authority.{is_authorised, authorisers_below}
@@ -89,7 +91,7 @@ Wanted packages known left source result by seen seed path index progress NoRoot
 Wanted packages known left source result by seen seed path index progress (Root act consequences others) =
     ((demand : Demand) × (source.turn index seen ≡ Child demand) × Demands (Some (step_of demand)) act.action)
     × (0 < left)
-    × (progress.count < 64)
+    × (progress.count < MOST_ACTIONS)
     × (act.seed ≡ child_seed seed index)
     × IsSound packages known progress by act.seed act.action
     × Wanted packages known (one_less left) (source_of packages (path ++ index ∷ []) act.action) (result_of act.action)
@@ -100,19 +102,19 @@ Wanted packages known left source result by seen seed path index progress (Root 
 -- The transaction that commands ask for: its roots answer the commands in order, 16 levels deep at most, and its encoded
 -- actions keep their limit.
 pub record IsWanted (packages : Packages) (known : List Known) (seed : Hash) (act_as : PartyNames) (commands : List Command) (forest : Actions) : Type 0 where
-  pub roots : Wanted packages known 16 (commands_source packages known commands) UnitValue act_as [] seed [] 0 nothing_done forest
-  pub small : encoded_bytes forest ≤ 32768
+  pub roots : Wanted packages known MOST_ACTION_DEPTH (commands_source packages known commands) UnitValue act_as [] seed [] 0 nothing_done forest
+  pub small : encoded_bytes forest ≤ MOST_ACTION_BYTES
 
 -- a whole tree is what is asked for, and as wanted
 pub record IsTree (packages : Packages) (known : List Known) (left : ℕ) (progress : Progress) (path : List ℕ) (seed : Hash) (by : PartyNames)
     (demand : Demand) (node : ActionNode) : Type 0 where
   pub some : 0 < left
-  pub room : progress.count < 64
-  pub seeded : node.seed ≡ seed
-  pub demanded : Demands (Some (step_of demand)) node.action
-  pub sound : IsSound packages known progress by node.seed node.action
-  pub children : Wanted packages known (one_less left) (source_of packages path node.action) (result_of node.action)
-      (authorisers_below (roles_of (the_language packages)) node.action) [] node.seed path 0 (after_action progress node.seed node.action) node.children
+  pub room : progress.count < MOST_ACTIONS
+  pub seeded : node.root.seed ≡ seed
+  pub demanded : Demands (Some (step_of demand)) node.root.action
+  pub sound : IsSound packages known progress by node.root.seed node.root.action
+  pub children : Wanted packages known (one_less left) (source_of packages path node.root.action) (result_of node.root.action)
+      (authorisers_below (roles_of (the_language packages)) node.root.action) [] node.root.seed path 0 (after_action progress node.root.seed node.root.action) node.below
 
 abbrev pub progress_with : Progress → ActionNode → Progress
-progress_with p n = after_all (after_action p n.seed n.action) (preorder n.children)
+progress_with p n = after_all (after p n.root) (preorder n.below)

@@ -5,6 +5,7 @@ ghost use Rattle.wire_form.specs.Encoded.{action_bytes, encoded_bytes};
 ghost use Rattle.interpret.specs.Interpreted.{if_small};
 
 use crate::command_fault::CommandFault;
+use ledger_terms::limits::MOST_ACTION_BYTES;
 use ledger_terms::{Action, ActionNodeList};
 use wire_form::{action_len, is_spellable_action};
 
@@ -25,8 +26,8 @@ pub fn encoded_bytes(forest: &ActionNodeList) -> u64
     let mut bytes: u64 = 0;
     for node in forest.as_slice() {
         bytes = bytes
-            .saturating_add(action_bytes(&node.action))
-            .saturating_add(encoded_bytes(&node.children));
+            .saturating_add(action_bytes(&node.root.action))
+            .saturating_add(encoded_bytes(&node.below));
     }
     bytes
 }
@@ -36,7 +37,7 @@ pub(crate) fn if_small(forest: ActionNodeList) -> Result<ActionNodeList, Command
     ensures { result ≡ if_small forest }
 {
     let bytes = encoded_bytes(&forest);
-    if bytes > 32768 {
+    if bytes > MOST_ACTION_BYTES as u64 {
         return Err(CommandFault::TooBig { bytes });
     }
     Ok(forest)

@@ -1,12 +1,11 @@
 //! Prepared trees get their seeds and ids.
 ghost use Rattle.std.specs.Prelude.{◌≡◌, ◌≢◌, ◌<◌, ◌≤◌, ◌-◌, IfOk, IfErr, OnOk, Err, option_copied};
 ghost use Rattle.ledger_terms.specs.Answers.{UnlessMemory};
-ghost use Rattle.ledger_terms.specs.Drafts.{DraftCreate};
-ghost use Rattle.ledger_terms.specs.DraftsGrown.{draft_tree};
+ghost use Rattle.ledger_terms.specs.declared.draft_action.DraftAction.TheVariants.{Create as DraftCreate};
+ghost use Rattle.ledger_terms.specs.Grown.{tree_of};
 ghost use Rattle.ledger_terms.specs.declared.action.Action.TheVariants.{Exercise};
-ghost use Rattle.ledger_terms.specs.Forest.{NoRoots};
 ghost use Rattle.interpret.specs.FilledTree.{IsFilled, FillStops};
-ghost use Rattle.interpret.specs.Filled.{draft_action, fetch_of_draft, fill_all, fill_below, fill_tree, filled_action, filled_roots};
+ghost use Rattle.interpret.specs.Filled.{fetch_of_draft, fill_all, fill_tree, filled_action, filled_roots};
 ghost use Rattle.interpret.specs.Filled.{filling, forged_contract, forged_id, id_of, input_of, known_of, list_answer, node_answer};
 
 use crate::command_fault::{CommandFault, copy_path};
@@ -15,10 +14,11 @@ use crate::ids::{contract_id, label_seed};
 use crate::labels::is_draft_named;
 use crate::place::Place;
 use crate::references::{referenced_id, referenced_value, referenced_values};
+use ledger_terms::limits::MOST_ACTIONS;
 use ledger_terms::{
-    Action, ActionNode, ActionNodeList, Arg, ArgList, ContractRef, Draft, DraftList, Hash, Input,
-    Instance, Known, KnownContracts, Name, PartySet, Path, TemplateName, Value, ValueList,
-    copy_known,
+    Act, Action, ActionNode, ActionNodeList, Arg, ArgList, ContractRef, Draft, DraftAction,
+    DraftList, Exact, Hash, Input, Instance, Known, KnownContracts, Name, PartySet, Path, TemplateName,
+    Tree, Value, ValueList,
 };
 use std::alloc::{AllocError, Global};
 use wire_form::is_spellable_instance;
@@ -64,12 +64,6 @@ fn exercise_of(
         consuming,
         result: value,
     })
-}
-
-fn no_drafts(alloc: Global) -> ActionNodeList
-    ensures { result ≡ NoRoots }
-{
-    ActionNodeList::new(alloc)
 }
 
 /// The known contract that a reference names.
@@ -122,7 +116,7 @@ impl<K: KnownContracts> Filler<'_, K> {
     {
         match input {
             Input::Known(contract) => match known_of(self.known, contract) {
-                Some(found) => Ok(Some(copy_known(found)?)),
+                Some(found) => Ok(Some(found.copied()?)),
                 None => Ok(None),
             },
             Input::Forged {
@@ -172,19 +166,18 @@ impl<K: KnownContracts> Filler<'_, K> {
     }
 
     /// The action of a draft, where the contracts that it names are known.
-    fn filled_action(&self, seed: &Hash, draft: &Draft) -> Result<Option<Action>, AllocError>
-        ensures { IfOk result (λ a. a ≡ filled_action (K.rows self.now.known.now) seed.now (draft_action draft.now)) }
+    fn filled_action(&self, seed: &Hash, draft: &DraftAction) -> Result<Option<Action>, AllocError>
+        ensures { IfOk result (λ a. a ≡ filled_action (K.rows self.now.known.now) seed.now draft.now) }
     {
         match draft {
-            Draft::Create { template, fields } => self.create_action(seed, *template, fields),
-            Draft::Exercise {
+            DraftAction::Create { template, fields } => self.create_action(seed, *template, fields),
+            DraftAction::Exercise {
                 contract,
                 choice,
                 args,
                 actors,
                 consuming,
                 result,
-                ..
             } => {
                 let Some(contract) = self.input_of(contract)? else {
                     return Ok(None);
@@ -198,28 +191,7 @@ impl<K: KnownContracts> Filler<'_, K> {
                 let action = exercise_of(contract, *choice, args, actors, *consuming, value)?;
                 Ok(Some(action))
             }
-            Draft::Fetch { contract, actors } => self.fetch_action(contract, actors),
-        }
-    }
-
-    /// What stands below the draft at a place.
-    #[cycle(fill)]
-    fn fill_below(
-        &self,
-        count: &mut u32,
-        place: &Place,
-        draft: &Draft,
-    ) -> Result<ActionNodeList, CommandFault>
-        requires few { count.old ≤ 64 }
-        requires level { 0 < place.now.left }
-        ensures filled { result ≢ Err CommandFault.Memory → list_answer result count.new ≡ fill_below (K.rows self.now.known.now)
-            (place.now.left - 1) place.now.path place.now.seed count.old (draft_tree draft.now) }
-        ensures grows { OnOk result ((count.old ≤ count.new) × (count.new ≤ 64)) }
-    {
-        match draft {
-            Draft::Exercise { children, .. } => self.fill_list(count, place, children),
-            Draft::Create { .. } => Ok(no_drafts(self.alloc)),
-            Draft::Fetch { .. } => Ok(no_drafts(self.alloc)),
+            DraftAction::Fetch { contract, actors } => self.fetch_action(contract, actors),
         }
     }
 
@@ -232,33 +204,33 @@ impl<K: KnownContracts> Filler<'_, K> {
         draft: &Draft,
     ) -> Result<ActionNode, CommandFault>
         ensures filled { result ≢ Err CommandFault.Memory → node_answer result count.new
-            ≡ fill_tree (K.rows self.now.known.now) place.now.left place.now.path place.now.seed count.old (draft_tree draft.now) }
-        ensures grows { OnOk result ((count.old < count.new) × (count.new ≤ 64)) }
+            ≡ fill_tree (K.rows self.now.known.now) place.now.left place.now.path place.now.seed count.old (tree_of draft.now) }
+        ensures grows { OnOk result ((count.old < count.new) × (count.new ≤ MOST_ACTIONS)) }
     {
         if place.left == 0 {
             return Err(CommandFault::TooDeep {
                 path: copy_path(&place.path)?,
             });
         }
-        if *count >= 64 {
+        if *count >= MOST_ACTIONS {
             return Err(CommandFault::TooMany {
                 path: copy_path(&place.path)?,
             });
         }
-        let Some(action) = self.filled_action(&place.seed, draft)? else {
+        let Some(action) = self.filled_action(&place.seed, &draft.root)? else {
             return Err(CommandFault::ContractUnknown {
                 path: copy_path(&place.path)?,
             });
         };
         *count += 1;
-        let children = match self.fill_below(count, place, draft) {
-            Ok(children) => children,
+        let below = match self.fill_list(count, place, &draft.below) {
+            Ok(below) => below,
             Err(fault) => return Err(fault),
         };
-        Ok(ActionNode {
-            seed: place.seed,
-            action,
-            children,
+        let seed = place.seed;
+        Ok(Tree {
+            root: Act { seed, action },
+            below,
         })
     }
 
@@ -270,11 +242,11 @@ impl<K: KnownContracts> Filler<'_, K> {
         place: &Place,
         drafts: &DraftList,
     ) -> Result<ActionNodeList, CommandFault>
-        requires few { count.old ≤ 64 }
+        requires few { count.old ≤ MOST_ACTIONS }
         requires level { 0 < place.now.left }
         ensures filled { result ≢ Err CommandFault.Memory → list_answer result count.new ≡ fill_all (K.rows self.now.known.now)
             (place.now.left - 1) place.now.seed place.now.path 0 count.old drafts.now }
-        ensures grows { OnOk result ((count.old ≤ count.new) × (count.new ≤ 64)) }
+        ensures grows { OnOk result ((count.old ≤ count.new) × (count.new ≤ MOST_ACTIONS)) }
     {
         let mut filled = ActionNodeList::new(self.alloc);
         let items = drafts.as_slice();

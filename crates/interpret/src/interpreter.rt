@@ -1,5 +1,6 @@
 //! Actions, each with its consequences.
 ghost use Rattle.std.specs.Prelude.{◌≡◌, ◌≢◌, ◌<◌, ◌-◌, [], IfOk, Ok, Err};
+ghost use Rattle.ledger_terms.specs.Forest.{NoRoots};
 ghost use Rattle.ledger_terms.specs.declared.action.Action.TheVariants.{Exercise};
 ghost use Rattle.lang_eval.specs.Next.{next};
 ghost use Rattle.interpret.specs.Act.{act, action_answer, body_answer, body_source, do_create, do_demand, do_fetch, exercise_on, follow, most_children, turn_of};
@@ -16,9 +17,10 @@ use crate::tested::{are_authorised, authorisers, call_controllers, created_signa
 use crate::turn::Turn;
 use lang_eval::{Checked, EvalFault, is_consuming_call, next_step};
 use ledger_model::{ChoiceCall, SeenList, Step};
+use ledger_terms::limits::MOST_ACTIONS;
 use ledger_terms::{
-    Action, ActionNode, ActionNodeList, Hash, Instance, Known, KnownContracts, Name, PartySet,
-    Path, Value, ValueList, copy_instance,
+    Act, Action, ActionNode, ActionNodeList, Exact, Hash, Instance, Known, KnownContracts, Name, PartySet,
+    Path, Tree, Value, ValueList,
 };
 use std::alloc::{AllocError, Global};
 
@@ -37,7 +39,7 @@ fn created_known(id: Hash, salt: Hash, instance: &Instance) -> Result<Known, All
     Ok(Known {
         id,
         salt,
-        instance: copy_instance(instance)?,
+        instance: instance.copied()?,
     })
 }
 
@@ -119,6 +121,16 @@ fn exercise_action(
 }
 
 impl<K: KnownContracts> Interpreter<'_, K> {
+    /// An action without consequences.
+    fn leaf(&self, seed: Hash, action: Action) -> ActionNode
+        ensures { result ≡ record { root = record { seed = seed; action = action }; below = NoRoots } }
+    {
+        Tree {
+            root: Act { seed, action },
+            below: ActionNodeList::new(self.alloc),
+        }
+    }
+
     fn create(
         &self,
         progress: &mut Progress,
@@ -142,11 +154,8 @@ impl<K: KnownContracts> Interpreter<'_, K> {
         progress
             .created
             .push(created_known(id, place.seed, &instance)?)?;
-        Ok(ActionNode {
-            seed: place.seed,
-            action: Action::Create { id, instance },
-            children: ActionNodeList::new(self.alloc),
-        })
+        let action = Action::Create { id, instance };
+        Ok(self.leaf(place.seed, action))
     }
 
     fn fetch(
@@ -156,7 +165,7 @@ impl<K: KnownContracts> Interpreter<'_, K> {
         by: &PartySet,
         contract: Option<Known>,
     ) -> Result<ActionNode, CommandFault>
-        requires { progress.old.count < 64 }
+        requires { progress.old.count < MOST_ACTIONS }
         ensures { result ≢ Err CommandFault.Memory → action_answer result progress.new
             ≡ do_fetch self.now.checked.now progress.old place.now.path place.now.seed by.now contract }
     {
@@ -176,16 +185,13 @@ impl<K: KnownContracts> Interpreter<'_, K> {
         }
         progress.count += 1;
         let Known { id, salt, instance } = contract;
-        Ok(ActionNode {
-            seed: place.seed,
-            action: Action::Fetch {
-                id,
-                salt,
-                instance,
-                actors,
-            },
-            children: ActionNodeList::new(self.alloc),
-        })
+        let action = Action::Fetch {
+            id,
+            salt,
+            instance,
+            actors,
+        };
+        Ok(self.leaf(place.seed, action))
     }
 
     /// What the body of a call does next, of the Exercise at a path.
@@ -229,10 +235,11 @@ impl<K: KnownContracts> Interpreter<'_, K> {
             Ok(value) => value,
             Err(fault) => return Err(fault),
         };
-        Ok(ActionNode {
-            seed: place.seed,
-            action: exercise_action(salt, call, actors, consuming, value),
-            children,
+        let seed = place.seed;
+        let action = exercise_action(salt, call, actors, consuming, value);
+        Ok(Tree {
+            root: Act { seed, action },
+            below: children,
         })
     }
 
@@ -263,7 +270,7 @@ impl<K: KnownContracts> Interpreter<'_, K> {
                 Ok(child) => child,
                 Err(fault) => return Err(fault),
             };
-            seen.push(what_is_seen(&child.action)?)?;
+            seen.push(what_is_seen(&child.root.action)?)?;
             children.push(child)?;
         }
         Err(CommandFault::TooMany {
@@ -288,7 +295,7 @@ impl<K: KnownContracts> Interpreter<'_, K> {
                 path: copy_path(&place.path)?,
             });
         }
-        if progress.count >= 64 {
+        if progress.count >= MOST_ACTIONS {
             return Err(CommandFault::TooMany {
                 path: copy_path(&place.path)?,
             });
@@ -306,7 +313,7 @@ impl<K: KnownContracts> Interpreter<'_, K> {
         demand: Demand,
     ) -> Result<ActionNode, CommandFault>
         requires level { 0 < place.now.left }
-        requires few { progress.old.count < 64 }
+        requires few { progress.old.count < MOST_ACTIONS }
         ensures { result ≢ Err CommandFault.Memory → action_answer result progress.new ≡ do_demand self.now.checked.now (K.rows self.now.known.now)
             (act (place.now.left - 1) self.now.checked.now (K.rows self.now.known.now)) progress.old place.now.path place.now.seed by.now demand }
     {

@@ -1,11 +1,11 @@
 //! Whether the labels of prepared trees name known contracts.
 ghost use Rattle.std.specs.Prelude.{◌≡◌, is_some};
-ghost use Rattle.ledger_terms.specs.DraftsGrown.{draft_tree};
-ghost use Rattle.interpret.specs.Filled.{all_named, are_named, is_arg_named, is_id_named, is_input_named, is_named};
+ghost use Rattle.ledger_terms.specs.Grown.{tree_of};
+ghost use Rattle.interpret.specs.Filled.{all_named, are_named, is_arg_named, is_draft_named, is_id_named, is_input_named, is_named};
 ghost use Rattle.interpret.specs.Usable.{find_salt};
 
 use crate::ids::label_seed;
-use ledger_terms::{Arg, ContractRef, Draft, DraftList, Hash, Input, KnownContracts};
+use ledger_terms::{Arg, ContractRef, Draft, DraftAction, DraftList, Hash, Input, KnownContracts};
 
 fn is_salt_known<K: KnownContracts>(known: &K, salt: &Hash) -> bool
     ensures { result ≡ is_some (find_salt salt.now (K.rows known.now)) }
@@ -60,27 +60,31 @@ fn is_input_named<K: KnownContracts>(known: &K, input: &Input) -> bool
     }
 }
 
-/// Whether each label in a draft, and in those below it, names a known contract.
-#[cycle(named)]
-pub(crate) fn is_draft_named<K: KnownContracts>(known: &K, draft: &Draft) -> bool
-    ensures { result ≡ all_named (K.rows known.now) (draft_tree draft.now) }
+fn is_action_named<K: KnownContracts>(known: &K, action: &DraftAction) -> bool
+    ensures { result ≡ is_draft_named (K.rows known.now) action.now }
 {
-    match draft {
-        Draft::Create { fields, .. } => are_named(known, fields.as_slice()),
-        Draft::Exercise {
+    match action {
+        DraftAction::Create { fields, .. } => are_named(known, fields.as_slice()),
+        DraftAction::Exercise {
             contract,
             args,
             result,
-            children,
             ..
         } => {
             is_input_named(known, contract)
                 && are_named(known, args.as_slice())
                 && is_arg_named(known, result)
-                && are_drafts_named(known, children)
         }
-        Draft::Fetch { contract, .. } => is_input_named(known, contract),
+        DraftAction::Fetch { contract, .. } => is_input_named(known, contract),
     }
+}
+
+/// Whether each label in a draft, and in those below it, names a known contract.
+#[cycle(named)]
+pub(crate) fn is_draft_named<K: KnownContracts>(known: &K, draft: &Draft) -> bool
+    ensures { result ≡ all_named (K.rows known.now) (tree_of draft.now) }
+{
+    is_action_named(known, &draft.root) && are_drafts_named(known, &draft.below)
 }
 
 #[cycle(named)]

@@ -23,7 +23,8 @@ ghost use Rattle.ledger_model.specs.Language.{roles_of};
 ghost use Rattle.lang_eval.specs.Found.{Packages};
 ghost use Rattle.lang_eval.specs.Language.{roles_in};
 ghost use Rattle.lang_eval.specs.Named.{AreKnown, parties_in_packages};
-ghost use Rattle.interpret.specs.NamedParties.{parties_in_commands, parties_in_contracts, parties_in_drafts, parties_in_forest};
+ghost use Rattle.lang_eval.specs.HandedIn.{parties_in_commands, parties_in_drafts};
+ghost use Rattle.interpret.specs.NamedParties.{parties_in_contracts, parties_in_forest};
 ghost use Rattle.interpret.specs.Language.{the_language};
 
 /// Who is involved in an action is said by the packages alone, whatever its size.

@@ -4,6 +4,7 @@ ghost use Rattle.interpret.specs.Ids.{child_seed};
 
 use crate::command_fault::{copy_path, root_path};
 use crate::ids::seed_of_child;
+use ledger_terms::limits::MOST_ACTION_DEPTH;
 use ledger_terms::{Hash, Path};
 use std::alloc::{AllocError, Global};
 
@@ -20,12 +21,12 @@ impl Place {
     pub(crate) fn root(alloc: Global, seed: &Hash, index: u16) -> Result<Place, AllocError>
         ensures path { IfOk result (λ p. p.path ≡ index ∷ []) }
         ensures seed { IfOk result (λ p. p.seed ≡ child_seed seed.now index) }
-        ensures left { IfOk result (λ p. p.left ≡ 16) }
+        ensures left { IfOk result (λ p. p.left ≡ MOST_ACTION_DEPTH) }
     {
         Ok(Place {
             path: root_path(alloc, index)?,
             seed: seed_of_child(seed, index),
-            left: 16,
+            left: MOST_ACTION_DEPTH as u32,
         })
     }
 

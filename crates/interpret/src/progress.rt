@@ -7,7 +7,7 @@ ghost use Rattle.interpret.specs.Interpreted.{nothing_done};
 ghost use Rattle.interpret.specs.Usable.{find_known, is_spent, of_template, usable};
 
 use lang_eval::{Checked, has_kinds};
-use ledger_terms::{Hash, Known, KnownContracts, KnownList, ListOf, TemplateName, copy_known};
+use ledger_terms::{Exact, Hash, Known, KnownContracts, KnownList, ListOf, TemplateName};
 use std::alloc::{AllocError, Global};
 
 /// Ids of contracts.
@@ -105,10 +105,10 @@ pub(crate) fn usable<K: KnownContracts>(
         return Ok(None);
     }
     match usable_known(checked, known, id, template) {
-        Some(found) => Ok(Some(copy_known(found)?)),
+        Some(found) => Ok(Some(found.copied()?)),
         None => {
             match usable_created(checked, progress.created.as_slice(), id, template) {
-                Some(found) => Ok(Some(copy_known(found)?)),
+                Some(found) => Ok(Some(found.copied()?)),
                 None => Ok(None),
             }
         }

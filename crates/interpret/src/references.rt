@@ -4,7 +4,7 @@ ghost use Rattle.interpret.specs.Commands.{referenced_values, id_of_known, refer
 ghost use Rattle.interpret.specs.Usable.{find_salt};
 
 use crate::ids::label_seed;
-use ledger_terms::{Arg, ArgList, ContractRef, Hash, KnownContracts, Value, ValueList, copy_value};
+use ledger_terms::{Arg, ArgList, ContractRef, Exact, Hash, KnownContracts, Value, ValueList};
 use std::alloc::{AllocError, Global};
 
 fn id_of_salt<K: KnownContracts>(known: &K, salt: &Hash) -> Option<Hash>
@@ -35,7 +35,7 @@ pub(crate) fn referenced_value<K: KnownContracts>(
     ensures { IfOk result (λ v. v ≡ referenced_value (K.rows known.now) arg.now) }
 {
     match arg {
-        Arg::Plain(value) => Ok(Some(copy_value(value)?)),
+        Arg::Plain(value) => Ok(Some(value.copied()?)),
         Arg::Contract(contract) => match referenced_id(known, contract) {
             Some(id) => Ok(Some(Value::Contract(id))),
             None => Ok(None),

@@ -16,8 +16,7 @@ use lang_eval::{
 };
 use ledger_model::{ChoiceCall, SeenList, Step};
 use ledger_terms::{
-    Action, ActionNode, ActionNodeList, Hash, Instance, Name, PartySet, Value, ValueList,
-    copy_instance, copy_values,
+    Action, ActionNode, ActionNodeList, Exact, Hash, Instance, Name, PartySet, Value, ValueList,
 };
 use std::alloc::{AllocError, Global};
 
@@ -87,9 +86,9 @@ pub(crate) fn call_of(
 {
     Ok(ChoiceCall {
         id: *id,
-        instance: copy_instance(instance)?,
+        instance: instance.copied()?,
         choice,
-        args: copy_values(args)?,
+        args: args.copied()?,
     })
 }
 
@@ -221,9 +220,9 @@ impl Replay<'_> {
     #[cycle(rest)]
     #[tactic(auto, using(crate::proofs::Tried::no_body))]
     fn rest_below(&self, node: &ActionNode) -> Result<bool, AllocError>
-        ensures { IfOk result (λ b. b ≡ are_rest self.now.checked.now (body_of node.now.action) [] node.now.children) }
+        ensures { IfOk result (λ b. b ≡ are_rest self.now.checked.now (body_of node.now.root.action) [] node.now.below) }
     {
-        match &node.action {
+        match &node.root.action {
             Action::Exercise {
                 id,
                 instance,
@@ -233,19 +232,19 @@ impl Replay<'_> {
                 ..
             } => {
                 let call = call_of(id, instance, *choice, args)?;
-                self.follows(&call, result, &node.children)
+                self.follows(&call, result, &node.below)
             }
-            Action::Create { id: _, instance: _ } => Ok(has_none(&node.children)),
-            Action::Fetch { .. } => Ok(has_none(&node.children)),
+            Action::Create { id: _, instance: _ } => Ok(has_none(&node.below)),
+            Action::Fetch { .. } => Ok(has_none(&node.below)),
         }
     }
 
     /// Whether an action is possible with all below it.
     #[cycle(rest)]
     fn is_tree_possible(&self, node: &ActionNode) -> Result<bool, AllocError>
-        ensures { IfOk result (λ b. b ≡ is_tree_possible self.now.checked.now node.now.action node.now.children) }
+        ensures { IfOk result (λ b. b ≡ is_tree_possible self.now.checked.now node.now.root.action node.now.below) }
     {
-        if !self.is_possible(&node.action)? {
+        if !self.is_possible(&node.root.action)? {
             return Ok(false);
         }
         self.rest_below(node)
@@ -260,9 +259,9 @@ impl Replay<'_> {
         node: &ActionNode,
     ) -> Result<bool, AllocError>
         ensures { IfOk result (λ b. b ≡
-            (asks (next self.now.checked.now call.now seen.now) node.now.action && is_tree_possible self.now.checked.now node.now.action node.now.children)) }
+            (asks (next self.now.checked.now call.now seen.now) node.now.root.action && is_tree_possible self.now.checked.now node.now.root.action node.now.below)) }
     {
-        if !self.asks_for(call, seen, &node.action)? {
+        if !self.asks_for(call, seen, &node.root.action)? {
             return Ok(false);
         }
         self.is_tree_possible(node)
@@ -284,7 +283,7 @@ impl Replay<'_> {
             if !self.child_follows(call, &seen, node)? {
                 return Ok(false);
             }
-            seen.push(what_is_seen(&node.action)?)?;
+            seen.push(what_is_seen(&node.root.action)?)?;
         }
         self.ends_with(call, &seen, wanted)
     }

@@ -3,7 +3,7 @@ ghost use Rattle.std.specs.Prelude.{◌≡◌, IfOk};
 ghost use Rattle.ledger_model.specs.Conformance.{seen_of};
 
 use ledger_model::Seen;
-use ledger_terms::{Action, copy_instance, copy_value};
+use ledger_terms::{Action, Exact};
 use std::alloc::AllocError;
 
 /// A Create gives the contract's id, an Exercise its result, a Fetch the contract's instance.
@@ -12,7 +12,7 @@ pub(crate) fn what_is_seen(action: &Action) -> Result<Seen, AllocError>
 {
     match action {
         Action::Create { id, instance: _ } => Ok(Seen::Created(*id)),
-        Action::Exercise { result, .. } => Ok(Seen::Returned(copy_value(result)?)),
-        Action::Fetch { instance, .. } => Ok(Seen::Fetched(copy_instance(instance)?)),
+        Action::Exercise { result, .. } => Ok(Seen::Returned(result.copied()?)),
+        Action::Fetch { instance, .. } => Ok(Seen::Fetched(instance.copied()?)),
     }
 }

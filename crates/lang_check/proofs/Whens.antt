@@ -1,11 +1,10 @@
 -- The walk of a `when`, step by step.
-use Rattle.std.proofs.Common.{◌≡◌, Result, Ok, refl, sym, ◌∙◌, ap, subst}
+use Rattle.std.proofs.Common.{◌≡◌, List, Result, Ok, refl, sym, ◌∙◌, ap, subst}
 use Rattle.std.specs.Prelude.{codes}
 use Rattle.ledger_terms.specs.Pointers.{at_member}
 use Rattle.ledger_terms.specs.declared.kind.Kind.TheVariants.{Bool as BoolKind}
 use Rattle.ledger_terms.specs.declared.expr.Expr.{Expr}
 use Rattle.ledger_terms.specs.declared.stmt.Stmt.{Stmt}
-use Rattle.ledger_terms.specs.declared.stmt.StmtList.{StmtList}
 use Rattle.ledger_terms.specs.declared.stmt.Stmt.TheVariants.{When as WhenStmt}
 use Rattle.ledger_terms.specs.ExprForms.{expr_form}
 use Rattle.ledger_terms.specs.StmtForms.{stmt_form, stmt_list_form}
@@ -27,7 +26,7 @@ stops Memory r f h = tt
 goes_on : {A B : Type 0} (r : Result A CheckFault) (v : A) (f : A → Result B CheckFault) → r ≡ Ok v → (r >>= f) ≡ f v
 goes_on r v f h = rw h refl
 
-module _ (at : Place) (p : Packages) (scope : Scope) (s : Stmt) (e : Expr) (first second : StmtList)
+module _ (at : Place) (p : Packages) (scope : Scope) (s : Stmt) (e : Expr) (first second : List Stmt)
     (w i t o : Place) (is : s ≡ WhenStmt e first second) (when : w ≡ at_member at (codes "when")) where
   abbrev found : Result Scope CheckFault
   found =

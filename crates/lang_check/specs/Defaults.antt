@@ -2,11 +2,14 @@
 -- evaluations that take none of it.
 use Rattle.std.specs.Prelude.{◌≡◌, ◌⊎◌, true, false, List, [], Some, Ok}
 use Rattle.ledger_terms.specs.declared.kind.Kind.{Kind}
-use Rattle.ledger_terms.specs.declared.kind.Kind.TheVariants.{Int as IntKind, Bool as BoolKind, Text as TextKind, Party as PartyKind, Contract as ContractKind, Parties as PartiesKind}
+use Rattle.ledger_terms.specs.declared.kind.Kind.TheVariants.{Int as IntKind, Bool as BoolKind, Text as TextKind}
+use Rattle.ledger_terms.specs.declared.kind.Kind.TheVariants.{Party as PartyKind, Contract as ContractKind, Parties as PartiesKind}
 use Rattle.ledger_terms.specs.declared.value.Value.{Value}
 use Rattle.ledger_terms.specs.declared.value.Value.TheVariants.{Bool as BoolValue, Parties}
 use Rattle.ledger_terms.specs.declared.instance.Instance.{Instance}
-use Rattle.ledger_terms.specs.Syntax.{ExprForm, ExprForms, Literal, Var, Add, Sub, Mul, Less, LessEq, Equal, Both, Either, Negate, Cond, Cat, SetOf, Union, Has, NoExprs, MoreExprs, StmtForm, StmtForms, Bind, Assert, Create, Exercise, Fetch, When, NoStmts, MoreStmts}
+use Rattle.ledger_terms.specs.Syntax.{ExprForm, ExprForms, Literal, Var, Add, Sub, Mul, Less, LessEq, Equal}
+use Rattle.ledger_terms.specs.Syntax.{Both, Either, Negate, Cond, Cat, SetOf, Union, Has, NoExprs, MoreExprs}
+use Rattle.ledger_terms.specs.Syntax.{StmtForm, StmtForms, Bind, Assert, Create, Exercise, Fetch, When, NoStmts, MoreStmts}
 use Rattle.ledger_terms.specs.Packages.{TemplateForm, ChoiceForm}
 use Rattle.ledger_model.specs.declared.step.ChoiceCall.{ChoiceCall}
 use Rattle.ledger_model.specs.declared.step.Seen.{Seen}

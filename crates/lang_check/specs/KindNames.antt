@@ -1,7 +1,8 @@
 -- The words of the kinds of faults.
 use Rattle.std.specs.Prelude.{ℕ, List, codes}
 use Rattle.lang_check.specs.declared.check_kind.CheckKind.{CheckKind}
-use Rattle.lang_check.specs.declared.check_kind.CheckKind.TheVariants.{DuplicateName, UnknownName, UnknownTemplate, UnknownChoice, WrongKind, WrongCount, Reserved, Memory}
+use Rattle.lang_check.specs.declared.check_kind.CheckKind.TheVariants.{DuplicateName, UnknownName, UnknownTemplate, UnknownChoice}
+use Rattle.lang_check.specs.declared.check_kind.CheckKind.TheVariants.{WrongKind, WrongCount, Reserved, Memory}
 
 abbrev pub kind_name : CheckKind → List ℕ
 kind_name DuplicateName = codes "DuplicateName"

@@ -3,11 +3,13 @@
 use Rattle.std.specs.Prelude.{ℕ, ◌+◌, Bool, List, [], ◌∷◌, ◌++◌, Result, Ok, Err, ok_or, ⊤}
 use Rattle.ledger_terms.specs.Pointers.{at_item}
 use Rattle.ledger_terms.specs.declared.kind.Kind.{Kind}
-use Rattle.ledger_terms.specs.declared.kind.Kind.TheVariants.{Unit as UnitKind, Int as IntKind, Bool as BoolKind, Text as TextKind, Party as PartyKind, Parties as PartiesKind}
+use Rattle.ledger_terms.specs.declared.kind.Kind.TheVariants.{Unit as UnitKind, Int as IntKind, Bool as BoolKind}
+use Rattle.ledger_terms.specs.declared.kind.Kind.TheVariants.{Text as TextKind, Party as PartyKind, Parties as PartiesKind}
 use Rattle.ledger_terms.specs.contracts.kind.KindPartialEq.TheImpl as kind_eq
 use Rattle.ledger_terms.specs.declared.value.Value.{Value}
 use Rattle.ledger_terms.specs.declared.value.Value.TheVariants.{Unit as UnitValue, Int, Bool as BoolValue, Text, Party, Contract, Parties}
-use Rattle.ledger_terms.specs.Syntax.{ExprForm, ExprForms, Literal, Var, Add, Sub, Mul, Less, LessEq, Equal, Both, Either, Negate, Cond, Cat, SetOf, Union, Has, NoExprs, MoreExprs}
+use Rattle.ledger_terms.specs.Syntax.{ExprForm, ExprForms, Literal, Var, Add, Sub, Mul, Less, LessEq, Equal}
+use Rattle.ledger_terms.specs.Syntax.{Both, Either, Negate, Cond, Cat, SetOf, Union, Has, NoExprs, MoreExprs}
 use Rattle.lang_eval.specs.Typed.{Scope, kind_named}
 use Rattle.lang_check.specs.declared.check_fault.CheckFault.{CheckFault}
 use Rattle.lang_check.specs.declared.check_kind.CheckKind.TheVariants.{UnknownName, WrongKind}

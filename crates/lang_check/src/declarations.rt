@@ -6,7 +6,8 @@ ghost use Rattle.lang_eval.specs.Typed.{decl_names, this_scope, choice_scope, bo
 ghost use Rattle.lang_check.specs.Faults.{Walks};
 ghost use Rattle.lang_check.specs.Walk.{expr_at};
 ghost use Rattle.lang_check.specs.Statements.{is_among};
-ghost use Rattle.lang_check.specs.Declarations.{named_at, names_from, choice_name_at, choice_parties_at, choice_body_at, choice_from, choices_from, template_parties_at, template_exprs_at, template_from, templates_from};
+ghost use Rattle.lang_check.specs.Declarations.{named_at, names_from, choice_name_at, choice_parties_at, choice_body_at, choice_from};
+ghost use Rattle.lang_check.specs.Declarations.{choices_from, template_parties_at, template_exprs_at, template_from, templates_from};
 
 use crate::check_kind::CheckKind;
 use crate::expressions::check_expr;
@@ -15,8 +16,9 @@ use crate::nameable::Nameable;
 use crate::scope::Scope;
 use crate::statements::check_stmts;
 use crate::stop::Stop;
+use json_walk::Place;
 use lang_eval::archive_name;
-use ledger_terms::{Choice, Expr, FieldDecl, Kind, Name, NameList, Pointer, Template, Text};
+use ledger_terms::{Choice, Expr, FieldDecl, Kind, Name, NameList, Template, Text};
 use std::alloc::{AllocError, Global};
 
 fn is_taken(names: &[Name], name: Name) -> bool
@@ -27,7 +29,7 @@ fn is_taken(names: &[Name], name: Name) -> bool
 
 /// Takes a name that is declared, which stands at `at`.
 #[tactic(auto, unfolding(crate::specs::Declarations::named_at))]
-fn take_name(name: Name, taken: &mut NameList, at: &Pointer) -> Result<(), Stop>
+fn take_name(name: Name, taken: &mut NameList, at: &Place) -> Result<(), Stop>
     ensures { Walks (λ _. taken.new) result (named_at at.now name taken.old) }
 {
     let again = is_taken(taken.as_slice(), name);
@@ -40,16 +42,16 @@ fn take_name(name: Name, taken: &mut NameList, at: &Pointer) -> Result<(), Stop>
 pub(crate) fn take_name_of(
     name: Name,
     taken: &mut NameList,
-    at: &Pointer,
+    at: &Place,
     index: usize,
 ) -> Result<(), Stop>
     ensures { Walks (λ _. taken.new) result (named_at (at_member (at_item at.now index) (codes "name")) name taken.old) }
 {
-    let here = at.item(index)?;
-    take_name(name, taken, &here.member("name")?)
+    let here = at.item(index);
+    take_name(name, taken, &here.member("name"))
 }
 
-fn check_decls(alloc: Global, decls: &[FieldDecl], at: &Pointer) -> Result<(), Stop>
+fn check_decls(alloc: Global, decls: &[FieldDecl], at: &Place) -> Result<(), Stop>
     ensures { Walks (λ _. tt) result (names_from at.now 0 [] (decl_names decls.now)) }
 {
     let mut taken = NameList::new(alloc);
@@ -60,16 +62,10 @@ fn check_decls(alloc: Global, decls: &[FieldDecl], at: &Pointer) -> Result<(), S
 }
 
 /// Tries the expression of a member of the object at `at`.
-fn check_member(
-    name: &str,
-    expr: &Expr,
-    kind: Kind,
-    scope: &Scope,
-    at: &Pointer,
-) -> Result<(), Stop>
+fn check_member(name: &str, expr: &Expr, kind: Kind, scope: &Scope, at: &Place) -> Result<(), Stop>
     ensures { Walks (λ _. tt) result (expr_at (at_member at.now name.now) scope.now kind (expr_form expr.now)) }
 {
-    let here = at.member(name)?;
+    let here = at.member(name);
     check_expr(expr, kind, scope, &here)
 }
 
@@ -100,10 +96,10 @@ fn body_names(alloc: Global, template: &Template, choice: &Choice) -> Result<Sco
 }
 
 #[tactic(auto, unfolding(crate::specs::Declarations::choice_name_at))]
-fn check_name(choice: &Choice, taken: &mut NameList, at: &Pointer) -> Result<(), Stop>
+fn check_name(choice: &Choice, taken: &mut NameList, at: &Place) -> Result<(), Stop>
     ensures { Walks (λ _. taken.new) result (choice_name_at (at_member at.now (codes "name")) choice.now.name taken.old) }
 {
-    let here = at.member("name")?;
+    let here = at.member("name");
     take_name(choice.name, taken, &here)?;
     require(archive_name() != choice.name, CheckKind::Reserved, &here)
 }
@@ -113,7 +109,7 @@ fn check_parties(
     alloc: Global,
     template: &Template,
     choice: &Choice,
-    at: &Pointer,
+    at: &Place,
 ) -> Result<(), Stop>
     ensures { Walks (λ _. tt) result (choice_parties_at at.now template.now choice.now) }
 {
@@ -134,12 +130,12 @@ fn check_body(
     template: &Template,
     choice: &Choice,
     packages: &Nameable<'_>,
-    at: &Pointer,
+    at: &Place,
 ) -> Result<(), Stop>
     ensures { Walks (λ _. tt) result (choice_body_at at.now packages.now template.now choice.now) }
 {
     let mut scope = body_names(alloc, template, choice)?;
-    check_stmts(&choice.body, packages, &mut scope, &at.member("body")?)?;
+    check_stmts(&choice.body, packages, &mut scope, &at.member("body"))?;
     check_member("result", &choice.result, choice.returns, &scope, at)
 }
 
@@ -150,12 +146,12 @@ fn check_choice(
     choice: &Choice,
     packages: &Nameable<'_>,
     taken: &mut NameList,
-    at: &Pointer,
+    at: &Place,
 ) -> Result<(), Stop>
     ensures { Walks (λ _. taken.new) result (choice_from at.now packages.now template.now choice.now taken.old) }
 {
     check_name(choice, taken, at)?;
-    check_decls(alloc, choice.params.as_slice(), &at.member("params")?)?;
+    check_decls(alloc, choice.params.as_slice(), &at.member("params"))?;
     check_parties(alloc, template, choice, at)?;
     check_body(alloc, template, choice, packages, at)
 }
@@ -164,21 +160,21 @@ fn check_choices(
     alloc: Global,
     template: &Template,
     packages: &Nameable<'_>,
-    at: &Pointer,
+    at: &Place,
 ) -> Result<(), Stop>
     ensures { Walks (λ _. tt) result (choices_from at.now 0 packages.now template.now [] template.now.choices) }
 {
     let mut taken = NameList::new(alloc);
     let choices = template.choices.as_slice();
     'choices: for i in 0..choices.len() {
-        let here = at.item(i)?;
+        let here = at.item(i);
         check_choice(alloc, template, &choices[i], packages, &mut taken, &here)?;
     }
     Ok(())
 }
 
 #[tactic(auto, unfolding(crate::specs::Declarations::template_parties_at))]
-fn check_stakeholders(template: &Template, scope: &Scope, at: &Pointer) -> Result<(), Stop>
+fn check_stakeholders(template: &Template, scope: &Scope, at: &Place) -> Result<(), Stop>
     requires { scope.now ≡ this_scope template.now }
     ensures { Walks (λ _. tt) result (template_parties_at at.now template.now) }
 {
@@ -193,7 +189,7 @@ fn check_stakeholders(template: &Template, scope: &Scope, at: &Pointer) -> Resul
 }
 
 #[tactic(auto, unfolding(crate::specs::Declarations::template_exprs_at))]
-fn check_template_exprs(alloc: Global, template: &Template, at: &Pointer) -> Result<(), Stop>
+fn check_template_exprs(alloc: Global, template: &Template, at: &Place) -> Result<(), Stop>
     ensures { Walks (λ _. tt) result (template_exprs_at at.now template.now) }
 {
     let scope = template_names(alloc, template)?;
@@ -206,13 +202,13 @@ fn check_template(
     alloc: Global,
     template: &Template,
     packages: &Nameable<'_>,
-    at: &Pointer,
+    at: &Place,
 ) -> Result<(), Stop>
     ensures { Walks (λ _. tt) result (template_from at.now packages.now template.now) }
 {
-    check_decls(alloc, template.fields.as_slice(), &at.member("fields")?)?;
+    check_decls(alloc, template.fields.as_slice(), &at.member("fields"))?;
     check_template_exprs(alloc, template, at)?;
-    check_choices(alloc, template, packages, &at.member("choices")?)
+    check_choices(alloc, template, packages, &at.member("choices"))
 }
 
 /// Tries templates in order, but for their names.
@@ -220,12 +216,12 @@ pub(crate) fn check_templates(
     alloc: Global,
     templates: &[Template],
     packages: &Nameable<'_>,
-    at: &Pointer,
+    at: &Place,
 ) -> Result<(), Stop>
     ensures { Walks (λ _. tt) result (templates_from at.now 0 packages.now templates.now) }
 {
     'templates: for i in 0..templates.len() {
-        let here = at.item(i)?;
+        let here = at.item(i);
         check_template(alloc, &templates[i], packages, &here)?;
     }
     Ok(())

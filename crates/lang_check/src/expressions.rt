@@ -1,17 +1,21 @@
 //! The kinds of expressions.
-ghost use Rattle.std.specs.Prelude.{[]};
+ghost use Rattle.std.specs.Prelude.{[], Result, Ok, ⊤};
 ghost use Rattle.ledger_terms.specs.ExprForms.{expr_form, list_form};
 ghost use Rattle.ledger_terms.specs.Pointers.{at_item};
-ghost use Rattle.lang_check.specs.Faults.{Walks};
+ghost use Rattle.ledger_terms.specs.declared.kind.Kind.{Kind};
+ghost use Rattle.lang_check.specs.declared.check_fault.CheckFault.{CheckFault};
+ghost use Rattle.lang_check.specs.Faults.{Walks, ◌>>=◌};
 ghost use Rattle.lang_check.specs.Walk.{literal_kind, in_place, kind_at, all_in_place, expr_at, kinds_from};
 
 use crate::check_kind::CheckKind;
 use crate::faults::{found, require};
+use crate::operand_kinds::{LOGIC, MEMBER, ORDER, OperandKinds, SUM, TEXTS, UNION};
 use crate::scope::Scope;
 use crate::stop::Stop;
-use ledger_terms::{Expr, ExprList, Kind, Pointer, Value};
+use json_walk::Place;
+use ledger_terms::{Expr, ExprList, Kind, Value};
 
-fn literal_kind(value: &Value, at: &Pointer) -> Result<Kind, Stop>
+fn literal_kind(value: &Value, at: &Place) -> Result<Kind, Stop>
     ensures { Walks (λ k. k) result (literal_kind at.now value.now) }
 {
     match value {
@@ -25,111 +29,97 @@ fn literal_kind(value: &Value, at: &Pointer) -> Result<Kind, Stop>
     }
 }
 
-#[cycle(kinds)]
-fn operand(expr: &Expr, kind: Kind, scope: &Scope, at: &Pointer, index: usize) -> Result<(), Stop>
-    ensures { Walks (λ _. tt) result (in_place (at_item at.now index) kind (kind_at (at_item at.now index) scope.now (expr_form expr.now))) }
+/// The kind of a whole, where the walk of its operands has no fault.
+fn whole(found: Result<(), Stop>, kind: Kind) -> Result<Kind, Stop>
+    ensures { (walk : Result ⊤ CheckFault) → Walks (λ _. tt) found walk → Walks (λ k. k) result (walk >>= λ _. Ok kind) }
 {
-    let here = at.item(index)?;
-    let found = kind_of(expr, scope, &here)?;
-    require(found == kind, CheckKind::WrongKind, &here)
+    match found {
+        Ok(()) => Ok(kind),
+        Err(stop) => Err(stop),
+    }
 }
 
 #[cycle(kinds)]
-fn operands(exprs: &ExprList, kind: Kind, scope: &Scope, at: &Pointer) -> Result<(), Stop>
+fn operand(expr: &Expr, kind: Kind, scope: &Scope, at: &Place) -> Result<(), Stop>
+    ensures { Walks (λ _. tt) result (in_place at.now kind (kind_at at.now scope.now (expr_form expr.now))) }
+{
+    let found = kind_of(expr, scope, at)?;
+    require(found == kind, CheckKind::WrongKind, at)
+}
+
+#[cycle(kinds)]
+fn operands(exprs: &ExprList, kind: Kind, scope: &Scope, at: &Place) -> Result<(), Stop>
     ensures { Walks (λ _. tt) result (all_in_place at.now 1 scope.now kind (list_form exprs.now)) }
 {
     let exprs = exprs.as_slice();
     'exprs: for i in 0..exprs.len() {
-        operand(&exprs[i], kind, scope, at, i + 1)?;
+        operand(&exprs[i], kind, scope, &at.item(i + 1))?;
     }
     Ok(())
 }
 
+/// The first operand in its place.
+#[cycle(kinds)]
+fn first_place(expr: &Expr, kinds: OperandKinds, scope: &Scope, at: &Place) -> Result<(), Stop>
+    ensures { Walks (λ _. tt) result (in_place (at_item at.now 1) kinds.first (kind_at (at_item at.now 1) scope.now (expr_form expr.now))) }
+{
+    operand(expr, kinds.first, scope, &at.item(1))
+}
+
+/// The second operand in its place, behind the walk of the first one, and then the kind of the whole.
+#[cycle(kinds)]
+fn second_place(
+    first: Result<(), Stop>,
+    expr: &Expr,
+    kinds: OperandKinds,
+    scope: &Scope,
+    at: &Place,
+) -> Result<Kind, Stop>
+    ensures { (walk : Result ⊤ CheckFault) → Walks (λ _. tt) first walk → Walks (λ k. k) result (walk >>= λ _.
+        in_place (at_item at.now 2) kinds.second (kind_at (at_item at.now 2) scope.now (expr_form expr.now)) >>= λ _. Ok kinds.whole) }
+{
+    first?;
+    operand(expr, kinds.second, scope, &at.item(2))?;
+    Ok(kinds.whole)
+}
+
 /// The kind of an expression, or its first fault: each operand is walked whole, and then tried against the kind of its
-/// place, before the next one.
+/// place, before the next one counts.
 #[cycle(kinds)]
 #[tactic(auto, using(ledger_terms::proofs::ExprRows::form_SetOf))]
-pub(crate) fn kind_of(expr: &Expr, scope: &Scope, at: &Pointer) -> Result<Kind, Stop>
+pub(crate) fn kind_of(expr: &Expr, scope: &Scope, at: &Place) -> Result<Kind, Stop>
     ensures { Walks (λ k. k) result (kind_at at.now scope.now (expr_form expr.now)) }
 {
     match expr {
         Expr::Literal(value) => literal_kind(value, at),
         Expr::Var(name) => found(scope.kind_of(name), CheckKind::UnknownName, at),
-        Expr::Add(a, b) => {
-            operand(a, Kind::Int, scope, at, 1)?;
-            operand(b, Kind::Int, scope, at, 2)?;
-            Ok(Kind::Int)
-        }
-        Expr::Sub(a, b) => {
-            operand(a, Kind::Int, scope, at, 1)?;
-            operand(b, Kind::Int, scope, at, 2)?;
-            Ok(Kind::Int)
-        }
-        Expr::Mul(a, b) => {
-            operand(a, Kind::Int, scope, at, 1)?;
-            operand(b, Kind::Int, scope, at, 2)?;
-            Ok(Kind::Int)
-        }
-        Expr::Less(a, b) => {
-            operand(a, Kind::Int, scope, at, 1)?;
-            operand(b, Kind::Int, scope, at, 2)?;
-            Ok(Kind::Bool)
-        }
-        Expr::LessEq(a, b) => {
-            operand(a, Kind::Int, scope, at, 1)?;
-            operand(b, Kind::Int, scope, at, 2)?;
-            Ok(Kind::Bool)
-        }
+        Expr::Add(a, b) => second_place(first_place(a, SUM, scope, at), b, SUM, scope, at),
+        Expr::Sub(a, b) => second_place(first_place(a, SUM, scope, at), b, SUM, scope, at),
+        Expr::Mul(a, b) => second_place(first_place(a, SUM, scope, at), b, SUM, scope, at),
+        Expr::Less(a, b) => second_place(first_place(a, ORDER, scope, at), b, ORDER, scope, at),
+        Expr::LessEq(a, b) => second_place(first_place(a, ORDER, scope, at), b, ORDER, scope, at),
         Expr::Equal(a, b) => {
-            let kind = kind_of(a, scope, &at.item(1)?)?;
-            operand(b, kind, scope, at, 2)?;
-            Ok(Kind::Bool)
+            let kind = kind_of(a, scope, &at.item(1))?;
+            whole(operand(b, kind, scope, &at.item(2)), Kind::Bool)
         }
-        Expr::Both(a, b) => {
-            operand(a, Kind::Bool, scope, at, 1)?;
-            operand(b, Kind::Bool, scope, at, 2)?;
-            Ok(Kind::Bool)
-        }
-        Expr::Either(a, b) => {
-            operand(a, Kind::Bool, scope, at, 1)?;
-            operand(b, Kind::Bool, scope, at, 2)?;
-            Ok(Kind::Bool)
-        }
-        Expr::Negate(a) => {
-            operand(a, Kind::Bool, scope, at, 1)?;
-            Ok(Kind::Bool)
-        }
+        Expr::Both(a, b) => second_place(first_place(a, LOGIC, scope, at), b, LOGIC, scope, at),
+        Expr::Either(a, b) => second_place(first_place(a, LOGIC, scope, at), b, LOGIC, scope, at),
+        Expr::Negate(a) => whole(first_place(a, LOGIC, scope, at), Kind::Bool),
         Expr::Cond(test, a, b) => {
-            operand(test, Kind::Bool, scope, at, 1)?;
-            let kind = kind_of(a, scope, &at.item(2)?)?;
-            operand(b, kind, scope, at, 3)?;
-            Ok(kind)
+            first_place(test, LOGIC, scope, at)?;
+            let kind = kind_of(a, scope, &at.item(2))?;
+            whole(operand(b, kind, scope, &at.item(3)), kind)
         }
-        Expr::Cat(a, b) => {
-            operand(a, Kind::Text, scope, at, 1)?;
-            operand(b, Kind::Text, scope, at, 2)?;
-            Ok(Kind::Text)
-        }
-        Expr::SetOf(parties) => {
-            operands(parties, Kind::Party, scope, at)?;
-            Ok(Kind::Parties)
-        }
-        Expr::Union(a, b) => {
-            operand(a, Kind::Parties, scope, at, 1)?;
-            operand(b, Kind::Parties, scope, at, 2)?;
-            Ok(Kind::Parties)
-        }
-        Expr::Has(a, b) => {
-            operand(a, Kind::Parties, scope, at, 1)?;
-            operand(b, Kind::Party, scope, at, 2)?;
-            Ok(Kind::Bool)
-        }
+        Expr::Cat(a, b) => second_place(first_place(a, TEXTS, scope, at), b, TEXTS, scope, at),
+        Expr::SetOf(parties) => whole(operands(parties, Kind::Party, scope, at), Kind::Parties),
+        Expr::Union(a, b) => second_place(first_place(a, UNION, scope, at), b, UNION, scope, at),
+        Expr::Has(a, b) => second_place(first_place(a, MEMBER, scope, at), b, MEMBER, scope, at),
     }
 }
 
 /// Tries an expression, whole, in a place of a kind.
 #[tactic(auto, unfolding(crate::specs::Walk::expr_at))]
-pub(crate) fn check_expr(expr: &Expr, kind: Kind, scope: &Scope, at: &Pointer) -> Result<(), Stop>
+pub(crate) fn check_expr(expr: &Expr, kind: Kind, scope: &Scope, at: &Place) -> Result<(), Stop>
     ensures { Walks (λ _. tt) result (expr_at at.now scope.now kind (expr_form expr.now)) }
 {
     let found = kind_of(expr, scope, at)?;
@@ -137,13 +127,13 @@ pub(crate) fn check_expr(expr: &Expr, kind: Kind, scope: &Scope, at: &Pointer) -
 }
 
 /// The kinds of expressions, or the first fault of one.
-pub(crate) fn kinds_of(exprs: &ExprList, scope: &Scope, at: &Pointer) -> Result<Vec<Kind>, Stop>
+pub(crate) fn kinds_of(exprs: &ExprList, scope: &Scope, at: &Place) -> Result<Vec<Kind>, Stop>
     ensures { Walks (λ kinds. kinds.items) result (kinds_from at.now 0 scope.now [] (list_form exprs.now)) }
 {
     let mut kinds = Vec::new(*scope.allocator());
     let exprs = exprs.as_slice();
     'exprs: for i in 0..exprs.len() {
-        let here = at.item(i)?;
+        let here = at.item(i);
         kinds.push(kind_of(&exprs[i], scope, &here)?)?;
     }
     Ok(kinds)

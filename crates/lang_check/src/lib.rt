@@ -9,6 +9,7 @@ mod expressions;
 mod faults;
 pub mod laws;
 mod nameable;
+mod operand_kinds;
 mod packages;
 mod scope;
 mod signature;

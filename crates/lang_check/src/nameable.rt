@@ -5,6 +5,7 @@ ghost use Rattle.lang_eval.specs.Found.{template_in};
 ghost use Rattle.lang_eval.specs.Typed.{package_names};
 ghost use Rattle.lang_check.specs.Statements.{is_among};
 
+use lang_eval::{package_named, template_named};
 use ledger_terms::{Name, Package, Template, TemplateName};
 use std::marker::Model;
 
@@ -32,18 +33,6 @@ fn is_named(given: &Package, name: Name) -> bool
     ensures { result ≡ same_name given.now.name name }
 {
     given.name == name
-}
-
-fn package_among(packages: &[Package], name: Name) -> Option<&Package>
-    ensures { option_copied result ≡ find (λ p. same_name p.name name) packages.now }
-{
-    packages.iter().find(|package| package.name == name)
-}
-
-fn template_among(templates: &[Template], name: Name) -> Option<&Template>
-    ensures { option_copied result ≡ find (λ t. same_name t.name name) templates.now }
-{
-    templates.iter().find(|template| template.name == name)
 }
 
 fn is_package(packages: &[Package], name: Name) -> bool
@@ -78,7 +67,7 @@ impl<'p> Nameable<'p> {
         if is_named(self.note, name) {
             return Some(self.note);
         }
-        package_among(self.given, name)
+        package_named(self.given, name)
     }
 
     /// The template of that name, where it may be named.
@@ -86,7 +75,7 @@ impl<'p> Nameable<'p> {
         ensures { option_copied result ≡ template_in name self.now }
     {
         match self.package(name.package) {
-            Some(package) => template_among(package.templates.as_slice(), name.name),
+            Some(package) => template_named(package.templates.as_slice(), name.name),
             None => None,
         }
     }

@@ -5,7 +5,7 @@ ghost use Rattle.lang_eval.specs.Builtin.{note_form, checked_packages};
 ghost use Rattle.lang_eval.specs.Typed.{ArePackages};
 ghost use Rattle.lang_check.specs.Faults.{Walks, want_of_memory};
 ghost use Rattle.lang_check.specs.Declarations.{names_from};
-ghost use Rattle.lang_check.specs.Packages.{template_names, package_from, walk, checked_or_fault};
+ghost use Rattle.lang_check.specs.Packages.{template_names, package_from, packages_from, walk, checked_or_fault};
 
 use crate::check_fault::CheckFault;
 use crate::check_kind::CheckKind;
@@ -13,11 +13,12 @@ use crate::declarations::{check_templates, take_name_of};
 use crate::faults::require;
 use crate::nameable::Nameable;
 use crate::stop::Stop;
+use json_walk::Place;
 use lang_eval::{Checked, note_package};
 use ledger_terms::{NameList, Package, PackageList, Pointer, Template};
 use std::alloc::{AllocError, Global};
 
-fn check_names(alloc: Global, templates: &[Template], at: &Pointer) -> Result<(), Stop>
+fn check_names(alloc: Global, templates: &[Template], at: &Place) -> Result<(), Stop>
     ensures { Walks (λ _. tt) result (names_from at.now 0 [] (template_names templates.now)) }
 {
     let mut taken = NameList::new(alloc);
@@ -34,16 +35,29 @@ fn check_package(
     given: &Package,
     before: &Nameable<'_>,
     nameable: &Nameable<'_>,
-    at: &Pointer,
+    at: &Place,
 ) -> Result<(), Stop>
     requires { nameable.now ≡ before.now ++ given.now ∷ [] }
     ensures { Walks (λ _. tt) result (package_from at.now before.now given.now) }
 {
     let again = before.has(given.name);
-    require(!again, CheckKind::DuplicateName, &at.member("name")?)?;
-    let at_templates = at.member("templates")?;
+    require(!again, CheckKind::DuplicateName, &at.member("name"))?;
+    let at_templates = at.member("templates");
     check_names(alloc, given.templates.as_slice(), &at_templates)?;
     check_templates(alloc, given.templates.as_slice(), nameable, &at_templates)
+}
+
+/// Tries packages in order, after the built-in Note.
+fn check_given(alloc: Global, note: &Package, packages: &[Package]) -> Result<(), Stop>
+    ensures { Walks (λ _. tt) result (packages_from 0 (note.now ∷ []) packages.now) }
+{
+    let root = Place::root(alloc);
+    'packages: for i in 0..packages.len() {
+        let before = Nameable::new(note, &packages[..i]);
+        let nameable = Nameable::new(note, &packages[..i + 1]);
+        check_package(alloc, &packages[i], &before, &nameable, &root.item(i))?;
+    }
+    Ok(())
 }
 
 #[tactic(auto, unfolding(crate::specs::Packages::walk))]
@@ -51,14 +65,7 @@ fn check_packages(alloc: Global, packages: &[Package]) -> Result<(), Stop>
     ensures { Walks (λ _. tt) result (walk packages.now) }
 {
     let note = note_package(alloc)?;
-    let root = Pointer::root(alloc);
-    'packages: for i in 0..packages.len() {
-        let before = Nameable::new(&note, &packages[..i]);
-        let nameable = Nameable::new(&note, &packages[..i + 1]);
-        let here = root.item(i)?;
-        check_package(alloc, &packages[i], &before, &nameable, &here)?;
-    }
-    Ok(())
+    check_given(alloc, &note, packages)
 }
 
 fn checked(alloc: Global, packages: PackageList) -> Result<Checked, Stop>

@@ -13,3 +13,4 @@ pub mod Checking
 pub mod Language
 pub mod RoleSets
 pub mod Named
+pub mod HandedIn

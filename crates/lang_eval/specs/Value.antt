@@ -5,6 +5,7 @@ use Rattle.ledger_terms.specs.declared.value.Value.TheVariants.{Int, Party, Part
 use Rattle.ledger_terms.specs.contracts.value.ValuePartialEq.TheImpl as value_eq
 use Rattle.ledger_terms.specs.Parties.{set_of, with_parties, has_party}
 use Rattle.ledger_terms.specs.Syntax.{ExprForm, ExprForms, Literal, Var, Add, Sub, Mul, Less, LessEq, Equal, Both, Either, Negate, Cond, Cat, SetOf, Union, Has, NoExprs, MoreExprs}
+use Rattle.ledger_terms.specs.declared.limits.TheConstants.{MOST_TEXT_BYTES}
 use Rattle.lang_eval.specs.declared.binding.Binding.{Binding}
 use Rattle.lang_eval.specs.declared.eval_fault.EvalFault.{EvalFault}
 use Rattle.lang_eval.specs.declared.eval_fault.EvalFault.TheVariants.{Overflow, TooLarge}
@@ -48,7 +49,7 @@ negation_of a = UnitValue
 
 -- the texts after one another, in at most 256 bytes
 abbrev pub text_of : Value → Value → Answer
-text_of (Text x) (Text y) = cond (nat_le (length (x ++ y)) 256) (Ok (Text (x ++ y))) (Err TooLarge)
+text_of (Text x) (Text y) = cond (nat_le (length (x ++ y)) MOST_TEXT_BYTES) (Ok (Text (x ++ y))) (Err TooLarge)
 text_of a b = Ok UnitValue
 
 abbrev pub union_of : Value → Value → Value

@@ -16,8 +16,8 @@ use crate::evaluate::{eval_expr, eval_list, eval_test};
 use crate::run::Run;
 use ledger_model::{ChoiceCall, Seen, SeenList, Step};
 use ledger_terms::{
-    Choice, Expr, ExprList, FieldDecl, Hash, Instance, Name, Stmt, StmtList, Template,
-    TemplateName, Text, Value, copy_value,
+    Choice, Exact, Expr, ExprList, FieldDecl, Hash, Instance, Name, Stmt, StmtList, Template,
+    TemplateName, Text, Value,
 };
 use std::alloc::{AllocError, Global};
 
@@ -50,7 +50,7 @@ pub(crate) fn bind_fields(
     let mut at = 0;
     while at < decls.len() && at < values.len() {
         let name = field_name(*names.allocator(), first, decls[at].name)?;
-        let value = copy_value(&values[at])?;
+        let value = values[at].copied()?;
         names.bind(name, value)?;
         at += 1;
     }
@@ -62,7 +62,7 @@ fn seen_value(seen: &Seen) -> Result<Value, AllocError>
 {
     match seen {
         Seen::Created(id) => Ok(Value::Contract(*id)),
-        Seen::Returned(value) => copy_value(value),
+        Seen::Returned(value) => value.copied(),
         Seen::Fetched(_) => Ok(Value::Unit),
     }
 }

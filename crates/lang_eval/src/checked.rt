@@ -36,19 +36,22 @@ impl Model for Checked {
     ghost invariant = { λ c. AreChecked c.packages };
 }
 
-fn package_named(packages: &[Package], name: Name) -> Option<&Package>
+/// The first package of that name.
+pub fn package_named(packages: &[Package], name: Name) -> Option<&Package>
     ensures { option_copied result ≡ find (λ p. same_name p.name name) packages.now }
 {
     packages.iter().find(|package| package.name == name)
 }
 
-fn template_named(templates: &[Template], name: Name) -> Option<&Template>
+/// The first template of that name.
+pub fn template_named(templates: &[Template], name: Name) -> Option<&Template>
     ensures { option_copied result ≡ find (λ t. same_name t.name name) templates.now }
 {
     templates.iter().find(|template| template.name == name)
 }
 
-fn choice_named(choices: &[Choice], name: Name) -> Option<&Choice>
+/// The first choice of that name.
+pub fn choice_named(choices: &[Choice], name: Name) -> Option<&Choice>
     ensures { option_copied result ≡ find (λ c. same_name c.name name) choices.now }
 {
     choices.iter().find(|choice| choice.name == name)

@@ -10,14 +10,14 @@ use crate::bindings::Bindings;
 use crate::eval_fault::EvalFault;
 use crate::operator::Operator;
 use crate::operators::{apply, negate, set};
-use ledger_terms::{Expr, ExprList, Text, Value, ValueList, copy_value};
+use ledger_terms::{Exact, Expr, ExprList, Text, Value, ValueList};
 use std::alloc::AllocError;
 
 fn named_value(name: &Text, names: &Bindings) -> Result<Value, AllocError>
     ensures { IfOk result (λ v. v ≡ value_in (binding_of name.now names.now)) }
 {
     match names.find(name) {
-        Some(binding) => copy_value(&binding.value),
+        Some(binding) => binding.value.copied(),
         None => Ok(Value::Unit),
     }
 }
@@ -59,7 +59,7 @@ pub fn eval_expr(expr: &Expr, names: &Bindings) -> Result<Value, EvalFault>
     ensures { UnlessMemory EvalFault.Memory result (val (expr_form expr.now) names.now) }
 {
     match expr {
-        Expr::Literal(value) => Ok(copy_value(value)?),
+        Expr::Literal(value) => Ok(value.copied()?),
         Expr::Var(name) => Ok(named_value(name, names)?),
         Expr::Add(a, b) => eval_operation(Operator::Add, eval_expr(a, names), b, names),
         Expr::Sub(a, b) => eval_operation(Operator::Subtract, eval_expr(a, names), b, names),

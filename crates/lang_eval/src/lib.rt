@@ -23,7 +23,7 @@ mod run;
 pub use binding::Binding;
 pub use bindings::Bindings;
 pub use body::next_step;
-pub use checked::Checked;
+pub use checked::{Checked, choice_named, package_named, template_named};
 pub use choice_parties::ChoiceParties;
 pub use contract_parties::ContractParties;
 pub use eval_fault::EvalFault;

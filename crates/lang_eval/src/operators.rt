@@ -8,11 +8,9 @@ ghost use Rattle.lang_eval.specs.Operation.{operation};
 
 use crate::eval_fault::EvalFault;
 use crate::operator::Operator;
+use ledger_terms::limits::MOST_TEXT_BYTES;
 use ledger_terms::{PartySet, Text, Value};
 use std::alloc::{AllocError, Global};
-
-/// The most bytes of a text.
-pub const TEXT_MAX: usize = 256;
 
 fn add(a: &Value, b: &Value) -> Result<Value, EvalFault>
     ensures { result ≡ sum_of a.now b.now }
@@ -91,7 +89,7 @@ fn cat(alloc: Global, a: &Value, b: &Value) -> Result<Value, EvalFault>
     match (a, b) {
         (Value::Text(a), Value::Text(b)) => {
             let text = text_join(alloc, a, b)?;
-            if text.len() <= TEXT_MAX {
+            if text.len() <= MOST_TEXT_BYTES {
                 Ok(Value::Text(text))
             } else {
                 Err(EvalFault::TooLarge)

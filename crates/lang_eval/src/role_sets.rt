@@ -11,7 +11,7 @@ use crate::kinds::{call_has_kinds, has_kinds};
 use crate::parties::{observers_of_choice, parties_of_contract};
 use crate::role_fault::{RoleFault, of_fault};
 use ledger_model::{ChoiceCall, Roles};
-use ledger_terms::{Action, Hash, Instance, Name, PartySet, ValueList, copy_instance, copy_values};
+use ledger_terms::{Action, Exact, Hash, Instance, Name, PartySet, ValueList};
 use std::alloc::{AllocError, Global};
 
 fn parties_if_typed(
@@ -117,9 +117,9 @@ fn call_of(
 {
     Ok(ChoiceCall {
         id,
-        instance: copy_instance(instance)?,
+        instance: instance.copied()?,
         choice,
-        args: copy_values(args)?,
+        args: args.copied()?,
     })
 }
 

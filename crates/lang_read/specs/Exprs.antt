@@ -56,7 +56,8 @@ abbrev mutual
   call_of hosts at depth (item d ds) =
       operator_of at (item_count ds) d
       >>= (λ o. within_depth at depth
-      >>= (λ _. by_operator o (name_after at ds) (λ b. pair_of hosts at depth b ds) (negated_of hosts at depth ds) (cond_of hosts at depth ds) (operands_from hosts at depth 1 NoExprs ds >>= (λ es. Ok (SetOf es)))))
+      >>= (λ _. by_operator o (name_after at ds) (λ b. pair_of hosts at depth b ds) (negated_of hosts at depth ds) (cond_of hosts at depth ds)
+      (operands_from hosts at depth 1 NoExprs ds >>= (λ es. Ok (SetOf es)))))
 
   pub negated_of : List Host → Place → ℕ → Items → Result ExprForm WalkFault
   negated_of hosts at depth no_items = Err (Shape at)
@@ -92,7 +93,8 @@ abbrev mutual
 -- an operator with the items behind it
 abbrev pub applied_of : List Host → Place → ℕ → Operator → Items → Result ExprForm WalkFault
 applied_of hosts at depth o ds =
-    by_operator o (name_after at ds) (λ b. pair_of hosts at depth b ds) (negated_of hosts at depth ds) (cond_of hosts at depth ds) (operands_from hosts at depth 1 NoExprs ds >>= (λ es. Ok (SetOf es)))
+    by_operator o (name_after at ds) (λ b. pair_of hosts at depth b ds) (negated_of hosts at depth ds) (cond_of hosts at depth ds)
+    (operands_from hosts at depth 1 NoExprs ds >>= (λ es. Ok (SetOf es)))
 
 -- ---- where expressions stand
 

@@ -6,6 +6,7 @@ use Rattle.serde_json.specs.Find.{as_str}
 use Rattle.ledger_terms.specs.Syntax.{ExprForm}
 use Rattle.ledger_terms.specs.Syntax as form
 use Rattle.ledger_terms.specs.Answers.{◌>>=◌, check}
+use Rattle.ledger_terms.specs.declared.limits.TheConstants.{MOST_SET_ITEMS}
 use Rattle.json_walk.specs.Walk.{Place}
 use Rattle.lang_read.specs.declared.binary.Binary.{Binary}
 use Rattle.lang_read.specs.declared.binary.Binary.TheVariants as binary
@@ -43,7 +44,7 @@ takes op.Var n = n == 1
 takes (op.Two b) n = n == 2
 takes op.Negate n = n == 1
 takes op.Cond n = n == 3
-takes op.SetOf n = nat_le n 16
+takes op.SetOf n = nat_le n MOST_SET_ITEMS
 
 -- the operator that stands before n operands
 unfoldable pub operator_of : Place → ℕ → Data → Result Operator WalkFault

@@ -67,7 +67,8 @@ returns_in at d = returns_if (at_member at (codes "returns")) (get (codes "retur
 
 unfoldable pub has_choice_members : Data → Bool
 has_choice_members d =
-    has_members (codes "name" ∷ codes "consuming" ∷ codes "controllers" ∷ []) (codes "params" ∷ codes "observers" ∷ codes "returns" ∷ codes "body" ∷ codes "result" ∷ []) d
+    has_members (codes "name" ∷ codes "consuming" ∷ codes "controllers" ∷ [])
+    (codes "params" ∷ codes "observers" ∷ codes "returns" ∷ codes "body" ∷ codes "result" ∷ []) d
 
 unfoldable pub controllers_in : List Host → Place → Data → Result ExprForm WalkFault
 controllers_in hosts at d = expr_in hosts at (codes "controllers") d
@@ -95,7 +96,16 @@ choice_of hosts at d = do
   params ← params_in at d
   parties ← choice_parties_of hosts at d
   outcome ← outcome_of hosts at d
-  Ok (record { name = name; consuming = consuming; params = params; controllers = parties.0; observers = parties.1; returns = outcome.0; body = outcome.1; result = outcome.2 })
+  Ok (record {
+    name = name;
+    consuming = consuming;
+    params = params;
+    controllers = parties.0;
+    observers = parties.1;
+    returns = outcome.0;
+    body = outcome.1;
+    result = outcome.2;
+  })
 
 abbrev pub choices_if : List Host → Place → Option Data → Result (List ChoiceForm) WalkFault
 choices_if hosts at None = Ok []

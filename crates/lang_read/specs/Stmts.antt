@@ -95,7 +95,8 @@ abbrev mutual
   pub when_member : List Host → Place → ℕ → Members → Result (StmtForm × ℕ) WalkFault
   when_member hosts at n no_members = Err (Shape at)
   when_member hosts at n (member k d ms) =
-      match_ordering (slice_cmp nat_cmp (codes "when") k) (when_member hosts at n ms) (when_of hosts (at_member at (codes "when")) n d) (when_member hosts at n ms)
+      match_ordering (slice_cmp nat_cmp (codes "when") k) (when_member hosts at n ms) (when_of hosts (at_member at (codes "when")) n d)
+      (when_member hosts at n ms)
 
   pub when_of : List Host → Place → ℕ → Data → Result (StmtForm × ℕ) WalkFault
   when_of hosts at n (object ms) =

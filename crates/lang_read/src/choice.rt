@@ -14,6 +14,7 @@ use json_walk::{CHOICES, Place, WalkFault, fits, name_in, read_few, shape, truth
 use ledger_terms::{Choice, ChoiceList, Expr, ExprList, Kind, StmtList, Topology, Value as Term};
 use serde_json::Value;
 use std::alloc::Global;
+use std::boxed::Box;
 
 /// What stands for absent observers.
 #[tactic(auto, using(ledger_terms::proofs::ExprRows::form_SetOf))]
@@ -50,8 +51,8 @@ fn controllers_in(
     value: &Value,
     at: &Place,
     topology: &Topology,
-) -> Result<Expr, WalkFault>
-    ensures { FollowsAs WalkFault.Memory expr_form result (controllers_in topology.now.hosts at.now (view value.now)) }
+) -> Result<Box<Expr>, WalkFault>
+    ensures { FollowsAs WalkFault.Memory (λ e. expr_form e.value) result (controllers_in topology.now.hosts at.now (view value.now)) }
 {
     expr_in(alloc, value, at, "controllers", topology)
 }
@@ -62,8 +63,9 @@ fn read_parties(
     value: &Value,
     at: &Place,
     topology: &Topology,
-) -> Result<(Expr, Expr), WalkFault>
-    ensures { FollowsAs WalkFault.Memory (λ p. (expr_form p.0, expr_form p.1)) result (choice_parties_of topology.now.hosts at.now (view value.now)) }
+) -> Result<(Box<Expr>, Box<Expr>), WalkFault>
+    ensures { FollowsAs WalkFault.Memory (λ p. (expr_form p.0.value, expr_form p.1.value)) result
+        (choice_parties_of topology.now.hosts at.now (view value.now)) }
 {
     let controllers = controllers_in(alloc, value, at, topology)?;
     let observers = expr_or(alloc, value, at, "observers", nobody(alloc), topology)?;
@@ -76,8 +78,9 @@ fn read_outcome(
     value: &Value,
     at: &Place,
     topology: &Topology,
-) -> Result<(Kind, StmtList, Expr), WalkFault>
-    ensures { FollowsAs WalkFault.Memory (λ o. (o.0, stmt_list_form o.1, expr_form o.2)) result (outcome_of topology.now.hosts at.now (view value.now)) }
+) -> Result<(Kind, StmtList, Box<Expr>), WalkFault>
+    ensures { FollowsAs WalkFault.Memory (λ o. (o.0, stmt_list_form o.1, expr_form o.2.value)) result
+        (outcome_of topology.now.hosts at.now (view value.now)) }
 {
     let returns = returns_in(value, at)?;
     let body = body_in(alloc, value, at, topology)?;
@@ -107,11 +110,11 @@ fn read_choice(
         name,
         consuming,
         params,
-        controllers,
-        observers,
+        controllers: Box::into_inner(controllers),
+        observers: Box::into_inner(observers),
         returns,
         body,
-        result,
+        result: Box::into_inner(result),
     })
 }
 

@@ -70,6 +70,22 @@ pub fn read_expr(
     }
 }
 
+/// The same expression in a box, which is narrow where others are read after it.
+#[cycle(expr)]
+pub fn read_boxed(
+    alloc: Global,
+    value: &Value,
+    at: &Place,
+    depth: u64,
+    topology: &Topology,
+) -> Result<Box<Expr>, WalkFault>
+    requires { depth ≤ EXPRESSION_DEPTH.most + 1 }
+    ensures { FollowsAs WalkFault.Memory (λ e. expr_form e.value) result (expr_of topology.now.hosts at.now depth (view value.now)) }
+{
+    let expr = read_expr(alloc, value, at, depth, topology)?;
+    Ok(Box::new(alloc, expr)?)
+}
+
 #[cycle(expr)]
 fn read_call(
     alloc: Global,
@@ -129,8 +145,8 @@ fn read_negated(
     if items.len() != 2 {
         return shape(at);
     }
-    let operand = read_expr(alloc, &items[1], &at.item(1), depth + 1, topology)?;
-    Ok(Expr::Negate(Box::new(alloc, operand)?))
+    let operand = read_boxed(alloc, &items[1], &at.item(1), depth + 1, topology)?;
+    Ok(Expr::Negate(operand))
 }
 
 #[cycle(expr)]
@@ -148,14 +164,8 @@ fn read_pair(
     if items.len() != 3 {
         return shape(at);
     }
-    let first = Box::new(
-        alloc,
-        read_expr(alloc, &items[1], &at.item(1), depth + 1, topology)?,
-    )?;
-    let second = Box::new(
-        alloc,
-        read_expr(alloc, &items[2], &at.item(2), depth + 1, topology)?,
-    )?;
+    let first = read_boxed(alloc, &items[1], &at.item(1), depth + 1, topology)?;
+    let second = read_boxed(alloc, &items[2], &at.item(2), depth + 1, topology)?;
     Ok(binary_expr(operator, first, second))
 }
 
@@ -173,22 +183,14 @@ fn read_cond(
     if items.len() != 4 {
         return shape(at);
     }
-    let test = Box::new(
-        alloc,
-        read_expr(alloc, &items[1], &at.item(1), depth + 1, topology)?,
-    )?;
-    let first = Box::new(
-        alloc,
-        read_expr(alloc, &items[2], &at.item(2), depth + 1, topology)?,
-    )?;
-    let second = Box::new(
-        alloc,
-        read_expr(alloc, &items[3], &at.item(3), depth + 1, topology)?,
-    )?;
+    let test = read_boxed(alloc, &items[1], &at.item(1), depth + 1, topology)?;
+    let first = read_boxed(alloc, &items[2], &at.item(2), depth + 1, topology)?;
+    let second = read_boxed(alloc, &items[3], &at.item(3), depth + 1, topology)?;
     Ok(Expr::Cond(test, first, second))
 }
 
 #[cycle(expr)]
+#[tactic(auto, using(ledger_terms::proofs::ExprLists::list_forms))]
 fn read_operands(
     alloc: Global,
     items: &Vec<Value>,

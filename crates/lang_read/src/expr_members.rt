@@ -8,11 +8,12 @@ ghost use Rattle.ledger_terms.specs.Answers.{FollowsAs, FollowsOn};
 ghost use Rattle.json_walk.specs.Walk.{walk_items};
 ghost use Rattle.lang_read.specs.Exprs.{expr_in, expr_or, expr_step, exprs_in};
 
-use crate::expr::read_expr;
+use crate::expr::{read_boxed, read_expr};
 use json_walk::{Place, WalkFault, member, read_items};
 use ledger_terms::{Expr, ExprList, Topology};
 use serde_json::Value;
 use std::alloc::Global;
+use std::boxed::Box;
 
 /// The expression in a member.
 #[tactic(auto, unfolding(crate::specs::Exprs::expr_in))]
@@ -22,11 +23,11 @@ pub fn expr_in(
     at: &Place,
     name: &str,
     topology: &Topology,
-) -> Result<Expr, WalkFault>
-    ensures { FollowsAs WalkFault.Memory expr_form result (expr_in topology.now.hosts at.now name.now (view value.now)) }
+) -> Result<Box<Expr>, WalkFault>
+    ensures { FollowsAs WalkFault.Memory (λ e. expr_form e.value) result (expr_in topology.now.hosts at.now name.now (view value.now)) }
 {
     let found = member(value, at, name)?;
-    read_expr(alloc, found, &at.member(name), 1, topology)
+    read_boxed(alloc, found, &at.member(name), 1, topology)
 }
 
 /// The expression in a member, or `default` where there is no such member.
@@ -38,16 +39,17 @@ pub fn expr_or(
     name: &str,
     default: Expr,
     topology: &Topology,
-) -> Result<Expr, WalkFault>
-    ensures { FollowsAs WalkFault.Memory expr_form result (expr_or topology.now.hosts at.now name.now (expr_form default) (view value.now)) }
+) -> Result<Box<Expr>, WalkFault>
+    ensures { FollowsAs WalkFault.Memory (λ e. expr_form e.value) result
+        (expr_or topology.now.hosts at.now name.now (expr_form default) (view value.now)) }
 {
     match value.get(name) {
-        Some(found) => read_expr(alloc, found, &at.member(name), 1, topology),
-        None => Ok(default),
+        Some(found) => read_boxed(alloc, found, &at.member(name), 1, topology),
+        None => Ok(Box::new(alloc, default)?),
     }
 }
 
-#[tactic(auto, unfolding(crate::specs::Exprs::expr_step))]
+#[tactic(auto, using(ledger_terms::proofs::ExprLists::list_forms), unfolding(crate::specs::Exprs::expr_step))]
 fn push_expr(
     alloc: Global,
     value: &Value,

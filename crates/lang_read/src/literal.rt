@@ -3,7 +3,8 @@ ghost use Rattle.std.specs.Prelude.{◌≡◌};
 ghost use Rattle.serde_json.specs.Number.{num_of};
 ghost use Rattle.serde_json.specs.View.{view, number_view};
 ghost use Rattle.ledger_terms.specs.Answers.{Follows};
-ghost use Rattle.lang_read.specs.Literals.{is_party_form, is_parties_form, party_value_of, parties_value_of, int_at, text_at, parties_at, plain_at, literal_of};
+ghost use Rattle.lang_read.specs.Literals.{is_party_form, is_parties_form, party_value_of, parties_value_of, int_at};
+ghost use Rattle.lang_read.specs.Literals.{text_at, parties_at, plain_at, literal_of};
 
 use crate::parties::{read_parties, read_party};
 use json_walk::{EXPRESSION_DEPTH, Place, WalkFault, check_limit, fits, member, read_text, shape};

@@ -6,6 +6,7 @@ ghost use Rattle.lang_read.specs.Operators.{operator_named, operator_of, takes};
 
 use crate::binary::{Binary, binary_named};
 use json_walk::{Place, WalkFault, shape};
+use ledger_terms::limits::MOST_SET_ITEMS;
 use serde_json::Value;
 
 /// What a list that is an expression begins with. `Var` stands before the text of a bound name, the others before
@@ -45,7 +46,7 @@ impl Operator {
             Operator::Two(_) => operands == 2,
             Operator::Negate => operands == 1,
             Operator::Cond => operands == 3,
-            Operator::SetOf => operands <= 16,
+            Operator::SetOf => operands <= MOST_SET_ITEMS,
         }
     }
 }

@@ -13,6 +13,7 @@ use json_walk::{
 use ledger_terms::{Stmt, Topology};
 use serde_json::Value;
 use std::alloc::Global;
+use std::boxed::Box;
 
 #[tactic(auto, unfolding(crate::specs::Stmts::bind_of))]
 fn read_bind(
@@ -96,7 +97,7 @@ fn read_exercise(
     Ok(Stmt::Exercise {
         bind,
         template,
-        contract,
+        contract: Box::into_inner(contract),
         choice,
         args,
     })
@@ -120,7 +121,7 @@ fn read_fetch(
     Ok(Stmt::Fetch {
         bind,
         template,
-        contract,
+        contract: Box::into_inner(contract),
     })
 }
 

@@ -13,6 +13,7 @@ use json_walk::{Place, STATEMENTS, WalkFault, check_limit, fits, member, shape};
 use ledger_terms::{Stmt, StmtList, Topology};
 use serde_json::Value;
 use std::alloc::Global;
+use std::boxed::Box;
 
 #[tactic(auto, unfolding(crate::specs::Stmts::has_when_members))]
 fn has_when_members(value: &Value) -> bool
@@ -62,6 +63,7 @@ fn read_when(
     let found = member(value, at, "then")?;
     let (yes, count) = read_block(alloc, found, &at.member("then"), before, topology)?;
     let (no, count) = read_else(alloc, value, at, count, topology)?;
+    let test = Box::into_inner(test);
     Ok((Stmt::When { test, yes, no }, count))
 }
 
@@ -106,6 +108,7 @@ fn read_block(
 }
 
 #[cycle(stmt)]
+#[tactic(auto, using(ledger_terms::proofs::StmtLists::list_forms))]
 fn read_stmts(
     alloc: Global,
     items: &Vec<Value>,
@@ -114,7 +117,8 @@ fn read_stmts(
     topology: &Topology,
 ) -> Result<(StmtList, u64), WalkFault>
     requires { before ≤ STATEMENTS.most }
-    ensures first { FollowsAs WalkFault.Memory (λ s. (stmt_list_form s.0, s.1)) result (stmts_from topology.now.hosts at.now 0 (NoStmts, before) (items_view items.now.items)) }
+    ensures first { FollowsAs WalkFault.Memory (λ s. (stmt_list_form s.0, s.1)) result
+        (stmts_from topology.now.hosts at.now 0 (NoStmts, before) (items_view items.now.items)) }
     ensures within { IfOk result (λ s. s.1 ≤ STATEMENTS.most) }
 {
     let mut stmts = StmtList::new(alloc);

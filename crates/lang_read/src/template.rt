@@ -14,6 +14,7 @@ use json_walk::{
 use ledger_terms::{Expr, Template, TemplateList, Topology, Value as Term};
 use serde_json::Value;
 use std::alloc::Global;
+use std::boxed::Box;
 
 #[tactic(auto, unfolding(crate::specs::Packages::has_template_members))]
 fn has_template_members(value: &Value) -> bool
@@ -32,8 +33,8 @@ fn signatories_in(
     value: &Value,
     at: &Place,
     topology: &Topology,
-) -> Result<Expr, WalkFault>
-    ensures { FollowsAs WalkFault.Memory expr_form result (signatories_in topology.now.hosts at.now (view value.now)) }
+) -> Result<Box<Expr>, WalkFault>
+    ensures { FollowsAs WalkFault.Memory (λ e. expr_form e.value) result (signatories_in topology.now.hosts at.now (view value.now)) }
 {
     expr_in(alloc, value, at, "signatories", topology)
 }
@@ -44,8 +45,9 @@ fn read_parties(
     value: &Value,
     at: &Place,
     topology: &Topology,
-) -> Result<(Expr, Expr), WalkFault>
-    ensures { FollowsAs WalkFault.Memory (λ p. (expr_form p.0, expr_form p.1)) result (template_parties_of topology.now.hosts at.now (view value.now)) }
+) -> Result<(Box<Expr>, Box<Expr>), WalkFault>
+    ensures { FollowsAs WalkFault.Memory (λ p. (expr_form p.0.value, expr_form p.1.value)) result
+        (template_parties_of topology.now.hosts at.now (view value.now)) }
 {
     let signatories = signatories_in(alloc, value, at, topology)?;
     let observers = expr_or(alloc, value, at, "observers", nobody(alloc), topology)?;
@@ -73,9 +75,9 @@ fn read_template(
     Ok(Template {
         name,
         fields,
-        ensure,
-        signatories,
-        observers,
+        ensure: Box::into_inner(ensure),
+        signatories: Box::into_inner(signatories),
+        observers: Box::into_inner(observers),
         choices,
     })
 }

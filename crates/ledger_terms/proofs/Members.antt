@@ -3,7 +3,7 @@ use Rattle.std.proofs.Common.{◌≡◌, ℕ, ◌≤◌, Bool, true, false, cond
 use Rattle.std.proofs.Math.ListN.{drop_of_length-le}
 use Rattle.std.specs.Prelude.{◌||◌}
 use Rattle.std.specs.Cmp.Lexicographic.{same_text}
-use Rattle.ledger_terms.specs.Parties.{name_below, same_name, IsRising, has_party, with_party, with_parties, set_of}
+use Rattle.ledger_terms.specs.Parties.{name_below, same_name, has_party, with_party, with_parties, set_of}
 
 swapped : (x y z : Bool) → (x || (y || z)) ≡ (y || (x || z))
 swapped true true z = refl

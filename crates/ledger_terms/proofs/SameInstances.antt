@@ -1,5 +1,5 @@
 -- Instances that test as equal are equal, and equal ones test so.
-use Rattle.std.specs.Prelude.{◌≡◌, Bool, true, refl}
+use Rattle.std.specs.Prelude.{◌≡◌, true, refl}
 use Rattle.std.specs.Bool.{Decides}
 use Rattle.ledger_terms.specs.declared.instance.Instance.{Instance}
 use Rattle.ledger_terms.specs.contracts.instance.InstancePartialEq.TheImpl as instance_eq

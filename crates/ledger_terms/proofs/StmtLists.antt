@@ -1,10 +1,7 @@
 -- Lists of statements as their forms.
-use Rattle.std.proofs.Common.{◌≡◌, ℕ, zero, suc, ◌+◌, ◌<◌, ◌≤◌, Bool, true, false, Option, List, [], ◌∷◌, ◌++◌, length, get_or, drop, option_map, refl, sym, ◌∙◌, ap, arith}
-use Rattle.std.specs.Prelude.{◌&&◌}
-use Rattle.std.proofs.lemmas.List.{drop_more}
-use Rattle.std.proofs.Math.ListN.{drop_of_length-le}
-use Rattle.ledger_terms.specs.Syntax.{StmtForm, StmtForms, NoStmts, MoreStmts}
-use Rattle.ledger_terms.specs.SyntaxLists.{stmts_count, stmts_join, one_stmt}
+use Rattle.std.proofs.Common.{◌≡◌, suc, List, [], ◌∷◌, ◌++◌, length, refl, ap}
+use Rattle.ledger_terms.specs.Syntax.{MoreStmts}
+use Rattle.ledger_terms.specs.SyntaxLists.{stmts_count, stmts_join}
 use Rattle.ledger_terms.specs.StmtForms.{stmt_form, stmts_of}
 use Rattle.ledger_terms.specs.declared.stmt.Stmt.{Stmt}
 

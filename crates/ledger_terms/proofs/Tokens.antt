@@ -1,7 +1,7 @@
 -- A token is written in runs: what stands before a reserved byte, and that byte's escape.
 use Rattle.std.proofs.Common.{◌≡◌, ℕ, ◌+◌, ◌-◌, ◌<◌, ◌≤◌, true, false, List, ◌++◌, length, get_or, take, drop, length-drop, get_or-drop, append_assoc, arith}
 use Rattle.std.proofs.lemmas.Bool.Decides.{nat_tests}
-use Rattle.std.proofs.lemmas.List.{drop_more, take_more, at_drop_more}
+use Rattle.std.proofs.lemmas.List.{take_more, at_drop_more}
 use Rattle.std.specs.List.{flat_map}
 use Rattle.ledger_terms.specs.Pointers.{is_reserved, escape_of, token_byte}
 

@@ -1,8 +1,7 @@
 -- The plain data of an expression.
-use Rattle.std.specs.Prelude.{ℕ, ◌+◌, List, [], ◌∷◌}
+use Rattle.std.specs.Prelude.{List, [], ◌∷◌}
 use Rattle.ledger_terms.specs.Syntax.{ExprForm, ExprForms, Literal, Var, Add, Sub, Mul, Less, LessEq, Equal, Both, Either, Negate, Cond, Cat, SetOf, Union, Has, NoExprs, MoreExprs}
 use Rattle.ledger_terms.specs.declared.expr.Expr.{Expr, Row_of-Expr, end_of-Expr, more_of-Expr}
-use Rattle.ledger_terms.specs.declared.expr.ExprList.{ExprList}
 use Rattle.ledger_terms.specs.declared.expr.Expr.TheVariants.{Literal as LiteralExpr, Var as VarExpr, Add', Sub', Mul', Less', LessEq', Equal', Both', Either', Negate', Cond', Cat', SetOf', Union', Has'}
 
 abbrev mutual
@@ -33,9 +32,6 @@ abbrev pub exprs_of : List Expr → ExprForms
 exprs_of [] = NoExprs
 exprs_of (e ∷ es) = MoreExprs (expr_form e) (exprs_of es)
 
--- the expressions of a list, and their forms
-abbrev pub exprs_in : ExprList → List Expr
-exprs_in l = l.items.items
-
-abbrev pub list_form : ExprList → ExprForms
-list_form l = exprs_of (exprs_in l)
+-- the form of a list
+abbrev pub list_form : List Expr → ExprForms
+list_form = exprs_of

@@ -4,7 +4,6 @@ use Rattle.ledger_terms.specs.Syntax.{StmtForm, StmtForms, Bind, Assert, Create,
 use Rattle.ledger_terms.specs.ExprForms.{expr_form, list_form}
 use Rattle.ledger_terms.specs.declared.stmt.Stmt.{Stmt, Row_of-Stmt, end_of-Stmt, more_of-Stmt}
 use Rattle.ledger_terms.specs.declared.stmt.Stmt.TheVariants.{Bind as BindStmt, Assert as AssertStmt, Create as CreateStmt, Exercise as ExerciseStmt, Fetch as FetchStmt, When'}
-use Rattle.ledger_terms.specs.declared.stmt.StmtList.{StmtList}
 
 abbrev mutual
   pub stmt_form : Stmt → StmtForm
@@ -24,9 +23,6 @@ abbrev pub stmts_of : List Stmt → StmtForms
 stmts_of [] = NoStmts
 stmts_of (s ∷ ss) = MoreStmts (stmt_form s) (stmts_of ss)
 
--- the statements of a list, and their forms
-abbrev pub stmts_in : StmtList → List Stmt
-stmts_in l = l.items.items
-
-abbrev pub stmt_list_form : StmtList → StmtForms
-stmt_list_form l = stmts_of (stmts_in l)
+-- the form of a list
+abbrev pub stmt_list_form : List Stmt → StmtForms
+stmt_list_form = stmts_of

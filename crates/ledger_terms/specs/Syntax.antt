@@ -1,7 +1,6 @@
 -- The contract language as plain data: what a package says, wherever in memory its parts are.
-use Rattle.std.specs.Prelude.{ℕ, Bool, List}
+use Rattle.std.specs.Prelude.{ℕ, List}
 use Rattle.ledger_terms.specs.declared.value.Value.{Value}
-use Rattle.ledger_terms.specs.declared.kind.Kind.{Kind}
 use Rattle.ledger_terms.specs.declared.template_name.TemplateName.{TemplateName}
 
 mutual

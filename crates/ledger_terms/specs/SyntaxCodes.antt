@@ -1,5 +1,5 @@
 -- The plain data of the language as lists of tokens, in which operands stand before their operator, and back.
-use Rattle.std.specs.Prelude.{◌≡◌, ℕ, Bool, List, [], ◌∷◌, refl}
+use Rattle.std.specs.Prelude.{◌≡◌, ℕ, List, [], ◌∷◌, refl}
 use Rattle.std.proofs.Common.{◌∙◌, ap}
 use Rattle.std.specs.Coded.{codes, Coded, code_by, coded_list}
 use Rattle.ledger_terms.specs.declared.value.Value.{Value}

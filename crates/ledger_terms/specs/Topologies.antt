@@ -1,9 +1,10 @@
 -- When a topology is one that a synchroniser can be made for.
-use Rattle.std.specs.Prelude.{◌≡◌, ◌≢◌, ℕ, ◌≤◌, ◌^◌, false, length, sum_by}
+use Rattle.std.specs.Prelude.{◌≡◌, ◌≢◌, ℕ, ◌≤◌, false, length, sum_by, All}
 use Rattle.std.specs.List.{AllPairs}
-use Rattle.ledger_terms.specs.Parties.{meets_set}
+use Rattle.ledger_terms.specs.Names.{IsName}
+use Rattle.ledger_terms.specs.Parties.{meets_set, IsRising}
+use Rattle.ledger_terms.specs.declared.limits.TheConstants.{MOST_PARTICIPANTS, MOST_PARTIES, LEAST_WAIT, MOST_WAIT}
 use Rattle.ledger_terms.specs.declared.host.Host.{Host}
-use Rattle.ledger_terms.specs.declared.params.Params.{Params}
 use Rattle.ledger_terms.specs.declared.topology.Topology.{Topology}
 
 -- two participants have names of their own and share no party
@@ -13,14 +14,21 @@ pub record AreApart (a b : Host) : Type 0 where
 
 -- a time in microseconds from a tenth of a second to some eleven days
 pub record IsWait (time : ℕ) : Type 0 where
-  pub least : 10 ^ 5 ≤ time
-  pub most : time ≤ 10 ^ 12
+  pub least : LEAST_WAIT ≤ time
+  pub most : time ≤ MOST_WAIT
+
+-- a host has a name, as have its parties, which rise
+pub record HasNames (host : Host) : Type 0 where
+  pub own : IsName host.name
+  pub parties : All IsName host.parties
+  pub rising : IsRising host.parties
 
 -- 1 to 8 participants with names of their own, which host at most 128 parties, each party once; and the times in their ranges
 pub record IsValid (topology : Topology) : Type 0 where
   pub some_host : 1 ≤ length topology.hosts
-  pub few_hosts : length topology.hosts ≤ 8
-  pub few_parties : sum_by (λ (host : Host). length host.parties) topology.hosts ≤ 128
+  pub few_hosts : length topology.hosts ≤ MOST_PARTICIPANTS
+  pub few_parties : sum_by (λ (host : Host). length host.parties) topology.hosts ≤ MOST_PARTIES
+  pub named : All HasNames topology.hosts
   pub apart : AllPairs AreApart topology.hosts
   pub response_timeout : IsWait (topology.params).response_timeout
   pub reaction_timeout : IsWait (topology.params).reaction_timeout

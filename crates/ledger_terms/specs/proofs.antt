@@ -1,3 +1,2 @@
 pub mod Falls
-pub mod DraftsFall
 pub mod NameBack

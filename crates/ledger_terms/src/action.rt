@@ -1,5 +1,5 @@
 //! What a transaction does to contracts.
-ghost use Rattle.std.specs.Prelude.{◌≡◌, IfOk};
+ghost use Rattle.std.specs.Prelude.{◌≡◌};
 ghost use Rattle.ledger_terms.specs.Actions.{id_of, instance_of, is_create, is_consuming};
 
 use crate::exact::Exact;
@@ -8,7 +8,6 @@ use crate::instance::Instance;
 use crate::name::Name;
 use crate::party_set::PartySet;
 use crate::value::{Value, ValueList};
-use std::alloc::AllocError;
 
 /// One action of a transaction (Ledger Model: actions). `id` names the contract. An Exercise and a Fetch carry
 /// the salt and the instance of the contract that they use, so that whoever sees them can try the id.
@@ -80,13 +79,6 @@ impl Action {
             Action::Fetch { .. } => false,
         }
     }
-}
-
-/// Another action that is equal.
-pub fn copy_action(action: &Action) -> Result<Action, AllocError>
-    ensures { IfOk result (λ a. a ≡ action.now) }
-{
-    action.copied()
 }
 
 impl Exact for Action {

@@ -1,23 +1,14 @@
 //! What a contract says.
-ghost use Rattle.std.specs.Prelude.{◌≡◌, IfOk};
 
 use crate::exact::Exact;
 use crate::template_name::TemplateName;
 use crate::value::ValueList;
-use std::alloc::AllocError;
 
 /// A contract's template and the values of its fields, in the order in which the template declares them.
 #[derive(Clone, Drop, PartialEq)]
 pub struct Instance {
     pub template: TemplateName,
     pub fields: ValueList,
-}
-
-/// Another instance that is equal.
-pub fn copy_instance(instance: &Instance) -> Result<Instance, AllocError>
-    ensures { IfOk result (λ i. i ≡ instance.now) }
-{
-    instance.copied()
 }
 
 impl Exact for Instance {

@@ -1,7 +1,5 @@
 //! Limits on topologies, packages, transactions and scripts.
 
-use crate::limit::Limit;
-
 /// Bytes of a name.
 pub const MOST_NAME_BYTES: usize = 32;
 
@@ -21,13 +19,16 @@ pub const MOST_TEMPLATES: usize = 64;
 pub const MOST_FIELDS: usize = 12;
 
 /// Parameters of a choice.
-pub const MOST_PARAMS: usize = 12;
+pub const MOST_PARAMETERS: usize = 12;
 
 /// Choices of a template.
 pub const MOST_CHOICES: usize = 16;
 
 /// Levels of an expression.
-pub const MOST_EXPR_DEPTH: usize = 16;
+pub const MOST_EXPRESSION_DEPTH: usize = 16;
+
+/// Expressions of which a set of parties is made.
+pub const MOST_SET_ITEMS: usize = 16;
 
 /// Statements of a choice, nested ones counted.
 pub const MOST_STATEMENTS: usize = 64;
@@ -59,8 +60,11 @@ pub const MOST_ROUNDS: usize = 2_048;
 /// Submissions of all rounds of a script.
 pub const MOST_SUBMISSIONS: usize = 2_048;
 
-/// Commands or root drafts of a submission, which has at least one.
+/// Commands or root drafts of a submission.
 pub const MOST_COMMANDS: usize = 16;
+
+/// Commands or root drafts that a submission has at least.
+pub const LEAST_COMMANDS: usize = 1;
 
 /// Parties that a submission acts as, which are at least one.
 pub const MOST_ACT_AS: usize = 128;
@@ -76,6 +80,9 @@ pub const MOST_LABEL_STEPS: usize = 16;
 
 /// The greatest step of a label.
 pub const MOST_LABEL_STEP: u16 = 63;
+
+/// Bytes of the tree that one recipient is sent.
+pub const MOST_TREE_BYTES: usize = 4_194_304;
 
 /// Bytes of a script.
 pub const MOST_SCRIPT_BYTES: usize = 4_194_304;
@@ -94,123 +101,3 @@ pub const MOST_WAIT: u64 = 1_000_000_000_000;
 
 /// The greatest ledger time, in microseconds.
 pub const MOST_LEDGER_TIME: u64 = 10_000_000_000_000_000;
-
-/// The limit on participants of a topology.
-pub const PARTICIPANTS: Limit = Limit {
-    number: 1,
-    most: MOST_PARTICIPANTS as u64,
-};
-
-/// The limit on parties of a topology.
-pub const PARTIES: Limit = Limit {
-    number: 2,
-    most: MOST_PARTIES as u64,
-};
-
-/// The limit on packages of a script.
-pub const PACKAGES: Limit = Limit {
-    number: 3,
-    most: MOST_PACKAGES as u64,
-};
-
-/// The limit on templates of all packages of a script.
-pub const TEMPLATES: Limit = Limit {
-    number: 4,
-    most: MOST_TEMPLATES as u64,
-};
-
-/// The limit on fields of a template.
-pub const FIELDS: Limit = Limit {
-    number: 5,
-    most: MOST_FIELDS as u64,
-};
-
-/// The limit on parameters of a choice, or arguments of an Exercise.
-pub const PARAMS: Limit = Limit {
-    number: 6,
-    most: MOST_PARAMS as u64,
-};
-
-/// The limit on choices of a template.
-pub const CHOICES: Limit = Limit {
-    number: 7,
-    most: MOST_CHOICES as u64,
-};
-
-/// The limit on levels of an expression.
-pub const EXPR_DEPTH: Limit = Limit {
-    number: 8,
-    most: MOST_EXPR_DEPTH as u64,
-};
-
-/// The limit on statements of a choice, nested ones counted.
-pub const STATEMENTS: Limit = Limit {
-    number: 9,
-    most: MOST_STATEMENTS as u64,
-};
-
-/// The limit on bytes of a text.
-pub const TEXT_BYTES: Limit = Limit {
-    number: 10,
-    most: MOST_TEXT_BYTES as u64,
-};
-
-/// The limit on rounds of a script.
-pub const ROUNDS: Limit = Limit {
-    number: 11,
-    most: MOST_ROUNDS as u64,
-};
-
-/// The limit on submissions of all rounds of a script.
-pub const SUBMISSIONS: Limit = Limit {
-    number: 12,
-    most: MOST_SUBMISSIONS as u64,
-};
-
-/// The limit on commands or root drafts of a submission.
-pub const COMMANDS: Limit = Limit {
-    number: 13,
-    most: MOST_COMMANDS as u64,
-};
-
-/// The limit on parties that a submission acts as.
-pub const ACT_AS: Limit = Limit {
-    number: 14,
-    most: MOST_ACT_AS as u64,
-};
-
-/// The limit on microseconds by which a round moves the clock.
-pub const ADVANCE: Limit = Limit {
-    number: 15,
-    most: MOST_ADVANCE,
-};
-
-/// The limit on microseconds of a timeout or a skew.
-pub const WAIT: Limit = Limit {
-    number: 16,
-    most: MOST_WAIT,
-};
-
-/// The limit on microseconds of a ledger time.
-pub const LEDGER_TIME: Limit = Limit {
-    number: 17,
-    most: MOST_LEDGER_TIME,
-};
-
-/// The limit on drafts of a prepared tree, counted with their children.
-pub const DRAFTS: Limit = Limit {
-    number: 18,
-    most: MOST_DRAFTS as u64,
-};
-
-/// The limit on levels of a prepared tree.
-pub const DRAFT_DEPTH: Limit = Limit {
-    number: 19,
-    most: MOST_DRAFT_DEPTH as u64,
-};
-
-/// The limit on steps of a label.
-pub const LABEL_STEPS: Limit = Limit {
-    number: 20,
-    most: MOST_LABEL_STEPS as u64,
-};

@@ -1,6 +1,6 @@
 //! Transactions.
 
-use crate::action_node::ActionNodeList;
+use crate::act::ActionNodeList;
 use crate::hash::Hash;
 use crate::party_set::PartySet;
 

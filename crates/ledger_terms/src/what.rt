@@ -1,7 +1,7 @@
 //! What a submission is of.
 
 use crate::command::CommandList;
-use crate::draft::DraftList;
+use crate::draft_action::DraftList;
 use crate::seed_of::SeedOf;
 
 /// Commands, or a prepared tree.

@@ -10,7 +10,7 @@ use crate::check::hosts_stakeholder;
 use crate::inbox::{is_approved, is_created_below, opened_at};
 use crate::item::Item;
 use ledger_model::{Commit, CommitList};
-use ledger_terms::{ActionNodeList, ActiveRow, ActiveRowList, Known, ParticipantId, copy_instance};
+use ledger_terms::{ActionNodeList, ActiveRow, ActiveRowList, Exact, Known, ParticipantId};
 use proto_model::{OpenedForm, Setup, root_node};
 use std::alloc::{AllocError, Global};
 
@@ -62,7 +62,7 @@ fn row_of(place: u64, opened: &OpenedForm) -> Result<ActiveRow, AllocError>
         known: Known {
             id: form.id,
             salt: form.root_seed,
-            instance: copy_instance(&form.instance)?,
+            instance: form.instance.copied()?,
         },
     })
 }

@@ -1,7 +1,8 @@
 -- Who is informed of an action.
 use Rattle.std.specs.Prelude.{Bool}
 use Rattle.ledger_terms.specs.Parties.{meets_set}
-use Rattle.ledger_terms.specs.Trees.{Act, Actions}
+use Rattle.ledger_terms.specs.declared.act.Act.{Act}
+use Rattle.ledger_terms.specs.Trees.{Actions}
 use Rattle.ledger_terms.specs.Forest as forest
 use Rattle.lang_eval.specs.Found.{Packages}
 use Rattle.lang_eval.specs.Parts.{PartyNames}

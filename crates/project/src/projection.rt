@@ -1,25 +1,25 @@
 //! Projection (Ledger Model: projection).
 ghost use Rattle.std.specs.Prelude.{◌≡◌, true, All, IfOk, OnOk};
 ghost use Rattle.ledger_terms.specs.Forest.{preorder, join};
-ghost use Rattle.ledger_terms.specs.Trees.{Act};
+ghost use Rattle.ledger_terms.specs.declared.act.Act.{Act};
 ghost use Rattle.lang_eval.specs.Language.{has_roles};
 ghost use Rattle.project.specs.Informed.{is_informed, projection};
 
 use lang_eval::{Checked, RoleFault, roles};
-use ledger_terms::{ActionNode, ActionNodeList, PartySet};
+use ledger_terms::{Act, ActionNodeList, PartySet};
 use std::alloc::{AllocError, Global};
 
 /// Whether one of the parties is informed of an action that has roles.
 fn is_informed(
     alloc: Global,
     checked: &Checked,
-    node: &ActionNode,
+    act: &Act,
     parties: &PartySet,
 ) -> Result<bool, AllocError>
-    requires { has_roles checked.now (node.now).action ≡ true }
-    ensures { IfOk result (λ b. b ≡ is_informed checked.now parties.now (record { seed = (node.now).seed; action = (node.now).action })) }
+    requires { has_roles checked.now act.now.action ≡ true }
+    ensures { IfOk result (λ b. b ≡ is_informed checked.now parties.now act.now) }
 {
-    match roles(alloc, checked, &node.action) {
+    match roles(alloc, checked, &act.action) {
         Ok(roles) => Ok(roles.informees.meets(parties)),
         Err(fault) => {
             prove!(fault == RoleFault::Memory);
@@ -40,12 +40,12 @@ fn project_into(
     ensures { OnOk result (out.new ≡ join out.old (projection checked.now parties.now roots.now)) }
 {
     for node in roots.as_slice() {
-        let informed = is_informed(alloc, checked, node, parties)?;
+        let informed = is_informed(alloc, checked, &node.root, parties)?;
         if informed {
             let whole = node.clone()?;
             out.push(whole)?;
         } else {
-            project_into(alloc, checked, &node.children, parties, out)?;
+            project_into(alloc, checked, &node.below, parties, out)?;
         }
     }
     Ok(())

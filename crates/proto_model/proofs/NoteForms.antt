@@ -2,9 +2,9 @@
 use Rattle.std.proofs.Common.{◌≡◌, ℕ, zero, suc, ◌<◌, ◌≤◌, ◌^◌, true, List, [], ◌∷◌, length, refl, arith}
 use Rattle.std.specs.Prelude.{All}
 use Rattle.std.specs.Str.{is_utf8}
-use Rattle.ledger_terms.specs.Names.{is_name}
+use Rattle.ledger_terms.specs.Names.{is_name, IsName}
 use Rattle.ledger_terms.specs.declared.value.Value.TheVariants.{Party, Text}
-use Rattle.wire_form.specs.InRange.{IsName, IsHash, IsInRange}
+use Rattle.wire_form.specs.InRange.{IsHash, IsInRange}
 use Rattle.proto_model.specs.NoteForm.{note_of}
 use Rattle.proto_model.specs.Plain.{IsPlain}
 

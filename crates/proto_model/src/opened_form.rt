@@ -11,7 +11,7 @@ use crate::built_in::BuiltIn;
 use crate::plain_form::{PlainForm, decode_plain};
 use interpret::{contract_id, reexecute};
 use lang_eval::{RoleFault, Roles, roles};
-use ledger_terms::{Action, ActionNode, ActionNodeList, PartySet, copy_instance};
+use ledger_terms::{Act, Action, ActionNode, ActionNodeList, Exact, PartySet, Tree};
 use std::alloc::{AllocError, Global};
 
 /// What an envelope of the plain form says, and what its reader finds of the contract that it creates: whether the id is
@@ -32,13 +32,16 @@ pub struct OpenedForm {
 pub fn root_node(alloc: Global, form: &PlainForm) -> Result<ActionNode, AllocError>
     ensures { IfOk result (λ root. tree_of root ≡ roots_of_form form.now) }
 {
-    Ok(ActionNode {
-        seed: form.root_seed,
-        action: Action::Create {
-            id: form.id,
-            instance: copy_instance(&form.instance)?,
+    let action = Action::Create {
+        id: form.id,
+        instance: form.instance.copied()?,
+    };
+    Ok(Tree {
+        root: Act {
+            seed: form.root_seed,
+            action,
         },
-        children: ActionNodeList::new(alloc),
+        below: ActionNodeList::new(alloc),
     })
 }
 
@@ -73,7 +76,7 @@ fn opened(alloc: Global, built_in: &BuiltIn, form: PlainForm) -> Result<OpenedFo
     let authentic = form.id == id;
     let root = root_node(alloc, &form)?;
     let conformant = reexecute(alloc, built_in.checked(), &root)?;
-    let roles = roles_or_nobody(alloc, built_in, &root.action)?;
+    let roles = roles_or_nobody(alloc, built_in, &root.root.action)?;
     Ok(OpenedForm {
         form,
         authentic,

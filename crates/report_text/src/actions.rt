@@ -62,13 +62,13 @@ pub fn put_trees(out: &mut String, level: u64, trees: &ActionNodeList) -> Result
 {
     for node in trees.as_slice() {
         put_indent(out, level)?;
-        put_action(out, &node.action)?;
+        put_action(out, &node.root.action)?;
         out.push_str("\n")?;
         // No memory holds a tree as deep as that.
         let Some(below) = level.checked_add(1) else {
             return Err(AllocError);
         };
-        put_trees(out, below, &node.children)?;
+        put_trees(out, below, &node.below)?;
     }
     Ok(())
 }

@@ -7,7 +7,7 @@ use Rattle.serde_json.specs.Data.{Data, Items}
 use Rattle.serde_json.specs.Find.{as_number, as_i64, get}
 use Rattle.ledger_terms.specs.Pointers.{at_member}
 use Rattle.ledger_terms.specs.Packages.{PackageForm}
-use Rattle.ledger_terms.specs.Topologies.{IsWait, IsValid}
+use Rattle.ledger_terms.specs.Topologies.{HasNames, IsWait, IsValid}
 use Rattle.ledger_terms.specs.declared.host.Host.{Host}
 use Rattle.ledger_terms.specs.declared.params.Params.{Params}
 use Rattle.ledger_terms.specs.declared.topology.Topology.{Topology}
@@ -21,11 +21,14 @@ use Rattle.json_walk.specs.declared.limit.Limit.{Limit}
 use Rattle.script_read.specs.Hosts.{participants_at, participants_of, hosts_of, hosts_in, wait_if, wait_in, response_in, reaction_in, skew_in, params_of, vetting_step, vetting_in}
 use Rattle.script_read.specs.Rounds.{rounds_in}
 use Rattle.script_read.specs.Script.{has_script_members, topology_in, checked_in, script_of, script_in}
+use Rattle.script_read.specs.declared.round.Round.{Round}
 use Rattle.script_read.specs.declared.script.Script.{Script}
 use Rattle.json_walk.proofs.Kept.{after, passed, given, walk_keeps}
 use Rattle.script_read.proofs.FromWalks.{after_walk}
+use Rattle.script_read.proofs.Lists.{all_of}
 use Rattle.script_read.proofs.HostWalks.{AreHosts, hosts_kept}
-use Rattle.script_read.proofs.VettedHosts.{key, AreVetted, vetting_kept, keys_length, keys_apart, keys_sum}
+use Rattle.script_read.proofs.SameHosts.{AreSame, same_keys}
+use Rattle.script_read.proofs.VettedHosts.{key, AreVetted, vetting_kept, keys_length, keys_apart, keys_names, keys_sum}
 
 -- ---- times
 
@@ -47,7 +50,7 @@ wait_range at default (Some d) n p q h =
     let r = integer_range at TIMEOUT d n h in record { least = omega (arith, r.0); most = omega (arith, r.1) }
 
 -- three times in their ranges
-record AreTimes (params : Params) : Type 0 where
+pub record AreTimes (params : Params) : Type 0 where
   response : IsWait params.response_timeout
   reaction : IsWait params.reaction_timeout
   skew : IsWait params.skew
@@ -118,24 +121,56 @@ known_valid packages d known hosts params r t h =
       few_hosts = omega (arith, many, r.kept.many, r.few);
       few_parties = omega (arith, sum, r.kept.counted, r.kept.few);
       apart = keys_apart hosts known keys r.kept.apart;
+      named = all_of HasNames hosts (keys_names hosts known keys r.kept.named);
       response_timeout = t.response;
       reaction_timeout = t.reaction;
       skew = t.skew;
     }
 
-pub script_valid : (bytes : List ℕ) (s : Script) → script_in bytes ≡ Ok s → IsValid s.topology
+-- what a script was put together from
+pub record IsRead (s : Script) : Type 0 where
+  pub d : Data
+  pub known : Topology
+  pub checked : List PackageForm
+  pub hosts : List Host
+  pub rounds : List Round
+  pub found : AreRead d known.hosts
+  pub times : AreTimes known.params
+  pub checked_is : checked_in known.hosts d ≡ Ok checked
+  pub hosts_are : vetting_in checked known.hosts d ≡ Ok hosts
+  pub rounds_are : rounds_in known.hosts d ≡ Ok rounds
+  pub whole : s ≡ record { topology = record { hosts = hosts; params = known.params }; checked = checked; rounds = rounds }
+
+pub script_read : (bytes : List ℕ) (s : Script) → script_in bytes ≡ Ok s → IsRead s
 unfolding script_in script_of topology_in
-script_valid bytes s h =
+script_read bytes s h =
     let v = after_walk (json_of bytes) _ s h in
     let a = after (check (has_script_members v.0) (script.Shape [])) _ s v.2 in
     let known = after_walk (topology_in v.0) _ s a.2 in
     let checked = after (checked_in known.0.hosts v.0) _ s known.2 in
     let hosts = after_walk (vetting_in checked.0 known.0.hosts v.0) _ s checked.2 in
     let rounds = after_walk (rounds_in known.0.hosts v.0) _ s hosts.2 in
-    let is = given (record { topology = record { hosts = hosts.0; params = known.0.params }; checked = checked.0; rounds = rounds.0 }) s rounds.2 in
     let x = after (hosts_in v.0) _ known.0 known.1 in
     let y = after (params_of v.0) _ known.0 x.2 in
     let whole = given (record { hosts = x.0; params = y.0 }) known.0 y.2 in
     let own : known.0.hosts ≡ x.0 = ap (λ (t : Topology). t.hosts) whole in
     let times : known.0.params ≡ y.0 = ap (λ (t : Topology). t.params) whole in
-    rw (ap (λ (s : Script). s.topology) is) (known_valid checked.0 v.0 known.0.hosts hosts.0 known.0.params (rw own (hosts_read v.0 x.0 x.1)) (rw times (times_valid v.0 y.0 y.1)) hosts.1)
+    record {
+      d = v.0;
+      known = known.0;
+      checked = checked.0;
+      hosts = hosts.0;
+      rounds = rounds.0;
+      found = rw own (hosts_read v.0 x.0 x.1);
+      times = rw times (times_valid v.0 y.0 y.1);
+      checked_is = checked.1;
+      hosts_are = hosts.1;
+      rounds_are = rounds.1;
+      whole = given (record { topology = record { hosts = hosts.0; params = known.0.params }; checked = checked.0; rounds = rounds.0 }) s rounds.2;
+    }
+
+pub same_hosts : (s : Script) (r : IsRead s) → AreSame r.known.hosts r.hosts
+same_hosts s r = same_keys r.known.hosts r.hosts (vetted_keys r.checked r.d r.known.hosts r.hosts r.found r.hosts_are)
+
+pub valid_read : (s : Script) → IsRead s → IsValid s.topology
+valid_read s r = rw r.whole (known_valid r.checked r.d r.known.hosts r.hosts r.known.params r.found r.times r.hosts_are)

@@ -1,13 +1,13 @@
 -- What is vetted changes neither names nor parties.
 use Rattle.std.proofs.Common.{◌≡◌, ℕ, zero, suc, ◌+◌, List, [], ◌∷◌, ◌++◌, length, get_or, map, take, Option, Some, None, Ok, refl, sym, ap, ◌∙◌, add-one}
 use Rattle.std.specs.Prelude.{fold, sum_by, slice_get}
-use Rattle.std.specs.List.{AllPairs}
+use Rattle.std.specs.List.{AllByRecursion, AllPairs}
 use Rattle.std.proofs.lemmas.List.{map-append, append-nil}
 use Rattle.std.proofs.Math.ListN.{get_or-map}
 use Rattle.serde_json.specs.Data.{Data}
 use Rattle.ledger_terms.specs.Packages.{PackageForm}
 use Rattle.ledger_terms.specs.Pointers.{at_item}
-use Rattle.ledger_terms.specs.Topologies.{AreApart}
+use Rattle.ledger_terms.specs.Topologies.{AreApart, HasNames}
 use Rattle.ledger_terms.specs.declared.host.Host.{Host}
 use Rattle.json_walk.specs.Walk.{Place}
 use Rattle.script_read.specs.Hosts.{vetted_in, with_vetted, vetting_step}
@@ -63,6 +63,15 @@ keys_length (x ∷ xs) (y ∷ ys) h = ap suc (keys_length xs ys (cc))
 pub keys_apart : (a b : List Host) → map key a ≡ map key b → AllPairs AreApart b → AllPairs AreApart a
 keys_apart a b h p = λ i j d below within.
     apart_at _ _ _ _ (key_at a b i d h) (key_at a b j d h) (p i j d below (rw (keys_length a b h) at within))
+
+pub keys_names : (a b : List Host) → map key a ≡ map key b → AllByRecursion HasNames b → AllByRecursion HasNames a
+keys_names [] b h p = tt
+keys_names (x ∷ xs) [] h p = absurd (cc)
+keys_names (x ∷ xs) (y ∷ ys) h p =
+    let first : key x ≡ key y = cc in
+    let here : x.parties ≡ y.parties = ap (λ (k : List ℕ × List (List ℕ)). k.1) first in
+    let own : x.name ≡ y.name = ap (λ (k : List ℕ × List (List ℕ)). k.0) first in
+    (record { own = rw own p.0.own; parties = rw here p.0.parties; rising = rw here p.0.rising }, keys_names xs ys (cc) p.1)
 
 sums : (n : ℕ) (a : List Host) → fold (λ n (host : Host). n + length host.parties) n a ≡ fold (λ n (x : List ℕ × List (List ℕ)). n + length x.1) n (map key a)
 sums n [] = refl

@@ -4,7 +4,9 @@ use Rattle.std.specs.Ordering.{nat_cmp, match_ordering}
 use Rattle.std.specs.Cmp.Lexicographic.{slice_cmp}
 use Rattle.serde_json.specs.Data.{Data, null, boolean, number, string, array, object, Items, no_items, item, Members, no_members, member}
 use Rattle.ledger_terms.specs.Forest.{NoRoots, Root, join}
-use Rattle.ledger_terms.specs.Drafts.{DraftAction, Drafts, DraftCreate, DraftExercise, DraftFetch}
+use Rattle.ledger_terms.specs.Drafts.{Drafts}
+use Rattle.ledger_terms.specs.declared.draft_action.DraftAction.{DraftAction}
+use Rattle.ledger_terms.specs.declared.draft_action.DraftAction.TheVariants.{Create as DraftCreate, Exercise as DraftExercise, Fetch as DraftFetch}
 use Rattle.ledger_terms.specs.Pointers.{at_item, at_member}
 use Rattle.ledger_terms.specs.declared.host.Host.{Host}
 use Rattle.ledger_terms.specs.declared.arg.Arg.{Arg}

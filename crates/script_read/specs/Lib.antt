@@ -1,9 +1,11 @@
-pub mod Faults
-pub mod Hosts
-pub mod Refs
+pub mod Accepted
 pub mod Args
 pub mod Commands
 pub mod Drafts
+pub mod Faults
+pub mod Hosts
+pub mod Kept
+pub mod PackageLimits
+pub mod Refs
 pub mod Rounds
 pub mod Script
-pub mod Kept

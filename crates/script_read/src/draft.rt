@@ -2,17 +2,17 @@
 ghost use Rattle.std.specs.Prelude.{◌≡◌};
 ghost use Rattle.serde_json.specs.View.{view};
 ghost use Rattle.ledger_terms.specs.Answers.{Follows, FollowsAs};
-ghost use Rattle.ledger_terms.specs.Drafts.{DraftExercise};
-ghost use Rattle.ledger_terms.specs.DraftsGrown.{draft_tree};
-ghost use Rattle.script_read.specs.Drafts.{actors_in, result_in, create_draft_of, has_fetch_members, fetch_draft_of, is_fetch, create_draft_in, fetch_draft_in, has_draft_members, call_of, effect_of, exercise_draft_of, leaf_of};
+ghost use Rattle.ledger_terms.specs.Grown.{tree_of};
+ghost use Rattle.script_read.specs.Drafts.{alone, actors_in, result_in, create_draft_of, has_fetch_members, fetch_draft_of, is_fetch, create_draft_in, fetch_draft_in, has_draft_members, call_of, effect_of, exercise_draft_of, leaf_of};
 
 use crate::arg::{args_in, read_arg};
 use crate::command::is_create;
-use crate::exercised::Exercised;
 use crate::input::{input_in, read_instance};
 use json_walk::{PARAMETERS, Place, WalkFault, fits, member, name_in, shape, truth_in};
 use lang_read::read_parties;
-use ledger_terms::{Arg, ArgList, Draft, Input, Name, PartySet, Topology};
+use ledger_terms::{
+    Arg, ArgList, Draft, DraftAction, DraftList, Input, Name, PartySet, Topology, Tree,
+};
 use serde_json::Value;
 use std::alloc::Global;
 
@@ -42,6 +42,15 @@ fn result_in(
     read_arg(alloc, found, &at.member("result"), topology)
 }
 
+fn alone(alloc: Global, action: DraftAction) -> Draft
+    ensures { tree_of result ≡ alone action }
+{
+    Tree {
+        root: action,
+        below: DraftList::new(alloc),
+    }
+}
+
 #[tactic(auto, unfolding(crate::specs::Drafts::create_draft_of))]
 fn read_create(
     alloc: Global,
@@ -49,10 +58,10 @@ fn read_create(
     at: &Place,
     topology: &Topology,
 ) -> Result<Draft, WalkFault>
-    ensures { FollowsAs WalkFault.Memory draft_tree result (create_draft_of topology.now.hosts at.now (view value.now)) }
+    ensures { FollowsAs WalkFault.Memory tree_of result (create_draft_of topology.now.hosts at.now (view value.now)) }
 {
     let (template, fields) = read_instance(alloc, value, at, topology)?;
-    Ok(Draft::Create { template, fields })
+    Ok(alone(alloc, DraftAction::Create { template, fields }))
 }
 
 #[tactic(auto, unfolding(crate::specs::Drafts::has_fetch_members))]
@@ -69,14 +78,14 @@ fn read_fetch(
     at: &Place,
     topology: &Topology,
 ) -> Result<Draft, WalkFault>
-    ensures { FollowsAs WalkFault.Memory draft_tree result (fetch_draft_of topology.now.hosts at.now (view value.now)) }
+    ensures { FollowsAs WalkFault.Memory tree_of result (fetch_draft_of topology.now.hosts at.now (view value.now)) }
 {
     if !has_fetch_members(value) {
         return shape(at);
     }
     let contract = input_in(alloc, value, at, topology)?;
     let actors = actors_in(alloc, value, at, topology)?;
-    Ok(Draft::Fetch { contract, actors })
+    Ok(alone(alloc, DraftAction::Fetch { contract, actors }))
 }
 
 /// Whether the value is an object with the one member `fetch`.
@@ -94,7 +103,7 @@ fn create_in(
     at: &Place,
     topology: &Topology,
 ) -> Result<Draft, WalkFault>
-    ensures { FollowsAs WalkFault.Memory draft_tree result (create_draft_in topology.now.hosts at.now (view value.now)) }
+    ensures { FollowsAs WalkFault.Memory tree_of result (create_draft_in topology.now.hosts at.now (view value.now)) }
 {
     let found = member(value, at, "create")?;
     read_create(alloc, found, &at.member("create"), topology)
@@ -107,7 +116,7 @@ fn fetch_in(
     at: &Place,
     topology: &Topology,
 ) -> Result<Draft, WalkFault>
-    ensures { FollowsAs WalkFault.Memory draft_tree result (fetch_draft_in topology.now.hosts at.now (view value.now)) }
+    ensures { FollowsAs WalkFault.Memory tree_of result (fetch_draft_in topology.now.hosts at.now (view value.now)) }
 {
     let found = member(value, at, "fetch")?;
     read_fetch(alloc, found, &at.member("fetch"), topology)
@@ -121,7 +130,7 @@ pub fn read_leaf(
     at: &Place,
     topology: &Topology,
 ) -> Result<Draft, WalkFault>
-    ensures { FollowsAs WalkFault.Memory draft_tree result (leaf_of topology.now.hosts at.now (view value.now)) }
+    ensures { FollowsAs WalkFault.Memory tree_of result (leaf_of topology.now.hosts at.now (view value.now)) }
 {
     if is_create(value) {
         create_in(alloc, value, at, topology)
@@ -179,22 +188,22 @@ fn read_effect(
     Ok((actors, consuming, result))
 }
 
-/// What an exercise says beside its children.
+/// An exercise without its children.
 #[tactic(auto, unfolding(crate::specs::Drafts::exercise_draft_of))]
-pub fn read_exercised(
+pub fn read_exercise(
     alloc: Global,
     value: &Value,
     at: &Place,
     topology: &Topology,
-) -> Result<Exercised, WalkFault>
-    ensures { FollowsAs WalkFault.Memory (λ e. DraftExercise e.contract e.choice e.args e.actors e.consuming e.result) result (exercise_draft_of topology.now.hosts at.now (view value.now)) }
+) -> Result<DraftAction, WalkFault>
+    ensures { Follows WalkFault.Memory result (exercise_draft_of topology.now.hosts at.now (view value.now)) }
 {
     if !has_draft_members(value) {
         return shape(at);
     }
     let (contract, choice, args) = read_call(alloc, value, at, topology)?;
     let (actors, consuming, result) = read_effect(alloc, value, at, topology)?;
-    Ok(Exercised {
+    Ok(DraftAction::Exercise {
         contract,
         choice,
         args,

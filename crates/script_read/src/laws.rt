@@ -2,12 +2,18 @@
 ghost use Rattle.std.specs.Prelude.{◌≡◌, ℕ, List, Ok};
 ghost use Rattle.ledger_terms.specs.Topologies.{IsValid};
 ghost use Rattle.script_read.specs.Kept.{AreRounds};
+ghost use Rattle.script_read.specs.PackageLimits.{AreAccepted};
 ghost use Rattle.script_read.specs.Script.{script_in};
 ghost use Rattle.script_read.specs.declared.script.Script.{Script};
 
 /// The topology of a script that is read is one that a synchroniser can be made for.
 pub fn topologies_are_valid()
     ensures { (bytes : List ℕ) (s : Script) → script_in bytes ≡ Ok s → IsValid s.topology }
+{}
+
+/// The packages of a script that is read are within their limits, and name no party but those that its participants host.
+pub fn packages_are_within_limits()
+    ensures { (bytes : List ℕ) (s : Script) → script_in bytes ≡ Ok s → AreAccepted s.topology.hosts s.checked }
 {}
 
 /// The rounds of a script that is read are within their limits, and name participants and parties of its topology.

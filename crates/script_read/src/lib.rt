@@ -4,7 +4,6 @@
 mod arg;
 mod command;
 mod draft;
-mod exercised;
 mod host;
 mod input;
 pub mod laws;

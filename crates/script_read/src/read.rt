@@ -3,6 +3,7 @@ ghost use Rattle.std.specs.Prelude.{◌≡◌, ◌≤◌, length, IfOk};
 ghost use Rattle.serde_json.specs.View.{view};
 ghost use Rattle.ledger_terms.specs.Answers.{Follows};
 ghost use Rattle.json_walk.specs.Lists.{counted_of};
+ghost use Rattle.script_read.specs.Kept.{IsAccepted};
 ghost use Rattle.script_read.specs.Script.{counted_package, packages_in, checked_of, checked_in, has_script_members, topology_in, script_of, script_in};
 
 use crate::host::hosts_in;
@@ -143,10 +144,12 @@ fn read_value(alloc: Global, value: &Value) -> Result<Script, ScriptFault>
 }
 
 /// The script that the bytes are, or its first fault in the order of the walk: the participants, the times, the packages and
-/// their check, what the participants have vetted, and the rounds.
+/// their check, what the participants have vetted, and the rounds. A script that is accepted keeps every limit and names only
+/// parties and participants of its topology.
 #[tactic(auto, unfolding(crate::specs::Script::script_in))]
 pub fn read_script(alloc: Global, bytes: &[u8]) -> Result<Script, ScriptFault>
     ensures exact { Follows ScriptFault.Memory result (script_in bytes.now) }
+    ensures accepted { IfOk result IsAccepted }
 {
     let value = read_json(alloc, bytes)?;
     read_value(alloc, &value)

@@ -2,16 +2,14 @@
 ghost use Rattle.std.specs.Prelude.{◌≡◌, ◌≤◌, ◌+◌, IfOk, OnOk, nat_le};
 ghost use Rattle.serde_json.specs.View.{view, items_view};
 ghost use Rattle.ledger_terms.specs.Answers.{Follows, FollowsAs, check};
-ghost use Rattle.ledger_terms.specs.Forest.{NoRoots, Root};
-ghost use Rattle.ledger_terms.specs.Drafts.{DraftExercise};
-ghost use Rattle.ledger_terms.specs.DraftsGrown.{draft_tree};
+ghost use Rattle.ledger_terms.specs.Forest.{NoRoots};
+ghost use Rattle.ledger_terms.specs.Grown.{tree_of as draft_tree};
 ghost use Rattle.script_read.specs.Drafts.{is_draft, within_tree, draft_of, node_of, tree_of, drafts_from};
 
 use crate::command::{is_create, is_exercise};
-use crate::draft::{is_fetch, read_exercised, read_leaf};
-use crate::exercised::Exercised;
+use crate::draft::{is_fetch, read_exercise, read_leaf};
 use json_walk::{DRAFT_DEPTH, DRAFTS, Place, WalkFault, check_limit, member, shape};
-use ledger_terms::{Draft, DraftList, Topology};
+use ledger_terms::{Draft, DraftList, Topology, Tree};
 use serde_json::Value;
 use std::alloc::Global;
 
@@ -20,29 +18,6 @@ fn is_draft(value: &Value) -> bool
     ensures { result ≡ is_draft (view value.now) }
 {
     is_create(value) || is_exercise(value) || is_fetch(value)
-}
-
-fn with_children(exercised: Exercised, children: DraftList) -> Draft
-    ensures { draft_tree result
-        ≡ Root (DraftExercise exercised.contract exercised.choice exercised.args exercised.actors exercised.consuming exercised.result) children NoRoots }
-{
-    let Exercised {
-        contract,
-        choice,
-        args,
-        actors,
-        consuming,
-        result,
-    } = exercised;
-    Draft::Exercise {
-        contract,
-        choice,
-        args,
-        actors,
-        consuming,
-        result,
-        children,
-    }
 }
 
 /// A draft at a depth, and the number of drafts after it. `before` is the number of those that were counted before: all items
@@ -94,11 +69,11 @@ fn read_node(
     ensures first { FollowsAs WalkFault.Memory (λ s. (draft_tree s.0, s.1)) result (node_of topology.now.hosts at.now depth before (view value.now)) }
     ensures within { IfOk result (λ s. s.1 ≤ DRAFTS.most) }
 {
-    let exercised = read_exercised(alloc, value, at, topology)?;
+    let root = read_exercise(alloc, value, at, topology)?;
     let found = member(value, at, "children")?;
     let here = at.member("children");
-    let (children, count) = read_tree(alloc, found, &here, depth + 1, before, topology)?;
-    Ok((with_children(exercised, children), count))
+    let (below, count) = read_tree(alloc, found, &here, depth + 1, before, topology)?;
+    Ok((Tree { root, below }, count))
 }
 
 /// The drafts of a list, which stand at a depth, and the number of drafts after them. `before` is the number of those that were

@@ -12,7 +12,7 @@ use Rattle.lang_eval.specs.Found.{Packages}
 use Rattle.lang_eval.specs.Language.{roles_in}
 use Rattle.lang_eval.proofs.Informed.{no_size}
 use Rattle.interpret.specs.Language.{the_language}
-use Rattle.view_split.specs.SplitView.{SplitView}
+use Rattle.view_split.specs.declared.split_view.SplitView.{SplitView}
 use Rattle.view_split.specs.Split.{split}
 use Rattle.view_split.specs.declared.views.Views.{Views}
 use Rattle.blind_tree.specs.Blind.{blind_for, is_host_named, salts_of, tree_to, tree_to_mediator}

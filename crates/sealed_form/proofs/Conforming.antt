@@ -2,7 +2,7 @@
 use Rattle.std.proofs.Common.{refl}
 use Rattle.std.specs.Bool.{Decides}
 use Rattle.ledger_terms.proofs.Deciding.{both, both_true}
-use Rattle.ledger_terms.specs.Trees.{Act}
+use Rattle.ledger_terms.specs.declared.act.Act.{Act}
 use Rattle.ledger_terms.specs.Forest.{Forest, NoRoots, Root}
 use Rattle.ledger_model.specs.Conformance.{Conforms}
 use Rattle.lang_eval.specs.Found.{Packages}

@@ -7,7 +7,7 @@ use Rattle.std.proofs.lemmas.Bool.{eq-eqb, or_right}
 use Rattle.std.proofs.lemmas.List.Kept.{IsStrictlyIncreasing-filter}
 use Rattle.std.proofs.lemmas.Option.{same_Some, none-some}
 use Rattle.ledger_terms.specs.Parties.{set_of}
-use Rattle.ledger_terms.specs.Trees.{Act}
+use Rattle.ledger_terms.specs.declared.act.Act.{Act}
 use Rattle.ledger_terms.specs.Forest.{Forest, NoRoots, Root, preorder, paths_from, number_from, below_at}
 use Rattle.ledger_model.specs.Terms.{Name, PartySet, instance_of, ParticipantId, Path}
 use Rattle.ledger_model.specs.Forest.{acts, trees_of, root_trees}
@@ -26,7 +26,7 @@ use Rattle.ledger_model.proofs.Openings.{opens_projection, numbered_shown, viewe
 use Rattle.ledger_model.proofs.PathOrder.{told_of}
 use Rattle.ledger_model.proofs.ConfirmingViews.{asked_shown}
 use Rattle.view_split.specs.Holed.{inner}
-use Rattle.view_split.specs.SplitView.{SplitView}
+use Rattle.view_split.specs.declared.split_view.SplitView.{SplitView}
 use Rattle.view_split.specs.Split.{confirmers_in, view_at, split}
 use Rattle.view_split.specs.Numbered.{seen_as, with_cores}
 use Rattle.view_split.specs.Seen.{is_sight, seen_views, placed_numbered, opened_as}

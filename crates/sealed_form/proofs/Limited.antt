@@ -11,7 +11,7 @@ use Rattle.canton_model.specs.declared.envelope.Envelope.{Envelope}
 use Rattle.canton_model.specs.declared.request.Request.{Request}
 use Rattle.ledger_model.proofs.Lists.{in_from_Contains}
 use Rattle.lang_eval.specs.Found.{Packages}
-use Rattle.view_split.specs.SplitView.{SplitView}
+use Rattle.view_split.specs.declared.split_view.SplitView.{SplitView}
 use Rattle.view_split.specs.Numbered.{map_forest}
 use Rattle.view_split.proofs.Confirming.{from_map}
 use Rattle.blind_tree.specs.Blind.{Visibility, informees_alone, sees_root, shown_to, tree_with, views_shown}

@@ -4,7 +4,7 @@ use Rattle.std.specs.Prelude.{◌≤◌, length, nat_eq, option_to_list, option_
 use Rattle.std.specs.List.{list_any}
 use Rattle.std.proofs.lemmas.Bool.{or_left, or_right}
 use Rattle.sha2.specs.Sha256.{sha256}
-use Rattle.ledger_terms.specs.Trees.{Act}
+use Rattle.ledger_terms.specs.declared.act.Act.{Act}
 use Rattle.ledger_terms.specs.Forest.{Forest, NoRoots, Root, preorder, roots_of}
 use Rattle.ledger_terms.specs.Hosting.{hosts_at}
 use Rattle.ledger_terms.specs.declared.topology.Topology.{Topology}
@@ -17,7 +17,7 @@ use Rattle.canton_model.specs.declared.request.Request.{Request}
 use Rattle.ledger_model.proofs.Lists.{In, in_any, in_append_right, contains_from_In}
 use Rattle.lang_eval.specs.Found.{Packages}
 use Rattle.interpret.specs.Language.{the_language}
-use Rattle.view_split.specs.SplitView.{SplitView}
+use Rattle.view_split.specs.declared.split_view.SplitView.{SplitView}
 use Rattle.view_split.specs.Split.{split, split_below, assembled}
 use Rattle.view_split.specs.Seen.{is_sight}
 use Rattle.view_split.specs.declared.opened_tree.OpenedTree.{OpenedTree}

@@ -7,7 +7,7 @@ use Rattle.std.proofs.lemmas.Bool.{cases_Bool, both_ways}
 use Rattle.std.proofs.lemmas.Option.{same_Some, none-some}
 use Rattle.std.proofs.lemmas.Slice.Eq.{bytes_eq-Decides}
 use Rattle.sha2.specs.Sha256.{sha256}
-use Rattle.ledger_terms.specs.Trees.{Act}
+use Rattle.ledger_terms.specs.declared.act.Act.{Act}
 use Rattle.ledger_terms.specs.Forest.{Forest, NoRoots, Root, preorder}
 use Rattle.ledger_terms.specs.declared.topology.Topology.{Topology}
 use Rattle.ledger_terms.specs.declared.instance.Instance.{Instance}
@@ -32,7 +32,7 @@ use Rattle.wire_form.proofs.FormatLaws.{ok_is}
 use Rattle.wire_form.proofs.ValueLaws.{instance_reads}
 use Rattle.interpret.specs.Ids.{contract_id, is_authentic, salt_of}
 use Rattle.view_split.specs.Holed.{Holed, NoMore, Inner, Hole, inner, fill, after_holes}
-use Rattle.view_split.specs.SplitView.{SplitView}
+use Rattle.view_split.specs.declared.split_view.SplitView.{SplitView}
 use Rattle.view_split.specs.Split.{assembled}
 use Rattle.view_split.proofs.Assembled.{assembled_split}
 use Rattle.blind_tree.specs.Digests.{tree_strings}

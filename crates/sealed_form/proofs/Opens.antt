@@ -11,7 +11,7 @@ use Rattle.canton_model.specs.declared.request.Request.{Request}
 use Rattle.ledger_model.specs.Opening.{is_root_path, opened_of, opened_views_of, seen_paths, shown_if, shown_of, Shown, Transaction}
 use Rattle.lang_eval.specs.Found.{Packages}
 use Rattle.interpret.specs.Language.{the_language}
-use Rattle.view_split.specs.SplitView.{SplitView}
+use Rattle.view_split.specs.declared.split_view.SplitView.{SplitView}
 use Rattle.view_split.specs.Seen.{seen_views}
 use Rattle.view_split.specs.Placed.{shown_by, tops}
 use Rattle.view_split.specs.declared.opened_tree.OpenedTree.{OpenedTree}

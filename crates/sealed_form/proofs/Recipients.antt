@@ -6,7 +6,7 @@ use Rattle.std.proofs.lemmas.Bool.{cases_Bool, both_ways, eqb-true, eq-eqb, fals
 use Rattle.ledger_terms.specs.Forest.{Forest}
 use Rattle.ledger_terms.specs.declared.host.Host.{Host}
 use Rattle.ledger_model.proofs.Lists.{In, in_any, from_any, in_from_Contains, contains_from_In}
-use Rattle.view_split.specs.SplitView.{SplitView}
+use Rattle.view_split.specs.declared.split_view.SplitView.{SplitView}
 use Rattle.blind_tree.specs.Blind.{is_host_named}
 use Rattle.blind_tree.specs.Recipients.{is_recipient, recipients_of}
 use Rattle.blind_tree.proofs.Recipients.{are_recipients}

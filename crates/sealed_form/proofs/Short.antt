@@ -7,17 +7,17 @@ use Rattle.std.proofs.lemmas.Bool.{cases_Bool, leb-true}
 use Rattle.std.proofs.lemmas.List.{length-append}
 use Rattle.std.proofs.lemmas.List.Elements.{recursion_from_All}
 use Rattle.hash_id.specs.Strings.{leaf_hash_string, leaf_salt_string, view_hash_string}
-use Rattle.ledger_terms.specs.Names.{is_spelled}
-use Rattle.ledger_terms.specs.Trees.{Act}
+use Rattle.ledger_terms.specs.Names.{is_spelled, IsName}
+use Rattle.ledger_terms.specs.declared.act.Act.{Act}
 use Rattle.ledger_terms.specs.Forest.{Forest, NoRoots, Root, join, size}
 use Rattle.ledger_terms.specs.declared.action.Action.{Action}
 use Rattle.ledger_model.specs.Views.{its_informees, starts}
 use Rattle.ledger_model.specs.Opening.{Transaction}
 use Rattle.ledger_model.specs.declared.roles.Roles.{Roles}
 use Rattle.wire_form.specs.Spelling.{spell_name, spell_parties, spell_action}
-use Rattle.wire_form.specs.InRange.{IsHash, IsName, IsPartySet}
+use Rattle.wire_form.specs.InRange.{IsHash, IsPartySet}
 use Rattle.view_split.specs.Holed.{width}
-use Rattle.view_split.specs.SplitView.{SplitView}
+use Rattle.view_split.specs.declared.split_view.SplitView.{SplitView}
 use Rattle.view_split.specs.Split.{core_of, view_at, split_below, split}
 use Rattle.blind_tree.specs.Vertices.{count}
 use Rattle.blind_tree.specs.Cores.{spell_children}

@@ -3,7 +3,7 @@ use Rattle.std.specs.Prelude.{◌≡◌, ℕ, List, [], ◌∷◌, ◌++◌, map
 use Rattle.sha2.specs.Sha256.{sha256}
 use Rattle.hash_id.specs.Strings.{contract_id_string}
 use Rattle.wire_form.specs.Spelling.{spell_instance}
-use Rattle.ledger_terms.specs.Trees.{Act}
+use Rattle.ledger_terms.specs.declared.act.Act.{Act}
 use Rattle.ledger_terms.specs.declared.topology.Topology.{Topology}
 use Rattle.ledger_model.specs.Terms.{instance_of}
 use Rattle.ledger_model.specs.Forest.{acts}

@@ -1,7 +1,7 @@
 -- Requests of senders that keep the rules on views.
 use Rattle.std.specs.Prelude.{◌≡◌, true, List, Some, nat_eq, Contains}
 use Rattle.std.specs.List.Sorted.{IsStrictlyIncreasing}
-use Rattle.ledger_terms.specs.Trees.{Act}
+use Rattle.ledger_terms.specs.declared.act.Act.{Act}
 use Rattle.ledger_model.specs.Terms.{Name, ParticipantId}
 use Rattle.ledger_model.specs.Forest.{acts}
 use Rattle.canton_model.specs.declared.request.Request.{Request}

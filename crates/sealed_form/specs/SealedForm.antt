@@ -2,12 +2,13 @@
 use Rattle.std.specs.Prelude.{◌≡◌, ℕ, ◌≤◌, Bool, true, List, [], ◌∷◌, ◌++◌, length, map, filter, Contains, nat_eq, Option, Some, None}
 use Rattle.std.specs.Prelude.{option_to_list, option_and_then, Result, Ok, Err, if◌then◌else◌}
 use Rattle.sha2.specs.Sha256.{sha256}
-use Rattle.ledger_terms.specs.Trees.{Act}
+use Rattle.ledger_terms.specs.declared.act.Act.{Act}
 use Rattle.std.specs.List.{list_any}
 use Rattle.ledger_terms.specs.Forest.{Forest, preorder}
 use Rattle.ledger_terms.specs.Hosting.{confirms_at, hosts_at}
 use Rattle.ledger_terms.specs.declared.topology.Topology.{Topology}
 use Rattle.ledger_terms.specs.declared.action.Action.{Action}
+use Rattle.ledger_terms.specs.declared.limits.TheConstants.{MOST_TREE_BYTES}
 use Rattle.ledger_model.specs.Forest.{acts}
 use Rattle.ledger_model.specs.Language.{roles_of}
 use Rattle.ledger_model.specs.declared.roles.Roles.{Roles}
@@ -20,7 +21,7 @@ use Rattle.wire_form.specs.InRange.{IsHash}
 use Rattle.wire_form.specs.declared.wire_fault.WireFault.{WireFault}
 use Rattle.interpret.specs.Language.{the_language}
 use Rattle.interpret.specs.NamedParties.{parties_in_forest}
-use Rattle.view_split.specs.SplitView.{SplitView}
+use Rattle.view_split.specs.declared.split_view.SplitView.{SplitView}
 use Rattle.view_split.specs.Split.{split, assembled}
 use Rattle.sealed_form.specs.Within.{participants_of, is_hosted}
 use Rattle.view_split.specs.declared.opened_tree.OpenedTree.{OpenedTree}
@@ -158,10 +159,6 @@ pub record CanBeSealed (topology : Topology) (packages : Packages) (sender : ℕ
   pub in_range : AreInRange whole.sender (split_as whole.transaction (views_by packages whole.transaction))
   pub small : IsSmall whole.sender (split_as whole.transaction (views_by packages whole.transaction))
 
--- how many bytes the mediator's tree and each envelope may have: 4 MiB
-abbrev pub byte_limit : ℕ
-byte_limit = 4194304
-
 -- A request is sealed where its whole can be read and can be sealed, making it again gives the request, and its bytes are
 -- within the limit.
 pub record IsSealedForm (topology : Topology) (packages : Packages) (request : Request) : Type 0 where
@@ -169,5 +166,5 @@ pub record IsSealedForm (topology : Topology) (packages : Packages) (request : R
   pub is_whole : whole_of request ≡ Some whole
   pub can_be : CanBeSealed topology packages request.sender whole
   pub again : request ≡ request_of topology packages request.sender whole.sender request.command whole.salts whole.transaction
-  pub short_mediator : length request.mediator ≤ byte_limit
-  pub short : (envelope : Envelope) → Contains request.envelopes envelope → length envelope.bytes ≤ byte_limit
+  pub short_mediator : length request.mediator ≤ MOST_TREE_BYTES
+  pub short : (envelope : Envelope) → Contains request.envelopes envelope → length envelope.bytes ≤ MOST_TREE_BYTES

@@ -1,7 +1,7 @@
 -- Requests of senders that keep the rules on views, within a topology.
 use Rattle.std.specs.Prelude.{◌≡◌, Bool, true, List, Some, nat_eq, is_some, length, Contains}
 use Rattle.std.specs.List.{range_with_len}
-use Rattle.ledger_terms.specs.Trees.{Act}
+use Rattle.ledger_terms.specs.declared.act.Act.{Act}
 use Rattle.ledger_terms.specs.Hosting.{confirms_at, host_of, hosts_at}
 use Rattle.ledger_terms.specs.declared.action.Action.{Action}
 use Rattle.ledger_terms.specs.declared.instance.Instance.{Instance}

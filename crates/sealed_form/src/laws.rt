@@ -1,6 +1,7 @@
 //! The laws of the sealed form, as the clauses of functions that do nothing.
 ghost use Rattle.std.specs.Prelude.{◌≡◌, ℕ, Bool, true, List, Some, Contains, ◌≤◌, [], Ok, length, nat_eq};
-ghost use Rattle.ledger_terms.specs.Trees.{Act, Actions};
+ghost use Rattle.ledger_terms.specs.declared.act.Act.{Act};
+ghost use Rattle.ledger_terms.specs.Trees.{Actions};
 ghost use Rattle.ledger_terms.specs.Forest.{Forest, below_at};
 ghost use Rattle.ledger_model.specs.Terms.{Name, ParticipantId};
 ghost use Rattle.ledger_model.specs.Opening.{seen_paths, shown_of, Transaction, Shown, confirming_of};
@@ -20,6 +21,7 @@ ghost use Rattle.interpret.specs.FilledTree.{IsFilled};
 ghost use Rattle.ledger_terms.specs.Drafts.{Drafts};
 ghost use Rattle.ledger_terms.specs.Hosting.{hosts_at};
 ghost use Rattle.ledger_terms.specs.Topologies.{IsValid};
+ghost use Rattle.ledger_terms.specs.declared.limits.TheConstants.{MOST_TREE_BYTES};
 ghost use Rattle.ledger_terms.specs.declared.topology.Topology.{Topology};
 ghost use Rattle.sha2.specs.Sha256.{sha256};
 ghost use Rattle.blind_tree.specs.Blind.{blind_for, is_host_named, salts_of, tree_to_mediator};
@@ -41,7 +43,7 @@ ghost use Rattle.view_split.specs.declared.views.Views.{Views};
 ghost use Rattle.blind_tree.specs.Limits.{KeepLimits};
 ghost use Rattle.blind_tree.specs.Seen.{contents_shown};
 ghost use Rattle.sealed_form.specs.Collisions.{AreSealed, Collides};
-ghost use Rattle.sealed_form.specs.SealedForm.{CanBeSealed, IsSealedForm, Whole, byte_limit, confirming_by, request_of, roles_by, tree_for, views_by, whole_of};
+ghost use Rattle.sealed_form.specs.SealedForm.{CanBeSealed, IsSealedForm, Whole, confirming_by, request_of, roles_by, tree_for, views_by, whole_of};
 ghost use Rattle.sealed_form.specs.SealedReading.{IsTestOf, sealed_reading};
 
 /// The reading of the sealed form is a reading, whatever the test by which requests are found to be in that form.
@@ -79,8 +81,8 @@ pub fn requests_made_are_sealed()
     ensures sealed { (topology : Topology) (packages : Packages) (sender : ℕ) (command : List ℕ) (whole : Whole) (request : Request)
         → CanBeSealed topology packages sender whole
         → request ≡ request_of topology packages sender whole.sender command whole.salts whole.transaction
-        → length request.mediator ≤ byte_limit
-        → ((envelope : Envelope) → Contains request.envelopes envelope → length envelope.bytes ≤ byte_limit)
+        → length request.mediator ≤ MOST_TREE_BYTES
+        → ((envelope : Envelope) → Contains request.envelopes envelope → length envelope.bytes ≤ MOST_TREE_BYTES)
         → IsSealedForm topology packages request }
 {}
 

@@ -87,8 +87,8 @@ fn put_informees(
 /// Puts a line of a view at the end: its path, its informees and its confirmers.
 fn put_view(alloc: Global, placed: &PlacedView, out: &mut String) -> Result<(), AllocError> {
     let path = path_text(alloc, &placed.path)?;
-    let informees = names_text(alloc, &placed.view.informees)?;
-    let confirmers = names_text(alloc, &placed.view.confirmers)?;
+    let informees = names_text(alloc, &placed.view.root.informees)?;
+    let confirmers = names_text(alloc, &placed.view.root.confirmers)?;
     put_line(
         out,
         &[

@@ -3,7 +3,7 @@ ghost use Rattle.std.specs.Prelude.{◌≡◌, true, All, IsTrue};
 ghost use Rattle.std.specs.List.{AllByRecursion};
 ghost use Rattle.ledger_terms.specs.Forest.{preorder, roots_of};
 ghost use Rattle.ledger_terms.specs.Grown.{forest_of};
-ghost use Rattle.ledger_terms.specs.Trees.{Act};
+ghost use Rattle.ledger_terms.specs.declared.act.Act.{Act};
 ghost use Rattle.lang_eval.specs.Language.{has_roles};
 
 use lang_eval::{Checked, roles};
@@ -26,7 +26,7 @@ pub(crate) fn children_have_roles(alloc: Global, checked: &Checked, nodes: &[Act
     ensures { IsTrue result → All (λ (child : Act). has_roles checked.now child.action ≡ true) (roots_of (forest_of nodes.now)) }
 {
     for node in nodes {
-        if !has_roles(alloc, checked, &node.action) {
+        if !has_roles(alloc, checked, &node.root.action) {
             return false;
         }
     }
@@ -38,8 +38,8 @@ pub(crate) fn all_have_roles(alloc: Global, checked: &Checked, roots: &ActionNod
     ensures { IsTrue result → AllByRecursion (λ (a : Act). has_roles checked.now a.action ≡ true) (preorder roots.now) }
 {
     for node in roots.as_slice() {
-        let mine = has_roles(alloc, checked, &node.action);
-        let below = all_have_roles(alloc, checked, &node.children);
+        let mine = has_roles(alloc, checked, &node.root.action);
+        let below = all_have_roles(alloc, checked, &node.below);
         if !(mine && below) {
             return false;
         }

@@ -53,8 +53,8 @@ fn put_order(alloc: Global, roots: &ActionNodeList, out: &mut String) -> Result<
 /// Whether the roots have roles and are authorised by who requests them, and each consequence by those above it.
 fn has_authority(alloc: Global, checked: &Checked, tx: &Tx) -> Result<bool, AllocError> {
     for root in tx.roots.as_slice() {
-        if !has_roles(alloc, checked, &root.action)
-            || !authorised(alloc, checked, &root.action, &tx.act_as)?
+        if !has_roles(alloc, checked, &root.root.action)
+            || !authorised(alloc, checked, &root.root.action, &tx.act_as)?
         {
             return Ok(false);
         }
@@ -72,7 +72,7 @@ fn has_authority_below(
         if !gives_authority(alloc, checked, node)? {
             return Ok(false);
         }
-        if !has_authority_below(alloc, checked, &node.children)? {
+        if !has_authority_below(alloc, checked, &node.below)? {
             return Ok(false);
         }
     }
@@ -85,8 +85,8 @@ fn gives_authority(
     checked: &Checked,
     node: &ActionNode,
 ) -> Result<bool, AllocError> {
-    if !has_roles(alloc, checked, &node.action)
-        || !children_have_roles(alloc, checked, node.children.as_slice())
+    if !has_roles(alloc, checked, &node.root.action)
+        || !children_have_roles(alloc, checked, node.below.as_slice())
     {
         return Ok(false);
     }

@@ -3,7 +3,7 @@ use Rattle.std.proofs.Common.{◌≡◌, ℕ, zero, suc, refl, sym, ap, ◌∙�
 use Rattle.std.specs.Prelude.{Some}
 use Rattle.std.proofs.lemmas.Bool.{cases_Bool}
 use Rattle.std.proofs.lemmas.Option.{same_Some, none-some}
-use Rattle.ledger_terms.specs.Trees.{Act}
+use Rattle.ledger_terms.specs.declared.act.Act.{Act}
 use Rattle.ledger_terms.specs.Forest.{Forest, NoRoots, Root, join, project}
 use Rattle.ledger_terms.specs.Roots.{tree_at}
 use Rattle.ledger_terms.specs.declared.action.Action.{Action}
@@ -12,7 +12,7 @@ use Rattle.ledger_model.specs.Terms.{PartySet}
 use Rattle.ledger_model.specs.declared.roles.Roles.{Roles}
 use Rattle.ledger_model.specs.Views.{its_informees, starts}
 use Rattle.view_split.specs.Holed.{after_holes, fill}
-use Rattle.view_split.specs.SplitView.{SplitView}
+use Rattle.view_split.specs.declared.split_view.SplitView.{SplitView}
 use Rattle.view_split.specs.Split.{core_of, view_at, split_below, split, assembled}
 
 pub assembled-join : (v w : Forest SplitView) → assembled (join v w) ≡ join (assembled v) (assembled w)

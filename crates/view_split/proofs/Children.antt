@@ -1,9 +1,9 @@
 -- The children of an action whose view is put back.
 use Rattle.std.proofs.Common.{◌≡◌, ℕ, zero, suc, ◌+◌, List, [], ◌∷◌, drop, map, refl, sym, ap, ◌∙◌, arith}
-use Rattle.ledger_terms.specs.Trees.{Act}
+use Rattle.ledger_terms.specs.declared.act.Act.{Act}
 use Rattle.ledger_terms.specs.Forest.{Forest, NoRoots, Root, roots_of}
 use Rattle.view_split.specs.Holed.{Holed, NoMore, Inner, Hole, after_holes, children_with, fill, holes}
-use Rattle.view_split.specs.SplitView.{SplitView}
+use Rattle.view_split.specs.declared.split_view.SplitView.{SplitView}
 use Rattle.view_split.specs.Split.{assembled}
 
 drop_none : {X : Type 0} (n : ℕ) → drop {A = X} n [] ≡ []

@@ -3,7 +3,7 @@ use Rattle.std.proofs.Common.{◌≡◌, Bool, true, false, List, [], ◌∷◌,
 use Rattle.std.specs.Prelude.{ℕ, slice_get, flat_map}
 use Rattle.std.specs.List.{list_any}
 use Rattle.ledger_terms.specs.Parties.{is_subset}
-use Rattle.ledger_terms.specs.Trees.{Act}
+use Rattle.ledger_terms.specs.declared.act.Act.{Act}
 use Rattle.ledger_terms.specs.Forest.{Forest, project, preorder, paths_from, number_from}
 use Rattle.ledger_terms.specs.declared.action.Action.{Action}
 use Rattle.ledger_terms.specs.declared.action.Action.TheVariants.{Create, Exercise, Fetch}
@@ -14,7 +14,7 @@ use Rattle.ledger_model.specs.Views.{View, its_informees, confirmers_of, views}
 use Rattle.ledger_model.proofs.Lists.{In, in_append_left, in_append_right, in_any, from_any, in_map, in_filter, from_filter, contains_from_In}
 use Rattle.ledger_model.proofs.Projected.{filter_project, stands}
 use Rattle.ledger_model.proofs.Sets.{in_set_of, front_of_set}
-use Rattle.view_split.specs.SplitView.{SplitView}
+use Rattle.view_split.specs.declared.split_view.SplitView.{SplitView}
 use Rattle.view_split.specs.Split.{split}
 use Rattle.view_split.specs.Numbered.{seen_as}
 use Rattle.view_split.specs.Seen.{ConfirmsView, is_sight, seen_views, placed_numbered}

@@ -4,18 +4,19 @@ use Rattle.std.specs.Prelude.{◌≢◌, ◌%◌, ◌^◌, find, Option, Some, N
 use Rattle.std.proofs.lemmas.Bool.{cases_Bool}
 use Rattle.ledger_terms.specs.Forest.{Forest, NoRoots, Root, join, preorder, paths_from}
 use Rattle.ledger_terms.specs.Roots.{trees_count}
-use Rattle.ledger_terms.specs.Trees.{Act, Actions}
+use Rattle.ledger_terms.specs.declared.act.Act.{Act}
+use Rattle.ledger_terms.specs.Trees.{Actions}
 use Rattle.ledger_terms.specs.Grown.{forest_of, tree_of}
-use Rattle.ledger_terms.specs.declared.action_node.ActionNode.{ActionNode}
+use Rattle.ledger_terms.specs.Trees.{ActionNode}
 use Rattle.lang_eval.specs.Found.{Packages}
 use Rattle.lang_eval.specs.Language.{has_roles, roles_in}
 use Rattle.ledger_terms.specs.declared.tx.Tx.{Tx}
 use Rattle.ledger_model.specs.Terms.{PartySet}
 use Rattle.view_split.specs.Faults.{IsFault, fault_from, first_roleless, is_roleless, kept_path, or_else, unless_fault, views_of_tx}
 use Rattle.view_split.specs.Split.{split}
-use Rattle.view_split.specs.SplitView.{SplitView}
+use Rattle.view_split.specs.declared.split_view.SplitView.{SplitView}
 use Rattle.view_split.specs.declared.views.Views.{Views}
-use Rattle.view_split.specs.Walked.{node_act, node_fault}
+use Rattle.view_split.specs.Walked.{node_fault}
 use Rattle.view_split.specs.declared.split_fault.SplitFault.{SplitFault}
 use Rattle.view_split.specs.declared.split_fault.SplitFault.TheVariants.{NoRoles, Memory}
 use Rattle.view_split.proofs.Walks.{taken_more}
@@ -42,8 +43,8 @@ module _ (packages : Packages) where
 
   fault_alone : (above : List ℕ) (k : ℕ) (node : ActionNode) → fault_from packages above k (tree_of node) ≡ node_fault packages (above ++ k % 2 ^ 16 ∷ []) node
   fault_alone above k node =
-      elim (cases_Bool (has_roles packages node.action)) [
-        | inl given ↦ rw given (or_else-none (fault_from packages (above ++ k % 2 ^ 16 ∷ []) 0 node.children))
+      elim (cases_Bool (has_roles packages node.root.action)) [
+        | inl given ↦ rw given (or_else-none (fault_from packages (above ++ k % 2 ^ 16 ∷ []) 0 node.below))
         | inr missing ↦ rw missing refl
       ]
 
@@ -66,7 +67,7 @@ module _ (packages : Packages) where
   whole : (ns : List ActionNode) (i : ℕ) → join (forest_of (take i ns)) (forest_of (drop i ns)) ≡ forest_of ns
   whole ns zero = refl
   whole [] (suc i) = refl
-  whole (n ∷ ns) (suc i) = ap (λ (f : Actions). Root (node_act n) n.children f) (whole ns i)
+  whole (n ∷ ns) (suc i) = ap (λ (f : Actions). Root n.root n.below f) (whole ns i)
 
   -- and ends where it has one
   pub found_here : (above path : List ℕ) (ns : List ActionNode) (i : ℕ) (n : ActionNode) (e : SplitFault) → i < length ns → n ≡ get_or ns i n → path ≡ above ++ i % 2 ^ 16 ∷ [] → IsFault (node_fault packages path n) e → fault_from packages above 0 (forest_of (take i ns)) ≡ None → IsFault (fault_from packages above 0 (forest_of ns)) e

@@ -3,17 +3,18 @@ use Rattle.std.proofs.Common.{◌≡◌, ℕ, zero, suc, ◌+◌, ◌<◌, ◌�
 use Rattle.std.proofs.lemmas.List.{drop_more}
 use Rattle.std.proofs.Math.ListN.{drop_of_length-le}
 use Rattle.ledger_terms.specs.Forest.{NoRoots, Root, join}
-use Rattle.ledger_terms.specs.Trees.{Act, Actions}
+use Rattle.ledger_terms.specs.declared.act.Act.{Act}
+use Rattle.ledger_terms.specs.Trees.{Actions}
 use Rattle.ledger_terms.proofs.Grow.{join-assoc, join-end}
 use Rattle.view_split.specs.Holed.{Holed, NoMore, fill, after_holes}
 use Rattle.view_split.specs.Holed as holed
 use Rattle.view_split.specs.CoreLists.{act_of, children_of, core_weight}
 use Rattle.view_split.specs.Split.{assembled}
-use Rattle.view_split.specs.ViewLists.{views_of, view_tree, view_count}
+use Rattle.ledger_terms.specs.Grown.{forest_of, tree_of, node_count}
 use Rattle.view_split.specs.declared.core_node.CoreNode.{CoreNode}
 use Rattle.view_split.specs.declared.core_node.CoreChild.{CoreChild}
 use Rattle.view_split.specs.declared.core_node.CoreChild.TheVariants.{Inner, Hole}
-use Rattle.view_split.specs.declared.view.View.{View}
+use Rattle.view_split.specs.ViewTrees.{View}
 
 abbrev with_child : CoreChild → Holed Act → Holed Act
 with_child (Inner node) rest = holed.Inner (act_of node) node.children rest
@@ -102,18 +103,13 @@ filled_end cs i out trees all left past keeps =
     sym (join-end out) ∙ ((λ k. join out (fill (sym over k) trees)) ∙ keeps.0)
 
 -- views, one at a time
-pub view_within : (vs : List View) (i : ℕ) (d : View) → i < length vs → view_count (view_tree (get_or vs i d)) ≤ view_count (views_of vs)
-view_within [] i d h = absurd (omega arith)
-view_within (v ∷ vs) zero d h = omega arith
-view_within (v ∷ vs) (suc i) d h = omega (arith, view_within vs i d (omega arith))
-
 pub step_view : (vs : List View) (i : ℕ) (v : View) (all out new tree : Actions) → i < length vs → v ≡ get_or vs i v
-    → new ≡ join out tree → tree ≡ assembled (view_tree v)
-    → join out (assembled (views_of (drop i vs))) ≡ all → join new (assembled (views_of (drop (i + 1) vs))) ≡ all
+    → new ≡ join out tree → tree ≡ assembled (tree_of v)
+    → join out (assembled (forest_of (drop i vs))) ≡ all → join new (assembled (forest_of (drop (i + 1) vs))) ≡ all
 step_view vs i v all out new tree h at grown put before =
-    let rest = assembled (views_of (drop (i + 1) vs)) in
-    let next : assembled (views_of (drop i vs)) ≡ join (assembled (view_tree v)) rest = rw (drop_more vs i v h, ← at) refl in
+    let rest = assembled (forest_of (drop (i + 1) vs)) in
+    let next : assembled (forest_of (drop i vs)) ≡ join (assembled (tree_of v)) rest = rw (drop_more vs i v h, ← at) refl in
     ap (λ (x : Actions). join x rest) grown ∙ (join-assoc out tree rest ∙ ((λ k. join out (join (put k) rest)) ∙ (ap (join out) (sym next) ∙ before)))
 
-pub views_end : (vs : List View) (i : ℕ) (all out : Actions) → length vs ≤ i → join out (assembled (views_of (drop i vs))) ≡ all → out ≡ all
+pub views_end : (vs : List View) (i : ℕ) (all out : Actions) → length vs ≤ i → join out (assembled (forest_of (drop i vs))) ≡ all → out ≡ all
 views_end vs i all out past before = sym (join-end out) ∙ (rw (drop_of_length-le vs past) at before)

@@ -1,18 +1,15 @@
--- Children of cores and views that come at the end.
+-- Children of cores that come at the end, and trees that are taken from it.
 use Rattle.std.proofs.Common.{◌≡◌, suc, length, List, [], ◌∷◌, ◌++◌, refl, ap, ◌∙◌}
 use Rattle.std.specs.Prelude.{reverse, Option, Some, None, option_to_list}
 use Rattle.std.proofs.lemmas.List.{reverse-append, append-nil}
 use Rattle.ledger_terms.specs.Grown.{forest_of}
-use Rattle.ledger_terms.specs.declared.action_node.ActionNode.{ActionNode}
-use Rattle.ledger_terms.specs.Forest.{Root, join}
-use Rattle.ledger_terms.specs.Roots.{trees_count}
+use Rattle.ledger_terms.specs.Trees.{ActionNode}
+use Rattle.ledger_terms.specs.Forest.{join}
 use Rattle.view_split.specs.Holed as holed
 use Rattle.view_split.specs.Holed.{beside, width}
 use Rattle.view_split.specs.CoreLists.{act_of, children_of}
-use Rattle.view_split.specs.ViewLists.{part_of, views_of, view_tree}
 use Rattle.view_split.specs.declared.core_node.CoreChild.{CoreChild}
 use Rattle.view_split.specs.declared.core_node.CoreChild.TheVariants.{Inner, Hole}
-use Rattle.view_split.specs.declared.view.View.{View}
 
 children_appended : (cs ds : List CoreChild) → children_of (cs ++ ds) ≡ beside (children_of cs) (children_of ds)
 children_appended [] ds = refl
@@ -22,25 +19,12 @@ children_appended (Hole ∷ cs) ds = ap holed.Hole (children_appended cs ds)
 pub child_pushed : (cs : List CoreChild) (c : CoreChild) → children_of (cs ++ c ∷ []) ≡ beside (children_of cs) (children_of (c ∷ []))
 child_pushed cs c = children_appended cs (c ∷ [])
 
-views_appended : (vs ws : List View) → views_of (vs ++ ws) ≡ join (views_of vs) (views_of ws)
-views_appended [] ws = refl
-views_appended (v ∷ vs) ws = ap (Root (part_of v) v.subviews) (views_appended vs ws)
-
-pub view_pushed : (vs : List View) (v : View) → views_of (vs ++ v ∷ []) ≡ join (views_of vs) (view_tree v)
-view_pushed vs v = views_appended vs (v ∷ [])
-
 pub width-children_of : (cs : List CoreChild) → width (children_of cs) ≡ length cs
 width-children_of [] = refl
 width-children_of (Inner node ∷ cs) = ap suc (width-children_of cs)
 width-children_of (Hole ∷ cs) = ap suc (width-children_of cs)
 
-pub trees_count-views_of : (vs : List View) → trees_count (views_of vs) ≡ length vs
-trees_count-views_of [] = refl
-trees_count-views_of (v ∷ vs) = ap suc (trees_count-views_of vs)
-
 pub ruleset child_widths = (width-children_of)
-
-pub ruleset view_counts = (trees_count-views_of)
 
 -- of trees whose last stands first, the first is taken from the end
 pub popped : (old new : List ActionNode) (taken : Option ActionNode) → old ≡ new ++ option_to_list taken → forest_of (reverse old) ≡ join (forest_of (option_to_list taken)) (forest_of (reverse new))

@@ -2,14 +2,14 @@
 use Rattle.std.proofs.Common.{◌≡◌, suc, ◌+◌, refl, ap, inl, inr, arith}
 use Rattle.std.proofs.lemmas.Bool.{cases_Bool}
 use Rattle.ledger_terms.specs.Roots.{trees_count}
-use Rattle.ledger_terms.specs.Trees.{Act}
+use Rattle.ledger_terms.specs.declared.act.Act.{Act}
 use Rattle.ledger_terms.specs.Forest.{Forest, NoRoots, Root, join}
 use Rattle.ledger_terms.specs.declared.action.Action.{Action}
 use Rattle.ledger_model.specs.Terms.{PartySet}
 use Rattle.ledger_model.specs.declared.roles.Roles.{Roles}
 use Rattle.ledger_model.specs.Views.{its_informees, starts}
 use Rattle.view_split.specs.Holed.{holes}
-use Rattle.view_split.specs.SplitView.{SplitView}
+use Rattle.view_split.specs.declared.split_view.SplitView.{SplitView}
 use Rattle.view_split.specs.Split.{core_of, split_below, split}
 use Rattle.view_split.specs.Filled.{AreFilled}
 

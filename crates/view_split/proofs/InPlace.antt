@@ -2,7 +2,7 @@
 use Rattle.std.proofs.Common.{◌≡◌, ℕ, zero, suc, ◌+◌, ◌-◌, ◌<◌, ◌≤◌, true, false, List, [], ◌∷◌, ◌++◌, refl, sym, ap, ◌∙◌, subst, inl, inr, arith}
 use Rattle.std.specs.Prelude.{nat_lt}
 use Rattle.std.proofs.lemmas.Bool.{lt-ltb, le-ltb}
-use Rattle.ledger_terms.specs.Trees.{Act}
+use Rattle.ledger_terms.specs.declared.act.Act.{Act}
 use Rattle.ledger_terms.specs.Forest.{Forest, NoRoots, Root, below_at, join, number_from, size}
 use Rattle.ledger_terms.specs.Roots.{trees_count}
 use Rattle.ledger_terms.proofs.Grow.{join-assoc}
@@ -10,7 +10,7 @@ use Rattle.ledger_model.specs.Forest.{trees_of}
 use Rattle.ledger_model.specs.Terms.{Path}
 use Rattle.ledger_model.proofs.Lists.{In, in_append_left, in_append_right, in_append_cases}
 use Rattle.view_split.specs.Holed.{Holed, NoMore, Inner, Hole, after_holes, fill, holes}
-use Rattle.view_split.specs.SplitView.{SplitView}
+use Rattle.view_split.specs.declared.split_view.SplitView.{SplitView}
 use Rattle.view_split.specs.Split.{assembled}
 use Rattle.view_split.specs.Filled.{AreFilled}
 use Rattle.view_split.specs.Numbered.{map_forest, held_in, core_in, with_cores}

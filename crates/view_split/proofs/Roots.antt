@@ -3,7 +3,7 @@ use Rattle.std.proofs.Common.{◌≡◌, ℕ, suc, ◌+◌, Bool, true, false, L
 use Rattle.std.specs.List.{list_any}
 use Rattle.std.proofs.lemmas.Bool.{cases_Bool, both_ways}
 use Rattle.ledger_terms.specs.Roots.{trees_count}
-use Rattle.ledger_terms.specs.Trees.{Act}
+use Rattle.ledger_terms.specs.declared.act.Act.{Act}
 use Rattle.ledger_terms.specs.Forest.{Forest, NoRoots, Root, join, project, preorder, size, below_at, number_from, paths_from}
 use Rattle.ledger_terms.specs.declared.action.Action.{Action}
 use Rattle.ledger_model.specs.Terms.{Name, PartySet, Path}
@@ -13,7 +13,7 @@ use Rattle.ledger_model.specs.Views.{its_informees}
 use Rattle.ledger_model.proofs.Lists.{In, in_append_right}
 use Rattle.ledger_model.proofs.Projected.{preorder_join}
 use Rattle.view_split.specs.Holed.{Holed}
-use Rattle.view_split.specs.SplitView.{SplitView}
+use Rattle.view_split.specs.declared.split_view.SplitView.{SplitView}
 use Rattle.view_split.specs.Split.{view_at, split_below, split}
 use Rattle.view_split.specs.Numbered.{map_forest, core_in, held_in, with_cores}
 use Rattle.view_split.specs.Seen.{is_sight}

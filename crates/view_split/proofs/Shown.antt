@@ -3,7 +3,7 @@ use Rattle.std.proofs.Common.{◌≡◌, Bool, true, false, List, [], ◌∷◌,
 use Rattle.std.specs.Prelude.{ℕ, suc}
 use Rattle.std.specs.List.{list_any}
 use Rattle.std.proofs.lemmas.Bool.{cases_Bool, both_ways}
-use Rattle.ledger_terms.specs.Trees.{Act}
+use Rattle.ledger_terms.specs.declared.act.Act.{Act}
 use Rattle.ledger_terms.specs.Forest.{Forest, NoRoots, Root, project, preorder, paths_from, number_from}
 use Rattle.ledger_terms.specs.declared.action.Action.{Action}
 use Rattle.ledger_model.specs.Terms.{Name, PartySet, Path}
@@ -13,7 +13,7 @@ use Rattle.ledger_model.specs.Opening.{seen_paths, with_paths, opened_of, opened
 use Rattle.ledger_model.specs.Views.{View, confirmers_of, views, seen}
 use Rattle.ledger_model.proofs.Lists.{filter_append}
 use Rattle.ledger_model.proofs.Projected.{preorder_join}
-use Rattle.view_split.specs.SplitView.{SplitView}
+use Rattle.view_split.specs.declared.split_view.SplitView.{SplitView}
 use Rattle.view_split.specs.Split.{split, assembled}
 use Rattle.view_split.specs.Numbered.{map_forest, with_cores, numbered, seen_as}
 use Rattle.view_split.specs.Seen.{is_sight, seen_views, put_back, placed_numbered, opened_as, opened_views}

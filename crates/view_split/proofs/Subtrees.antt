@@ -1,7 +1,7 @@
 -- Each view, put back with those below it, is the tree of its first action in the transaction.
 use Rattle.std.proofs.Common.{◌≡◌, List, ◌∷◌, ◌++◌, refl, sym, ap, ◌∙◌, subst, inl, inr, append_assoc}
 use Rattle.std.proofs.lemmas.Bool.{cases_Bool}
-use Rattle.ledger_terms.specs.Trees.{Act}
+use Rattle.ledger_terms.specs.declared.act.Act.{Act}
 use Rattle.ledger_terms.specs.Forest.{Forest, NoRoots, Root, join}
 use Rattle.ledger_terms.specs.declared.action.Action.{Action}
 use Rattle.ledger_model.specs.Forest.{trees_of}
@@ -10,7 +10,7 @@ use Rattle.ledger_model.specs.Views.{its_informees, starts}
 use Rattle.ledger_model.specs.declared.roles.Roles.{Roles}
 use Rattle.ledger_model.proofs.Lists.{In, in_append_left, in_append_right, in_append_cases}
 use Rattle.view_split.specs.Holed.{fill}
-use Rattle.view_split.specs.SplitView.{SplitView}
+use Rattle.view_split.specs.declared.split_view.SplitView.{SplitView}
 use Rattle.view_split.specs.Split.{split, split_below, view_at, assembled}
 use Rattle.view_split.proofs.Assembled.{refilled}
 

@@ -7,10 +7,9 @@ use Rattle.ledger_terms.specs.Forest.{Forest, NoRoots, Root, join, project, path
 use Rattle.ledger_model.specs.Terms.{Name, Path}
 use Rattle.ledger_model.specs.Language.{Language, roles_of}
 use Rattle.ledger_model.specs.Opening.{Transaction, seen_paths, opened_of, opened_views_of, is_root_path}
-use Rattle.view_split.specs.SplitView.{SplitView}
+use Rattle.view_split.specs.declared.split_view.SplitView.{SplitView}
 use Rattle.view_split.specs.Split.{split}
 use Rattle.view_split.specs.Numbered.{map_forest}
-use Rattle.view_split.specs.ViewLists.{part_of}
 use Rattle.view_split.specs.Seen.{is_sight, seen_views, put_back, opened_views}
 use Rattle.view_split.specs.Placed.{view_with, tops, placed_forest, shown_by}
 use Rattle.view_split.specs.declared.placed_view.PlacedView.{PlacedView}
@@ -25,7 +24,7 @@ tops-join (Root view subviews others) w =
 
 placed-append : (ps qs : List PlacedView) → placed_forest (ps ++ qs) ≡ join (placed_forest ps) (placed_forest qs)
 placed-append [] qs = refl
-placed-append (p ∷ ps) qs = ap (Root (p.path, part_of p.view) (paths_from p.path 0 (p.view).subviews)) (placed-append ps qs)
+placed-append (p ∷ ps) qs = ap (Root (p.path, p.view.root) (paths_from p.path 0 (p.view).below)) (placed-append ps qs)
 
 module _ (hosts : Name → Bool) where
   abbrev sights : Forest (Path × SplitView) → Forest (Path × SplitView)

@@ -1,23 +1,22 @@
 -- A walk over the trees of a list, one after another.
 use Rattle.std.proofs.Common.{◌≡◌, ◌<◌, ◌≤◌, ℕ, zero, suc, ◌+◌, Bool, true, false, List, [], ◌∷◌, ◌++◌, length, get_or, take, refl, sym, ap, ◌∙◌, subst, arith, append-nil}
 use Rattle.ledger_terms.specs.Forest.{Forest, NoRoots, Root, join}
-use Rattle.ledger_terms.specs.Trees.{Act}
+use Rattle.ledger_terms.specs.declared.act.Act.{Act}
 use Rattle.std.specs.Prelude.{not}
 use Rattle.ledger_terms.specs.Parties.{with_parties, is_subset}
 use Rattle.ledger_terms.specs.Grown.{forest_of, tree_of}
 use Rattle.ledger_terms.specs.declared.action.Action.{Action}
-use Rattle.ledger_terms.specs.declared.action_node.ActionNode.{ActionNode}
+use Rattle.ledger_terms.specs.Trees.{ActionNode}
 use Rattle.ledger_terms.proofs.Grow.{join-assoc, join-end, forest_of-push}
 use Rattle.ledger_model.specs.Terms.{PartySet}
 use Rattle.ledger_model.specs.declared.roles.Roles.{Roles}
 use Rattle.ledger_model.specs.Views.{its_informees, starts}
 use Rattle.lang_eval.proofs.RoleLaws.{with_parties-append}
 use Rattle.view_split.specs.Holed.{Holed, NoMore, Inner, Hole, inner, beside}
-use Rattle.view_split.specs.SplitView.{SplitView}
+use Rattle.view_split.specs.declared.split_view.SplitView.{SplitView}
 use Rattle.view_split.specs.Split.{confirmers_in, core_of, split_below, split}
-use Rattle.view_split.specs.Walked.{IsWalked, node_act}
+use Rattle.view_split.specs.Walked.{IsWalked}
 use Rattle.view_split.specs.CoreLists.{act_of}
-use Rattle.view_split.specs.ViewLists.{view_tree}
 use Rattle.view_split.specs.declared.begun.Begun.{Begun}
 use Rattle.view_split.specs.declared.core_node.CoreNode.{CoreNode}
 use Rattle.view_split.proofs.Joins.{beside-assoc, beside-end, inner-beside, core_of-join, split_below-join, split-join, confirmers_in-append}
@@ -91,51 +90,51 @@ module _ (roles : Action → Roles) where
 
   -- an action of the view's own core, once what stands below it is walked
   pub walked_inner : (node : ActionNode) (its : Roles) (inside : Bool) (old mid new : Begun) (before start below after : Holed Act) (core : CoreNode)
-      → its ≡ roles node.action
+      → its ≡ roles node.root.action
       → inside ≡ is_subset its.informees old.informees → inside ≡ true
       → mid.informees ≡ old.informees
       → mid.confirmers ≡ with_parties its.confirmers old.confirmers
       → mid.subviews ≡ old.subviews
       → start ≡ NoMore
-      → IsWalked roles node.children mid new start below
-      → core ≡ record { seed = node.seed; action = node.action; children = below }
+      → IsWalked roles node.below mid new start below
+      → core ≡ record { seed = node.root.seed; action = node.root.action; children = below }
       → after ≡ beside before (Inner (act_of core) core.children NoMore)
       → IsWalked roles (tree_of node) old new before after
   walked_inner node its inside old mid new before start below after core given tested within same confirmed sub empty h made put =
       let e = old.informees in
-      let own : starts roles e (node_act node) ≡ false =
+      let own : starts roles e node.root ≡ false =
       ap not (ap (λ (r : Roles). is_subset r.informees e) (sym given) ∙ (sym tested ∙ within)) in
-      let first = (roles node.action).confirmers in
-      let rest = confirmers_in roles (inner (core_of roles e node.children)) in
-      let whole : core_of roles e (tree_of node) ≡ Inner (node_act node) (core_of roles e node.children) NoMore = rw own refl in
-      let views : split_below roles e (tree_of node) ≡ join (split_below roles e node.children) NoRoots = rw own refl in
+      let first = (roles node.root.action).confirmers in
+      let rest = confirmers_in roles (inner (core_of roles e node.below)) in
+      let whole : core_of roles e (tree_of node) ≡ Inner node.root (core_of roles e node.below) NoMore = rw own refl in
+      let views : split_below roles e (tree_of node) ≡ join (split_below roles e node.below) NoRoots = rw own refl in
       let told : mid.confirmers ≡ with_parties first old.confirmers =
       confirmed ∙ ap (λ (r : Roles). with_parties r.confirmers old.confirmers) given in
-      let children : below ≡ core_of roles e node.children =
-      h.children ∙ (λ i. beside (empty i) (core_of roles (same i) node.children)) in
+      let children : below ≡ core_of roles e node.below =
+      h.children ∙ (λ i. beside (empty i) (core_of roles (same i) node.below)) in
       record {
         informees = h.informees ∙ same;
         confirmers =
             h.confirmers
-            ∙ ((λ i. with_parties (confirmers_in roles (inner (core_of roles (same i) node.children))) (told i))
+            ∙ ((λ i. with_parties (confirmers_in roles (inner (core_of roles (same i) node.below))) (told i))
             ∙ (sym (with_parties-append first rest old.confirmers)
-            ∙ (ap (λ (acts : List Act). with_parties (first ++ confirmers_in roles acts) old.confirmers) (sym (append-nil (inner (core_of roles e node.children))))
+            ∙ (ap (λ (acts : List Act). with_parties (first ++ confirmers_in roles acts) old.confirmers) (sym (append-nil (inner (core_of roles e node.below))))
             ∙ ap (λ (c : Holed Act). with_parties (confirmers_in roles (inner c)) old.confirmers) (sym whole))));
         subviews =
             h.subviews
-            ∙ ((λ i. join (sub i) (split_below roles (same i) node.children))
-            ∙ (ap (λ (v : Forest SplitView). join old.subviews v) (sym (join-end (split_below roles e node.children)))
+            ∙ ((λ i. join (sub i) (split_below roles (same i) node.below))
+            ∙ (ap (λ (v : Forest SplitView). join old.subviews v) (sym (join-end (split_below roles e node.below)))
             ∙ ap (λ (v : Forest SplitView). join old.subviews v) (sym views)));
         children =
             put
             ∙ (ap (λ (n : CoreNode). beside before (Inner (act_of n) n.children NoMore)) made
-            ∙ ((λ i. beside before (Inner (node_act node) (children i) NoMore))
+            ∙ ((λ i. beside before (Inner node.root (children i) NoMore))
             ∙ ap (λ (c : Holed Act). beside before c) (sym whole)));
       }
 
   -- an action that starts a view of its own
   pub walked_hole : (node : ActionNode) (its : Roles) (inside : Bool) (old new : Begun) (before after : Holed Act) (tree : Forest SplitView)
-      → its ≡ roles node.action
+      → its ≡ roles node.root.action
       → inside ≡ is_subset its.informees old.informees → inside ≡ false
       → new.informees ≡ old.informees
       → new.confirmers ≡ old.confirmers
@@ -145,7 +144,7 @@ module _ (roles : Action → Roles) where
       → IsWalked roles (tree_of node) old new before after
   walked_hole node its inside old new before after tree given tested outside same confirmed is sub put =
       let e = old.informees in
-      let own : starts roles e (node_act node) ≡ true =
+      let own : starts roles e node.root ≡ true =
       ap not (ap (λ (r : Roles). is_subset r.informees e) (sym given) ∙ (sym tested ∙ outside)) in
       let core : core_of roles e (tree_of node) ≡ Hole NoMore = rw own refl in
       let views : split_below roles e (tree_of node) ≡ split roles (tree_of node) = rw own refl in
@@ -157,31 +156,30 @@ module _ (roles : Action → Roles) where
       }
 
   -- the view that a node's action starts, once its core is walked
-  pub started : (node : ActionNode) (its : Roles) (none : PartySet) (old new : Begun) (start below : Holed Act) (core : CoreNode)
-      → its ≡ roles node.action
+  pub started : (node : ActionNode) (its : Roles) (none : PartySet) (old new : Begun) (start below : Holed Act) (first : Act)
+      → its ≡ roles node.root.action
       → none ≡ []
       → old.informees ≡ its.informees
       → old.confirmers ≡ with_parties its.confirmers none
       → old.subviews ≡ NoRoots
       → start ≡ NoMore
-      → IsWalked roles node.children old new start below
-      → core ≡ record { seed = node.seed; action = node.action; children = below }
-      → view_tree (record { informees = new.informees; confirmers = new.confirmers; core = core; subviews = new.subviews }) ≡ split roles (tree_of node)
-  started node its none old new start below core given no_one told confirmed no_view empty h made =
-      let e = its_informees roles (node_act node) in
-      let first = (roles node.action).confirmers in
-      let rest = confirmers_in roles (inner (core_of roles e node.children)) in
+      → IsWalked roles node.below old new start below
+      → first ≡ node.root
+      → tree_of (record { root = record { informees = new.informees; confirmers = new.confirmers; first = first; below = below }; below = new.subviews }) ≡ split roles (tree_of node)
+  started node its none old new start below act given no_one told confirmed no_view empty h made =
+      let e = its_informees roles node.root in
+      let first = (roles node.root.action).confirmers in
+      let rest = confirmers_in roles (inner (core_of roles e node.below)) in
       let are : old.informees ≡ e = told ∙ ap (λ (r : Roles). r.informees) given in
       let had : old.confirmers ≡ with_parties first [] = confirmed ∙ (λ i. with_parties (given i).confirmers (no_one i)) in
       let informees : new.informees ≡ e = h.informees ∙ are in
       let confirmers : new.confirmers ≡ with_parties (first ++ rest) [] =
       h.confirmers
-      ∙ ((λ i. with_parties (confirmers_in roles (inner (core_of roles (are i) node.children))) (had i)) ∙ sym (with_parties-append first rest [])) in
-      let children : below ≡ core_of roles e node.children = h.children ∙ (λ i. beside (empty i) (core_of roles (are i) node.children)) in
-      let subviews : new.subviews ≡ split_below roles e node.children =
-      h.subviews ∙ (λ i. join (no_view i) (split_below roles (are i) node.children)) in
-      ap (λ (n : CoreNode). view_tree (record { informees = new.informees; confirmers = new.confirmers; core = n; subviews = new.subviews })) made
-      ∙ (λ i. Root (record { informees = informees i; confirmers = confirmers i; first = node_act node; below = children i }) (subviews i) NoRoots)
+      ∙ ((λ i. with_parties (confirmers_in roles (inner (core_of roles (are i) node.below))) (had i)) ∙ sym (with_parties-append first rest [])) in
+      let children : below ≡ core_of roles e node.below = h.children ∙ (λ i. beside (empty i) (core_of roles (are i) node.below)) in
+      let subviews : new.subviews ≡ split_below roles e node.below =
+      h.subviews ∙ (λ i. join (no_view i) (split_below roles (are i) node.below)) in
+      λ i. Root (record { informees = informees i; confirmers = confirmers i; first = made i; below = children i }) (subviews i) NoRoots
 
   -- the views of one root more
   pub split_more : (ns : List ActionNode) (i : ℕ) (n : ActionNode) (views new tree : Forest SplitView)

@@ -1,6 +1,6 @@
 -- What a list of children of a core is seen as.
 use Rattle.std.specs.Prelude.{ℕ, ◌+◌, List, [], ◌∷◌}
-use Rattle.ledger_terms.specs.Trees.{Act}
+use Rattle.ledger_terms.specs.declared.act.Act.{Act}
 use Rattle.view_split.specs.Holed as holed
 use Rattle.view_split.specs.Holed.{Holed, NoMore}
 use Rattle.view_split.specs.declared.core_node.CoreNode.{CoreNode}

@@ -3,7 +3,7 @@ use Rattle.std.specs.Prelude.{◌≡◌}
 use Rattle.ledger_terms.specs.Forest.{Forest, NoRoots, Root}
 use Rattle.ledger_terms.specs.Roots.{trees_count}
 use Rattle.view_split.specs.Holed.{holes}
-use Rattle.view_split.specs.SplitView.{SplitView}
+use Rattle.view_split.specs.declared.split_view.SplitView.{SplitView}
 
 -- each has as many holes as views stand directly below it
 abbrev pub AreFilled : Forest SplitView → Type 0

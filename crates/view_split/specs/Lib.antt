@@ -1,9 +1,7 @@
 pub mod Holed
-pub mod SplitView
 pub mod CoreLists
 pub mod CoresFall
-pub mod ViewLists
-pub mod ViewsFall
+pub mod ViewTrees
 pub mod Split
 pub mod Filled
 pub mod Numbered

@@ -1,11 +1,11 @@
 -- The actions of cores with their numbers.
 use Rattle.std.specs.Prelude.{ℕ, List, [], ◌∷◌, ◌++◌}
-use Rattle.ledger_terms.specs.Trees.{Act}
+use Rattle.ledger_terms.specs.declared.act.Act.{Act}
 use Rattle.ledger_terms.specs.Forest.{Forest, NoRoots, Root, join, number_from}
 use Rattle.ledger_model.specs.Terms.{PartySet}
 use Rattle.ledger_model.specs.Views.{View}
 use Rattle.view_split.specs.Holed.{Holed, NoMore, Inner, Hole}
-use Rattle.view_split.specs.SplitView.{SplitView}
+use Rattle.view_split.specs.declared.split_view.SplitView.{SplitView}
 use Rattle.view_split.specs.Split.{assembled}
 
 abbrev pub map_forest : {A B : Type 0} → (A → B) → Forest A → Forest B

@@ -1,11 +1,11 @@
 -- The views that somebody sees of a transaction.
 use Rattle.std.specs.Prelude.{◌≡◌, ℕ, Bool, true, List, [], map, Contains}
 use Rattle.std.specs.List.{list_any}
-use Rattle.ledger_terms.specs.Trees.{Act}
+use Rattle.ledger_terms.specs.declared.act.Act.{Act}
 use Rattle.ledger_terms.specs.Forest.{Forest, preorder, project, paths_from, number_from}
 use Rattle.ledger_model.specs.Terms.{Name, Path}
 use Rattle.ledger_model.specs.Opening.{OpenedView}
-use Rattle.view_split.specs.SplitView.{SplitView}
+use Rattle.view_split.specs.declared.split_view.SplitView.{SplitView}
 use Rattle.ledger_terms.specs.declared.action.Action.{Action}
 use Rattle.ledger_model.specs.declared.roles.Roles.{Roles}
 use Rattle.view_split.specs.Split.{split, assembled}

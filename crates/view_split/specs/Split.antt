@@ -1,14 +1,14 @@
 -- How a transaction is split into views, and how views are put back.
 use Rattle.std.specs.Prelude.{List, ◌∷◌, if◌then◌else◌, flat_map}
 use Rattle.ledger_terms.specs.Parties.{set_of}
-use Rattle.ledger_terms.specs.Trees.{Act}
+use Rattle.ledger_terms.specs.declared.act.Act.{Act}
 use Rattle.ledger_terms.specs.Forest.{Forest, NoRoots, Root, join}
 use Rattle.ledger_terms.specs.declared.action.Action.{Action}
 use Rattle.ledger_model.specs.Terms.{PartySet}
 use Rattle.ledger_model.specs.declared.roles.Roles.{Roles}
 use Rattle.ledger_model.specs.Views.{its_informees, starts}
 use Rattle.view_split.specs.Holed.{Holed, NoMore, Inner, Hole, inner, fill}
-use Rattle.view_split.specs.SplitView.{SplitView}
+use Rattle.view_split.specs.declared.split_view.SplitView.{SplitView}
 
 -- the actions of a core, in pre-order
 abbrev pub core_acts : SplitView → List Act

@@ -2,8 +2,8 @@
 use Rattle.std.specs.Prelude.{◌≡◌, List, ℕ, Option}
 use Rattle.ledger_terms.specs.Forest.{Forest, join}
 use Rattle.ledger_terms.specs.Parties.{with_parties}
-use Rattle.ledger_terms.specs.Trees.{Act}
-use Rattle.ledger_terms.specs.declared.action_node.ActionNode.{ActionNode}
+use Rattle.ledger_terms.specs.declared.act.Act.{Act}
+use Rattle.ledger_terms.specs.Trees.{ActionNode}
 use Rattle.ledger_terms.specs.declared.action.Action.{Action}
 use Rattle.ledger_model.specs.declared.roles.Roles.{Roles}
 use Rattle.lang_eval.specs.Found.{Packages}
@@ -11,9 +11,6 @@ use Rattle.view_split.specs.Holed.{Holed, beside, inner}
 use Rattle.view_split.specs.Split.{confirmers_in, core_of, split_below}
 use Rattle.view_split.specs.Faults.{fault_at}
 use Rattle.view_split.specs.declared.begun.Begun.{Begun}
-
-abbrev pub node_act : ActionNode → Act
-node_act node = record { seed = node.seed; action = node.action }
 
 -- The confirmers, views and children of a view with these informees are so much more.
 pub record IsWalked (roles : Action → Roles) (trees : Forest Act) (old new : Begun) (before after : Holed Act) : Type 0 where
@@ -24,4 +21,4 @@ pub record IsWalked (roles : Action → Roles) (trees : Forest Act) (old new : B
 
 -- the path of the first action without roles of a node's tree, whose root has this path
 abbrev pub node_fault : Packages → List ℕ → ActionNode → Option (List ℕ)
-node_fault packages path node = fault_at packages path (node_act node) node.children
+node_fault packages path node = fault_at packages path node.root node.below

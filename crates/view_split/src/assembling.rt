@@ -3,13 +3,12 @@ ghost use Rattle.std.specs.Prelude.{◌≡◌, IfOk, OnOk};
 ghost use Rattle.ledger_terms.specs.Forest.{join};
 ghost use Rattle.ledger_terms.specs.Grown.{tree_of};
 ghost use Rattle.view_split.specs.Holed.{Hole, NoMore, fill, after_holes};
-ghost use Rattle.view_split.specs.ViewLists.{view_tree};
 ghost use Rattle.view_split.specs.Split.{assembled};
 
 use crate::core_node::{CoreChild, CoreChildList};
+use crate::split_view::{View, ViewList};
 use crate::trees::Trees;
-use crate::view::{View, ViewList};
-use ledger_terms::{ActionNode, ActionNodeList, copy_action};
+use ledger_terms::{Act, ActionNode, ActionNodeList, Exact, Tree};
 use std::alloc::{AllocError, Global};
 
 // Puts a core's children at the end, with a tree in the place of each hole.
@@ -27,10 +26,12 @@ fn fill_into(
             CoreChild::Inner(node) => {
                 let mut children = ActionNodeList::new(alloc);
                 fill_into(alloc, &node.children, trees, &mut children)?;
-                out.push(ActionNode {
-                    seed: node.seed,
-                    action: copy_action(&node.action)?,
-                    children,
+                let seed = node.seed;
+                let action = node.action.copied()?;
+                let root = Act { seed, action };
+                out.push(Tree {
+                    root,
+                    below: children,
                 })?;
             }
             CoreChild::Hole => put_next(trees, out)?,
@@ -69,16 +70,16 @@ fn assemble_into(
 /// dropped; no view that is split off a transaction is so.
 #[cycle(assemble)]
 pub fn assemble(alloc: Global, view: &View) -> Result<ActionNode, AllocError>
-    ensures { IfOk result (λ n. tree_of n ≡ assembled (view_tree view.now)) }
+    ensures { IfOk result (λ n. tree_of n ≡ assembled (tree_of view.now)) }
 {
     let mut below = ActionNodeList::new(alloc);
-    assemble_into(alloc, &view.subviews, &mut below)?;
+    assemble_into(alloc, &view.below, &mut below)?;
     let mut trees = Trees::of(below);
     let mut children = ActionNodeList::new(alloc);
-    fill_into(alloc, &view.core.children, &mut trees, &mut children)?;
-    Ok(ActionNode {
-        seed: view.core.seed,
-        action: copy_action(&view.core.action)?,
-        children,
+    fill_into(alloc, &view.root.below, &mut trees, &mut children)?;
+    let root = view.root.first.copied()?;
+    Ok(Tree {
+        root,
+        below: children,
     })
 }

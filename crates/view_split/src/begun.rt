@@ -1,5 +1,5 @@
 //! Views in the making.
-use crate::view::ViewList;
+use crate::split_view::ViewList;
 use ledger_terms::PartySet;
 
 /// A view whose core is being walked: the confirmers and the views below so far.

@@ -32,13 +32,13 @@ pub struct CoreChildList {
 }
 
 impl Model for CoreChildList {
-    ghost use Rattle.ledger_terms.specs.Trees.{Act};
-    ghost use Rattle.view_split.specs.Holed.{Holed};
-    ghost use Rattle.view_split.specs.SplitView.{coded_below};
+    ghost use Rattle.ledger_terms.specs.declared.act.Act.{Act};
+    ghost use Rattle.view_split.specs.Holed.{Holed, coded_holed};
+    ghost use Rattle.std.specs.Coded.{codes};
 
     ghost Value = { Holed Act };
 
-    ghost coded = { coded_below };
+    ghost coded = { coded_holed (Prim.hlevel codes) };
 
     ghost use Rattle.view_split.specs.CoreLists.{children_of, core_weight};
 

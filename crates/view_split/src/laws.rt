@@ -1,7 +1,7 @@
 //! The laws of views, as the clauses of functions that do nothing.
 ghost use Rattle.std.specs.Prelude.{◌≡◌, ◌∷◌, ℕ, Bool, List, true, Some, None, slice_get, map, Contains, ◌||◌, if◌then◌else◌};
 ghost use Rattle.std.specs.List.{list_any};
-ghost use Rattle.ledger_terms.specs.Trees.{Act};
+ghost use Rattle.ledger_terms.specs.declared.act.Act.{Act};
 ghost use Rattle.ledger_terms.specs.Forest.{Forest, below_at, preorder, project, roots_of};
 ghost use Rattle.ledger_terms.specs.Roots.{tree_at};
 ghost use Rattle.ledger_terms.specs.declared.action.Action.{Action};
@@ -16,7 +16,7 @@ ghost use Rattle.view_split.specs.declared.opened_tree.OpenedTree.{OpenedTree};
 ghost use Rattle.lang_eval.specs.Found.{Packages};
 ghost use Rattle.lang_eval.specs.Language.{has_roles, roles_in};
 ghost use Rattle.ledger_terms.specs.Parties.{has_party};
-ghost use Rattle.view_split.specs.SplitView.{SplitView};
+ghost use Rattle.view_split.specs.declared.split_view.SplitView.{SplitView};
 ghost use Rattle.view_split.specs.Split.{split, assembled};
 ghost use Rattle.view_split.specs.Filled.{AreFilled};
 ghost use Rattle.view_split.specs.Numbered.{map_forest, numbered, seen_as};

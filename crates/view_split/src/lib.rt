@@ -8,9 +8,9 @@ pub mod laws;
 mod opened_tree;
 mod placed_view;
 mod split_fault;
+mod split_view;
 mod splitting;
 mod trees;
-mod view;
 mod views;
 
 pub use assembling::assemble;
@@ -18,6 +18,6 @@ pub use core_node::{CoreChild, CoreChildList, CoreNode};
 pub use opened_tree::OpenedTree;
 pub use placed_view::{PlacedView, PlacedViewList};
 pub use split_fault::SplitFault;
+pub use split_view::{SplitView, View, ViewList};
 pub use splitting::split;
-pub use view::{View, ViewList};
 pub use views::Views;

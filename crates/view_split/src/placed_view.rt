@@ -1,5 +1,5 @@
 //! Views with their paths.
-use crate::view::View;
+use crate::split_view::View;
 use ledger_terms::{ListOf, Path};
 
 /// A view with its path in the tree of all views of its transaction.

@@ -6,18 +6,17 @@ ghost use Rattle.ledger_terms.specs.Grown.{tree_of};
 ghost use Rattle.ledger_terms.specs.Parties.{is_subset, with_parties};
 ghost use Rattle.lang_eval.specs.Language.{has_roles, roles_in};
 ghost use Rattle.view_split.specs.Holed.{Hole, NoMore, beside};
-ghost use Rattle.view_split.specs.ViewLists.{view_tree};
 ghost use Rattle.view_split.specs.Split.{split};
 ghost use Rattle.view_split.specs.Faults.{IsFault, fault_from, roleless_at, views_of_tx};
-ghost use Rattle.view_split.specs.Walked.{IsWalked, node_act, node_fault};
+ghost use Rattle.view_split.specs.Walked.{IsWalked, node_fault};
 
 use crate::begun::Begun;
 use crate::core_node::{CoreChild, CoreChildList, CoreNode};
 use crate::split_fault::SplitFault;
-use crate::view::{View, ViewList};
+use crate::split_view::{SplitView, View, ViewList};
 use crate::views::Views;
 use lang_eval::{Checked, RoleFault, Roles, roles};
-use ledger_terms::{Action, ActionNode, ActionNodeList, PartySet, Path, Tx, copy_action};
+use ledger_terms::{Act, Action, ActionNode, ActionNodeList, Exact, PartySet, Path, Tree, Tx};
 use std::alloc::{AllocError, Global};
 
 #[tactic(auto, using(std::proofs::lemmas::List::Elements::same_from_all_zip))]
@@ -65,13 +64,13 @@ fn add_parties(set: &mut PartySet, more: &PartySet) -> Result<(), AllocError>
     Ok(())
 }
 
-/// The action of a node as one of a core, with what stands below it there.
-fn core_node(node: &ActionNode, children: CoreChildList) -> Result<CoreNode, AllocError>
-    ensures { IfOk result (λ n. n ≡ record { seed = node.now.seed; action = node.now.action; children = children }) }
+/// An action as one of a core, with what stands below it there.
+fn core_node(act: &Act, children: CoreChildList) -> Result<CoreNode, AllocError>
+    ensures { IfOk result (λ n. n ≡ record { seed = act.now.seed; action = act.now.action; children = children }) }
 {
     Ok(CoreNode {
-        seed: node.seed,
-        action: copy_action(&node.action)?,
+        seed: act.seed,
+        action: act.action.copied()?,
         children,
     })
 }
@@ -86,7 +85,7 @@ fn stays_inside(informees: &PartySet, enclosing: &PartySet) -> bool
 /// Puts a view below another, and a hole in its place.
 fn put_view(view: View, above: &mut Begun, children: &mut CoreChildList) -> Result<(), AllocError>
     ensures same { OnOk result ((above.new.informees ≡ above.old.informees) × (above.new.confirmers ≡ above.old.confirmers)) }
-    ensures put { OnOk result (above.new.subviews ≡ join above.old.subviews (view_tree view)) }
+    ensures put { OnOk result (above.new.subviews ≡ join above.old.subviews (tree_of view)) }
     ensures hole { OnOk result (children.new ≡ beside children.old (Hole NoMore)) }
 {
     children.push(CoreChild::Hole)?;
@@ -103,10 +102,10 @@ fn start_view(
     roles: Roles,
     path: &Path,
 ) -> Result<View, SplitFault>
-    requires { roles ≡ roles_in checked.now node.now.action }
-    ensures view { IfOk result (λ v. view_tree v ≡ split (roles_in checked.now) (tree_of node.now)) }
-    ensures fault { MatchResult result (λ _. fault_from checked.now path.now 0 node.now.children ≡ None)
-        (λ e. IsFault (fault_from checked.now path.now 0 node.now.children) e) }
+    requires { roles ≡ roles_in checked.now node.now.root.action }
+    ensures view { IfOk result (λ v. tree_of v ≡ split (roles_in checked.now) (tree_of node.now)) }
+    ensures fault { MatchResult result (λ _. fault_from checked.now path.now 0 node.now.below ≡ None)
+        (λ e. IsFault (fault_from checked.now path.now 0 node.now.below) e) }
 {
     let mut begun = Begun {
         informees: roles.informees,
@@ -115,19 +114,16 @@ fn start_view(
     };
     add_parties(&mut begun.confirmers, &roles.confirmers)?;
     let mut children = CoreChildList::new(alloc);
-    split_children(
-        alloc,
-        checked,
-        &node.children,
-        path,
-        &mut begun,
-        &mut children,
-    )?;
-    Ok(View {
+    split_children(alloc, checked, &node.below, path, &mut begun, &mut children)?;
+    let root = SplitView {
         informees: begun.informees,
         confirmers: begun.confirmers,
-        core: core_node(node, children)?,
-        subviews: begun.subviews,
+        first: node.root.copied()?,
+        below: children,
+    };
+    Ok(Tree {
+        root,
+        below: begun.subviews,
     })
 }
 
@@ -144,12 +140,12 @@ fn split_node(
     ensures walked { OnOk result (IsWalked (roles_in checked.now) (tree_of node.now) view.old view.new children.old children.new) }
     ensures fault { MatchResult result (λ _. node_fault checked.now path.now node.now ≡ None) (λ e. IsFault (node_fault checked.now path.now node.now) e) }
 {
-    let roles = roles_at(alloc, checked, &node.action, path)?;
+    let roles = roles_at(alloc, checked, &node.root.action, path)?;
     if stays_inside(&roles.informees, &view.informees) {
         add_parties(&mut view.confirmers, &roles.confirmers)?;
         let mut below = CoreChildList::new(alloc);
-        split_children(alloc, checked, &node.children, path, view, &mut below)?;
-        children.push(CoreChild::Inner(core_node(node, below)?))?;
+        split_children(alloc, checked, &node.below, path, view, &mut below)?;
+        children.push(CoreChild::Inner(core_node(&node.root, below)?))?;
     } else {
         let below = start_view(alloc, checked, node, roles, path)?;
         put_view(below, view, children)?;
@@ -186,10 +182,10 @@ fn split_root(
     node: &ActionNode,
     path: &Path,
 ) -> Result<View, SplitFault>
-    ensures view { IfOk result (λ v. view_tree v ≡ split (roles_in checked.now) (tree_of node.now)) }
+    ensures view { IfOk result (λ v. tree_of v ≡ split (roles_in checked.now) (tree_of node.now)) }
     ensures fault { MatchResult result (λ _. node_fault checked.now path.now node.now ≡ None) (λ e. IsFault (node_fault checked.now path.now node.now) e) }
 {
-    let roles = roles_at(alloc, checked, &node.action, path)?;
+    let roles = roles_at(alloc, checked, &node.root.action, path)?;
     start_view(alloc, checked, node, roles, path)
 }
 

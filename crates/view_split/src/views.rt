@@ -1,5 +1,5 @@
 //! Transactions that are split.
-use crate::view::ViewList;
+use crate::split_view::ViewList;
 use ledger_terms::{Hash, PartySet};
 
 /// A transaction with its actions split into views. `act_as`, `ledger_time` and `seed` are those of the transaction.

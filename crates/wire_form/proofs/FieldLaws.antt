@@ -8,11 +8,11 @@ use Rattle.std.proofs.Math.Facts.{sfits_to_z}
 use Rattle.std.proofs.lemmas.Bool.{ltb-false, le-ltb, leb-true, le-leb}
 use Rattle.std.proofs.lemmas.List.{take_at, drop_at, take-append-drop, length-append, length-take-le}
 use Rattle.std.proofs.lemmas.Nat.{be_bytes_2, be_bytes_4, be_bytes_8, from_be_bytes-to_be_bytes_2, from_be_bytes-to_be_bytes_4, from_be_bytes-to_be_bytes_8}
-use Rattle.ledger_terms.specs.Names.{is_name}
+use Rattle.ledger_terms.specs.Names.{is_name, IsName}
 use Rattle.wire_form.specs.Formats.{◌>>=◌}
 use Rattle.wire_form.specs.Fields.{bytes_at, number_at, count_at, small_count_at, hash_at, name_at, text_at, int_at, truth_at}
 use Rattle.wire_form.specs.Spelling.{spell_name, spell_text, spell_truth}
-use Rattle.wire_form.specs.InRange.{IsName, IsHash, IsShortText}
+use Rattle.wire_form.specs.InRange.{IsHash, IsShortText}
 use Rattle.wire_form.proofs.FormatLaws.{IsBytes, IsBytes-drop, IsBytes-take, IsBytes-rest, Takes, Takes-then, Reads, bind_ok, ok_is, guard_ok, test_ok}
 
 -- ---- bytes

@@ -8,7 +8,8 @@ use Rattle.ledger_terms.specs.declared.value.Value.TheVariants.{Unit as UnitValu
 use Rattle.ledger_terms.specs.declared.instance.Instance.{Instance}
 use Rattle.ledger_terms.specs.declared.action.Action.{Action}
 use Rattle.ledger_terms.specs.declared.action.Action.TheVariants.{Create, Exercise, Fetch}
-use Rattle.wire_form.specs.InRange.{IsInRange, IsName, AreInRange, IsInstance, IsAction}
+use Rattle.ledger_terms.specs.Names.{IsName}
+use Rattle.wire_form.specs.InRange.{IsInRange, AreInRange, IsInstance, IsAction}
 use Rattle.wire_form.specs.Spellable.{IsSpellable, AreSpellable, IsSpellableInstance, IsSpellableAction}
 
 pub spellable_value : (v : Value) → IsInRange v → IsSpellable v

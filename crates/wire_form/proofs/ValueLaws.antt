@@ -14,7 +14,8 @@ use Rattle.wire_form.specs.Formats.{◌>>=◌, Reading, both_at, any_item}
 use Rattle.wire_form.specs.Fields.{count_at, small_count_at, int_at, truth_at, text_at, name_at, hash_at}
 use Rattle.wire_form.specs.Reading.{set_at, value_at, tagged_value_at, values_at, InstanceParts, instance_of, instance_at, CreateParts, create_of, create_at, InputParts, input_at, CallParts, ExerciseParts, exercise_of, exercise_at, FetchParts, fetch_of, fetch_at, action_at, tagged_action_at}
 use Rattle.wire_form.specs.Spelling.{spell_name, spell_text, spell_truth, spell_parties, spell_value, spell_values, spell_instance, spell_action}
-use Rattle.wire_form.specs.InRange.{IsName, IsHash, IsShortText, IsPartySet, IsInRange, AreInRange, IsInstance, IsInput, IsAction}
+use Rattle.ledger_terms.specs.Names.{IsName}
+use Rattle.wire_form.specs.InRange.{IsHash, IsShortText, IsPartySet, IsInRange, AreInRange, IsInstance, IsInput, IsAction}
 use Rattle.wire_form.proofs.FormatLaws.{IsBytes, IsBytes-rest, Takes, Reads, ok_is}
 use Rattle.wire_form.proofs.Compose.{both_reads, seen_reads, ranged_reads, counted_reads, under, tag_takes, Admits, any_admitted}
 use Rattle.wire_form.proofs.FieldLaws.{count_reads, small_count_reads, int_reads, truth_reads, text_reads, name_reads, hash_reads}

@@ -8,22 +8,23 @@ use Rattle.ledger_terms.specs.declared.action.Action.{Action}
 use Rattle.ledger_terms.specs.declared.action.Action.TheVariants.{Create, Exercise, Fetch}
 use Rattle.ledger_terms.specs.Forest.{NoRoots, Root}
 use Rattle.ledger_terms.specs.Trees.{Actions}
+use Rattle.ledger_terms.specs.declared.limits.TheConstants.{MOST_PARTIES, MOST_TEXT_BYTES, MOST_FIELDS}
 use Rattle.wire_form.specs.Spelling.{spell_action}
 
 abbrev pub is_spelled_set : List (List ℕ) → Bool
-is_spelled_set names = nat_le (length names) 128
+is_spelled_set names = nat_le (length names) MOST_PARTIES
 
 abbrev pub is_spelled_value : Value → Bool
 is_spelled_value UnitValue = true
 is_spelled_value (Int n) = true
 is_spelled_value (BoolValue b) = true
-is_spelled_value (Text t) = nat_le (length t) 256
+is_spelled_value (Text t) = nat_le (length t) MOST_TEXT_BYTES
 is_spelled_value (Party p) = true
 is_spelled_value (Contract h) = true
 is_spelled_value (Parties s) = is_spelled_set s
 
 abbrev pub are_spelled : List Value → Bool
-are_spelled values = nat_le (length values) 12 && list_all is_spelled_value values
+are_spelled values = nat_le (length values) MOST_FIELDS && list_all is_spelled_value values
 
 abbrev pub is_spelled_action : Action → Bool
 is_spelled_action (Create id i) = are_spelled i.fields

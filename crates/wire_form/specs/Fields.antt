@@ -3,6 +3,7 @@ use Rattle.std.specs.Prelude.{ℕ, zero, suc, ◌+◌, Bool, true, false, List, 
 use Rattle.std.specs.Int.{Width, w16, w64, byte_len, from_be_bytes, cast_signed}
 use Rattle.std.specs.Str.{is_utf8}
 use Rattle.ledger_terms.specs.Names.{is_name}
+use Rattle.ledger_terms.specs.declared.limits.TheConstants.{MOST_TEXT_BYTES}
 use Rattle.wire_form.specs.Formats.{◌>>=◌, Reading}
 
 abbrev pub byte_at : Reading ℕ
@@ -57,6 +58,6 @@ truth_at (suc (suc b) ∷ rest) = Err (length rest + 1)
 -- two bytes of length, at most 256, and a text of that length
 unfoldable pub text_at : Reading (List ℕ)
 text_at bytes = do
-  len ← count_at 256 bytes
+  len ← count_at MOST_TEXT_BYTES bytes
   text ← bytes_at len.0 len.1
   if is_utf8 text.0 then Ok text else Err (length len.1)

@@ -2,16 +2,14 @@
 use Rattle.std.specs.Prelude.{◌≡◌, ℕ, ◌≤◌, true, FitsSigned, List, length, All}
 use Rattle.std.specs.Int.{w64}
 use Rattle.std.specs.Str.{is_utf8}
-use Rattle.ledger_terms.specs.Names.{is_name}
+use Rattle.ledger_terms.specs.Names.{IsName}
 use Rattle.ledger_terms.specs.Parties.{IsRising}
 use Rattle.ledger_terms.specs.declared.value.Value.{Value}
 use Rattle.ledger_terms.specs.declared.value.Value.TheVariants.{Unit as UnitValue, Int, Bool as BoolValue, Text, Party, Contract, Parties}
 use Rattle.ledger_terms.specs.declared.instance.Instance.{Instance}
 use Rattle.ledger_terms.specs.declared.action.Action.{Action}
 use Rattle.ledger_terms.specs.declared.action.Action.TheVariants.{Create, Exercise, Fetch}
-
-abbrev pub IsName : List ℕ → Type 0
-IsName name = is_name name ≡ true
+use Rattle.ledger_terms.specs.declared.limits.TheConstants.{MOST_TEXT_BYTES, MOST_PARTIES, MOST_FIELDS}
 
 -- 32 bytes
 abbrev pub IsHash : List ℕ → Type 0
@@ -19,12 +17,12 @@ IsHash hash = length hash ≡ 32
 
 -- UTF-8 of at most 256 bytes
 pub record IsShortText (text : List ℕ) : Type 0 where
-  pub few : length text ≤ 256
+  pub few : length text ≤ MOST_TEXT_BYTES
   pub utf8 : is_utf8 text ≡ true
 
 -- at most 128 names that ascend
 pub record IsPartySet (parties : List (List ℕ)) : Type 0 where
-  pub few : length parties ≤ 128
+  pub few : length parties ≤ MOST_PARTIES
   pub names : All IsName parties
   pub ascend : IsRising parties
 
@@ -39,7 +37,7 @@ IsInRange (Parties s) = IsPartySet s
 
 -- at most 12 values
 pub record AreInRange (values : List Value) : Type 0 where
-  pub few : length values ≤ 12
+  pub few : length values ≤ MOST_FIELDS
   pub each : All IsInRange values
 
 pub record IsInstance (instance : Instance) : Type 0 where

@@ -6,12 +6,13 @@ use Rattle.ledger_terms.specs.declared.value.Value.TheVariants.{Unit as UnitValu
 use Rattle.ledger_terms.specs.declared.instance.Instance.{Instance}
 use Rattle.ledger_terms.specs.declared.action.Action.{Action}
 use Rattle.ledger_terms.specs.declared.action.Action.TheVariants.{Create, Exercise, Fetch}
+use Rattle.ledger_terms.specs.declared.limits.TheConstants.{MOST_PARTIES, MOST_FIELDS}
 use Rattle.wire_form.specs.Formats.{◌>>=◌, Reading, both_at, seen_at, counted_at, any_item}
 use Rattle.wire_form.specs.Fields.{byte_at, count_at, small_count_at, int_at, truth_at, text_at, name_at, hash_at}
 
 -- a count and names that ascend
 unfoldable pub set_at : Reading (List (List ℕ))
-set_at = counted_at (count_at 128) stands_above name_at
+set_at = counted_at (count_at MOST_PARTIES) stands_above name_at
 
 -- what follows the tag of a value
 unfoldable pub tagged_value_at : ℕ → List ℕ → ℕ → Result (Value × List ℕ) ℕ
@@ -31,7 +32,7 @@ value_at bytes = do
 
 -- a count of one byte and values
 unfoldable pub values_at : Reading (List Value)
-values_at = counted_at (small_count_at 12) any_item value_at
+values_at = counted_at (small_count_at MOST_FIELDS) any_item value_at
 
 -- the parts of an instance, one after another
 abbrev pub InstanceParts : Type 0

@@ -5,24 +5,25 @@ use Rattle.ledger_terms.specs.declared.value.Value.TheVariants.{Unit as UnitValu
 use Rattle.ledger_terms.specs.declared.instance.Instance.{Instance}
 use Rattle.ledger_terms.specs.declared.action.Action.{Action}
 use Rattle.ledger_terms.specs.declared.action.Action.TheVariants.{Create, Exercise, Fetch}
+use Rattle.ledger_terms.specs.declared.limits.TheConstants.{MOST_PARTIES, MOST_TEXT_BYTES, MOST_FIELDS}
 
 -- a set of at most 128 names
 abbrev pub IsSpellableSet : List (List ℕ) → Type 0
-IsSpellableSet names = length names ≤ 128
+IsSpellableSet names = length names ≤ MOST_PARTIES
 
 -- a text of at most 256 bytes
 abbrev pub IsSpellable : Value → Type 0
 IsSpellable UnitValue = Unit {0}
 IsSpellable (Int n) = Unit {0}
 IsSpellable (BoolValue b) = Unit {0}
-IsSpellable (Text t) = length t ≤ 256
+IsSpellable (Text t) = length t ≤ MOST_TEXT_BYTES
 IsSpellable (Party p) = Unit {0}
 IsSpellable (Contract h) = Unit {0}
 IsSpellable (Parties s) = IsSpellableSet s
 
 -- at most 12 values
 pub record AreSpellable (values : List Value) : Type 0 where
-  pub count : length values ≤ 12
+  pub count : length values ≤ MOST_FIELDS
   pub each : All IsSpellable values
 
 abbrev pub IsSpellableInstance : Instance → Type 0

@@ -6,9 +6,9 @@ ghost use Rattle.wire_form.specs.Fields.{name_at};
 ghost use Rattle.wire_form.specs.Reading.{set_at, tagged_value_at, value_at, values_at, instance_at};
 ghost use Rattle.wire_form.specs.Reading.{create_at, exercise_at, fetch_at, tagged_action_at, action_at};
 
-use crate::limits::{PARTIES_MAX, VALUES_MAX};
 use crate::reader::Reader;
 use crate::reader_fault::ReaderFault;
+use ledger_terms::limits::{MOST_FIELDS, MOST_PARTIES};
 use ledger_terms::{Action, Instance, PartySet, TemplateName, Value, ValueList};
 use std::alloc::Global;
 
@@ -18,7 +18,7 @@ impl<'a> Reader<'a> {
     pub fn parties(&mut self, alloc: Global) -> Result<PartySet, ReaderFault>
         ensures { Gives (λ x. (x, self.new)) result (set_at self.old) }
     {
-        let count = self.count(PARTIES_MAX)?;
+        let count = self.count(MOST_PARTIES as u16)?;
         self.names(alloc, count)
     }
 
@@ -76,7 +76,7 @@ impl<'a> Reader<'a> {
     pub fn values(&mut self, alloc: Global) -> Result<ValueList, ReaderFault>
         ensures { Gives (λ x. (x, self.new)) result (values_at self.old) }
     {
-        let count = self.small_count(VALUES_MAX)?;
+        let count = self.small_count(MOST_FIELDS as u8)?;
         self.more_values(alloc, count)
     }
 

@@ -7,7 +7,6 @@ mod decoded;
 mod encode;
 pub mod laws;
 mod length;
-mod limits;
 mod reader;
 mod reader_fault;
 mod spellable;
@@ -20,7 +19,6 @@ pub use encode::{
     encode_u32, encode_u64, encode_value, encode_values,
 };
 pub use length::{action_len, instance_len, parties_len, value_len, values_len};
-pub use limits::{PARTIES_MAX, TEXT_MAX, VALUES_MAX};
 pub use reader::Reader;
 pub use reader_fault::ReaderFault;
 pub use spellable::{

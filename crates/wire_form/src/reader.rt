@@ -4,8 +4,8 @@ ghost use Rattle.std.specs.Int.{w32, w64};
 ghost use Rattle.wire_form.specs.Formats.{Gives};
 ghost use Rattle.wire_form.specs.Fields.{byte_at, bytes_at, number_at, count_at, small_count_at, hash_at, name_at, truth_at, text_at, int_at};
 
-use crate::limits::TEXT_MAX;
 use crate::reader_fault::ReaderFault;
+use ledger_terms::limits::MOST_TEXT_BYTES;
 use ledger_terms::{Hash, Name, Text};
 use std::alloc::Global;
 use std::marker::Model;
@@ -173,7 +173,7 @@ impl<'a> Reader<'a> {
     pub fn text(&mut self, alloc: Global) -> Result<Text, ReaderFault>
         ensures { Gives (λ x. (x, self.new)) result (text_at self.old) }
     {
-        let len = self.count(TEXT_MAX)?;
+        let len = self.count(MOST_TEXT_BYTES as u16)?;
         let here = self.rest.len();
         let bytes = self.bytes(len as usize)?;
         match Text::of_bytes(alloc, bytes)? {

@@ -3,10 +3,11 @@
 ghost use Rattle.std.specs.Prelude.{◌≡◌, ◌↔◌, ◌≤◌, FitsSigned, IsTrue, All, length, true};
 ghost use Rattle.std.specs.Int.{w64};
 ghost use Rattle.std.specs.Str.{is_utf8};
-ghost use Rattle.wire_form.specs.InRange.{AreInRange, IsAction, IsHash, IsInRange, IsInput, IsInstance, IsName, IsPartySet};
+ghost use Rattle.ledger_terms.specs.Names.{IsName};
+ghost use Rattle.wire_form.specs.InRange.{AreInRange, IsAction, IsHash, IsInRange, IsInput, IsInstance, IsPartySet};
 ghost use Rattle.wire_form.specs.Spellable.{AreSpellable, IsSpellable, IsSpellableAction, IsSpellableInstance, IsSpellableSet};
 
-use crate::limits::{PARTIES_MAX, TEXT_MAX, VALUES_MAX};
+use ledger_terms::limits::{MOST_FIELDS, MOST_PARTIES, MOST_TEXT_BYTES};
 use ledger_terms::{Action, Hash, Instance, Name, PartySet, Text, Value, ValueList};
 
 /// Whether a set has at most 128 names.
@@ -15,7 +16,7 @@ pub fn is_spellable_set(parties: &PartySet) -> bool
     ensures in_range { IsTrue result ↔ IsPartySet parties.now }
 {
     let names = parties.as_slice();
-    are_names(names) && names.len() <= PARTIES_MAX as usize
+    are_names(names) && names.len() <= MOST_PARTIES
 }
 
 /// Whether a value's text has at most 256 bytes, or its set at most 128 names.
@@ -39,7 +40,7 @@ pub fn are_spellable(values: &ValueList) -> bool
     ensures exact { IsTrue result ↔ AreSpellable values.now }
     ensures in_range { IsTrue result ↔ AreInRange values.now }
 {
-    values.len() <= VALUES_MAX as usize && all_spellable(values.as_slice())
+    values.len() <= MOST_FIELDS && all_spellable(values.as_slice())
 }
 
 fn all_spellable(values: &[Value]) -> bool
@@ -100,10 +101,10 @@ fn is_spellable_input(id: &Hash, salt: &Hash, instance: &Instance) -> bool
 }
 
 fn is_short(text: &Text) -> bool
-    ensures exact { IsTrue result ↔ (length text.now ≤ 256) }
+    ensures exact { IsTrue result ↔ (length text.now ≤ MOST_TEXT_BYTES) }
     ensures utf8 { is_utf8 text.now ≡ true }
 {
-    text.as_str().len() <= TEXT_MAX as usize
+    text.as_str().len() <= MOST_TEXT_BYTES
 }
 
 // The next four hold of every name, hash and number. They are asked so that the contracts above can say what the types keep.

@@ -1,5 +1,5 @@
 use Rattle.std.proofs.Common.{◌≡◌, true}
-use Rattle.ledger_terms.specs.Trees.{Act}
+use Rattle.ledger_terms.specs.declared.act.Act.{Act}
 use Rattle.lang_eval.specs.Language.{has_roles}
 use Rattle.authorise.proofs.Trees.{node_at}
 use Rattle.authorise.proofs.authority.all_authorised.Goals as goal

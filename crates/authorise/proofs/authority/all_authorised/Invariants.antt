@@ -2,7 +2,7 @@ use Rattle.std.proofs.Common.{◌≡◌, drop}
 use Rattle.std.specs.List.{list_all}
 use Rattle.ledger_terms.specs.Forest.{roots_of}
 use Rattle.ledger_terms.specs.Grown.{forest_of}
-use Rattle.ledger_terms.specs.Trees.{Act}
+use Rattle.ledger_terms.specs.declared.act.Act.{Act}
 use Rattle.ledger_model.specs.Authority.{is_authorised}
 use Rattle.lang_eval.specs.Language.{roles_in}
 use Rattle.authorise.proofs.authority.all_authorised.Given as goal

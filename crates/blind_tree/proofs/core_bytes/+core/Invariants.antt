@@ -4,7 +4,7 @@ use Rattle.blind_tree.specs.Cores.{AreSpellableChildren, spell_children}
 use Rattle.blind_tree.proofs.core_bytes.+core.Given as goal
 
 abbrev pub decreases-encode_core : goal.decreases-encode_core
-decreases-encode_core l = 3 * core_weight l.core.now.children + 3
+decreases-encode_core l = 3 * core_weight l.children.now + 3
 
 abbrev pub decreases-encode_children : goal.decreases-encode_children
 decreases-encode_children l = 3 * core_weight l.children.now + 2

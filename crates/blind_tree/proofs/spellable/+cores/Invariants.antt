@@ -7,7 +7,7 @@ use Rattle.blind_tree.proofs.Ranged.{ChildrenInRange}
 use Rattle.blind_tree.proofs.spellable.+cores.Given as goal
 
 abbrev pub decreases-is_core : goal.decreases-is_core
-decreases-is_core l = 3 * core_weight l.core.now.children + 3
+decreases-is_core l = 3 * core_weight l.children.now + 3
 
 abbrev pub decreases-are_children : goal.decreases-are_children
 decreases-are_children l = 3 * core_weight l.children.now + 2

@@ -1,10 +1,10 @@
 use Rattle.std.proofs.Common.{◌≤◌, arith}
-use Rattle.view_split.specs.ViewLists.{view_tree, view_count}
-use Rattle.blind_tree.proofs.KeptGrow.{view_at}
+use Rattle.ledger_terms.specs.Grown.{tree_of, node_count}
+use Rattle.ledger_terms.proofs.Grow.{tree_within}
 use Rattle.blind_tree.proofs.spellable.+views.Goals as goal
 
 pub are_views-is_view-requires : goal.are_views-is_view-requires
 are_views-is_view-requires t c =
-    let less : view_count (view_tree c.view-item.result) ≤ view_count c.args.views.now =
-    rw (c.view-item.is, ← c.as_slice-view-items.ensures) (view_at _ _ _ c.loop-view-test.true) in
+    let less : node_count (tree_of c.view-item.result) ≤ node_count c.args.views.now =
+    rw (c.view-item.is, ← c.as_slice-view-items.ensures) (tree_within _ _ _ c.loop-view-test.true) in
     (omega (arith, less, c.decreases), tt)

@@ -1,5 +1,5 @@
 use Rattle.std.proofs.Common.{◌↔◌, ◌+◌, ◌*◌, drop}
-use Rattle.view_split.specs.ViewLists.{view_tree, view_count}
+use Rattle.ledger_terms.specs.Grown.{tree_of, node_count}
 use Rattle.blind_tree.specs.LeafBytes.{AreSpellableViews}
 use Rattle.blind_tree.specs.Seen.{AreViews}
 use Rattle.blind_tree.proofs.Fitting.{AllViews}
@@ -7,10 +7,10 @@ use Rattle.blind_tree.proofs.Ranged.{ViewsInRange}
 use Rattle.blind_tree.proofs.spellable.+views.Given as goal
 
 abbrev pub decreases-is_view : goal.decreases-is_view
-decreases-is_view l = 2 * view_count (view_tree l.view.now)
+decreases-is_view l = 2 * node_count (tree_of l.view.now)
 
 abbrev pub decreases-are_views : goal.decreases-are_views
-decreases-are_views l = 2 * view_count l.views.now + 1
+decreases-are_views l = 2 * node_count l.views.now + 1
 
 -- all fit where those that are left do
 abbrev pub invariant-are_views-loop-view : goal.invariant-are_views-loop-view

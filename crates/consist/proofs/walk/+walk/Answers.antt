@@ -1,13 +1,14 @@
 use Rattle.std.proofs.Common.{◌≡◌, ◌<◌, ◌+◌, ◌*◌, refl, sym, ◌∙◌, arith}
 use Rattle.ledger_terms.specs.Grown.{tree_of, node_count}
+use Rattle.ledger_terms.proofs.Grow.{tree_within}
 use Rattle.consist.specs.Rules.{fails}
-use Rattle.consist.proofs.Walking.{node_within, stop_step, go_step, met_step, left_step, last_off}
+use Rattle.consist.proofs.Walking.{stop_step, go_step, met_step, left_step, last_off}
 use Rattle.consist.proofs.walk.+walk.Goals as goal
 
 pub walk_trees-walk_tree-requires : goal.walk_trees-walk_tree-requires
 walk_trees-walk_tree-requires t c =
     let below : 2 * node_count (tree_of c.index-nodes-at.result) < 2 * node_count c.args.roots.now + 1 =
-    rw (c.index-nodes-at.is, ← c.as_slice-nodes.ensures) (omega (arith, node_within c.as_slice-nodes.result.now c.loop-at.at c.index-nodes-at.result c.loop-at-test.true)) in
+    rw (c.index-nodes-at.is, ← c.as_slice-nodes.ensures) (omega (arith, tree_within c.as_slice-nodes.result.now c.loop-at.at c.index-nodes-at.result c.loop-at-test.true)) in
     (rw (← c.decreases) below, tt)
 
 pub walk_trees-returns-then-stopped : goal.walk_trees-returns-then-stopped

@@ -1,7 +1,7 @@
 use Rattle.std.proofs.Common.{◌≡◌, ◌==◌, ℕ, suc, false, List, [], ◌∷◌, length, refl, ap, ◌∙◌, arith}
 use Rattle.std.proofs.lemmas.Bool.Decides.{nat_tests}
 use Rattle.ledger_terms.specs.Grown.{forest_of}
-use Rattle.ledger_terms.specs.declared.action_node.ActionNode.{ActionNode}
+use Rattle.ledger_terms.specs.Trees.{ActionNode}
 use Rattle.interpret.specs.Tries.{has_none}
 use Rattle.interpret.proofs.replay.has_none.Goals as goal
 

@@ -43,7 +43,7 @@ read_negated-returns t c =
     let two : length vs ≡ 2 = grind arith in
     let items = behind_one vs c.index.result.now two in
     let first = c.in_ok-operand.ensures in
-    let whole : negated_of c.args.topology.now.hosts c.args.at.now c.args.depth (items_view (drop 1 vs)) ≡ Ok (Negate (expr_form c.in_ok-operand.operand)) =
+    let whole : negated_of c.args.topology.now.hosts c.args.at.now c.args.depth (items_view (drop 1 vs)) ≡ Ok (Negate (expr_form c.in_ok-operand.operand.value)) =
     rw items (grind (arith, common_steps)) in
     search (rules, the_lemmas)
 
@@ -54,13 +54,13 @@ read_pair-returns-then-len-ne3 t c =
     let other : length c.args.items.now.items ≢ 3 = λ e. c.if-len-ne3.true (grind arith) in
     rw (pair_other c.args.topology.now.hosts c.args.at.now c.args.depth c.args.operator c.args.items.now.items other) (search rules)
 
-pub read_pair-returns-in_err-read_expr : goal.read_pair-returns-in_err-read_expr
-read_pair-returns-in_err-read_expr t c =
+pub read_pair-returns-in_err-first : goal.read_pair-returns-in_err-first
+read_pair-returns-in_err-first t c =
     let three : length c.args.items.now.items ≡ 3 = grind arith in
     rw (behind_two c.args.items.now.items c.index.result.now c.index.result.now three) (search rules)
 
-pub read_pair-returns-in_err-read_expr-2 : goal.read_pair-returns-in_err-read_expr-2
-read_pair-returns-in_err-read_expr-2 t c =
+pub read_pair-returns-in_err-second : goal.read_pair-returns-in_err-second
+read_pair-returns-in_err-second t c =
     let three : length c.args.items.now.items ≡ 3 = grind arith in
     rw (behind_two c.args.items.now.items c.index.result.now c.index-2.result.now three) (search rules)
 
@@ -76,18 +76,18 @@ read_cond-returns-then-len-ne4 t c =
     let other : length c.args.items.now.items ≢ 4 = λ e. c.if-len-ne4.true (grind arith) in
     rw (cond_other c.args.topology.now.hosts c.args.at.now c.args.depth c.args.items.now.items other) (search rules)
 
-pub read_cond-returns-in_err-read_expr : goal.read_cond-returns-in_err-read_expr
-read_cond-returns-in_err-read_expr t c =
+pub read_cond-returns-in_err-test : goal.read_cond-returns-in_err-test
+read_cond-returns-in_err-test t c =
     let four : length c.args.items.now.items ≡ 4 = grind arith in
     rw (behind_three c.args.items.now.items c.index.result.now c.index.result.now c.index.result.now four) (search rules)
 
-pub read_cond-returns-in_err-read_expr-2 : goal.read_cond-returns-in_err-read_expr-2
-read_cond-returns-in_err-read_expr-2 t c =
+pub read_cond-returns-in_err-first : goal.read_cond-returns-in_err-first
+read_cond-returns-in_err-first t c =
     let four : length c.args.items.now.items ≡ 4 = grind arith in
     rw (behind_three c.args.items.now.items c.index.result.now c.index-2.result.now c.index.result.now four) (search rules)
 
-pub read_cond-returns-in_err-read_expr-3 : goal.read_cond-returns-in_err-read_expr-3
-read_cond-returns-in_err-read_expr-3 t c =
+pub read_cond-returns-in_err-second : goal.read_cond-returns-in_err-second
+read_cond-returns-in_err-second t c =
     let four : length c.args.items.now.items ≡ 4 = grind arith in
     rw (behind_three c.args.items.now.items c.index.result.now c.index-2.result.now c.index-3.result.now four) (search rules)
 

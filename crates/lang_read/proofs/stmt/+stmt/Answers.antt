@@ -83,6 +83,6 @@ read_when-returns-in_err-no-clause-first t c = rw (when_of-is c.args.topology.no
 
 pub read_when-returns-clause-first : goal.read_when-returns-clause-first
 read_when-returns-clause-first t c =
-    let whole : when_of c.args.topology.now.hosts c.args.at.now c.args.before (view c.args.value.now) ≡ Ok (When (expr_form c.in_ok-test.test) (stmt_list_form c.in_ok-yes.yes) (stmt_list_form c.in_ok-no.no), c.in_ok-no.count) =
+    let whole : when_of c.args.topology.now.hosts c.args.at.now c.args.before (view c.args.value.now) ≡ Ok (When (expr_form c.in_ok-test.test.value) (stmt_list_form c.in_ok-yes.yes) (stmt_list_form c.in_ok-no.no), c.in_ok-no.count) =
     rw (when_of-is c.args.topology.now.hosts c.args.at.now c.args.before (view c.args.value.now)) (search rules) in
     rw form_When whole

@@ -1,6 +1,6 @@
 use Rattle.std.proofs.Common.{◌≡◌, ◌<◌, true, refl}
 use Rattle.ledger_terms.specs.Grown.{node_count}
-use Rattle.ledger_terms.specs.Trees.{Act}
+use Rattle.ledger_terms.specs.declared.act.Act.{Act}
 use Rattle.ledger_terms.proofs.Grow.{child_below}
 use Rattle.lang_eval.specs.Language.{has_roles}
 use Rattle.project.specs.Informed.{is_informed}
@@ -14,7 +14,7 @@ is_informed-requires t c =
 
 pub project_into-requires : goal.project_into-requires
 project_into-requires t c =
-    let below : node_count c.node-item.result.children < node_count c.args.roots.now =
+    let below : node_count c.node-item.result.below < node_count c.args.roots.now =
     rw (c.node-item.is, ← c.as_slice-node-items.ensures) (child_below _ _ _ c.loop-node-test.true) in
     (rw (← c.decreases) below, node_below (λ (a : Act). has_roles c.args.checked.now a.action ≡ true) _ _ _ c.loop-node-test.true c.node-item.is (rw c.as_slice-node-items.ensures c.requires))
 

@@ -5,6 +5,6 @@ use Rattle.report_text.proofs.actions.+put_trees.Goals as goal
 
 pub put_trees-requires : goal.put_trees-requires
 put_trees-requires t c =
-    let below : node_count c.node-item.result.children < node_count c.args.trees.now =
+    let below : node_count c.node-item.result.below < node_count c.args.trees.now =
     rw (c.node-item.is, ← c.as_slice-node-items.ensures) (child_below _ _ _ c.loop-node-test.true) in
     (rw (← c.decreases) below, tt)

@@ -1,5 +1,6 @@
-use Rattle.script_read.proofs.RoundLaws.{script_rounds}
+use Rattle.script_read.proofs.RoundLaws.{rounds_kept}
+use Rattle.script_read.proofs.Topologies.{script_read}
 use Rattle.script_read.proofs.laws.rounds_are_within_limits.Goals as goal
 
 pub returns : goal.returns
-returns c = script_rounds
+returns c bytes s h = rounds_kept s (script_read bytes s h)

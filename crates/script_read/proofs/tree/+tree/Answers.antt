@@ -61,15 +61,15 @@ read_draft-returns-clause-first t c = rw (draft_of-is c.args.topology.now.hosts 
 
 -- ---- exercises
 
-pub read_node-returns-in_err-exercised-clause-first : goal.read_node-returns-in_err-exercised-clause-first
-read_node-returns-in_err-exercised-clause-first t c = rw (node_of-is c.args.topology.now.hosts c.args.at.now c.args.depth c.args.before (view c.args.value.now)) (search rules)
+pub read_node-returns-in_err-root-clause-first : goal.read_node-returns-in_err-root-clause-first
+read_node-returns-in_err-root-clause-first t c = rw (node_of-is c.args.topology.now.hosts c.args.at.now c.args.depth c.args.before (view c.args.value.now)) (search rules)
 
 pub read_node-returns-in_err-found-clause-first : goal.read_node-returns-in_err-found-clause-first
 unfolding exercise_draft_of has_draft_members call_of member_of
 read_node-returns-in_err-found-clause-first t c = rw (node_of-is c.args.topology.now.hosts c.args.at.now c.args.depth c.args.before (view c.args.value.now)) (search rules)
 
-pub read_node-returns-in_err-children-clause-first : goal.read_node-returns-in_err-children-clause-first
-read_node-returns-in_err-children-clause-first t c = rw (node_of-is c.args.topology.now.hosts c.args.at.now c.args.depth c.args.before (view c.args.value.now)) (search rules)
+pub read_node-returns-in_err-below-clause-first : goal.read_node-returns-in_err-below-clause-first
+read_node-returns-in_err-below-clause-first t c = rw (node_of-is c.args.topology.now.hosts c.args.at.now c.args.depth c.args.before (view c.args.value.now)) (search rules)
 
 pub read_node-returns-clause-first : goal.read_node-returns-clause-first
 read_node-returns-clause-first t c = rw (node_of-is c.args.topology.now.hosts c.args.at.now c.args.depth c.args.before (view c.args.value.now)) (search rules)

@@ -2,7 +2,7 @@ use Rattle.std.proofs.Common.{◌≡◌, true, drop}
 use Rattle.std.specs.List.{AllByRecursion}
 use Rattle.ledger_terms.specs.Forest.{preorder}
 use Rattle.ledger_terms.specs.Grown.{forest_of, node_count}
-use Rattle.ledger_terms.specs.Trees.{Act}
+use Rattle.ledger_terms.specs.declared.act.Act.{Act}
 use Rattle.lang_eval.specs.Language.{has_roles}
 use Rattle.tree_cases.proofs.roles_given.+all_have_roles.Given as goal
 

@@ -2,7 +2,7 @@ use Rattle.std.proofs.Common.{◌≡◌, true, drop}
 use Rattle.std.specs.List.{AllByRecursion}
 use Rattle.ledger_terms.specs.Forest.{roots_of}
 use Rattle.ledger_terms.specs.Grown.{forest_of}
-use Rattle.ledger_terms.specs.Trees.{Act}
+use Rattle.ledger_terms.specs.declared.act.Act.{Act}
 use Rattle.lang_eval.specs.Language.{has_roles}
 use Rattle.tree_cases.proofs.roles_given.children_have_roles.Given as goal
 

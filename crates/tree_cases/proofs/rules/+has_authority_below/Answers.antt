@@ -5,6 +5,6 @@ use Rattle.tree_cases.proofs.rules.+has_authority_below.Goals as goal
 
 pub has_authority_below-requires : goal.has_authority_below-requires
 has_authority_below-requires t c =
-    let below : node_count c.node-item.result.children < node_count c.args.nodes.now =
+    let below : node_count c.node-item.result.below < node_count c.args.nodes.now =
     rw (c.node-item.is, ← c.as_slice-node-items.ensures) (child_below _ _ _ c.loop-node-test.true) in
     (rw (← c.decreases) below, tt)

@@ -1,12 +1,13 @@
 use Rattle.std.proofs.Common.{◌<◌, ◌+◌, ◌*◌, arith}
-use Rattle.view_split.specs.ViewLists.{view_tree, view_count}
-use Rattle.view_split.proofs.Filling.{view_within, step_view, views_end}
+use Rattle.ledger_terms.specs.Grown.{tree_of, node_count}
+use Rattle.ledger_terms.proofs.Grow.{tree_within}
+use Rattle.view_split.proofs.Filling.{step_view, views_end}
 use Rattle.view_split.proofs.assembling.+assemble.Goals as goal
 
 pub assemble_into-assemble-requires : goal.assemble_into-assemble-requires
 assemble_into-assemble-requires t c =
-    let below : 2 * view_count (view_tree c.view-item.result) < 2 * view_count c.args.views.now + 1 =
-    rw (c.view-item.is, ← c.as_slice-view-items.ensures) (omega (arith, view_within c.as_slice-view-items.result.now c.loop-view.view-index c.view-item.result c.loop-view-test.true)) in
+    let below : 2 * node_count (tree_of c.view-item.result) < 2 * node_count c.args.views.now + 1 =
+    rw (c.view-item.is, ← c.as_slice-view-items.ensures) (omega (arith, tree_within c.as_slice-view-items.result.now c.loop-view.view-index c.view-item.result c.loop-view-test.true)) in
     (rw (← c.decreases) below, tt)
 
 pub assemble_into-loop-view-preserved : goal.assemble_into-loop-view-preserved

@@ -45,4 +45,4 @@ pub start_view-returns-clause-view : goal.start_view-returns-clause-view
 start_view-returns-clause-view t c =
     started (roles_in c.args.checked.now) c.args.node.now c.args.roles _
     (record { informees = c.args.roles.informees; confirmers = c.add_parties.new.set; subviews = c.new-2.result }) _ _ _ _
-    c.requires c.new.ensures refl c.in_ok-add_parties.ensures c.new-2.ensures c.new-children.ensures c.in_ok-split_children.ensures.walked c.in_ok-core_node.ensures
+    c.requires c.new.ensures refl c.in_ok-add_parties.ensures c.new-2.ensures c.new-children.ensures c.in_ok-split_children.ensures.walked c.in_ok-copied.ensures

@@ -7,7 +7,7 @@ use Rattle.view_split.specs.Walked.{IsWalked}
 use Rattle.view_split.proofs.splitting.+split.Given as goal
 
 abbrev pub decreases-start_view : goal.decreases-start_view
-decreases-start_view l = 3 * node_count l.node.now.children + 2
+decreases-start_view l = 3 * node_count l.node.now.below + 2
 
 abbrev pub decreases-split_node : goal.decreases-split_node
 decreases-split_node l = 3 * node_count (tree_of l.node.now)

@@ -1,6 +1,6 @@
 use Rattle.std.proofs.Common.{drop}
 use Rattle.std.specs.List.{AllByRecursion}
-use Rattle.wire_form.specs.InRange.{IsName}
+use Rattle.ledger_terms.specs.Names.{IsName}
 use Rattle.wire_form.proofs.spellable.are_names.Given as goal
 
 -- all are names where those that are left are

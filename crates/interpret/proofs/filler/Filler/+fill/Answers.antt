@@ -1,6 +1,5 @@
 use Rattle.std.proofs.Common.{◌≢◌, ◌<◌, ◌+◌, ◌-◌, ◌*◌, Err, sym, ap, ◌∙◌, arith}
-use Rattle.ledger_terms.specs.Grown.{tree_of}
-use Rattle.ledger_terms.specs.DraftsGrown.{draft_tree, draft_count}
+use Rattle.ledger_terms.specs.Grown.{tree_of, node_count}
 use Rattle.interpret.specs.declared.command_fault.CommandFault.TheVariants.{Memory}
 use Rattle.interpret.proofs.FilledLists.{tree_err, tree_ok, all_err, all_more, all_end, place_within, some_at}
 use Rattle.interpret.proofs.filler.Filler.+fill.Goals as goal
@@ -26,7 +25,7 @@ pub fill_list-fill_draft-requires : goal.fill_list-fill_draft-requires
 fill_list-fill_draft-requires g t c κs within =
     let inside = place_within c.as_slice-items.result.now c.args.drafts.now c.loop-index.index c.in-Some.draft.now c.as_slice-items.ensures
     (some_at _ _ _ c.in-Some.ensures.lookup.3.0 c.in-Some.ensures.lookup.1) in
-    let below : 3 * draft_count (draft_tree c.in-Some.draft.now) + 1 < 3 * draft_count c.args.drafts.now + 2 = omega (arith, inside) in
+    let below : 2 * node_count (tree_of c.in-Some.draft.now) < 2 * node_count c.args.drafts.now + 1 = omega (arith, inside) in
     (rw (← c.decreases) below, within)
 
 pub fill_list-returns-in-Err-clause-filled : goal.fill_list-returns-in-Err-clause-filled

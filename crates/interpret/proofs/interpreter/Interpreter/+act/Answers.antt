@@ -67,7 +67,7 @@ exercise-returns-in-Err-follow g t c =
 
 pub exercise-returns : goal.exercise-returns
 exercise-returns g t c =
-    λ h. ap (λ (a : Action). Ok (record { seed = c.args.place.now.seed; action = a; children = c.follow.new.children }, c.follow.new.progress))
+    λ h. ap (λ (a : Action). Ok (record { root = record { seed = c.args.place.now.seed; action = a }; below = c.follow.new.children }, c.follow.new.progress))
     c.exercise_action.ensures
     ∙ sym (exercise_done c.args.self.now.checked.now _ c.args.progress.now c.args.place.now.path c.args.place.now.seed c.args.by.now c.args.salt c.args.call
     c.in-Ok.actors c.in_ok-below.below _ _ _ _ (c.in-Ok.ensures (λ m. cc)) c.are_authorised.ensures c.if-not-are_authorised.false

@@ -13,10 +13,10 @@ abbrev pub decreases-follows : goal.decreases-follows
 decreases-follows l = 4 * node_count l.children.now
 
 abbrev pub decreases-child_follows : goal.decreases-child_follows
-decreases-child_follows l = 4 * node_count l.node.now.children + 3
+decreases-child_follows l = 4 * node_count l.node.now.below + 3
 
 abbrev pub decreases-is_tree_possible : goal.decreases-is_tree_possible
-decreases-is_tree_possible l = 4 * node_count l.node.now.children + 2
+decreases-is_tree_possible l = 4 * node_count l.node.now.below + 2
 
 abbrev pub decreases-rest_below : goal.decreases-rest_below
-decreases-rest_below l = 4 * node_count l.node.now.children + 1
+decreases-rest_below l = 4 * node_count l.node.now.below + 1

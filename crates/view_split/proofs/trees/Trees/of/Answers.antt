@@ -2,7 +2,7 @@ use Rattle.std.proofs.Common.{ap, ◌∙◌, List}
 use Rattle.std.specs.Prelude.{reverse}
 use Rattle.std.proofs.lemmas.List.{reverse-reverse}
 use Rattle.ledger_terms.specs.Grown.{forest_of}
-use Rattle.ledger_terms.specs.declared.action_node.ActionNode.{ActionNode}
+use Rattle.ledger_terms.specs.Trees.{ActionNode}
 use Rattle.view_split.proofs.trees.Trees.of.Goals as goal
 
 pub returns : goal.returns
