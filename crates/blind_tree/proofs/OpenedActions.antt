@@ -2,7 +2,7 @@
 use Rattle.std.proofs.Common.{◌≡◌, ℕ, suc, List, [], ◌∷◌, ◌++◌, Ok, refl, sym, subst, arith}
 use Rattle.std.specs.Prelude.{All}
 use Rattle.std.proofs.lemmas.List.Elements.{All-append, All-cons, All-contains, All-nil}
-use Rattle.ledger_terms.specs.Trees.{Act}
+use Rattle.ledger_terms.specs.declared.act.Act.{Act}
 use Rattle.ledger_terms.specs.Forest.{Forest, NoRoots, Root, paths_from, preorder}
 use Rattle.ledger_terms.specs.declared.action.Action.{Action}
 use Rattle.ledger_terms.specs.declared.action.Action.TheVariants.{Create, Exercise, Fetch}
@@ -13,8 +13,8 @@ use Rattle.view_split.specs.Numbered.{map_forest}
 use Rattle.view_split.specs.Placed.{placed_forest}
 use Rattle.view_split.specs.Seen.{put_back}
 use Rattle.view_split.specs.Split.{assembled}
-use Rattle.view_split.specs.SplitView.{SplitView}
-use Rattle.view_split.specs.ViewLists.{part_of, view_tree}
+use Rattle.view_split.specs.declared.split_view.SplitView.{SplitView}
+use Rattle.ledger_terms.specs.Grown.{tree_of}
 use Rattle.view_split.specs.declared.opened_tree.OpenedTree.{OpenedTree}
 use Rattle.view_split.specs.declared.placed_view.PlacedView.{PlacedView}
 use Rattle.blind_tree.specs.Cores.{AreSpellableChildren}
@@ -62,21 +62,21 @@ bare_paths above k (Root view subviews others) = λ i. Root view (bare_paths (ab
 
 abbrev AreRoomy : List PlacedView → Type 0
 AreRoomy [] = Unit {0}
-AreRoomy (p ∷ ps) = AreSpellableViews (view_tree p.view) × AreRoomy ps
+AreRoomy (p ∷ ps) = AreSpellableViews (tree_of p.view) × AreRoomy ps
 
-roomy : (ps : List PlacedView) → All (λ (p : PlacedView). AreSpellableViews (view_tree p.view)) ps → AreRoomy ps
+roomy : (ps : List PlacedView) → All (λ (p : PlacedView). AreSpellableViews (tree_of p.view)) ps → AreRoomy ps
 roomy [] all = tt
 roomy (p ∷ ps) all = (
-  All-contains (λ (q : PlacedView). AreSpellableViews (view_tree q.view)) (p ∷ ps) p all (0, omega arith, refl),
+  All-contains (λ (q : PlacedView). AreSpellableViews (tree_of q.view)) (p ∷ ps) p all (0, omega arith, refl),
   roomy ps (λ k d h. all (suc k) d (omega (arith, h))),
 )
 
 each_put_back : (ps : List PlacedView) → AreRoomy ps → Each (put_back (placed_forest ps))
 each_put_back [] r = tt
 each_put_back (p ∷ ps) r =
-    let one = each_assembled (view_tree p.view) r.0 in (
+    let one = each_assembled (tree_of p.view) r.0 in (
       one.0,
-      subst (λ (f : Forest SplitView). Each (fill (part_of p.view).below (assembled f))) (sym (bare_paths p.path 0 p.view.subviews)) one.1,
+      subst (λ (f : Forest SplitView). Each (fill p.view.root.below (assembled f))) (sym (bare_paths p.path 0 p.view.below)) one.1,
       each_put_back ps r.1,
     )
 
