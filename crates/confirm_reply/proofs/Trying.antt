@@ -3,7 +3,7 @@ use Rattle.std.proofs.Common.{◌≡◌, ℕ, suc, Bool, true, false, List, [], 
 use Rattle.std.specs.Prelude.{option_map, if◌then◌else◌}
 use Rattle.std.specs.List.{list_any}
 use Rattle.std.proofs.lemmas.Bool.{cases_Bool}
-use Rattle.ledger_terms.specs.Trees.{Act}
+use Rattle.ledger_terms.specs.declared.act.Act.{Act}
 use Rattle.canton_model.specs.Log.{LocalVerdict, Reject, Reason}
 use Rattle.canton_model.specs.Checks.{Check, first_place, first_shown}
 use Rattle.confirm_reply.specs.Numbers.{numbers_of}

@@ -2,7 +2,7 @@
 use Rattle.std.proofs.Common.{◌≡◌, ℕ, Bool, true, false, List, [], ◌∷◌, take, refl, sym, ap, ◌∙◌}
 use Rattle.std.specs.Prelude.{not, ◌&&◌, ◌||◌, slice_get}
 use Rattle.std.proofs.Math.Bool.{and_comm}
-use Rattle.ledger_terms.specs.Trees.{Act}
+use Rattle.ledger_terms.specs.declared.act.Act.{Act}
 use Rattle.ledger_terms.specs.Forest.{below_at}
 use Rattle.ledger_model.specs.Forest.{acts, trees_of}
 use Rattle.ledger_model.specs.Language.{roles_of}

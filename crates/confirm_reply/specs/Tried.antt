@@ -1,6 +1,7 @@
 -- The reasons as they are tried, by what stands at an action's number.
 use Rattle.std.specs.Prelude.{ℕ, suc, Bool, false, List, [], ◌∷◌, Option, Some, None, option_map, if◌then◌else◌, not, ◌&&◌, ◌||◌, nat_eq, slice_get, take, map}
-use Rattle.ledger_terms.specs.Trees.{Act, Actions}
+use Rattle.ledger_terms.specs.declared.act.Act.{Act}
+use Rattle.ledger_terms.specs.Trees.{Actions}
 use Rattle.ledger_terms.specs.Vetting.{vets}
 use Rattle.ledger_model.specs.Terms.{instance_of}
 use Rattle.ledger_model.specs.Status.{shows_locked, shows_inactive, shows_not_fresh, shows_unordered}

@@ -1,12 +1,11 @@
 //! The local check of a view.
-ghost use Rattle.std.specs.Prelude.{◌≡◌, ◌≤◌, ℕ, List, Some, IfOk, IsSome, length, slice_get};
+ghost use Rattle.std.specs.Prelude.{◌≡◌, ◌≤◌, ℕ, All, List, Some, IfOk, IsSome, length, slice_get};
 ghost use Rattle.ledger_model.specs.Opening.{OpenedView};
 ghost use Rattle.canton_model.specs.Checks.{verdict_on_view};
 ghost use Rattle.canton_model.specs.Inbox.{Item, item_time};
 ghost use Rattle.view_split.specs.Placed.{shown_by};
 ghost use Rattle.confirm_reply.specs.Facts.{AreAsAt};
-ghost use Rattle.ledger_terms.specs.Trees.{Act, Actions};
-ghost use Rattle.confirm_reply.specs.Fit.{IsCheckable};
+ghost use Rattle.confirm_reply.specs.Fit.{IsCheckableAt};
 ghost use Rattle.confirm_reply.specs.Nodes.{trees_in};
 ghost use Rattle.confirm_reply.specs.Tried.{all_reasons, verdict_after};
 ghost use Rattle.confirm_reply.specs.LocalReading.{local_reading};
@@ -30,7 +29,8 @@ pub fn check_view(
     view: &Path,
 ) -> Result<LocalVerdict, AllocError>
     requires opened { IsSome (view_at view.now input.now.tree) }
-    requires checkable { CanBeChecked input.now.setup.now.checked input.now.tree }
+    requires checkable { (opened : OpenedView) → view_at view.now input.now.tree ≡ Some opened
+        → CanBeChecked input.now.setup.now.checked (shown_by input.now.tree) opened }
     ensures by_facts { IfOk result (λ verdict. (opened : OpenedView) → view_at view.now input.now.tree ≡ Some opened → verdict ≡ verdict_of input.now opened) }
     ensures at_place { IfOk result (λ verdict. (opened : OpenedView) (items : List Item) (k : ℕ) → view_at view.now input.now.tree ≡ Some opened
         → input.now.time ≡ item_time (slice_get items k)
@@ -60,7 +60,7 @@ fn verdict_on<'a>(
     core: &'a [usize],
     is_root: bool,
 ) -> Result<LocalVerdict, AllocError>
-    requires nodes { (n : ℕ) (tree : Act × Actions) → slice_get (trees_in nodes.now) n ≡ Some tree → IsCheckable input.now.setup.now.checked tree.0 tree.1 }
+    requires checkable { All (IsCheckableAt input.now.setup.now.checked (trees_in nodes.now)) core.now }
     requires few { length core.now ≤ 65536 }
     ensures { IfOk result (λ verdict. verdict ≡ verdict_after input.now (record { trees = trees_in nodes.now; core = core.now; is_root = is_root }) all_reasons) }
 {
