@@ -12,7 +12,7 @@ ghost use Rattle.blind_tree.specs.Reading.{tagged_leaf_at, tagged_vertex_at, tre
 use crate::leaf::Leaf;
 use crate::tree::Tree;
 use crate::vertex::{Vertex, VertexList};
-use ledger_terms::limits::{MOST_ACTIONS, MOST_ACTION_DEPTH};
+use ledger_terms::limits::{MOST_ACTION_DEPTH, MOST_ACTIONS};
 use ledger_terms::{Bytes, ListOf};
 use std::alloc::Global;
 use wire_form::{Reader, ReaderFault, WireFault};

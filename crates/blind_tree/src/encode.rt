@@ -7,8 +7,8 @@ ghost use Rattle.blind_tree.specs.Spelling.{spell_leaf, spell_tree, spell_vertex
 use crate::leaf::Leaf;
 use crate::tree::Tree;
 use crate::vertex::{Vertex, VertexList};
-use ledger_terms::limits::MOST_ACTIONS;
 use ledger_terms::Bytes;
+use ledger_terms::limits::MOST_ACTIONS;
 use std::alloc::{AllocError, Global};
 use wire_form::{encode_hash, encode_u32};
 

@@ -17,8 +17,8 @@ use crate::references::{referenced_id, referenced_value, referenced_values};
 use ledger_terms::limits::MOST_ACTIONS;
 use ledger_terms::{
     Act, Action, ActionNode, ActionNodeList, Arg, ArgList, ContractRef, Draft, DraftAction,
-    DraftList, Exact, Hash, Input, Instance, Known, KnownContracts, Name, PartySet, Path, TemplateName,
-    Tree, Value, ValueList,
+    DraftList, Exact, Hash, Input, Instance, Known, KnownContracts, Name, PartySet, Path,
+    TemplateName, Tree, Value, ValueList,
 };
 use std::alloc::{AllocError, Global};
 use wire_form::is_spellable_instance;
@@ -199,7 +199,7 @@ impl<K: KnownContracts> Filler<'_, K> {
     #[cycle(fill)]
     fn fill_draft(
         &self,
-        count: &mut u32,
+        count: &mut usize,
         place: &Place,
         draft: &Draft,
     ) -> Result<ActionNode, CommandFault>
@@ -238,7 +238,7 @@ impl<K: KnownContracts> Filler<'_, K> {
     #[cycle(fill)]
     fn fill_list(
         &self,
-        count: &mut u32,
+        count: &mut usize,
         place: &Place,
         drafts: &DraftList,
     ) -> Result<ActionNodeList, CommandFault>
@@ -271,7 +271,7 @@ impl<K: KnownContracts> Filler<'_, K> {
         ensures { UnlessMemory CommandFault.Memory result (filled_roots (K.rows self.now.known.now) seed.now drafts.now) }
     {
         let mut filled = ActionNodeList::new(self.alloc);
-        let mut count: u32 = 0;
+        let mut count: usize = 0;
         let items = drafts.as_slice();
         for index in 0..65u16 {
             let draft = match items.get(index as usize) {

@@ -19,8 +19,8 @@ use lang_eval::{Checked, EvalFault, is_consuming_call, next_step};
 use ledger_model::{ChoiceCall, SeenList, Step};
 use ledger_terms::limits::MOST_ACTIONS;
 use ledger_terms::{
-    Act, Action, ActionNode, ActionNodeList, Exact, Hash, Instance, Known, KnownContracts, Name, PartySet,
-    Path, Tree, Value, ValueList,
+    Act, Action, ActionNode, ActionNodeList, Exact, Hash, Instance, Known, KnownContracts, Name,
+    PartySet, Path, Tree, Value, ValueList,
 };
 use std::alloc::{AllocError, Global};
 

@@ -9,3 +9,4 @@ pub mod NamedValues
 pub mod NamedSteps
 pub mod NamedRoles
 pub mod Archived
+pub mod ExprCopies

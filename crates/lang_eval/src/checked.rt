@@ -6,6 +6,7 @@ ghost use Rattle.lang_eval.specs.Found.{template_in, choice_in};
 ghost use Rattle.lang_eval.specs.Builtin.{with_archive, with_archives, archive_of, note_form, checked_packages};
 ghost use Rattle.lang_eval.specs.Typed.{ArePackages};
 
+use crate::expr_copy::copy_expr;
 use crate::forms::no_parties;
 use crate::note::{archive_name, note_package};
 use ledger_terms::{
@@ -65,7 +66,7 @@ fn archive(alloc: Global, signatories: &Expr) -> Result<Choice, AllocError>
         name: archive_name(),
         consuming: true,
         params: FieldDeclList::new(alloc),
-        controllers: signatories.clone()?,
+        controllers: copy_expr(signatories)?,
         observers: no_parties(alloc),
         returns: Kind::Unit,
         body: StmtList::new(alloc),

@@ -9,6 +9,7 @@ mod choice_parties;
 mod contract_parties;
 mod eval_fault;
 mod evaluate;
+mod expr_copy;
 mod forms;
 mod kinds;
 pub mod laws;

@@ -8,7 +8,7 @@ use Rattle.ledger_terms.specs.Forest.{Forest, NoRoots, Root, join, project, numb
 use Rattle.ledger_terms.specs.declared.action.Action.{Action}
 use Rattle.ledger_model.specs.Terms.{PartySet}
 use Rattle.ledger_model.specs.declared.roles.Roles.{Roles}
-use Rattle.ledger_model.specs.Views.{View, its_informees, starts, core_below, view_of, views_below, forest_of, views, confirmers_of}
+use Rattle.ledger_model.specs.Views.{View, its_informees, starts, core_below, view_of, views_below, views_of, views, confirmers_of}
 use Rattle.view_split.specs.Holed.{inner}
 use Rattle.view_split.specs.declared.split_view.SplitView.{SplitView}
 use Rattle.view_split.specs.Split.{confirmers_in, core_of, view_at, split_below, split}
@@ -96,7 +96,7 @@ module _ (roles : Action → Roles) where
             ∙ ap (λ (v : Forest (View × PartySet)). join v (laid more trees)) (sym (map_join confirmed (views_below roles e below) (views_below roles e others)))))))
       ]
 
-  all_are : (f : Forest (ℕ × Act)) → laid (split roles (plain f)) f ≡ map_forest confirmed (forest_of roles f)
+  all_are : (f : Forest (ℕ × Act)) → laid (split roles (plain f)) f ≡ map_forest confirmed (views_of roles f)
   all_are NoRoots = refl
   all_are (Root a below others) =
       let ie = its_informees roles a.1 in

@@ -9,7 +9,7 @@ use Rattle.ledger_terms.specs.declared.action.Action.{Action}
 use Rattle.ledger_model.specs.Terms.{PartySet}
 use Rattle.ledger_model.specs.Forest.{acts}
 use Rattle.ledger_model.specs.declared.roles.Roles.{Roles}
-use Rattle.ledger_model.specs.Views.{View, its_informees, starts, core_below, views_below, forest_of, views}
+use Rattle.ledger_model.specs.Views.{View, its_informees, starts, core_below, views_below, views_of, views}
 use Rattle.ledger_model.proofs.Lists.{In, filter_append, in_from_Contains, contains_from_In}
 use Rattle.ledger_model.proofs.Projected.{preorder_join, stands}
 use Rattle.ledger_model.proofs.Openings.{views_inside}
@@ -148,7 +148,7 @@ module _ (roles : Action → Roles) where
             omega (arith, whole, parts, o, b, first, cores, vs))
       ]
 
-  tally_all : (i : ℕ) (f : Forest (ℕ × Act)) → tally i (preorder f) ≡ tallies i (preorder (forest_of roles f))
+  tally_all : (i : ℕ) (f : Forest (ℕ × Act)) → tally i (preorder f) ≡ tallies i (preorder (views_of roles f))
   tally_all i NoRoots = refl
   tally_all i (Root a below others) =
       let ie = its_informees roles a.1 in
@@ -157,7 +157,7 @@ module _ (roles : Action → Roles) where
       let o = tally_all i others in
       let b = tally_below i ie below in
       let first = tally-cons i a (core_below roles ie below) in
-      let vs = tallies-append i (preorder (views_below roles ie below)) (preorder (forest_of roles others)) in
+      let vs = tallies-append i (preorder (views_below roles ie below)) (preorder (views_of roles others)) in
       omega (arith, whole, parts, o, b, first, vs)
 
   not_two : (roots : Forest Act) (i j k : ℕ) (a b : Act) (v w : View) → j < k → slice_get (preorder (views roles roots)) j ≡ Some v → slice_get (preorder (views roles roots)) k ≡ Some w → In (i, a) v.core → In (i, b) w.core → ⊥

@@ -11,14 +11,14 @@ pub act-returns-then-place-eq0 : goal.act-returns-then-place-eq0
 act-returns-then-place-eq0 g t c =
     λ h. ap (λ q. Err (TooDeep q)) c.in_ok-copy_path.ensures ∙ sym (act_none _ _ _ _ _ _ _ _ c.if-place-eq0.true)
 
-pub act-returns-then-progress-ge64 : goal.act-returns-then-progress-ge64
-act-returns-then-progress-ge64 g t c =
+pub act-returns-then-progress-ge : goal.act-returns-then-progress-ge
+act-returns-then-progress-ge g t c =
     λ h. ap (λ q. Err (TooMany q)) c.in_ok-copy_path-2.ensures
-    ∙ sym (act_many c.args.place.now.left (c.args.place.now.left - 1) _ _ _ _ _ _ _ (omega arith) c.if-progress-ge64.true)
+    ∙ sym (act_many c.args.place.now.left (c.args.place.now.left - 1) _ _ _ _ _ _ _ (omega arith) c.if-progress-ge.true)
 
 pub act-returns : goal.act-returns
 act-returns g t c =
-    λ h. c.act_in_room.ensures h ∙ sym (act_less c.args.place.now.left (c.args.place.now.left - 1) _ _ _ _ _ _ _ (omega arith) c.if-progress-ge64.false)
+    λ h. c.act_in_room.ensures h ∙ sym (act_less c.args.place.now.left (c.args.place.now.left - 1) _ _ _ _ _ _ _ (omega arith) c.if-progress-ge.false)
 
 pub follow-returns-in-Ok-End : goal.follow-returns-in-Ok-End
 follow-returns-in-Ok-End g t c =
@@ -68,7 +68,7 @@ exercise-returns-in-Err-follow g t c =
 pub exercise-returns : goal.exercise-returns
 exercise-returns g t c =
     λ h. ap (λ (a : Action). Ok (record { root = record { seed = c.args.place.now.seed; action = a }; below = c.follow.new.children }, c.follow.new.progress))
-    c.exercise_action.ensures
+    c.exercise_action-action.ensures
     ∙ sym (exercise_done c.args.self.now.checked.now _ c.args.progress.now c.args.place.now.path c.args.place.now.seed c.args.by.now c.args.salt c.args.call
     c.in-Ok.actors c.in_ok-below.below _ _ _ _ (c.in-Ok.ensures (λ m. cc)) c.are_authorised.ensures c.if-not-are_authorised.false
     c.is_consuming_call-consuming.ensures c.in_ok-spend.ensures c.in_ok-below.ensures c.new-children.ensures
