@@ -1,6 +1,6 @@
 -- Whether whole transactions are possible in the model.
 use Rattle.std.specs.Prelude.{Bool, true, ◌&&◌}
-use Rattle.ledger_terms.specs.Trees.{Act}
+use Rattle.ledger_terms.specs.declared.act.Act.{Act}
 use Rattle.ledger_terms.specs.Forest.{Forest, NoRoots, Root}
 use Rattle.lang_eval.specs.Found.{Packages}
 use Rattle.interpret.specs.Tries.{is_tree_possible}
