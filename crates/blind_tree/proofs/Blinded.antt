@@ -3,6 +3,7 @@ use Rattle.std.proofs.Common.{◌≡◌, ℕ, suc, ◌^◌, ◌<◌, ◌≤◌, 
 use Rattle.std.specs.Prelude.{◌||◌}
 use Rattle.std.specs.List.{list_any}
 use Rattle.std.proofs.lemmas.Bool.{cases_Bool}
+use Rattle.ledger_terms.specs.Depth.{depth}
 use Rattle.ledger_terms.specs.Forest.{Forest, NoRoots, Root, preorder}
 use Rattle.ledger_terms.specs.Roots.{trees_count}
 use Rattle.ledger_terms.specs.Hosting.{hosts_at}
@@ -20,7 +21,7 @@ use Rattle.blind_tree.specs.Agreement.{IsSizedLeaf, AreSized, IsSized}
 use Rattle.blind_tree.specs.InRange.{IsSpellableLeaf, AreSpellable, IsSpellableTree, nesting}
 use Rattle.blind_tree.specs.LeafBytes.{common_bytes, roles_bytes, core_bytes}
 use Rattle.blind_tree.specs.Blind.{Visibility, leaf_of, digest_of, roles_digest, core_digest, view_digests, views_shown, informees_alone, shown_to, is_hidden, shows_roles, shows_core, vertices_shown, has_sight, sees_root, leaf_with, Salts, tree_with, tree_to, tree_to_mediator, digest_with, salts_of, transaction_of, blind_for, is_host_named, transaction_digest}
-use Rattle.blind_tree.specs.Seen.{contents_shown, paths_seen, depth, AreSmall, IsSmall}
+use Rattle.blind_tree.specs.Seen.{contents_shown, paths_seen, AreSmall, IsSmall}
 use Rattle.blind_tree.specs.declared.tree.Tree.{Tree}
 use Rattle.blind_tree.specs.declared.recipient.Recipient.{Recipient}
 use Rattle.blind_tree.specs.declared.recipient.Recipient.TheVariants.{Participant, Mediator}

@@ -1,6 +1,7 @@
 -- The views of a transaction within the limits are few, short and not deep.
 use Rattle.std.proofs.Common.{◌≡◌, ℕ, suc, ◌+◌, ◌*◌, ◌^◌, ◌<◌, ◌≤◌, max, Bool, true, false, List, [], ◌∷◌, ◌++◌, length, refl, ap, subst, inl, inr, arith}
 use Rattle.std.specs.Prelude.{nat_le, ◌&&◌}
+use Rattle.ledger_terms.specs.Depth.{depth}
 use Rattle.ledger_terms.specs.Names.{is_spelled, IsName}
 use Rattle.std.specs.Int.{w16, w64, to_be_bytes}
 use Rattle.std.specs.List.{flat_map, AllByRecursion}
@@ -22,7 +23,7 @@ use Rattle.view_split.specs.Split.{core_of, view_at, split_below, split}
 use Rattle.view_split.specs.declared.views.Views.{Views}
 use Rattle.blind_tree.specs.Cores.{spell_children, AreSpellableChildren, levels}
 use Rattle.blind_tree.specs.LeafBytes.{core_bytes, AreSpellableViews, AreSpellable}
-use Rattle.blind_tree.specs.Seen.{depth, AreSmall, IsSmall}
+use Rattle.blind_tree.specs.Seen.{AreSmall, IsSmall}
 use Rattle.blind_tree.specs.Limits.{acts_length, AreSpellableActs, KeepLimits, HaveSets}
 
 -- ---- sets and names
@@ -31,7 +32,7 @@ left_of : (a b : Bool) → (a && b) ≡ true → a ≡ true
 left_of true b h = refl
 left_of false b h = h
 
-short_name : (name : List ℕ) → IsName name → length name ≤ 32
+pub short_name : (name : List ℕ) → IsName name → length name ≤ 32
 short_name name h = leb-true (length name) 32 (left_of (nat_le (length name) 32) (is_spelled name) h)
 
 names_length : (names : List (List ℕ)) → AllByRecursion IsName names → length (flat_map spell_name names) ≤ 33 * length names
@@ -42,7 +43,7 @@ names_length (name ∷ names) h =
     let l = length-append (spell_name name) (flat_map spell_name names) in
     omega (arith, r, s, l)
 
-set_length : (set : List (List ℕ)) → IsPartySet set → length (spell_parties set) ≤ 4226
+pub set_length : (set : List (List ℕ)) → IsPartySet set → length (spell_parties set) ≤ 4226
 set_length set h =
     let n = names_length set (recursion_from_All IsName set h.names) in
     let l = length-append (to_be_bytes w16 (length set)) (flat_map spell_name set) in
@@ -62,6 +63,10 @@ depth_join (Root root below others) g = let r = depth_join others g in omega (ar
 count_size : {A : Type 0} (f : Forest A) → trees_count f ≤ size f
 count_size NoRoots = omega arith
 count_size (Root root below others) = let r = count_size others in omega (arith, r)
+
+pub sets_parted : (f g : Forest SplitView) → HaveSets (join f g) → HaveSets f × HaveSets g
+sets_parted NoRoots g h = (tt, h)
+sets_parted (Root view subviews others) g h = let r = sets_parted others g h.2 in ((h.0, h.1, r.0), r.1)
 
 module _ (roles : Action → Roles) where
   count_below : (e : List (List ℕ)) (f : Forest Act) → trees_count (split_below roles e f) ≤ size f
@@ -116,7 +121,8 @@ module _ (roles : Action → Roles) where
             omega (arith, b, o, two, length-append (0 ∷ (first ++ counted ++ inside)) after, length-append (first ++ counted) inside, length-append first counted, length-append act.seed (spell_action act.action)))
       ]
 
-  view_length : (act : Act) (below : Forest Act) → size below ≤ 64 → length act.seed + length (spell_action act.action) + acts_length below ≤ 32768 → length (core_bytes (view_at roles act below)) < 2 ^ 32
+  pub view_length : (act : Act) (below : Forest Act) → suc (size below) ≤ 64
+      → length act.seed + length (spell_action act.action) + acts_length below ≤ 32768 → length (core_bytes (view_at roles act below)) ≤ 32960
   view_length act below few short =
       let inside = spell_children (core_of roles (its_informees roles act) below) in
       let b = core_length (its_informees roles act) below in
@@ -157,7 +163,7 @@ module _ (roles : Action → Roles) where
       let a = set_length view.informees informees in
       let b = set_length view.confirmers confirmers in
       record {
-        small = (omega (arith, a, b, length-append (spell_parties view.informees) (spell_parties view.confirmers)), view_length act below (omega (arith, few)) short, count, s.small, o.small);
+        small = (omega (arith, a, b, length-append (spell_parties view.informees) (spell_parties view.confirmers)), omega (arith, view_length act below few short), count, s.small, o.small);
         spellable = (
           record {
             informees_are = informees.few;
@@ -182,10 +188,6 @@ module _ (roles : Action → Roles) where
   spellable_join : (f g : Forest SplitView) → AreSpellableViews f → AreSpellableViews g → AreSpellableViews (join f g)
   spellable_join NoRoots g h i = i
   spellable_join (Root view subviews others) g h i = (h.0, h.1, h.2, spellable_join others g h.3 i)
-
-  sets_parted : (f g : Forest SplitView) → HaveSets (join f g) → HaveSets f × HaveSets g
-  sets_parted NoRoots g h = (tt, h)
-  sets_parted (Root view subviews others) g h = let r = sets_parted others g h.2 in ((h.0, h.1, r.0), r.1)
 
   within_below : (e : List (List ℕ)) (f : Forest Act) → size f ≤ 64 → depth f ≤ 16 → acts_length f ≤ 32768 → AreSpellableActs f → HaveSets (split_below roles e f) → AreWithin (split_below roles e f)
   within_below e NoRoots few deep short each sets = record { small = tt; spellable = tt }

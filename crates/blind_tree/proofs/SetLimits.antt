@@ -48,7 +48,7 @@ in_party names party h = in_any (λ b. same_name b party) names party h (is_same
 abbrev Within : List (List ℕ) → List (List ℕ) → Type 0
 Within set parties = (party : List ℕ) → has_party set party ≡ true → has_party parties party ≡ true
 
-subset_within : (set parties : List (List ℕ)) → is_subset set parties ≡ true → Within set parties
+pub subset_within : (set parties : List (List ℕ)) → is_subset set parties ≡ true → Within set parties
 subset_within [] parties h party there = absurd cc
 subset_within (a ∷ set) parties h party there =
     let both = and_parts (has_party parties a) (is_subset set parties) h in
@@ -91,7 +91,7 @@ names_within [] parties names within = tt
 names_within (a ∷ set) parties names within =
     (name_of parties a names (within a (inl refl)), names_within set parties names (λ party there. within party (inr there)))
 
-set_fits : (set parties : List (List ℕ)) → AreFew parties → IsRising set → Within set parties → IsPartySet set
+pub set_fits : (set parties : List (List ℕ)) → AreFew parties → IsRising set → Within set parties → IsPartySet set
 set_fits set parties few rising within =
     record {
       few = let l = within_length set parties rising within in omega (arith, l, few.few);
@@ -99,7 +99,7 @@ set_fits set parties few rising within =
       ascend = rising;
     }
 
-rising_with : (names set : List (List ℕ)) → IsRising set → IsRising (with_parties names set)
+pub rising_with : (names set : List (List ℕ)) → IsRising set → IsRising (with_parties names set)
 rising_with [] set h = h
 rising_with (a ∷ names) set h = rising_with names _ (IsRising-with_party a set h)
 

@@ -1,6 +1,7 @@
 -- Transactions within the limits, and what their views are then.
 use Rattle.std.specs.Prelude.{◌≡◌, ℕ, ◌+◌, ◌≤◌, true, List, length, All}
 use Rattle.ledger_terms.specs.Parties.{IsRising, is_subset}
+use Rattle.ledger_terms.specs.Depth.{depth}
 use Rattle.ledger_terms.specs.declared.act.Act.{Act}
 use Rattle.ledger_terms.specs.Forest.{Forest, NoRoots, Root, size}
 use Rattle.ledger_terms.specs.declared.action.Action.{Action}
@@ -11,7 +12,6 @@ use Rattle.wire_form.specs.InRange.{IsPartySet}
 use Rattle.wire_form.specs.Spelling.{spell_action}
 use Rattle.wire_form.specs.Spellable.{IsSpellableAction}
 use Rattle.view_split.specs.declared.split_view.SplitView.{SplitView}
-use Rattle.blind_tree.specs.Seen.{depth}
 
 -- the bytes of the actions, each with its seed
 abbrev pub acts_length : Forest Act → ℕ

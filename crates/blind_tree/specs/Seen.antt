@@ -1,5 +1,6 @@
 -- What a tree shows against what is seen, and when what is shown can be read and written again.
-use Rattle.std.specs.Prelude.{ℕ, suc, ◌≤◌, ◌<◌, ◌^◌, max, Bool, true, false, List, [], ◌∷◌, ◌++◌, length, map, if◌then◌else◌, ◌||◌}
+use Rattle.std.specs.Prelude.{ℕ, suc, ◌≤◌, ◌<◌, ◌^◌, Bool, true, false, List, [], ◌∷◌, ◌++◌, length, map, if◌then◌else◌, ◌||◌}
+use Rattle.ledger_terms.specs.Depth.{depth}
 use Rattle.ledger_terms.specs.declared.act.Act.{Act}
 use Rattle.ledger_terms.specs.Forest.{Forest, NoRoots, Root, preorder, paths_from}
 use Rattle.ledger_terms.specs.Roots.{trees_count}
@@ -74,11 +75,6 @@ pub record AreInRange (sender : List ℕ) (views : Views) : Type 0 where
   pub time_fits : views.ledger_time < 2 ^ 64
   pub requesters_are : IsPartySet views.act_as
   pub each : AreViews views.roots
-
--- how many stand one below another at most
-abbrev pub depth : {A : Type 0} → Forest A → ℕ
-depth NoRoots = 0
-depth (Root root below others) = max (suc (depth below)) (depth others)
 
 -- leaves of fewer than 2^32 bytes, and at most 64 views side by side below each
 abbrev pub AreSmall : Forest SplitView → Type 0

@@ -98,17 +98,17 @@ module _ (packages : Packages) (known : List Known) where
     child_case : (n : ℕ) → Ahead n → (progress : Progress) (seen : List Seen) (children : Actions) (index : ℕ) (d : Demand)
         → source.turn index seen ≡ Child d → (x : Result (ActionNode × Progress) CommandFault)
         → run progress (path ++ index ∷ []) (child_seed seed index) by d ≡ x
-        → on x (λ x. follow n source run seed path by x.1 (source.learn seen x.0.action) (join children (tree_of x.0)) (index + 1)) ≡ Ok f
+        → on x (λ x. follow n source run seed path by x.1 (source.learn seen x.0.root.action) (join children (tree_of x.0)) (index + 1)) ≡ Ok f
         → Rest packages known left source by seen seed path index progress children f
     child_case n more progress seen children index d asked (Err e) ran h = absurd (let no : Err e ≡ Ok f = h in cc)
     child_case n more progress seen children index d asked (Ok x) ran h =
         one_more progress seen children index d x.0 x.1 asked (good _ _ _ _ _ x.0 x.1 ran)
-        (more x.1 (source.learn seen x.0.action) (join children (tree_of x.0)) (index + 1) h)
+        (more x.1 (source.learn seen x.0.root.action) (join children (tree_of x.0)) (index + 1) h)
 
     turn_case : (n : ℕ) → Ahead n → (progress : Progress) (seen : List Seen) (children : Actions) (index : ℕ) (t : Turn) → source.turn index seen ≡ t
         → by_turn t (λ v. Ok (record { children = children; result = v; progress = progress }))
         (λ demand. on (run progress (path ++ index ∷ []) (child_seed seed index) by demand)
-        (λ x. follow n source run seed path by x.1 (source.learn seen x.0.action) (join children (tree_of x.0)) (index + 1))) ≡ Ok f
+        (λ x. follow n source run seed path by x.1 (source.learn seen x.0.root.action) (join children (tree_of x.0)) (index + 1))) ≡ Ok f
         → Rest packages known left source by seen seed path index progress children f
     turn_case n more progress seen children index (Stop e) asked h = absurd (let no : Err e ≡ Ok f = h in cc)
     turn_case n more progress seen children index (End v) asked h =

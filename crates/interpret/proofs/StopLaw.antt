@@ -69,7 +69,7 @@ module _ (packages : Packages) (known : List Known) where
       child_stop : (n : ℕ) → Ahead n → (progress : Progress) (seen : List Seen) (children : Actions) (index : ℕ) → 64 < suc n + progress.count
           → progress.count ≤ 64 → (d : Demand) → source.turn index seen ≡ Child d → (x : Result (ActionNode × Progress) CommandFault)
           → run progress (path ++ index ∷ []) (child_seed seed index) by d ≡ x
-          → on x (λ x. follow n source run seed path by x.1 (source.learn seen x.0.action) (join children (tree_of x.0)) (index + 1)) ≡ Err fault
+          → on x (λ x. follow n source run seed path by x.1 (source.learn seen x.0.root.action) (join children (tree_of x.0)) (index + 1)) ≡ Err fault
           → Stopped progress seen index
       child_stop n ahead progress seen children index turns room d asked (Err e) ran h =
           let same : e ≡ fault = err_same e fault h in
@@ -84,14 +84,14 @@ module _ (packages : Packages) (known : List Known) where
           let same : x.1 ≡ progress_with progress x.0 = right.grown in
           let turns' : 64 < n + x.1.count = subst (λ (p : Progress). 64 < n + p.count) (sym same) (omega (arith, grows, turns)) in
           let within' : x.1.count ≤ 64 = subst (λ (p : Progress). p.count ≤ 64) (sym same) within in
-          let more = ahead x.1 (source.learn seen x.0.action) (join children (tree_of x.0)) (index + 1) turns' within' h in (
+          let more = ahead x.1 (source.learn seen x.0.root.action) (join children (tree_of x.0)) (index + 1) turns' within' h in (
             Past x.0 more.0,
             (
               d,
               asked,
               right.tree,
               subst
-                  (λ (p : Progress). Stops packages known left source by (source.learn seen x.0.action) seed path (index + 1) p more.0 fault) same more.1,
+                  (λ (p : Progress). Stops packages known left source by (source.learn seen x.0.root.action) seed path (index + 1) p more.0 fault) same more.1,
             ),
           )
 
@@ -99,7 +99,7 @@ module _ (packages : Packages) (known : List Known) where
           → progress.count ≤ 64 → (t : Turn) → source.turn index seen ≡ t
           → by_turn t (λ v. Ok (record { children = children; result = v; progress = progress }))
           (λ demand. on (run progress (path ++ index ∷ []) (child_seed seed index) by demand)
-          (λ x. follow n source run seed path by x.1 (source.learn seen x.0.action) (join children (tree_of x.0)) (index + 1))) ≡ Err fault
+          (λ x. follow n source run seed path by x.1 (source.learn seen x.0.root.action) (join children (tree_of x.0)) (index + 1))) ≡ Err fault
           → Stopped progress seen index
       turn_stop n ahead progress seen children index turns room (Stop e) asked h = (Here, inl (asked ∙ ap (λ (e : CommandFault). Stop e) (err_same e fault h)))
       turn_stop n ahead progress seen children index turns room (End v) asked h = absurd

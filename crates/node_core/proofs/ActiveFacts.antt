@@ -15,7 +15,8 @@ use Rattle.ledger_model.specs.Opening.{roots_in}
 use Rattle.canton_model.specs.Reading.{Reading}
 use Rattle.canton_model.specs.Timeline.{is_approved_in}
 use Rattle.canton_model.specs.Inbox.{moments, shown_by, active_row, is_stakeholder_hosted, is_active_row, created_at_place, created_below, authentic_below, first_of_each, node_active}
-use Rattle.proto_model.specs.PlainReading.{plain_reading, is_authentic, root_of}
+use Rattle.interpret.specs.Ids.{is_authentic}
+use Rattle.proto_model.specs.PlainReading.{plain_reading, root_of}
 use Rattle.node_core.specs.declared.content.Content.{Content as OwnContent}
 use Rattle.node_core.specs.declared.content.Content.TheVariants.{Received as OwnReceived, Told as OwnTold, Nothing as OwnNothing}
 use Rattle.node_core.specs.declared.item.Item.{Item as OwnItem}

@@ -15,8 +15,11 @@ use Rattle.ledger_model.specs.Status.{is_unknown}
 use Rattle.canton_model.specs.Inbox.{Item, item_time, has_hosted_stakeholder, is_locked_in_inbox, status_in_inbox}
 use Rattle.canton_model.specs.Checks.{is_within, verdict_on_view}
 use Rattle.proto_model.specs.declared.plain_form.PlainForm.{PlainForm}
-use Rattle.proto_model.specs.BuiltIn.{built_in, built_in_language, conforms}
-use Rattle.proto_model.specs.PlainReading.{plain_reading, is_authentic, root_of, roots_of_form, vets, shown_of_form, view_of_form}
+use Rattle.interpret.specs.Conforming.{conforms}
+use Rattle.proto_model.specs.BuiltIn.{built_in, built_in_language}
+use Rattle.interpret.specs.Ids.{is_authentic}
+use Rattle.ledger_terms.specs.Vetting.{vets}
+use Rattle.proto_model.specs.PlainReading.{plain_reading, root_of, roots_of_form, shown_of_form, view_of_form}
 use Rattle.node_core.specs.Findings.{first_reason}
 
 pub any_append : (p : List ℕ → Bool) (xs ys : List (List ℕ)) → list_any p (xs ++ ys) ≡ (list_any p xs || list_any p ys)

@@ -12,7 +12,8 @@ use Rattle.ledger_model.specs.Opening.{roots_in}
 use Rattle.canton_model.specs.Evidence.{gather}
 use Rattle.canton_model.specs.Timeline.{is_approved_in}
 use Rattle.canton_model.specs.Inbox.{moments, past_in, shown_by}
-use Rattle.proto_model.specs.PlainReading.{plain_reading, is_authentic, root_of}
+use Rattle.interpret.specs.Ids.{is_authentic}
+use Rattle.proto_model.specs.PlainReading.{plain_reading, root_of}
 use Rattle.node_core.specs.declared.content.Content.{Content as OwnContent}
 use Rattle.node_core.specs.declared.content.Content.TheVariants.{Received as OwnReceived, Told as OwnTold, Nothing as OwnNothing}
 use Rattle.node_core.specs.declared.item.Item.{Item as OwnItem}

@@ -7,7 +7,8 @@ use Rattle.ledger_model.specs.Terms.{Act, ParticipantId, creates, consumes}
 use Rattle.ledger_model.specs.Forest.{acts}
 use Rattle.canton_model.specs.Timeline.{is_approved_in}
 use Rattle.canton_model.specs.Inbox.{Item, moments, opened_at, is_stakeholder_hosted, created_at_place, authentic_below}
-use Rattle.proto_model.specs.PlainReading.{plain_reading, is_authentic}
+use Rattle.interpret.specs.Ids.{is_authentic}
+use Rattle.proto_model.specs.PlainReading.{plain_reading}
 
 -- the authentic actions that are opened of it
 abbrev pub authentic_at : List Item → ℕ → List Act

@@ -1,46 +1,37 @@
 //! The local check of a request whose envelope has the plain form.
 ghost use Rattle.std.specs.Prelude.{◌≡◌, ◌&&◌, not, ◌∷◌, [], option_copied, ◌++◌, suc, take, IfOk, nat_le, length, slice_get};
 ghost use Rattle.std.specs.List.{list_any};
-ghost use Rattle.ledger_terms.specs.Hosting.{hosts_at};
+ghost use Rattle.ledger_terms.specs.Hosting.{confirms_at};
 ghost use Rattle.ledger_terms.specs.Parties.{has_party};
 ghost use Rattle.canton_model.specs.Inbox.{has_hosted_stakeholder, shown_at, is_locked_in_inbox, status_in_inbox};
 ghost use Rattle.ledger_model.specs.Status.{is_unknown};
 ghost use Rattle.canton_model.specs.Checks.{is_within, verdict_on_view, verdicts_owed};
-ghost use Rattle.proto_model.specs.PlainReading.{plain_reading, vets, root_of, shown_of_form, view_of_form};
+ghost use Rattle.ledger_terms.specs.Vetting.{vets};
+ghost use Rattle.proto_model.specs.PlainReading.{plain_reading, root_of, shown_of_form, view_of_form};
 ghost use Rattle.node_core.specs.Seen.{seen};
 ghost use Rattle.node_core.specs.Jobs.{confirms_some_view};
 
 use crate::findings::{Findings, first_reason};
 use crate::inbox::{is_locked, items_through, opened_at, status, time_at};
 use crate::item::Item;
-use ledger_terms::{Name, ParticipantId, PartySet, Path};
+use ledger_terms::{Name, ParticipantId, Path};
 use proto_model::{LocalVerdict, OpenedForm, Setup, Status, ViewVerdict, ViewVerdictList};
 use std::alloc::{AllocError, Global};
-
-// Whether a participant hosts one of the parties.
-fn hosts_some(setup: &Setup, me: ParticipantId, parties: &PartySet) -> bool
-    ensures { result ≡ list_any (hosts_at setup.now.topology.hosts me) parties.now }
-{
-    parties
-        .as_slice()
-        .iter()
-        .any(|party| setup.topology.hosts(me, *party))
-}
 
 /// Whether a participant hosts a stakeholder of the contract that the form creates.
 #[tactic(auto, using(crate::proofs::CheckFacts::any_append))]
 pub fn hosts_stakeholder(setup: &Setup, me: ParticipantId, opened: &OpenedForm) -> bool
     ensures { result ≡ has_hosted_stakeholder (plain_reading setup.now.topology.hosts) me (root_of opened.now.form) }
 {
-    hosts_some(setup, me, &opened.roles.signatories)
-        || hosts_some(setup, me, &opened.roles.observers)
+    setup.topology.hosts_any(me, &opened.roles.signatories)
+        || setup.topology.hosts_any(me, &opened.roles.observers)
 }
 
 /// Whether a participant confirms the one view of the form.
 fn confirms(setup: &Setup, me: ParticipantId, opened: &OpenedForm) -> bool
-    ensures { result ≡ list_any (hosts_at setup.now.topology.hosts me) (view_of_form opened.now.form).confirmers }
+    ensures { result ≡ list_any (confirms_at setup.now.topology.hosts me) (view_of_form opened.now.form).confirmers }
 {
-    hosts_some(setup, me, &opened.roles.confirmers)
+    setup.topology.confirms_any(me, &opened.roles.confirmers)
 }
 
 /// Whether a participant confirms a view of the request at a place.

@@ -9,7 +9,8 @@ use Rattle.lang_eval.specs.Found.{Packages}
 use Rattle.interpret.specs.Language.{the_language}
 use Rattle.interpret.specs.Tries.{is_tree_possible}
 use Rattle.interpret.proofs.Tried.{tree_decides}
-use Rattle.proto_model.specs.BuiltIn.{built_in, built_in_language, conforms}
+use Rattle.interpret.specs.Conforming.{conforms}
+use Rattle.proto_model.specs.BuiltIn.{built_in, built_in_language}
 use Rattle.proto_model.specs.PlainReading.{roots_of_form}
 use Rattle.proto_model.specs.declared.plain_form.PlainForm.{PlainForm}
 

@@ -3,7 +3,7 @@ use Rattle.std.proofs.Common.{◌≡◌, ℕ, zero, suc, ◌+◌, ◌≤◌, tru
 use Rattle.std.specs.Prelude.{option_map, if◌then◌else◌, ◌&&◌}
 use Rattle.std.proofs.lemmas.Bool.{and_parts, and_from}
 use Rattle.std.proofs.lemmas.Bool.Decides.{nat_tests}
-use Rattle.ledger_terms.specs.Hosting.{hosts_at}
+use Rattle.ledger_terms.specs.Hosting.{confirms_at}
 use Rattle.ledger_terms.specs.Names.{is_name, is_spelled}
 use Rattle.ledger_terms.specs.declared.params.Params.{Params}
 use Rattle.ledger_terms.specs.declared.value.Value.TheVariants.{Unit as UnitValue}
@@ -15,11 +15,12 @@ use Rattle.canton_model.specs.Genuine.{Genuine, NoCollision}
 use Rattle.canton_model.specs.Checks.{verdicts_owed, verdicts_on, verdict_on_view, is_confirmed_by, authorises_children, is_requested, is_within}
 use Rattle.canton_model.specs.Inbox.{Received, inbox, received, shown_in}
 use Rattle.proto_model.specs.NoteForm.{root_seed_of, note_of, note_form, note_request, request_to_self}
-use Rattle.proto_model.specs.BuiltIn.{built_in, built_in_language, conforms}
+use Rattle.interpret.specs.Conforming.{conforms}
+use Rattle.proto_model.specs.BuiltIn.{built_in, built_in_language}
 use Rattle.proto_model.specs.NoteLog.{approval, request_entry, note_log, sole_host, LeavesTime}
 use Rattle.proto_model.specs.Plain.{IsPlain, spell_plain, plain_of}
-use Rattle.interpret.specs.Ids.{contract_id}
-use Rattle.proto_model.specs.PlainReading.{is_authentic, is_note_request, plain_to, plain_reading, root_of, roots_of_form, shown_of_form, view_of_form, whole_of_form}
+use Rattle.interpret.specs.Ids.{contract_id, is_authentic}
+use Rattle.proto_model.specs.PlainReading.{is_note_request, plain_to, plain_reading, root_of, roots_of_form, shown_of_form, view_of_form, whole_of_form}
 use Rattle.proto_model.specs.declared.plain_form.PlainForm.{PlainForm}
 use Rattle.interpret.specs.Sizes.{is_small_instance}
 use Rattle.lang_eval.specs.Parts.{parties_of_created}
@@ -63,9 +64,8 @@ within_one : (skew : ℕ) → 1 ≤ skew → is_within skew 0 1 ≡ true
 within_one skew h = and_from _ _ (le_test 0 (1 + skew) (omega arith)) (le_test 1 (0 + skew) (omega arith))
 
 module _ (name party : List ℕ) where
-  hosted : (p : ℕ) → hosts_at (sole_host name party) p party ≡ nat_eq p 0
-  hosted zero = or_false _ ∙ same_self party
-  hosted (suc p) = sym (away p)
+  confirms : confirms_at (sole_host name party) 0 party ≡ true
+  confirms = or_false _ ∙ same_self party
 
 -- a note with these seeds and this id
 abbrev seeded : (party text seed own id : List ℕ) → PlainForm
@@ -81,7 +81,7 @@ module _ (name command bytes party text seed own id : List ℕ) (params : Params
   passes = rw (read, has_roles party text id, signs party text, observes party text, same_self party) refl
 
   confirmed : is_confirmed_by (plain_reading (sole_host name party)) 0 (view_of_form (seeded party text seed own id)) ≡ true
-  confirmed = rw (signs party text) (or_false _ ∙ hosted name party 0)
+  confirmed = rw (signs party text) (or_false _ ∙ confirms name party)
 
   authorised : (authorises_children (roles_of built_in_language) (shown_of_form (seeded party text seed own id)) (0, root_of (seeded party text seed own id)) && is_requested (roles_of built_in_language) (shown_of_form (seeded party text seed own id)) (view_of_form (seeded party text seed own id)) (0, root_of (seeded party text seed own id))) ≡ true
   authorised = rw (signs party text, same_self party) refl

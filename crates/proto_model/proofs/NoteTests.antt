@@ -6,7 +6,7 @@ use Rattle.std.specs.Str.{bytes_eq}
 use Rattle.std.specs.Cmp.Lexicographic.{same_text}
 use Rattle.std.proofs.lemmas.Bool.{and_parts, or_parts, not-true, eqb-true}
 use Rattle.std.proofs.lemmas.Slice.Eq.{bytes_eq-Decides}
-use Rattle.ledger_terms.specs.Hosting.{hosts_at, lists_party}
+use Rattle.ledger_terms.specs.Hosting.{confirms_at, hosts_at, lists_party}
 use Rattle.ledger_terms.specs.Parties.{same_name}
 use Rattle.ledger_terms.specs.declared.host.Host.{Host}
 use Rattle.canton_model.specs.declared.envelope.Envelope.{Envelope}
@@ -43,6 +43,12 @@ alone (host ∷ hosts) zero party h (suc p) = listed_nowhere hosts party (not-tr
 alone (host ∷ hosts) (suc q) party h zero = not-true _ (and_parts _ _ h).0 ∙ sym (zero_not q)
 alone (host ∷ hosts) (suc q) party h (suc p) = alone hosts q party (and_parts _ _ h).1 p ∙ sym (next_eq p q)
 
+-- who confirms for a party hosts it
+pub confirmer_hosts : (hosts : List Host) (p : ℕ) (party : List ℕ) → confirms_at hosts p party ≡ true → hosts_at hosts p party ≡ true
+confirmer_hosts [] p party h = absurd cc
+confirmer_hosts (host ∷ hosts) zero party h = h
+confirmer_hosts (host ∷ hosts) (suc p) party h = confirmer_hosts hosts p party h
+
 -- one envelope is to its recipient alone
 opened : (q : ℕ) (envelopes : List Envelope) (form : PlainForm) → is_one_envelope_to q envelopes ≡ true → option_and_then plain_of (envelope_to q envelopes) ≡ Some form
     → (p : ℕ) → option_and_then plain_of (envelope_to p envelopes) ≡ (if nat_eq p q then Some form else None)
@@ -57,17 +63,19 @@ opened q (envelope ∷ []) form one read p = by_test (nat_eq p q) refl
         let other : nat_eq envelope.to p ≡ false = ne_eqb envelope.to p (λ e. let t : nat_eq p q ≡ true = eq-eqb p q (sym e ∙ to) in cc) in
         rw other refl
 
--- the one party
+-- the one party, which one participant alone hosts and which it confirms for
 abbrev OneParty : List Host → ℕ → (signatories observers : List (List ℕ)) → Type 0
 OneParty hosts q signatories observers =
     (party : List ℕ) × (signatories ≡ party ∷ []) × (observers ≡ party ∷ []) × ((p : ℕ) → hosts_at hosts p party ≡ nat_eq p q)
+    × (confirms_at hosts q party ≡ true)
 
 one_party : (hosts : List Host) (q : ℕ) (signatories observers : List (List ℕ)) → is_of_one_party hosts q signatories observers ≡ true → OneParty hosts q signatories observers
 one_party hosts q [] observers h = cc
 one_party hosts q (party ∷ []) [] h = cc
 one_party hosts q (party ∷ []) (observer ∷ []) h =
-    let p = and_parts (same_name party observer) (is_sole_host hosts q party) h in
-    (party, refl, ap (λ (x : List ℕ). x ∷ []) (sym (same_text party observer (sym p.0))), alone hosts q party p.1)
+    let both = and_parts (same_name party observer && is_sole_host hosts q party) (confirms_at hosts q party) h in
+    let p = and_parts (same_name party observer) (is_sole_host hosts q party) both.0 in
+    (party, refl, ap (λ (x : List ℕ). x ∷ []) (sym (same_text party observer (sym p.0))), alone hosts q party p.1, both.1)
 one_party hosts q (party ∷ []) (a ∷ b ∷ more) h = cc
 one_party hosts q (a ∷ b ∷ more) observers h = cc
 
@@ -89,6 +97,7 @@ tested hosts request h =
           record {
             opened = opened request.sender request.envelopes form one read;
             hosted = w.3;
+            confirms = w.4;
             confirming = confirming;
             has_roles = c.0;
             signs = w.1;

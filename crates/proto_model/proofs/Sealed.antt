@@ -10,7 +10,7 @@ use Rattle.std.specs.Cmp.Lexicographic.{slice_cmp, nat_list_eq_equiv, texts_ties
 use Rattle.std.specs.Ordering.{is_lt, is_eq, nat_cmp}
 use Rattle.std.proofs.lemmas.Bool.{eqb-true}
 use Rattle.std.proofs.lemmas.Option.{same_Some, none-some}
-use Rattle.ledger_terms.specs.Hosting.{hosts_at}
+use Rattle.ledger_terms.specs.Hosting.{confirms_at}
 use Rattle.ledger_terms.specs.Parties.{name_below, same_name, set_of}
 use Rattle.ledger_terms.specs.declared.host.Host.{Host}
 use Rattle.canton_model.specs.declared.request.Request.{Request}
@@ -60,8 +60,8 @@ module _ (hosts : List Host) (request : Request) (form : PlainForm) (party : Lis
   to_sender : plain_to request.sender request ≡ Some form
   to_sender = r.opened request.sender ∙ rw (nat_eq_self request.sender) refl
 
-  sender_hosts : list_any (hosts_at hosts request.sender) (party ∷ []) ≡ true
-  sender_hosts = or_false _ ∙ (r.hosted request.sender ∙ nat_eq_self request.sender)
+  sender_confirms : list_any (confirms_at hosts request.sender) (party ∷ []) ≡ true
+  sender_confirms = or_false _ ∙ r.confirms
 
   informs : (p : ℕ) → is_informed (plain_reading hosts) p (root_of form) ≡ nat_eq p request.sender
   informs p =
@@ -75,7 +75,7 @@ module _ (hosts : List Host) (request : Request) (form : PlainForm) (party : Lis
       by_test false = refl
 
   confirmed : is_confirmed_by (plain_reading hosts) request.sender (view_of_form form) ≡ true
-  confirmed = rw r.signs sender_hosts
+  confirmed = rw r.signs sender_confirms
 
   one_act : (a : Act) → Contains (acts (roots_of_form form)) a → root_of form ≡ a
   one_act a h = by_case (in_from_Contains (root_of form ∷ []) a h)
@@ -84,11 +84,11 @@ module _ (hosts : List Host) (request : Request) (form : PlainForm) (party : Lis
       by_case (inl same) = same
       by_case (inr none) = absurd none
 
-  signs : list_any (hosts_at hosts request.sender) (built_in_language.signatories form.instance) ≡ true
-  signs = rw r.signs sender_hosts
+  signs : list_any (confirms_at hosts request.sender) (built_in_language.signatories form.instance) ≡ true
+  signs = rw r.signs sender_confirms
 
   guarded : (a : Act) → Contains (acts (roots_of_form form)) a → (p : ℕ) × (list_any ((plain_reading hosts).confirms p) (built_in_language.signatories (instance_of a.action)) ≡ true)
-  guarded a h = (request.sender, subst (λ (x : Act). list_any (hosts_at hosts request.sender) (built_in_language.signatories (instance_of x.action)) ≡ true) (one_act a h) signs)
+  guarded a h = (request.sender, subst (λ (x : Act). list_any (confirms_at hosts request.sender) (built_in_language.signatories (instance_of x.action)) ≡ true) (one_act a h) signs)
 
   viewed_here : (i : ℕ) (a : Act) → slice_get (root_of form ∷ []) i ≡ Some a → (view : OpenedView) × Contains (view_of_form form ∷ []) view × Contains view.core (i, a) × (is_confirmed_by (plain_reading hosts) request.sender view ≡ true)
   viewed_here zero a e = (view_of_form form, (0, omega arith, refl), (0, omega arith, ap (λ (x : Act). (0, x)) (same_Some _ a e)), confirmed)

@@ -1,7 +1,6 @@
 -- The contract language of the built-in package alone, which is all that today's scripts use.
-use Rattle.std.specs.Prelude.{Bool, true, ◌&&◌, [], Result, Ok, Err}
-use Rattle.ledger_model.specs.Terms.{Action, Act}
-use Rattle.ledger_model.specs.Forest.{Forest, NoRoots, Root}
+use Rattle.std.specs.Prelude.{[], Result, Ok, Err}
+use Rattle.ledger_model.specs.Terms.{Action}
 use Rattle.ledger_model.specs.declared.roles.Roles.{Roles}
 use Rattle.ledger_model.specs.Language.{Language}
 use Rattle.lang_eval.specs.declared.role_fault.RoleFault.{RoleFault}
@@ -9,7 +8,6 @@ use Rattle.lang_eval.specs.Language.{roles}
 use Rattle.lang_eval.specs.Found.{Packages}
 use Rattle.lang_eval.specs.Builtin.{checked_packages}
 use Rattle.interpret.specs.Language.{the_language}
-use Rattle.interpret.specs.Tries.{is_tree_possible}
 
 -- no packages beside the built-in one
 unfoldable pub built_in : Packages
@@ -29,8 +27,3 @@ given_or_nobody (Err e) = nobody
 -- the roles of an action, and nobody where the language gives none
 abbrev pub roles_or_nobody : Action → Roles
 roles_or_nobody action = given_or_nobody (roles built_in action)
-
--- each root is possible with all that stands below it
-abbrev pub conforms : Packages → Forest Act → Bool
-conforms packages NoRoots = true
-conforms packages (Root act consequences others) = is_tree_possible packages act.action consequences && conforms packages others

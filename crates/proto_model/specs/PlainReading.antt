@@ -2,34 +2,23 @@
 use Rattle.std.specs.Prelude.{ℕ, zero, suc, Bool, false, List, [], ◌∷◌, Option, Some, None, not, ◌&&◌, option_map, option_and_then, nat_eq, slice_get, if◌then◌else◌}
 use Rattle.std.specs.List.{list_any}
 use Rattle.std.specs.Str.{bytes_eq}
-use Rattle.ledger_terms.specs.Hosting.{hosts_at, lists_party}
-use Rattle.ledger_terms.specs.Parties.{has_party, same_name}
+use Rattle.ledger_terms.specs.Hosting.{confirms_at, hosts_at, lists_party}
+use Rattle.ledger_terms.specs.Parties.{same_name}
+use Rattle.ledger_terms.specs.Vetting.{vets}
 use Rattle.ledger_terms.specs.declared.host.Host.{Host}
-use Rattle.ledger_terms.specs.declared.action.Action.TheVariants.{Create, Exercise, Fetch}
-use Rattle.ledger_model.specs.Terms.{Act, Action, id_of, instance_of}
+use Rattle.ledger_terms.specs.declared.action.Action.TheVariants.{Create}
+use Rattle.ledger_model.specs.Terms.{Act}
 use Rattle.ledger_model.specs.Forest.{Forest, NoRoots, Root}
 use Rattle.canton_model.specs.declared.envelope.Envelope.{Envelope}
 use Rattle.canton_model.specs.declared.request.Request.{Request}
 use Rattle.ledger_model.specs.Language.{roles_of}
 use Rattle.ledger_model.specs.Opening.{Transaction, OpenedView, Shown}
 use Rattle.canton_model.specs.Reading.{Reading}
-use Rattle.interpret.specs.Ids.{contract_id}
-use Rattle.proto_model.specs.BuiltIn.{built_in, built_in_language, conforms}
+use Rattle.interpret.specs.Ids.{is_authentic}
+use Rattle.interpret.specs.Conforming.{conforms}
+use Rattle.proto_model.specs.BuiltIn.{built_in, built_in_language}
 use Rattle.proto_model.specs.Plain.{plain_of}
 use Rattle.proto_model.specs.declared.plain_form.PlainForm.{PlainForm}
-
--- a Create's salt is its seed
-abbrev pub salt_in : (seed : List ℕ) → Action → List ℕ
-salt_in seed (Create id instance) = seed
-salt_in seed (Exercise id salt instance choice args actors consuming result) = salt
-salt_in seed (Fetch id salt instance actors) = salt
-
-abbrev pub salt_of : Act → List ℕ
-salt_of act = salt_in act.seed act.action
-
--- the id is that of salt and instance
-abbrev pub is_authentic : Act → Bool
-is_authentic act = bytes_eq (id_of act.action) (contract_id (salt_of act) (instance_of act.action))
 
 -- the one root
 abbrev pub root_of : PlainForm → Act
@@ -63,11 +52,11 @@ is_sole_host [] p party = false
 is_sole_host (host ∷ hosts) zero party = lists_party party host && not (list_any (lists_party party) hosts)
 is_sole_host (host ∷ hosts) (suc p) party = not (lists_party party host) && is_sole_host hosts p party
 
--- one party is all signatories and all observers, and is hosted by this participant alone
+-- one party is all signatories and all observers, and is hosted by this participant alone, which confirms for it
 abbrev pub is_of_one_party : List Host → ℕ → (signatories observers : List (List ℕ)) → Bool
 is_of_one_party hosts p [] observers = false
 is_of_one_party hosts p (party ∷ []) [] = false
-is_of_one_party hosts p (party ∷ []) (observer ∷ []) = same_name party observer && is_sole_host hosts p party
+is_of_one_party hosts p (party ∷ []) (observer ∷ []) = same_name party observer && is_sole_host hosts p party && confirms_at hosts p party
 is_of_one_party hosts p (party ∷ []) (a ∷ b ∷ more) = false
 is_of_one_party hosts p (a ∷ b ∷ more) observers = false
 
@@ -92,10 +81,6 @@ is_note_request hosts request =
     && is_one_envelope_to request.sender request.envelopes
     && is_own_note hosts request.sender (plain_to request.sender request)
 
-abbrev pub vets : Option Host → List ℕ → Bool
-vets None name = false
-vets (Some host) name = has_party host.vetted name
-
 -- the reading of a synchroniser with these participants
 abbrev pub plain_reading : List Host → Reading
 plain_reading hosts =
@@ -107,6 +92,6 @@ plain_reading hosts =
       language = built_in_language;
       conforms = conforms built_in;
       hosts = hosts_at hosts;
-      confirms = hosts_at hosts;
+      confirms = confirms_at hosts;
       has_vetted = λ p name. vets (slice_get hosts p) name;
     }

@@ -3,9 +3,11 @@ ghost use Rattle.std.specs.Prelude.{◌≡◌, IfOk, option_map};
 ghost use Rattle.ledger_terms.specs.Grown.{tree_of};
 ghost use Rattle.ledger_model.specs.Language.{roles_of};
 ghost use Rattle.wire_form.specs.Spellable.{IsSpellableInstance};
-ghost use Rattle.proto_model.specs.BuiltIn.{built_in, built_in_language, conforms, nobody, roles_or_nobody};
+ghost use Rattle.interpret.specs.Ids.{is_authentic};
+ghost use Rattle.interpret.specs.Conforming.{conforms};
+ghost use Rattle.proto_model.specs.BuiltIn.{built_in, built_in_language, nobody, roles_or_nobody};
 ghost use Rattle.proto_model.specs.Plain.{plain_of};
-ghost use Rattle.proto_model.specs.PlainReading.{is_authentic, root_of, roots_of_form};
+ghost use Rattle.proto_model.specs.PlainReading.{root_of, roots_of_form};
 
 use crate::built_in::BuiltIn;
 use crate::plain_form::{PlainForm, decode_plain};

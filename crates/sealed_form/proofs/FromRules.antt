@@ -1,9 +1,9 @@
 -- A wanted transaction keeps the limits under which its trees can be made and written.
-use Rattle.std.proofs.Common.{◌≡◌, ℕ, suc, ◌+◌, ◌^◌, ◌≤◌, max, true, List, [], ◌∷◌, ◌++◌, length, refl, sym, subst, inl, inr, arith}
+use Rattle.std.proofs.Common.{◌≡◌, ℕ, suc, ◌+◌, ◌^◌, ◌≤◌, true, List, [], ◌∷◌, ◌++◌, length, refl, sym, subst, inl, inr, arith}
 use Rattle.std.proofs.lemmas.Bool.{cases_Bool}
 use Rattle.sha2.proofs.Facts256.{length-sha256}
 use Rattle.hash_id.specs.Strings.{child_seed_string}
-use Rattle.ledger_terms.specs.Depth as depths
+use Rattle.ledger_terms.specs.Depth.{depth}
 use Rattle.ledger_terms.specs.Trees.{Actions}
 use Rattle.ledger_terms.specs.Forest.{NoRoots, Root, preorder, size}
 use Rattle.ledger_terms.specs.declared.action.Action.{Action}
@@ -29,16 +29,11 @@ use Rattle.interpret.specs.Wanted.{IsWanted, Wanted, after, after_all, one_less,
 use Rattle.interpret.specs.declared.progress.Progress.{Progress}
 use Rattle.interpret.proofs.Encoding.{action_spellable}
 use Rattle.blind_tree.specs.Limits.{acts_length, AreSpellableActs, KeepLimits}
-use Rattle.blind_tree.specs.Seen.{depth}
 
 -- each seed is a hash
 abbrev pub AreSeeded : Actions → Type 0
 AreSeeded NoRoots = Unit {0}
 AreSeeded (Root act below others) = IsHash act.seed × AreSeeded below × AreSeeded others
-
-same_depth : (f : Actions) → depth f ≡ depths.depth f
-same_depth NoRoots = refl
-same_depth (Root act below others) = λ i. max (suc (same_depth below i)) (same_depth others i)
 
 record IsMeasured (a : Action) : Type 0 where
   spelled : is_spelled_action a ≡ true
@@ -64,12 +59,12 @@ all_measured (Root act below others) seeds h =
     let o = all_measured others seeds.2 (omega (arith, h)) in
     record { short = omega (arith, m.long, seeds.0, b.short, o.short); each = (action_spellable act.action m.spelled, b.each, o.each) }
 
-pub limits_kept : (f : Actions) → size f ≤ 64 → depths.depth f ≤ 16 → encoded_bytes f ≤ 32768 → AreSeeded f → KeepLimits f
+pub limits_kept : (f : Actions) → size f ≤ 64 → depth f ≤ 16 → encoded_bytes f ≤ 32768 → AreSeeded f → KeepLimits f
 limits_kept f few shallow small seeds =
     let m = all_measured f seeds small in
     record {
       few = few;
-      nested = subst (λ (n : ℕ). n ≤ 16) (sym (same_depth f)) shallow;
+      nested = shallow;
       short = omega (arith, m.short, small);
       each = m.each;
     }

@@ -44,8 +44,12 @@ module _ (packages : Packages) (tx : Tx) (views : Views) (e : views_of_tx packag
   abbrev placed : Forest Placed
   placed = paths_from [] 0 tx.roots
 
+  -- the views of a transaction have its requesters, its ledger time and its seed
+  pub made_of : record { act_as = tx.act_as; ledger_time = tx.ledger_time; seed = tx.seed; roots = split (roles_in packages) tx.roots } ≡ views
+  made_of = (no_fault (first_roleless packages tx.roots) _ views e).1
+
   pub roots_are : views.roots ≡ split (roles_in packages) tx.roots
-  roots_are = sym (ap (λ (v : Views). v.roots) (no_fault (first_roleless packages tx.roots) _ views e).1)
+  roots_are = sym (ap (λ (v : Views). v.roots) made_of)
 
   pub each_has_roles : (a : Act) → Contains (acts tx.roots) a → has_roles packages a.action ≡ true
   each_has_roles a there =

@@ -3,12 +3,17 @@ pub mod Recipients
 pub mod Trees
 pub mod Opens
 pub mod Conforming
+pub mod Deciding
+pub mod RangeDecided
+pub mod Decided
 pub mod Sealed
 pub mod Overlaid
 pub mod Made
 pub mod OneId
 pub mod Asked
 pub mod Given
+pub mod Parties
+pub mod Sealable
 pub mod Short
 pub mod Limited
 pub mod Blinded

@@ -12,13 +12,14 @@ use Rattle.canton_model.specs.declared.message.Message.TheVariants.{Request as R
 use Rattle.lang_eval.specs.Found.{Packages}
 use Rattle.sealed_form.specs.Collisions.{AreSealed}
 use Rattle.sealed_form.specs.SealedForm.{IsSealedForm}
-use Rattle.sealed_form.specs.SealedReading.{IsTestOf, sealed_reading}
+use Rattle.sealed_form.specs.SealedReading.{sealed_reading}
+use Rattle.sealed_form.proofs.Decided.{form_decides}
 
-module _ (topology : Topology) (packages : Packages) (test : Request → Bool) (sound : IsTestOf topology packages test) (log : List Entry)
-    (genuine : Genuine (sealed_reading topology packages test) topology.params log) where
-  by_message : (k : ℕ) (m : Message) (request : Request) → FitsIfRequest (sealed_reading topology packages test) log k m → request_of m ≡ Some request
+module _ (topology : Topology) (packages : Packages) (log : List Entry)
+    (genuine : Genuine (sealed_reading topology packages) topology.params log) where
+  by_message : (k : ℕ) (m : Message) (request : Request) → FitsIfRequest (sealed_reading topology packages) log k m → request_of m ≡ Some request
       → IsSealedForm topology packages request
-  by_message k (RequestMessage q) request f e = subst (IsSealedForm topology packages) (same_Some q request e) (sound.sealed q f.is_sealed)
+  by_message k (RequestMessage q) request f e = subst (IsSealedForm topology packages) (same_Some q request e) ((form_decides topology packages q).0 f.is_sealed)
   by_message k (ResponseMessage response) request f e = absurd (none-some request e)
   by_message k (VerdictMessage verdict) request f e = absurd (none-some request e)
   by_message k Tick request f e = absurd (none-some request e)

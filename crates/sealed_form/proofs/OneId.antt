@@ -137,7 +137,7 @@ strings_are (ResponseMessage response) request e = absurd (none-some request e)
 strings_are (VerdictMessage verdict) request e = absurd (none-some request e)
 strings_are Tick request e = absurd (none-some request e)
 
-module _ (topology : Topology) (packages : Packages) (test : Request → Bool) (log : List Entry) (sealed : AreSealed topology packages log) where
+module _ (topology : Topology) (packages : Packages) (log : List Entry) (sealed : AreSealed topology packages log) where
   abbrev strings_in : Entry → List (List ℕ)
   strings_in entry = message_strings entry.message
 
@@ -169,7 +169,7 @@ module _ (topology : Topology) (packages : Packages) (test : Request → Bool) (
         ranged = views_ranged (views_by packages (s.whole).transaction) ((s.can_be).in_range).each a again;
       }
 
-  known : (k : ℕ) (a : Act) → Contains (acts_of (whole_at (sealed_reading topology packages test) log k)) a → Known a
+  known : (k : ℕ) (a : Act) → Contains (acts_of (whole_at (sealed_reading topology packages) log k)) a → Known a
   known k a there = by_request (request_at log k) refl there
     where
       by_request : (o : Option Request) → request_at log k ≡ o
@@ -178,7 +178,7 @@ module _ (topology : Topology) (packages : Packages) (test : Request → Bool) (
       by_request None e h = absurd (in_from_Contains [] a h)
       by_request (Some request) e h = known_of k request a e h
 
-  pub no_collision : (Collides log → ⊥) → NoCollision (sealed_reading topology packages test) log
+  pub no_collision : (Collides log → ⊥) → NoCollision (sealed_reading topology packages) log
   no_collision apart k m a b in_a in_b true_a true_b same =
       let ka = known k a in_a in
       let kb = known m b in_b in

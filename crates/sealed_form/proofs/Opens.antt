@@ -129,9 +129,9 @@ module _ (topology : Topology) (packages : Packages) (sender : ℕ) (whole : Who
   contents_by_rules p = seen_is_shown sha256 (hosts p) false [] 0 views ∙ seen_as_ruled (roles_by packages) (hosts p) t.roots
 
 -- What a sealed request shows to a participant is what the rules show of its whole.
-pub shown_is : (topology : Topology) (packages : Packages) (test : Request → Bool) (request : Request)
+pub shown_is : (topology : Topology) (packages : Packages) (request : Request)
     (sealed : IsSealedForm topology packages request) (p : ℕ)
-    → (sealed_reading topology packages test).shown p request ≡ shown_of (the_language packages) (hosts_at topology.hosts p) (nat_eq p request.sender)
+    → (sealed_reading topology packages).shown p request ≡ shown_of (the_language packages) (hosts_at topology.hosts p) (nat_eq p request.sender)
     (sealed.whole).transaction
-shown_is topology packages test request sealed p =
+shown_is topology packages request sealed p =
     shown_by_envelopes topology packages request.sender sealed.whole sealed.can_be p request (ap (λ (r : Request). r.envelopes) sealed.again)

@@ -15,13 +15,14 @@ use Rattle.interpret.specs.Language.{the_language}
 use Rattle.sealed_form.specs.Within.{IsWithin, KeepsRulesWithin}
 use Rattle.sealed_form.proofs.WithinTopology.{sealed_within}
 use Rattle.sealed_form.specs.SealedForm.{IsSealedForm, Whole}
-use Rattle.sealed_form.specs.SealedReading.{IsTestOf, sealed_reading}
+use Rattle.sealed_form.specs.SealedReading.{sealed_reading}
 use Rattle.sealed_form.proofs.Conforming.{decides}
+use Rattle.sealed_form.proofs.Decided.{form_decides}
 use Rattle.sealed_form.proofs.Hosts.{confirmer_hosts}
 use Rattle.sealed_form.proofs.Opens.{shown_is}
 
-within : (topology : Topology) (packages : Packages) (test : Request → Bool) → IsWithin topology packages (sealed_reading topology packages test)
-within topology packages test = record { hosts = λ p party. refl; confirms = λ p party. refl; signatories = λ i. refl; has_roles = λ a. refl }
+within : (topology : Topology) (packages : Packages) → IsWithin topology packages (sealed_reading topology packages)
+within topology packages = record { hosts = λ p party. refl; confirms = λ p party. refl; signatories = λ i. refl; has_roles = λ a. refl }
 
 -- a signatory is informed
 pub signatory_informed : (language : Language) (a : Action) (party : List ℕ) → In party (language.signatories (instance_of a))
@@ -38,12 +39,12 @@ signatory_informed language (Exercise id salt i choice args actors false result)
     (actors ++ language.choice_observers (record { id = id; instance = i; choice = choice; args = args })) party h)
 signatory_informed language (Fetch id salt i actors) party h = in_set_of _ party (in_append_left (language.signatories i) actors party h)
 
-module _ (topology : Topology) (packages : Packages) (test : Request → Bool) (request : Request) (sealed : IsSealedForm topology packages request) where
-  keeps : KeepsRulesWithin topology (sealed_reading topology packages test) request (sealed.whole).transaction
+module _ (topology : Topology) (packages : Packages) (request : Request) (sealed : IsSealedForm topology packages request) where
+  keeps : KeepsRulesWithin topology (sealed_reading topology packages) request (sealed.whole).transaction
   keeps =
       record {
         is_whole = ap (option_map (λ (whole : Whole). whole.transaction)) sealed.is_whole;
-        shown = λ p. shown_is topology packages test request sealed p;
+        shown = λ p. shown_is topology packages request sealed p;
         confirming = ap (λ (r : Request). r.confirming) sealed.again;
         has_roles = (sealed.can_be).has_roles;
         hosted = λ a party there signs.
@@ -53,15 +54,14 @@ module _ (topology : Topology) (packages : Packages) (test : Request → Bool) (
             (in_from_Contains ((the_language packages).signatories (instance_of a.action)) party signs)));
       }
 
-  pub is_sealed : IsSealed (sealed_reading topology packages test) request
+  pub is_sealed : IsSealed (sealed_reading topology packages) request
   is_sealed =
-      sealed_within topology packages (sealed_reading topology packages test) request (sealed.whole).transaction (within topology packages test) keeps
+      sealed_within topology packages (sealed_reading topology packages) request (sealed.whole).transaction (within topology packages) keeps
 
-pub lawful : (topology : Topology) (packages : Packages) (test : Request → Bool) → IsTestOf topology packages test
-    → IsReading (sealed_reading topology packages test)
-lawful topology packages test sound =
+pub lawful : (topology : Topology) (packages : Packages) → IsReading (sealed_reading topology packages)
+lawful topology packages =
     record {
       confirms_hosted = λ p name h. confirmer_hosts topology.hosts p name h;
       conforms_is = λ roots. decides packages roots;
-      sealed_facts = λ request passes. is_sealed topology packages test request (sound.sealed request passes);
+      sealed_facts = λ request passes. is_sealed topology packages request ((form_decides topology packages request).0 passes);
     }

@@ -27,30 +27,7 @@ use Rattle.blind_tree.specs.Blind.{Salts, Visibility, is_hidden, leaf_of, leaf_w
 use Rattle.blind_tree.specs.Blind.{shows_core, shows_roles, tree_with, vertices_shown}
 use Rattle.blind_tree.specs.Limits.{acts_length, HaveSets}
 use Rattle.blind_tree.specs.Spelling.{spell_each, spell_leaf, spell_tree}
-
--- ---- sets and names
-
-left_of : (a b : Bool) → (a && b) ≡ true → a ≡ true
-left_of true b h = refl
-left_of false b h = h
-
-short_name : (name : List ℕ) → IsName name → length name ≤ 32
-short_name name h = leb-true (length name) 32 (left_of (nat_le (length name) 32) (is_spelled name) h)
-
-names_length : (names : List (List ℕ)) → AllByRecursion IsName names → length (flat_map spell_name names) ≤ 33 * length names
-names_length [] h = omega arith
-names_length (name ∷ names) h =
-    let r = names_length names h.1 in
-    let s = short_name name h.0 in
-    let l = length-append (spell_name name) (flat_map spell_name names) in
-    omega (arith, r, s, l)
-
-set_length : (set : List (List ℕ)) → IsPartySet set → length (spell_parties set) ≤ 4226
-set_length set h =
-    let n = names_length set (recursion_from_All IsName set h.names) in
-    let l = length-append (to_be_bytes w16 (length set)) (flat_map spell_name set) in
-    let two : length (to_be_bytes w16 (length set)) ≡ 2 = refl in
-    omega (arith, n, l, two, h.few)
+use Rattle.blind_tree.proofs.LimitLaws.{set_length, sets_parted, short_name, view_length}
 
 size_join : {A : Type 0} (f g : Forest A) → size (join f g) ≡ size f + size g
 size_join NoRoots g = omega arith
@@ -67,10 +44,6 @@ short_join : (f g : Forest SplitView) → AreShort f → AreShort g → AreShort
 short_join NoRoots g h i = i
 short_join (Root view subviews others) g h i = (h.0, h.1, h.2, short_join others g h.3 i)
 
-sets_parted : (f g : Forest SplitView) → HaveSets (join f g) → HaveSets f × HaveSets g
-sets_parted NoRoots g h = (tt, h)
-sets_parted (Root view subviews others) g h = let r = sets_parted others g h.2 in ((h.0, h.1, r.0), r.1)
-
 roles_length : (view : SplitView) → IsPartySet view.informees → IsPartySet view.confirmers → length (roles_bytes view) ≤ 8452
 roles_length view informees confirmers =
     omega (
@@ -81,41 +54,6 @@ roles_length view informees confirmers =
     )
 
 module _ (roles : Action → Roles) where
-  core_length : (e : List (List ℕ)) (f : Forest Act) → length (spell_children (core_of roles e f)) ≤ acts_length f + 3 * size f
-  core_length e NoRoots = omega arith
-  core_length e (Root act below others) =
-      let o = core_length e others in
-      elim (cases_Bool (starts roles e act)) [
-        | inl new ↦ rw new (omega (arith, o))
-        | inr old ↦ rw old
-            (let b = core_length e below in
-            let first = act.seed ++ spell_action act.action in
-            let counted = to_be_bytes w16 (width (core_of roles e below)) in
-            let two : length counted ≡ 2 = refl in
-            let inside = spell_children (core_of roles e below) in
-            let after = spell_children (core_of roles e others) in
-            omega (
-              arith,
-              b,
-              o,
-              two,
-              length-append (0 ∷ (first ++ counted ++ inside)) after,
-              length-append (first ++ counted) inside,
-              length-append first counted,
-              length-append act.seed (spell_action act.action),
-            ))
-      ]
-
-  view_length : (act : Act) (below : Forest Act) → suc (size below) ≤ 64
-      → length act.seed + length (spell_action act.action) + acts_length below ≤ 32768 → length (core_bytes (view_at roles act below)) ≤ 32960
-  view_length act below few short =
-      let inside = spell_children (core_of roles (its_informees roles act) below) in
-      let b = core_length (its_informees roles act) below in
-      let first = act.seed ++ spell_action act.action in
-      let counted = to_be_bytes w16 (width (core_of roles (its_informees roles act) below)) in
-      let two : length counted ≡ 2 = refl in
-      omega (arith, b, few, short, two, length-append (first ++ counted) inside, length-append first counted, length-append act.seed (spell_action act.action))
-
   size_below : (e : List (List ℕ)) (f : Forest Act) → size (split_below roles e f) ≤ size f
   size_below e NoRoots = omega arith
   size_below e (Root act below others) =
@@ -144,7 +82,7 @@ module _ (roles : Action → Roles) where
             let h : HaveSets (Root (view_at roles act below) sub rest) = rw new at sets in
             rw new (
               roles_length (view_at roles act below) h.0.0 h.0.1,
-              view_length act below (omega (arith, few)) (omega (arith, short)),
+              view_length roles act below (omega (arith, few)) (omega (arith, short)),
               short_below (its_informees roles act) below (omega (arith, few)) (omega (arith, short)) h.1,
               short_below e others (omega (arith, few)) (omega (arith, short)) h.2,
             )
@@ -159,7 +97,7 @@ module _ (roles : Action → Roles) where
   short_split NoRoots few short sets = tt
   short_split (Root act below others) few short sets = (
     roles_length (view_at roles act below) sets.0.0 sets.0.1,
-    view_length act below (omega (arith, few)) (omega (arith, short)),
+    view_length roles act below (omega (arith, few)) (omega (arith, short)),
     short_below (its_informees roles act) below (omega (arith, few)) (omega (arith, short)) sets.1,
     short_split others (omega (arith, few)) (omega (arith, short)) sets.2,
   )

@@ -1,5 +1,6 @@
 //! The laws of the sealed form, as the clauses of functions that do nothing.
 ghost use Rattle.std.specs.Prelude.{◌≡◌, ℕ, Bool, true, List, Some, Contains, ◌≤◌, [], Ok, length, nat_eq};
+ghost use Rattle.std.specs.Bool.{Decides};
 ghost use Rattle.ledger_terms.specs.declared.act.Act.{Act};
 ghost use Rattle.ledger_terms.specs.Trees.{Actions};
 ghost use Rattle.ledger_terms.specs.Forest.{Forest, below_at};
@@ -44,18 +45,24 @@ ghost use Rattle.blind_tree.specs.Limits.{KeepLimits};
 ghost use Rattle.blind_tree.specs.Seen.{contents_shown};
 ghost use Rattle.sealed_form.specs.Collisions.{AreSealed, Collides};
 ghost use Rattle.sealed_form.specs.SealedForm.{CanBeSealed, IsSealedForm, Whole, confirming_by, request_of, roles_by, tree_for, views_by, whole_of};
-ghost use Rattle.sealed_form.specs.SealedReading.{IsTestOf, sealed_reading};
+ghost use Rattle.sealed_form.specs.SealedTest.{is_sealed_form};
+ghost use Rattle.sealed_form.specs.SealedReading.{sealed_reading};
 
-/// The reading of the sealed form is a reading, whatever the test by which requests are found to be in that form.
+/// The test of the sealed form decides it, by what a request itself tells.
+pub fn the_sealed_form_is_decided()
+    ensures { (topology : Topology) (packages : Packages) (request : Request)
+        → Decides (is_sealed_form topology packages request) (IsSealedForm topology packages request) }
+{}
+
+/// The reading of the sealed form is a reading.
 pub fn sealed_reading_is_reading()
-    ensures { (topology : Topology) (packages : Packages) (test : Request → Bool) → IsTestOf topology packages test
-        → IsReading (sealed_reading topology packages test) }
+    ensures { (topology : Topology) (packages : Packages) → IsReading (sealed_reading topology packages) }
 {}
 
 /// What a sealed request shows to a participant is what the rules show of its whole: the projection, with the views in it.
 pub fn sealed_requests_show_what_the_rules_show()
-    ensures { (topology : Topology) (packages : Packages) (test : Request → Bool) (request : Request) (sealed : IsSealedForm topology packages request) (p : ℕ)
-        → (sealed_reading topology packages test).shown p request ≡ shown_of (the_language packages) (hosts_at topology.hosts p) (nat_eq p request.sender)
+    ensures { (topology : Topology) (packages : Packages) (request : Request) (sealed : IsSealedForm topology packages request) (p : ℕ)
+        → (sealed_reading topology packages).shown p request ≡ shown_of (the_language packages) (hosts_at topology.hosts p) (nat_eq p request.sender)
         (sealed.whole).transaction }
 {}
 
@@ -69,8 +76,8 @@ pub fn trees_show_the_contents_of_what_is_seen()
 
 /// A request that is sealed in form is sealed to the laws of the ledger.
 pub fn sealed_forms_are_sealed()
-    ensures { (topology : Topology) (packages : Packages) (test : Request → Bool) (request : Request) → IsSealedForm topology packages request
-        → IsSealed (sealed_reading topology packages test) request }
+    ensures { (topology : Topology) (packages : Packages) (request : Request) → IsSealedForm topology packages request
+        → IsSealed (sealed_reading topology packages) request }
 {}
 
 /// The request that is made of what can be sealed is sealed, and its whole is that, where no bytes of it are too long.
@@ -139,24 +146,22 @@ pub fn views_tell_who_is_asked()
 
 /// In a log of sealed requests of which no two hashed strings collide, authentic actions on one contract carry one instance.
 pub fn contracts_of_one_id_are_one()
-    ensures { (topology : Topology) (packages : Packages) (test : Request → Bool) (log : List Entry)
+    ensures { (topology : Topology) (packages : Packages) (log : List Entry)
         → AreSealed topology packages log
         → (Collides log → ⊥)
-        → NoCollision (sealed_reading topology packages test) log }
+        → NoCollision (sealed_reading topology packages) log }
 {}
 
 /// Each request of a genuine log is in the sealed form, and where the log doesn't collide its approved requests are one
 /// consistent ledger.
 pub fn sealed_logs_are_one_ledger()
-    ensures sealed { (topology : Topology) (packages : Packages) (test : Request → Bool) (log : List Entry)
-        → IsTestOf topology packages test
-        → Genuine (sealed_reading topology packages test) topology.params log
+    ensures sealed { (topology : Topology) (packages : Packages) (log : List Entry)
+        → Genuine (sealed_reading topology packages) topology.params log
         → AreSealed topology packages log }
-    ensures ledger { (topology : Topology) (packages : Packages) (test : Request → Bool) (log : List Entry)
-        → IsTestOf topology packages test
-        → Genuine (sealed_reading topology packages test) topology.params log
+    ensures ledger { (topology : Topology) (packages : Packages) (log : List Entry)
+        → Genuine (sealed_reading topology packages) topology.params log
         → (Collides log → ⊥)
-        → Consistent (ledger_acts (ledger (sealed_reading topology packages test) log)) }
+        → Consistent (ledger_acts (ledger (sealed_reading topology packages) log)) }
 {}
 
 /// A request whose sender keeps the rules on views is sealed, where who confirms for a party hosts it.

@@ -1,5 +1,6 @@
-use Rattle.std.proofs.Common.{◌≤◌, arith}
+use Rattle.std.proofs.Common.{◌≤◌, Ok, arith, ap, sym, ◌∙◌}
 use Rattle.std.proofs.lemmas.Result.{err_from_is_err_and}
+use Rattle.view_split.specs.ViewTrees.{View}
 use Rattle.blind_tree.specs.VertexLists.{one_vertex, vertex_count}
 use Rattle.blind_tree.proofs.Grow.{one_at}
 use Rattle.blind_tree.proofs.OpenedLaws.{read_start, view_fault, view_is}
@@ -24,6 +25,7 @@ read_view-returns-in_err-subviews t c =
 
 pub read_view-returns : goal.read_view-returns
 read_view-returns t c =
-    view_is c.args.informees.now c.args.contents.now c.args.subviews.now _ _ _ _ _
+    view_is c.args.informees.now c.args.contents.now c.args.subviews.now (c.in_ok-informees.informees, c.in_ok-informees.confirmers) c.in_ok-core.core _ _ _
     (c.in_ok-informees.ensures, c.in_ok-core.ensures, c.hole_count.ensures, c.len.ensures.vertices, c.len.ensures.bound, omega (arith, c.if-hole_count-len.false))
     c.in_ok-subviews.ensures
+    ∙ ap (λ (v : View). Ok v) (sym c.view_of.ensures)

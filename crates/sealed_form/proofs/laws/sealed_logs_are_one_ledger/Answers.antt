@@ -8,12 +8,12 @@ use Rattle.sealed_form.proofs.Sealed.{lawful}
 use Rattle.sealed_form.proofs.laws.sealed_logs_are_one_ledger.Goals as goal
 
 pub returns-clause-sealed : goal.returns-clause-sealed
-returns-clause-sealed c topology packages test log sound genuine = are_sealed topology packages test sound log genuine
+returns-clause-sealed c topology packages log genuine = are_sealed topology packages log genuine
 
 pub returns-clause-ledger : goal.returns-clause-ledger
-returns-clause-ledger c topology packages test log sound genuine apart =
-    let reading = sealed_reading topology packages test in
-    let is_reading = lawful topology packages test sound in
+returns-clause-ledger c topology packages log genuine apart =
+    let reading = sealed_reading topology packages in
+    let is_reading = lawful topology packages in
     consistent_of_log reading topology.params log (informs reading is_reading)
-    (no_collision topology packages test log (are_sealed topology packages test sound log genuine) apart) genuine
+    (no_collision topology packages log (are_sealed topology packages log genuine) apart) genuine
     (sealed_of reading topology.params log is_reading genuine) (opens_of reading topology.params log is_reading genuine)

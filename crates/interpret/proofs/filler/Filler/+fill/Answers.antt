@@ -8,13 +8,13 @@ pub fill_draft-returns-in-Err-clause-filled : goal.fill_draft-returns-in-Err-cla
 fill_draft-returns-in-Err-clause-filled g t c =
     λ h. let fresh : c.in-Err.fault ≢ Memory = λ m. h (ap Err m) in
     sym (tree_err (g.K.KnownContracts.rows c.args.self.now.known.now) c.args.place.now.left c.args.place.now.path c.args.place.now.seed
-    c.args.count.now c.args.draft.now _ (omega arith) c.if-count-ge.false (sym c.in-Some.is ∙ c.in_ok-action.ensures) _
+    c.args.count.now c.args.draft.now _ (omega arith) c.if-count-ge-MOST_ACTIONS.false (sym c.in-Some.is ∙ c.in_ok-action.ensures) _
     (c.in-Err.ensures.filled (λ m. fresh cc)))
 
 pub fill_draft-returns-clause-filled : goal.fill_draft-returns-clause-filled
 fill_draft-returns-clause-filled g t c =
     λ h. sym (tree_ok (g.K.KnownContracts.rows c.args.self.now.known.now) c.args.place.now.left c.args.place.now.path c.args.place.now.seed
-    c.args.count.now c.args.draft.now _ (omega arith) c.if-count-ge.false (sym c.in-Some.is ∙ c.in_ok-action.ensures) _ _
+    c.args.count.now c.args.draft.now _ (omega arith) c.if-count-ge-MOST_ACTIONS.false (sym c.in-Some.is ∙ c.in_ok-action.ensures) _ _
     (c.in-Ok.ensures.filled (λ m. cc)))
 
 pub fill_list-returns-in-None-clause-filled : goal.fill_list-returns-in-None-clause-filled

@@ -11,14 +11,14 @@ pub act-returns-then-place-eq0 : goal.act-returns-then-place-eq0
 act-returns-then-place-eq0 g t c =
     λ h. ap (λ q. Err (TooDeep q)) c.in_ok-copy_path.ensures ∙ sym (act_none _ _ _ _ _ _ _ _ c.if-place-eq0.true)
 
-pub act-returns-then-progress-ge : goal.act-returns-then-progress-ge
-act-returns-then-progress-ge g t c =
+pub act-returns-then-progress-ge-MOST_ACTIONS : goal.act-returns-then-progress-ge-MOST_ACTIONS
+act-returns-then-progress-ge-MOST_ACTIONS g t c =
     λ h. ap (λ q. Err (TooMany q)) c.in_ok-copy_path-2.ensures
-    ∙ sym (act_many c.args.place.now.left (c.args.place.now.left - 1) _ _ _ _ _ _ _ (omega arith) c.if-progress-ge.true)
+    ∙ sym (act_many c.args.place.now.left (c.args.place.now.left - 1) _ _ _ _ _ _ _ (omega arith) c.if-progress-ge-MOST_ACTIONS.true)
 
 pub act-returns : goal.act-returns
 act-returns g t c =
-    λ h. c.act_in_room.ensures h ∙ sym (act_less c.args.place.now.left (c.args.place.now.left - 1) _ _ _ _ _ _ _ (omega arith) c.if-progress-ge.false)
+    λ h. c.act_in_room.ensures h ∙ sym (act_less c.args.place.now.left (c.args.place.now.left - 1) _ _ _ _ _ _ _ (omega arith) c.if-progress-ge-MOST_ACTIONS.false)
 
 pub follow-returns-in-Ok-End : goal.follow-returns-in-Ok-End
 follow-returns-in-Ok-End g t c =
