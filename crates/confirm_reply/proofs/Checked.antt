@@ -57,6 +57,13 @@ each_from_all P (x ∷ xs) all = (All-contains P (x ∷ xs) x all (contains_from
 abbrev HasCore : (ℕ × Act → Type 0) → OpenedView → Type 0
 HasCore P view = EachIn P view.core
 
+pub core_in_place : (tree : OpenedTree) (view : OpenedView) → In view (shown_by tree).views → EachIn (StandsIn (trees_of (shown_by tree).roots)) view.core
+core_in_place tree view i =
+    let roots = put_back (placed_forest tree.views) in
+    let P = StandsIn (trees_of roots) in
+    each_at (HasCore P) (shown_by tree).views view i
+    (each_mapped opened_as (HasCore P) (preorder (placed_numbered (placed_forest tree.views))) (cores_each P (placed_forest tree.views) (number_from 0 roots) (all_stand roots)))
+
 module _ (tree : OpenedTree) (path : Path) (view : OpenedView) (is : view_at path tree ≡ Some view) where
   at : (bytes_eq path view.path ≡ true) × In view (shown_by tree).views
   at = found_in (λ (v : OpenedView). bytes_eq path v.path) (shown_by tree).views view is
@@ -65,11 +72,7 @@ module _ (tree : OpenedTree) (path : Path) (view : OpenedView) (is : view_at pat
   same_path = (bytes_eq-Decides path view.path).0 at.0
 
   core_stands : EachIn (StandsIn (trees_of (shown_by tree).roots)) view.core
-  core_stands =
-      let roots = put_back (placed_forest tree.views) in
-      let P = StandsIn (trees_of roots) in
-      each_at (HasCore P) (shown_by tree).views view at.1
-      (each_mapped opened_as (HasCore P) (preorder (placed_numbered (placed_forest tree.views))) (cores_each P (placed_forest tree.views) (number_from 0 roots) (all_stand roots)))
+  core_stands = core_in_place tree view at.1
 
   pub numbers_found : (found : Option (List ℕ)) (trees : Forest (ℕ × Act)) (roots : Actions) → found ≡ core_found_in path tree.views trees → trees ≡ number_from 0 roots
       → roots ≡ put_back (placed_forest tree.views) → found ≡ Some (numbers_of view.core)

@@ -10,3 +10,4 @@ mod FindSteps
 mod Gathering
 mod NumberSteps
 mod Checked
+mod Checkable
