@@ -1,17 +1,16 @@
 -- The faults of contracts and calls of checked packages.
-use Rattle.std.proofs.Common.{◌≡◌, ℕ, Bool, true, false, cond, List, [], ◌∷◌, Option, Some, None, Result, Ok, Err, refl, sym, ◌∙◌, ap}
-use Rattle.ledger_terms.specs.declared.kind.Kind.TheVariants.{Bool as BoolKind, Parties as PartiesKind}
+use Rattle.std.proofs.Common.{◌≡◌, Bool, true, false, cond, [], ◌∷◌, Option, Some, Result, Ok, Err, refl, sym, ◌∙◌, ap}
+use Rattle.ledger_terms.specs.declared.kind.Kind.TheVariants.{Parties as PartiesKind}
 use Rattle.ledger_terms.specs.declared.value.Value.{Value}
-use Rattle.ledger_terms.specs.declared.value.Value.TheVariants.{Unit as UnitValue, Int, Bool as BoolValue, Text, Party, Contract, Parties}
+use Rattle.ledger_terms.specs.declared.value.Value.TheVariants.{Parties}
 use Rattle.ledger_terms.specs.declared.instance.Instance.{Instance}
 use Rattle.ledger_terms.specs.Syntax.{ExprForm}
 use Rattle.ledger_terms.specs.Packages.{TemplateForm, ChoiceForm}
 use Rattle.ledger_model.specs.declared.step.ChoiceCall.{ChoiceCall}
 use Rattle.lang_eval.specs.declared.eval_fault.EvalFault.{EvalFault}
 use Rattle.lang_eval.specs.declared.eval_fault.EvalFault.TheVariants.{Overflow, Assert as AssertFault, Ensure, NoSignatory, TooLarge, Memory}
-use Rattle.lang_eval.specs.declared.contract_parties.ContractParties.{ContractParties}
 use Rattle.lang_eval.specs.Names.{Names}
-use Rattle.lang_eval.specs.Value.{Answer, val, truth, with_value}
+use Rattle.lang_eval.specs.Value.{val, truth, with_value}
 use Rattle.lang_eval.specs.Found.{Packages, template_in, choice_in}
 use Rattle.lang_eval.specs.Kinds.{kind_of, have_kinds, has_kinds}
 use Rattle.lang_eval.specs.Checking.{AreChecked}

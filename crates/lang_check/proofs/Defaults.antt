@@ -1,9 +1,8 @@
 -- What is well typed takes no default.
-use Rattle.std.proofs.Common.{◌≡◌, ℕ, Bool, true, false, cond, List, [], ◌∷◌, ◌++◌, length, take, Option, Some, None, Result, Ok, Err, refl, sym, ◌∙◌, ap, subst}
+use Rattle.std.proofs.Common.{◌≡◌, ℕ, Bool, true, false, cond, List, [], ◌∷◌, length, take, Option, Some, None, Ok, refl, sym, ◌∙◌, subst}
 use Rattle.ledger_terms.specs.Parties.{same_name}
 use Rattle.ledger_terms.specs.declared.kind.Kind.{Kind}
 use Rattle.ledger_terms.specs.declared.kind.Kind.TheVariants.{Int as IntKind, Bool as BoolKind, Text as TextKind, Party as PartyKind, Contract as ContractKind, Parties as PartiesKind}
-use Rattle.ledger_terms.specs.declared.value.Value.{Value}
 use Rattle.ledger_terms.specs.declared.value.Value.TheVariants.{Bool as BoolValue}
 use Rattle.ledger_terms.specs.declared.field_decl.FieldDecl.{FieldDecl}
 use Rattle.ledger_terms.specs.declared.template_name.TemplateName.{TemplateName}
@@ -11,14 +10,13 @@ use Rattle.ledger_terms.specs.Syntax.{ExprForm, ExprForms, Literal, Var, Add, Su
 use Rattle.ledger_terms.specs.Packages.{TemplateForm, ChoiceForm}
 use Rattle.ledger_model.specs.declared.step.Seen.{Seen}
 use Rattle.lang_eval.specs.declared.binding.Binding.{Binding}
-use Rattle.lang_eval.specs.declared.eval_fault.EvalFault.{EvalFault}
 use Rattle.lang_eval.specs.Names.{Names, binding_of}
-use Rattle.lang_eval.specs.Value.{val, truth, with_value, is_true}
+use Rattle.lang_eval.specs.Value.{val, truth}
 use Rattle.lang_eval.specs.Found.{Packages, template_in, choice_in}
 use Rattle.lang_eval.specs.Kinds.{kind_of}
 use Rattle.lang_eval.specs.Builtin.{with_archive}
 use Rattle.lang_eval.specs.Typed.{Scope, kind_named, choice_named, HasKind, HaveKind, HaveKindsOf, IsTyped, AreTyped}
-use Rattle.lang_eval.specs.Next.{Ran, Stopped, Went, ran, ran_all, closed, then_on}
+use Rattle.lang_eval.specs.Next.{Ran, Went, ran, ran_all, then_on}
 use Rattle.lang_check.specs.KindedNames.{kinds_in}
 use Rattle.lang_check.specs.Asked.{Gives}
 use Rattle.lang_check.specs.Defaults.{GiveAlike, AllGive, TakesNoDefault, TakeNoDefault, RunsWithoutDefault, RunWithoutDefault}

@@ -1,9 +1,8 @@
 -- A body that takes no default has the fault of an assertion exactly where one is evaluated to false.
-use Rattle.std.proofs.Common.{◌≡◌, ℕ, Bool, true, false, cond, List, [], ◌∷◌, length, take, Option, Some, None, Result, Ok, Err, refl, sym, ◌∙◌, ap, subst, inl, inr}
-use Rattle.ledger_terms.specs.declared.kind.Kind.{Kind}
+use Rattle.std.proofs.Common.{◌≡◌, ℕ, Bool, true, false, cond, List, [], ◌∷◌, length, take, Result, Ok, Err, refl, ◌∙◌, ap, inl, inr}
 use Rattle.ledger_terms.specs.declared.kind.Kind.TheVariants.{Bool as BoolKind, Contract as ContractKind}
 use Rattle.ledger_terms.specs.declared.value.Value.{Value}
-use Rattle.ledger_terms.specs.declared.value.Value.TheVariants.{Unit as UnitValue, Int, Bool as BoolValue, Text, Party, Contract, Parties}
+use Rattle.ledger_terms.specs.declared.value.Value.TheVariants.{Bool as BoolValue, Contract}
 use Rattle.ledger_terms.specs.declared.template_name.TemplateName.{TemplateName}
 use Rattle.ledger_terms.specs.Syntax.{ExprForm, ExprForms, StmtForm, StmtForms, Bind, Assert, Create, Exercise, Fetch, When, NoStmts, MoreStmts}
 use Rattle.ledger_terms.specs.Packages.{ChoiceForm}

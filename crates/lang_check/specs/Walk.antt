@@ -47,6 +47,19 @@ two_operands at j k whole a b = do
   _ ← in_place (at_item at 2) k b
   Ok whole
 
+-- the kind of a whole, behind the walk of its operands
+abbrev pub whole_behind : Kind → Result ⊤ CheckFault → Result Kind CheckFault
+whole_behind whole operands = do
+  _ ← operands
+  Ok whole
+
+-- the second of two operands in a place of this kind, behind the walk of the first, and then the kind of the whole
+abbrev pub second_behind : Place → Kind → Kind → Result ⊤ CheckFault → Result Kind CheckFault → Result Kind CheckFault
+second_behind at k whole first b = do
+  _ ← first
+  _ ← in_place (at_item at 2) k b
+  Ok whole
+
 -- two operands of one kind, which the first one fixes
 abbrev pub alike_operands : Place → Result Kind CheckFault → Result Kind CheckFault → Result Kind CheckFault
 alike_operands at a b = do

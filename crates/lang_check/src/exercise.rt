@@ -22,7 +22,9 @@ impl<'s> Exercise<'s> {
         choice: Name,
         args: &'s ExprList,
     ) -> Exercise<'s>
-        ensures { result ≡ record { bound = bound; template = template; contract = contract; choice = choice; args = args } }
+        ensures names { (result.bound ≡ bound) × (result.template ≡ template) × (result.choice ≡ choice) }
+        ensures contract { result.contract.now ≡ contract.now }
+        ensures args { result.args.now ≡ args.now }
     {
         Exercise {
             bound,

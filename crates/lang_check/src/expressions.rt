@@ -1,11 +1,11 @@
 //! The kinds of expressions.
-ghost use Rattle.std.specs.Prelude.{[], Result, Ok, ⊤};
+ghost use Rattle.std.specs.Prelude.{[], Result, ⊤};
 ghost use Rattle.ledger_terms.specs.ExprForms.{expr_form, list_form};
 ghost use Rattle.ledger_terms.specs.Pointers.{at_item};
-ghost use Rattle.ledger_terms.specs.declared.kind.Kind.{Kind};
 ghost use Rattle.lang_check.specs.declared.check_fault.CheckFault.{CheckFault};
-ghost use Rattle.lang_check.specs.Faults.{Walks, ◌>>=◌};
-ghost use Rattle.lang_check.specs.Walk.{literal_kind, in_place, kind_at, all_in_place, expr_at, kinds_from};
+ghost use Rattle.lang_check.specs.Faults.{Walks};
+ghost use Rattle.lang_check.specs.Walk.{literal_kind, in_place, whole_behind, second_behind};
+ghost use Rattle.lang_check.specs.Walk.{kind_at, all_in_place, expr_at, kinds_from};
 
 use crate::check_kind::CheckKind;
 use crate::faults::{found, require};
@@ -31,7 +31,7 @@ fn literal_kind(value: &Value, at: &Place) -> Result<Kind, Stop>
 
 /// The kind of a whole, where the walk of its operands has no fault.
 fn whole(found: Result<(), Stop>, kind: Kind) -> Result<Kind, Stop>
-    ensures { (walk : Result ⊤ CheckFault) → Walks (λ _. tt) found walk → Walks (λ k. k) result (walk >>= λ _. Ok kind) }
+    ensures { (walk : Result ⊤ CheckFault) → Walks (λ _. tt) found walk → Walks (λ k. k) result (whole_behind kind walk) }
 {
     match found {
         Ok(()) => Ok(kind),
@@ -75,8 +75,8 @@ fn second_place(
     scope: &Scope,
     at: &Place,
 ) -> Result<Kind, Stop>
-    ensures { (walk : Result ⊤ CheckFault) → Walks (λ _. tt) first walk → Walks (λ k. k) result (walk >>= λ _.
-        in_place (at_item at.now 2) kinds.second (kind_at (at_item at.now 2) scope.now (expr_form expr.now)) >>= λ _. Ok kinds.whole) }
+    ensures { (walk : Result ⊤ CheckFault) → Walks (λ _. tt) first walk → Walks (λ k. k) result
+        (second_behind at.now kinds.second kinds.whole walk (kind_at (at_item at.now 2) scope.now (expr_form expr.now))) }
 {
     first?;
     operand(expr, kinds.second, scope, &at.item(2))?;

@@ -7,7 +7,7 @@ use ledger_terms::Expr;
 use std::boxed::Box;
 
 /// An operator of two operands.
-#[derive(Clone, Copy, PartialEq, Eq)]
+#[derive(Clone, Copy)]
 pub enum Binary {
     Add,
     Sub,

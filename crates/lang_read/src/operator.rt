@@ -11,7 +11,7 @@ use serde_json::Value;
 
 /// What a list that is an expression begins with. `Var` stands before the text of a bound name, the others before
 /// expressions.
-#[derive(Clone, Copy, PartialEq, Eq)]
+#[derive(Clone, Copy)]
 pub enum Operator {
     Var,
     Two(Binary),

@@ -1,18 +1,19 @@
 -- Prepared actions without their children, as they are accepted.
-use Rattle.std.proofs.Common.{◌≡◌, ℕ, ◌++◌, true, List, length, Option, Some, None, Ok, refl}
+use Rattle.std.proofs.Common.{◌≡◌, ℕ, ◌++◌, Bool, List, Option, Some, None, Ok, refl}
 use Rattle.std.specs.Prelude.{codes, MatchOption}
 use Rattle.serde_json.specs.Data.{Data, null, boolean, number, string, array, object}
 use Rattle.ledger_terms.specs.Answers.{check}
 use Rattle.ledger_terms.specs.Drafts.{Drafts}
 use Rattle.ledger_terms.specs.declared.draft_action.DraftAction.{DraftAction}
 use Rattle.ledger_terms.specs.declared.draft_action.DraftAction.TheVariants.{Create as DraftCreate, Exercise as DraftExercise, Fetch as DraftFetch}
+use Rattle.ledger_terms.specs.Names.{IsName}
 use Rattle.ledger_terms.specs.Pointers.{at_member}
 use Rattle.ledger_terms.specs.declared.arg.Arg.{Arg}
 use Rattle.ledger_terms.specs.declared.contract_ref.ContractRef.{ContractRef}
 use Rattle.ledger_terms.specs.declared.host.Host.{Host}
 use Rattle.ledger_terms.specs.declared.input.Input.{Input}
 use Rattle.ledger_terms.specs.declared.input.Input.TheVariants.{Known, Forged}
-use Rattle.ledger_terms.specs.declared.limits.TheConstants.{MOST_FIELDS}
+use Rattle.ledger_terms.specs.declared.limits.TheConstants.{MOST_FIELDS, MOST_PARAMETERS}
 use Rattle.ledger_terms.specs.declared.template_name.TemplateName.{TemplateName}
 use Rattle.json_walk.specs.Texts.{template_in}
 use Rattle.json_walk.specs.Walk.{Place, name_in, truth_in, member_of}
@@ -24,10 +25,10 @@ use Rattle.lang_eval.specs.Named.{AreKnown}
 use Rattle.lang_eval.proofs.Known.{known_append}
 use Rattle.lang_read.specs.Parties.{is_hosted}
 use Rattle.script_read.specs.Accepted.{IsTemplate, IsReference, AreArgs, IsInput, IsDraft}
-use Rattle.script_read.specs.Args.{arg_of, args_in}
+use Rattle.script_read.specs.Args.{args_in}
 use Rattle.script_read.specs.Commands.{reference_in, has_create_members, is_create}
 use Rattle.script_read.specs.Drafts.{is_known, has_forged_members, some_id_of, id_of, id_in, salt_in, instance_of, instance_in, forged_of, known_of, input_of, input_in, actors_in, result_in, alone, create_draft_of, has_fetch_members, fetch_draft_of, create_draft_in, fetch_draft_in, has_draft_members, call_of, effect_of, exercise_draft_of, leaf_of}
-use Rattle.script_read.specs.Refs.{hash_of, reference_of}
+use Rattle.script_read.specs.Refs.{reference_of}
 use Rattle.script_read.proofs.Arguments.{IsArgRead, AreArgsRead, arg_read, args_read, parties_hosted}
 use Rattle.script_read.proofs.Cases.{by_test}
 use Rattle.script_read.proofs.References.{member_name, template_read, hash_read, reference_read, member_reference}
@@ -123,28 +124,51 @@ module _ (read kept : List Host) (same : AreSame read kept) where
     pub accepted : IsDraft kept a
     pub hosted : AreHosted (parties_in_draft a)
 
+  record IsCall (call : Input × List ℕ × List Arg) : Type 0 where
+    input : IsInputRead call.0
+    choice : IsName call.1
+    args : AreArgsRead read kept same MOST_PARAMETERS call.2
+
+  call_read : (at : Place) (d : Data) (call : Input × List ℕ × List Arg) → call_of read at d ≡ Ok call → IsCall call
+  unfolding call_of
+  call_read at d call h =
+      let i = after (input_in read at d) _ call h in
+      let n = after (name_in at (codes "choice") d) _ call i.2 in
+      let f = after (args_in read at (codes "args") PARAMETERS d) _ call n.2 in
+      rw (given (i.0, n.0, f.0) call f.2) (record {
+        input = input_read at d i.0 i.1;
+        choice = member_name at (codes "choice") d n.0 n.1;
+        args = args_read read kept same at (codes "args") PARAMETERS d f.0 f.1;
+      })
+
+  record IsEffect (effect : List (List ℕ) × Bool × Arg) : Type 0 where
+    actors : AreHosted effect.0
+    result : IsArgRead read kept same effect.2
+
+  effect_read : (at : Place) (d : Data) (effect : List (List ℕ) × Bool × Arg) → effect_of read at d ≡ Ok effect → IsEffect effect
+  unfolding effect_of
+  effect_read at d effect h =
+      let x = after (actors_in read at d) _ effect h in
+      let y = after (truth_in at (codes "consuming") d) _ effect x.2 in
+      let z = after (result_in read at d) _ effect y.2 in
+      rw (given (x.0, y.0, z.0) effect z.2) (record { actors = actors_read at d x.0 x.1; result = result_read at d z.0 z.1 })
+
   pub exercise_read : (at : Place) (d : Data) (a : DraftAction) → exercise_draft_of read at d ≡ Ok a → IsDraftRead a
-  unfolding exercise_draft_of call_of effect_of
+  unfolding exercise_draft_of
   exercise_read at d a h =
       let m = after (check (has_draft_members d) (Shape at)) _ a h in
       let c = after (call_of read at d) _ a m.2 in
       let e = after (effect_of read at d) _ a c.2 in
-      let i = after (input_in read at d) _ c.0 c.1 in
-      let n = after (name_in at (codes "choice") d) _ c.0 i.2 in
-      let f = after (args_in read at (codes "args") PARAMETERS d) _ c.0 n.2 in
-      let x = after (actors_in read at d) _ e.0 e.1 in
-      let y = after (truth_in at (codes "consuming") d) _ e.0 x.2 in
-      let z = after (result_in read at d) _ e.0 y.2 in
-      let input = input_read at d i.0 i.1 in
-      let args = args_read read kept same at (codes "args") PARAMETERS d f.0 f.1 in
-      let actors = actors_read at d x.0 x.1 in
-      let result = result_read at d z.0 z.1 in
-      rw (given (DraftExercise c.0.0 c.0.1 c.0.2 e.0.0 e.0.1 e.0.2) a e.2, given (i.0, n.0, f.0) c.0 f.2, given (x.0, y.0, z.0) e.0 z.2) (record {
-        accepted = (input.accepted, member_name at (codes "choice") d n.0 n.1, args.accepted, result.accepted);
+      let call = call_read at d c.0 c.1 in
+      let effect = effect_read at d e.0 e.1 in
+      let actors = e.0.0 in
+      let result = parties_in_arg e.0.2 in
+      rw (given (DraftExercise c.0.0 c.0.1 c.0.2 e.0.0 e.0.1 e.0.2) a e.2) (record {
+        accepted = (call.input.accepted, call.choice, call.args.accepted, effect.result.accepted);
         hosted =
-            known_append (is_hosted kept) (parties_in_input i.0) (parties_in_args f.0 ++ (x.0 ++ parties_in_arg z.0)) input.hosted
-            (known_append (is_hosted kept) (parties_in_args f.0) (x.0 ++ parties_in_arg z.0) args.hosted
-            (known_append (is_hosted kept) x.0 (parties_in_arg z.0) actors result.hosted));
+            known_append (is_hosted kept) (parties_in_input c.0.0) (parties_in_args c.0.2 ++ (actors ++ result)) call.input.hosted
+            (known_append (is_hosted kept) (parties_in_args c.0.2) (actors ++ result) call.args.hosted
+            (known_append (is_hosted kept) actors result effect.actors effect.result.hosted));
       })
 
   -- a tree of one action that is accepted

@@ -1,7 +1,6 @@
 -- Fields, arguments and commands, as they are accepted.
-use Rattle.std.proofs.Common.{◌≡◌, ℕ, ◌≤◌, Bool, true, List, length, Result, Ok, ok_or, refl, arith}
+use Rattle.std.proofs.Common.{◌≡◌, ℕ, true, List, [], ◌∷◌, length, Result, Ok, ok_or, refl}
 use Rattle.std.specs.Prelude.{codes}
-use Rattle.std.specs.List.{AllByRecursion}
 use Rattle.serde_json.specs.Data.{Num, Data, null, boolean, number, string, array, object}
 use Rattle.serde_json.specs.Find.{as_i64}
 use Rattle.ledger_terms.specs.Answers.{◌>>=◌, check}
@@ -12,15 +11,15 @@ use Rattle.ledger_terms.specs.declared.arg.Arg.TheVariants.{Plain, Contract}
 use Rattle.ledger_terms.specs.declared.command.Command.{Command}
 use Rattle.ledger_terms.specs.declared.command.Command.TheVariants.{Create, Exercise}
 use Rattle.ledger_terms.specs.declared.host.Host.{Host}
-use Rattle.ledger_terms.specs.declared.limits.TheConstants.{MOST_FIELDS, MOST_PARAMS}
 use Rattle.ledger_terms.specs.declared.value.Value.{Value}
 use Rattle.ledger_terms.specs.declared.value.Value.TheVariants.{Unit as UnitValue, Int, Bool as BoolValue, Text, Party, Parties}
 use Rattle.ledger_terms.proofs.SetsOf.{all_set_of}
-use Rattle.json_walk.specs.Lists.{few_of, list_of}
+use Rattle.json_walk.specs.Lists.{list_of}
 use Rattle.json_walk.specs.Texts.{text_of, template_in}
 use Rattle.json_walk.specs.Walk.{Place, name_of, name_in, has_members, member_of, within_limit}
 use Rattle.json_walk.specs.declared.limit.Limit.{Limit}
 use Rattle.json_walk.specs.declared.limits.TheConstants.{TEXT_BYTES, FIELDS, PARAMETERS}
+use Rattle.json_walk.specs.declared.walk_fault.WalkFault.{WalkFault}
 use Rattle.json_walk.specs.declared.walk_fault.WalkFault.TheVariants.{Shape, Unknown, NotInteger}
 use Rattle.json_walk.proofs.Kept.{after, passed, given, limit_kept, list_kept, few_kept}
 use Rattle.lang_eval.specs.HandedIn.{parties_in_arg, parties_in_args, parties_in_command}
@@ -87,7 +86,7 @@ module _ (read kept : List Host) (same : AreSame read kept) where
     pub accepted : IsArg kept a
     pub hosted : AreKnown (is_hosted kept) (parties_in_arg a)
 
-  plain_read : (r : Result Value _) (a : Arg) → ((v : Value) → r ≡ Ok v → IsValueRead v) → (r >>= plain) ≡ Ok a → IsArgRead a
+  plain_read : (r : Result Value WalkFault) (a : Arg) → ((v : Value) → r ≡ Ok v → IsValueRead v) → (r >>= plain) ≡ Ok a → IsArgRead a
   plain_read r a one h =
       let v = after r plain a h in
       let is = one v.0 v.1 in
@@ -96,7 +95,7 @@ module _ (read kept : List Host) (same : AreSame read kept) where
   contract_read : (at : Place) (d : Data) (a : Arg) → contract_of read at d ≡ Ok a → IsArgRead a
   unfolding contract_of
   contract_read at d a h =
-      let c = after (check (has_members _ _ d) (Shape at)) _ a h in
+      let c = after (check (has_members (codes "contract" ∷ []) [] d) (Shape at)) _ a h in
       let m = after (member_of at (codes "contract") d) _ a c.2 in
       let r = after (reference_of read (at_member at (codes "contract")) m.0) _ a m.2 in
       rw (given (Contract r.0) a r.2) (record { accepted = reference_read read kept same (at_member at (codes "contract")) m.0 r.0 r.1; hosted = refl })

@@ -1,6 +1,5 @@
 -- Bodies of choices, as they are accepted.
-use Rattle.std.proofs.Common.{◌≡◌, ℕ, ◌+◌, ◌≤◌, Bool, List, [], ◌∷◌, ◌++◌, Option, Some, None, Result, Ok, Err, refl, arith}
-use Rattle.std.specs.Bool.{⊤}
+use Rattle.std.proofs.Common.{◌≡◌, ℕ, ◌+◌, ◌≤◌, List, [], ◌∷◌, ◌++◌, Option, Some, None, Result, Ok, Err, refl, arith}
 use Rattle.std.specs.List.{AllByRecursion}
 use Rattle.std.specs.Ordering.{nat_cmp}
 use Rattle.std.specs.Prelude.{codes}
@@ -14,7 +13,7 @@ use Rattle.ledger_terms.specs.Syntax.{ExprForm, ExprForms, NoExprs, StmtForm, St
 use Rattle.ledger_terms.specs.SyntaxLists.{exprs_join, one_expr, stmts_join, one_stmt}
 use Rattle.ledger_terms.specs.declared.host.Host.{Host}
 use Rattle.json_walk.specs.Texts.{template_in}
-use Rattle.json_walk.specs.Walk.{Place, within_limit, two_of, name_of, name_in, has_members, items_of, walk_items, item_count, member_of}
+use Rattle.json_walk.specs.Walk.{Place, within_limit, two_of, name_of, name_in, has_members, items_of, item_count, member_of}
 use Rattle.json_walk.specs.declared.limits.TheConstants.{STATEMENTS}
 use Rattle.json_walk.specs.declared.walk_fault.WalkFault.{WalkFault}
 use Rattle.json_walk.specs.declared.walk_fault.WalkFault.TheVariants.{Shape}
@@ -87,22 +86,22 @@ module _ (read kept : List Host) (same : AreSame read kept) where
       let t = after (two_of at i.0) _ s i.2 in
       let n = after (name_of (at_item at 0) t.0.0) _ s t.2 in
       let e = after (expr_of read (at_item at 1) 1 t.0.1) _ s n.2 in
-      rw (given (Bind n.0 e.0) s e.2) (record { one = refl; exprs = (expr_read read kept same (at_item at 1) 1 t.0.1 e.0 e.1, tt) })
+      rw (given (Bind n.0 e.0) s e.2) (record { one = refl {a = 1}; exprs = (expr_read read kept same (at_item at 1) 1 t.0.1 e.0 e.1, tt) })
 
   assert_read : (at : Place) (d : Data) (s : StmtForm) → assert_of read at d ≡ Ok s → IsSimple s
   unfolding assert_of
   assert_read at d s h =
       let e = after (expr_of read at 1 d) _ s h in
-      rw (given (Assert e.0) s e.2) (record { one = refl; exprs = (expr_read read kept same at 1 d e.0 e.1, tt) })
+      rw (given (Assert e.0) s e.2) (record { one = refl {a = 1}; exprs = (expr_read read kept same at 1 d e.0 e.1, tt) })
 
   create_read : (at : Place) (d : Data) (s : StmtForm) → create_of read at d ≡ Ok s → IsSimple s
   unfolding create_of
   create_read at d s h =
-      let c = after (check (has_members _ _ d) (Shape at)) _ s h in
+      let c = after (check (has_members (codes "bind" ∷ codes "template" ∷ codes "fields" ∷ []) [] d) (Shape at)) _ s h in
       let b = after (name_in at (codes "bind") d) _ s c.2 in
       let t = after (template_in at d) _ s b.2 in
       let f = after (exprs_in read at (codes "fields") d) _ s t.2 in
-      rw (given (Create b.0 t.0 f.0) s f.2) (record { one = refl; exprs = exprs_read at (codes "fields") d f.0 f.1 })
+      rw (given (Create b.0 t.0 f.0) s f.2) (record { one = refl {a = 1}; exprs = exprs_read at (codes "fields") d f.0 f.1 })
 
   exercise_read : (at : Place) (d : Data) (s : StmtForm) → exercise_of read at d ≡ Ok s → IsSimple s
   unfolding exercise_of
@@ -113,16 +112,16 @@ module _ (read kept : List Host) (same : AreSame read kept) where
       let e = after (expr_in read at (codes "contract") d) _ s t.2 in
       let n = after (name_in at (codes "choice") d) _ s e.2 in
       let f = after (exprs_in read at (codes "args") d) _ s n.2 in
-      rw (given (Exercise b.0 t.0 e.0 n.0 f.0) s f.2) (record { one = refl; exprs = (member_expr at (codes "contract") d e.0 e.1, exprs_read at (codes "args") d f.0 f.1) })
+      rw (given (Exercise b.0 t.0 e.0 n.0 f.0) s f.2) (record { one = refl {a = 1}; exprs = (member_expr at (codes "contract") d e.0 e.1, exprs_read at (codes "args") d f.0 f.1) })
 
   fetch_read : (at : Place) (d : Data) (s : StmtForm) → fetch_of read at d ≡ Ok s → IsSimple s
   unfolding fetch_of
   fetch_read at d s h =
-      let c = after (check (has_members _ _ d) (Shape at)) _ s h in
+      let c = after (check (has_members (codes "bind" ∷ codes "template" ∷ codes "contract" ∷ []) [] d) (Shape at)) _ s h in
       let b = after (name_in at (codes "bind") d) _ s c.2 in
       let t = after (template_in at d) _ s b.2 in
       let e = after (expr_in read at (codes "contract") d) _ s t.2 in
-      rw (given (Fetch b.0 t.0 e.0) s e.2) (record { one = refl; exprs = (member_expr at (codes "contract") d e.0 e.1, tt) })
+      rw (given (Fetch b.0 t.0 e.0) s e.2) (record { one = refl {a = 1}; exprs = (member_expr at (codes "contract") d e.0 e.1, tt) })
 
   inside_read : (reading : Place → Data → Result StmtForm WalkFault) (one : (at : Place) (d : Data) (s : StmtForm) → reading at d ≡ Ok s → IsSimple s)
       (at : Place) (k : List ℕ) (d : Data) (s : StmtForm) → inside reading at k d ≡ Ok s → IsSimple s
@@ -216,7 +215,7 @@ module _ (read kept : List Host) (same : AreSame read kept) where
         (λ y. block_read (at_member at k) n d r p y)
         h
 
-    pub block_read : (at : Place) (n : ℕ) (d : Data) (r : StmtForms × ℕ) → n ≤ 64 → block_of read at n d ≡ Ok r → IsBlock n r
+    block_read : (at : Place) (n : ℕ) (d : Data) (r : StmtForms × ℕ) → n ≤ 64 → block_of read at n d ≡ Ok r → IsBlock n r
     block_read at n null r p h = absurd (cc)
     block_read at n (boolean b) r p h = absurd (cc)
     block_read at n (number m) r p h = absurd (cc)

@@ -1,12 +1,12 @@
 -- Expressions of packages, as they are accepted.
-use Rattle.std.proofs.Common.{◌≡◌, ℕ, suc, max, ◌+◌, ◌≤◌, Bool, true, List, [], ◌∷◌, ◌++◌, Ok, Result, ok_or, refl, arith}
+use Rattle.std.proofs.Common.{◌≡◌, ℕ, suc, max, ◌+◌, ◌≤◌, List, [], ◌∷◌, ◌++◌, Ok, ok_or, refl, arith}
 use Rattle.std.specs.Bool.{⊤}
 use Rattle.std.specs.Prelude.{◌||◌}
 use Rattle.std.specs.List.{AllByRecursion}
 use Rattle.serde_json.specs.Data.{Num, Data, null, boolean, number, string, array, object, Items, no_items, item}
 use Rattle.serde_json.specs.Find.{as_str, as_i64}
 use Rattle.ledger_terms.specs.Answers.{◌>>=◌, check}
-use Rattle.ledger_terms.specs.Pointers.{at_item, at_member}
+use Rattle.ledger_terms.specs.Pointers.{at_item}
 use Rattle.ledger_terms.specs.Syntax.{ExprForm, ExprForms, NoExprs, MoreExprs, Literal, Var, Negate, Cond, SetOf}
 use Rattle.ledger_terms.specs.SyntaxLists.{exprs_join, one_expr}
 use Rattle.ledger_terms.specs.declared.host.Host.{Host}

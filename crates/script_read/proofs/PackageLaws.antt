@@ -1,5 +1,5 @@
 -- The packages of a script that is read are within their limits, and name no party but those that are hosted.
-use Rattle.std.proofs.Common.{◌≡◌, ℕ, ◌+◌, ◌≤◌, List, [], ◌∷◌, ◌++◌, length, Option, Some, None, Result, Ok, Err, refl, sym, ap, ◌∙◌, arith}
+use Rattle.std.proofs.Common.{◌≡◌, ℕ, ◌+◌, ◌≤◌, List, [], ◌∷◌, ◌++◌, length, Option, Some, None, Result, Ok, Err, refl, arith}
 use Rattle.std.specs.Bool.{⊤}
 use Rattle.std.specs.List.{flat_map, AllByRecursion}
 use Rattle.std.specs.Prelude.{All, sum_by, codes}
@@ -14,24 +14,24 @@ use Rattle.ledger_terms.specs.Syntax.{ExprForm, StmtForms}
 use Rattle.ledger_terms.specs.declared.field_decl.FieldDecl.{FieldDecl}
 use Rattle.ledger_terms.specs.declared.host.Host.{Host}
 use Rattle.ledger_terms.specs.declared.kind.Kind.{Kind}
-use Rattle.json_walk.specs.Lists.{item_step, counted_step, counted_of, few_of}
-use Rattle.json_walk.specs.Walk.{Place, within_limit, few_items_of, name_in, truth_in, items_of, walk_items, item_count, member_of}
+use Rattle.json_walk.specs.Lists.{counted_step, counted_of}
+use Rattle.json_walk.specs.Walk.{Place, within_limit, few_items_of, name_in, truth_in, items_of, item_count, member_of}
 use Rattle.json_walk.specs.declared.limits.TheConstants.{FIELDS, PARAMETERS, CHOICES, PACKAGES, TEMPLATES}
 use Rattle.json_walk.specs.declared.walk_fault.WalkFault.TheVariants.{Shape}
 use Rattle.json_walk.proofs.Kept.{after, given, walk_keeps, limit_kept, items_kept, few_kept, all_push}
 use Rattle.lang_check.specs.Faults.{◌>>=◌}
-use Rattle.lang_check.specs.Packages.{walk, checked_or_fault}
+use Rattle.lang_check.specs.Packages.{walk}
 use Rattle.lang_check.specs.declared.check_fault.CheckFault.{CheckFault}
 use Rattle.lang_eval.specs.Builtin.{checked_packages}
 use Rattle.lang_eval.specs.Named.{AreKnown, parties_in_expr, parties_in_stmts, parties_in_choice, parties_in_template, parties_in_package}
 use Rattle.lang_eval.proofs.Known.{known_append}
 use Rattle.lang_eval.proofs.NamedRoles.{packages_known}
-use Rattle.lang_read.specs.Exprs.{expr_in, expr_or}
+use Rattle.lang_read.specs.Exprs.{expr_or}
 use Rattle.lang_read.specs.Packages.{always, nobody, nothing, decl_of, fields_in, params_if, params_in, returns_in, has_choice_members, controllers_in, choice_parties_of, outcome_of, choice_of, choices_if, choices_in, has_template_members, signatories_in, template_parties_of, template_form_of, templates_of, templates_in, has_package_members, package_of}
 use Rattle.lang_read.specs.Parties.{is_hosted}
 use Rattle.lang_read.specs.Stmts.{body_in}
 use Rattle.script_read.specs.Accepted.{IsShort}
-use Rattle.script_read.specs.PackageLimits.{literals_in, IsSmallExpr, stmts_size, exprs_in_stmts, exprs_in_choice, IsSmallChoice, exprs_in_template, IsSmallTemplate, AreSmall, AreAccepted}
+use Rattle.script_read.specs.PackageLimits.{literals_in, IsSmallExpr, stmts_size, exprs_in_stmts, IsSmallChoice, IsSmallTemplate, AreSmall, AreAccepted}
 use Rattle.script_read.specs.Script.{counted_package, packages_if, packages_in, as_package, checked_of, checked_in}
 use Rattle.script_read.specs.declared.script.Script.{Script}
 use Rattle.script_read.proofs.Bodies.{IsExpr, AreExprs, member_expr, optional_expr, body_read, stmts_known}

@@ -1,5 +1,5 @@
 -- Names and references to contracts, as they are accepted.
-use Rattle.std.proofs.Common.{◌≡◌, ℕ, ◌+◌, ◌-◌, ◌*◌, ◌≤◌, Bool, true, false, List, [], ◌∷◌, ◌++◌, length, Option, Some, None, Result, Ok, Err, ok_or, refl, sym, ap, ◌∙◌, arith, ◌==◌}
+use Rattle.std.proofs.Common.{◌≡◌, ℕ, ◌+◌, ◌-◌, ◌*◌, ◌≤◌, true, List, [], ◌∷◌, ◌++◌, length, Option, Some, None, Result, Ok, Err, ok_or, sym, ◌∙◌, arith, ◌==◌}
 use Rattle.std.specs.Prelude.{◌&&◌, nat_le, codes}
 use Rattle.std.specs.List.{slice_split, AllByRecursion}
 use Rattle.std.specs.Result.{result_ok}
@@ -91,7 +91,7 @@ step_low [] n h = absurd (cc)
 step_low (b ∷ []) n h =
     let s = some_where (is_digit b) (b - 48) n h in
     let digit : (nat_le 48 b && nat_le b 57) ≡ true = s.0 in
-    let high = (both (nat_le 48 b) (nat_le b 57) digit).1 in
+    let high : nat_le b 57 ≡ true = (both (nat_le 48 b) (nat_le b 57) digit).1 in
     let low : b ≤ 57 = grind (arith, nat_tests) in
     omega (arith, low, s.1)
 step_low (b ∷ c ∷ []) n h =

@@ -1,10 +1,10 @@
 -- The walk of a submission keeps its limits, and the participants and parties that it names.
 use Rattle.std.proofs.Common.{◌≡◌, ℕ, suc, ◌<◌, ◌≤◌, ◌^◌, Bool, true, false, List, [], ◌∷◌, length, Option, Some, None, Ok, option_map, refl, sym, ap, subst, arith}
 use Rattle.std.specs.Prelude.{◌||◌, codes, MatchOption, if◌then◌else◌}
-use Rattle.std.specs.List.{AllByRecursion}
 use Rattle.serde_json.specs.Data.{Data, Items, null, boolean, number, string, array, object}
 use Rattle.serde_json.specs.Find.{get}
 use Rattle.ledger_terms.specs.Answers.{check}
+use Rattle.ledger_terms.specs.Drafts.{Drafts}
 use Rattle.ledger_terms.specs.Forest.{preorder}
 use Rattle.ledger_terms.specs.Parties.{same_name, set_of}
 use Rattle.ledger_terms.specs.Pointers.{at_item, at_member}
@@ -22,7 +22,7 @@ use Rattle.json_walk.proofs.Kept.{after, passed, given, few_kept}
 use Rattle.lang_eval.specs.HandedIn.{parties_in_command, parties_in_draft}
 use Rattle.lang_eval.specs.Named.{AreKnown}
 use Rattle.lang_read.specs.Parties.{is_hosted, party_of}
-use Rattle.script_read.specs.Accepted.{IsSeed, IsCommand, IsDraft, IsWhat}
+use Rattle.script_read.specs.Accepted.{IsSeed, IsCommand, IsDraft, AreDrafts, IsWhat}
 use Rattle.script_read.specs.Commands.{command_of}
 use Rattle.script_read.specs.Drafts.{tree_of}
 use Rattle.script_read.specs.Hosts.{is_participant}
@@ -134,19 +134,17 @@ module _ (read kept : List Host) (same : AreSame read kept) where
       let t = after (seed_of_of read at d) _ s h in
       rw (given (Some t.0) s t.2) (seed_read at d t.0 t.1)
 
-  prepared_read : (at : Place) (d : Data) (w : What) → prepared_in read at d ≡ Ok w → IsWhat kept w
-  unfolding prepared_in trees_in seed_of_in
-  prepared_read at d w h =
-      let t = after (trees_in read at d) _ w h in
-      let s = after (seed_of_in read at d) _ w t.2 in
-      let m = after (member_of at (codes "prepared") d) _ t.0 t.1 in
-      let i = after (few_items_of (at_member at (codes "prepared")) COMMANDS m.0) _ t.0 m.2 in
-      let r = after (tree_of read (at_member at (codes "prepared")) 1 0 m.0) _ t.0 i.2 in
+  roots_read : (at : Place) (d : Data) (f : Drafts) → trees_in read at d ≡ Ok f → AreDrafts kept f
+  unfolding trees_in
+  roots_read at d f h =
+      let m = after (member_of at (codes "prepared") d) _ f h in
+      let i = after (few_items_of (at_member at (codes "prepared")) COMMANDS m.0) _ f m.2 in
+      let r = after (tree_of read (at_member at (codes "prepared")) 1 0 m.0) _ f i.2 in
       let few = few_read (at_member at (codes "prepared")) COMMANDS m.0 i.0 i.1 in
       let is : tree_of read (at_member at (codes "prepared")) 1 0 (array i.0) ≡ Ok r.0 = subst (λ d. tree_of read (at_member at (codes "prepared")) 1 0 d ≡ Ok r.0) (list_read (at_member at (codes "prepared")) m.0 i.0 few.0) r.1 in
       let trees = trees_read read kept same (at_member at (codes "prepared")) 1 0 i.0 r.0 (omega arith) is in
       let drafts = preorder r.0.0 in
-      rw (given (what.Prepared s.0 t.0) w s.2, given r.0.0 t.0 r.2) (seed_if_read (at_member at (codes "seed_of")) (get (codes "seed_of") d) s.0 s.1, record {
+      rw (given r.0.0 f r.2) (record {
         some = omega (arith, trees.many, few.1);
         few_roots = omega (arith, trees.many, few.2);
         few = omega (arith, trees.sized, trees.few);
@@ -154,6 +152,14 @@ module _ (read kept : List Host) (same : AreSame read kept) where
         each = all_of (IsDraft kept) drafts (each_weaker (IsDraftRead read kept same) (IsDraft kept) drafts (λ a is. is.accepted) trees.each);
         hosted = flat_known (is_hosted kept) parties_in_draft drafts (each_weaker (IsDraftRead read kept same) (λ a. AreKnown (is_hosted kept) (parties_in_draft a)) drafts (λ a is. is.hosted) trees.each);
       })
+
+  prepared_read : (at : Place) (d : Data) (w : What) → prepared_in read at d ≡ Ok w → IsWhat kept w
+  unfolding prepared_in seed_of_in
+  prepared_read at d w h =
+      let t = after (trees_in read at d) _ w h in
+      let s = after (seed_of_in read at d) _ w t.2 in
+      let seed = seed_if_read (at_member at (codes "seed_of")) (get (codes "seed_of") d) s.0 s.1 in
+      rw (given (what.Prepared s.0 t.0) w s.2) (seed, roots_read at d t.0 t.1)
 
   what_read : (at : Place) (d : Data) (w : What) → what_in read at d ≡ Ok w → IsWhat kept w
   unfolding what_in

@@ -141,9 +141,9 @@ pub record IsRead (s : Script) : Type 0 where
   pub rounds_are : rounds_in known.hosts d ≡ Ok rounds
   pub whole : s ≡ record { topology = record { hosts = hosts; params = known.params }; checked = checked; rounds = rounds }
 
-pub script_read : (bytes : List ℕ) (s : Script) → script_in bytes ≡ Ok s → IsRead s
+pub script_parts : (bytes : List ℕ) (s : Script) → script_in bytes ≡ Ok s → IsRead s
 unfolding script_in script_of topology_in
-script_read bytes s h =
+script_parts bytes s h =
     let v = after_walk (json_of bytes) _ s h in
     let a = after (check (has_script_members v.0) (script.Shape [])) _ s v.2 in
     let known = after_walk (topology_in v.0) _ s a.2 in

@@ -8,7 +8,8 @@ use Rattle.ledger_terms.specs.declared.draft_action.DraftAction.TheVariants.{Cre
 use Rattle.ledger_terms.specs.Forest.{preorder, size}
 use Rattle.ledger_terms.specs.Names.{IsName}
 use Rattle.ledger_terms.specs.Roots.{trees_count}
-use Rattle.ledger_terms.specs.declared.limits.TheConstants.{MOST_TEXT_BYTES, MOST_FIELDS, MOST_PARAMS, MOST_COMMANDS, MOST_DRAFTS, MOST_DRAFT_DEPTH, MOST_LABEL_STEPS, MOST_LABEL_STEP}
+use Rattle.ledger_terms.specs.declared.limits.TheConstants.{MOST_TEXT_BYTES, MOST_FIELDS, MOST_PARAMETERS, MOST_COMMANDS}
+use Rattle.ledger_terms.specs.declared.limits.TheConstants.{MOST_DRAFTS, MOST_DRAFT_DEPTH, MOST_LABEL_STEPS, MOST_LABEL_STEP}
 use Rattle.ledger_terms.specs.declared.arg.Arg.{Arg}
 use Rattle.ledger_terms.specs.declared.arg.Arg.TheVariants.{Plain, Contract}
 use Rattle.ledger_terms.specs.declared.command.Command.{Command}
@@ -78,7 +79,7 @@ pub record AreArgs (hosts : List Host) (most : ℕ) (args : List Arg) : Type 0 w
 abbrev pub IsCommand : List Host → Command → Type 0
 IsCommand hosts (Create template fields) = IsTemplate template × AreArgs hosts MOST_FIELDS fields
 IsCommand hosts (Exercise template contract choice args) =
-    IsTemplate template × IsReference hosts contract × IsName choice × AreArgs hosts MOST_PARAMS args
+    IsTemplate template × IsReference hosts contract × IsName choice × AreArgs hosts MOST_PARAMETERS args
 
 -- 1 to 16 commands, whose parties are hosted
 pub record AreCommands (hosts : List Host) (commands : List Command) : Type 0 where
@@ -97,7 +98,7 @@ IsInput hosts (Forged id salt template fields) =
 abbrev pub IsDraft : List Host → DraftAction → Type 0
 IsDraft hosts (DraftCreate template fields) = IsTemplate template × AreArgs hosts MOST_FIELDS fields
 IsDraft hosts (DraftExercise input choice args actors consuming result) =
-    IsInput hosts input × IsName choice × AreArgs hosts MOST_PARAMS args × IsArg hosts result
+    IsInput hosts input × IsName choice × AreArgs hosts MOST_PARAMETERS args × IsArg hosts result
 IsDraft hosts (DraftFetch input actors) = IsInput hosts input
 
 -- 1 to 16 trees of at most 64 drafts in all, at most 16 deep, whose parties are hosted

@@ -198,7 +198,10 @@ abbrev mutual
   pub exercise_member : List Host → Place → ℕ → ℕ → Members → Result (Drafts × ℕ) WalkFault
   exercise_member hosts at depth n no_members = Err (Shape at)
   exercise_member hosts at depth n (member k d ms) =
-      match_ordering (slice_cmp nat_cmp (codes "exercise") k) (exercise_member hosts at depth n ms) (node_of hosts (at_member at (codes "exercise")) depth n d) (exercise_member hosts at depth n ms)
+      match_ordering (slice_cmp nat_cmp (codes "exercise") k)
+      (exercise_member hosts at depth n ms)
+      (node_of hosts (at_member at (codes "exercise")) depth n d)
+      (exercise_member hosts at depth n ms)
 
   -- an exercise with its children
   pub node_of : List Host → Place → ℕ → ℕ → Data → Result (Drafts × ℕ) WalkFault
@@ -216,7 +219,10 @@ abbrev mutual
   pub children_member : List Host → Place → ℕ → ℕ → Members → Result (Drafts × ℕ) WalkFault
   children_member hosts at depth n no_members = Err (Shape at)
   children_member hosts at depth n (member k d ms) =
-      match_ordering (slice_cmp nat_cmp (codes "children") k) (children_member hosts at depth n ms) (tree_of hosts (at_member at (codes "children")) (depth + 1) n d) (children_member hosts at depth n ms)
+      match_ordering (slice_cmp nat_cmp (codes "children") k)
+      (children_member hosts at depth n ms)
+      (tree_of hosts (at_member at (codes "children")) (depth + 1) n d)
+      (children_member hosts at depth n ms)
 
   -- the drafts of a list, which stand at a depth
   pub tree_of : List Host → Place → ℕ → ℕ → Data → Result (Drafts × ℕ) WalkFault

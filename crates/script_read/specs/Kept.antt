@@ -1,5 +1,5 @@
 -- What holds of a script that is read: its rounds are within their limits, and name participants and parties that there are.
-use Rattle.std.specs.Prelude.{ℕ, ◌<◌, ◌≤◌, List, length, sum_by, All, MatchOption}
+use Rattle.std.specs.Prelude.{◌<◌, ◌≤◌, List, length, sum_by, All, MatchOption}
 use Rattle.ledger_terms.specs.Names.{IsName}
 use Rattle.ledger_terms.specs.Topologies.{IsValid}
 use Rattle.ledger_terms.specs.declared.host.Host.{Host}

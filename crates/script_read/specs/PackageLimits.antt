@@ -1,9 +1,12 @@
 -- The limits that packages keep, and whom they name.
 use Rattle.std.specs.Prelude.{◌≡◌, ℕ, suc, ◌+◌, max, ◌≤◌, List, [], ◌∷◌, ◌++◌, length, sum_by, All}
 use Rattle.ledger_terms.specs.Packages.{PackageForm, TemplateForm, ChoiceForm}
-use Rattle.ledger_terms.specs.Syntax.{ExprForm, ExprForms, Literal, Var, Add, Sub, Mul, Less, LessEq, Equal, Both, Either, Negate, Cond, Cat, SetOf, Union, Has, NoExprs, MoreExprs, StmtForm, StmtForms, Bind, Assert, Create, Exercise, Fetch, When, NoStmts, MoreStmts}
+use Rattle.ledger_terms.specs.Syntax.{ExprForm, ExprForms, Literal, Var, Add, Sub, Mul, Less, LessEq, Equal}
+use Rattle.ledger_terms.specs.Syntax.{Both, Either, Negate, Cond, Cat, SetOf, Union, Has, NoExprs, MoreExprs}
+use Rattle.ledger_terms.specs.Syntax.{StmtForm, StmtForms, Bind, Assert, Create, Exercise, Fetch, When, NoStmts, MoreStmts}
 use Rattle.ledger_terms.specs.declared.host.Host.{Host}
-use Rattle.ledger_terms.specs.declared.limits.TheConstants.{MOST_PACKAGES, MOST_TEMPLATES, MOST_FIELDS, MOST_PARAMS, MOST_CHOICES, MOST_EXPR_DEPTH, MOST_STATEMENTS}
+use Rattle.ledger_terms.specs.declared.limits.TheConstants.{MOST_PACKAGES, MOST_TEMPLATES, MOST_FIELDS, MOST_PARAMETERS}
+use Rattle.ledger_terms.specs.declared.limits.TheConstants.{MOST_CHOICES, MOST_EXPRESSION_DEPTH, MOST_STATEMENTS}
 use Rattle.ledger_terms.specs.declared.value.Value.{Value}
 use Rattle.lang_eval.specs.Builtin.{checked_packages}
 use Rattle.lang_eval.specs.Found.{Packages}
@@ -62,7 +65,7 @@ abbrev mutual
   literals_among (MoreExprs e es) = literals_in e ++ literals_among es
 
 pub record IsSmallExpr (e : ExprForm) : Type 0 where
-  pub shallow : expr_depth e ≤ MOST_EXPR_DEPTH
+  pub shallow : expr_depth e ≤ MOST_EXPRESSION_DEPTH
   pub short : All IsShort (literals_in e)
 
 -- ---- statements
@@ -105,7 +108,7 @@ abbrev pub exprs_in_choice : ChoiceForm → List ExprForm
 exprs_in_choice c = c.controllers ∷ (c.observers ∷ (c.result ∷ exprs_in_stmts c.body))
 
 pub record IsSmallChoice (c : ChoiceForm) : Type 0 where
-  pub params : length c.params ≤ MOST_PARAMS
+  pub params : length c.params ≤ MOST_PARAMETERS
   pub body : stmts_size c.body ≤ MOST_STATEMENTS
   pub exprs : All IsSmallExpr (exprs_in_choice c)
 

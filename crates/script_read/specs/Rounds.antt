@@ -12,7 +12,8 @@ use Rattle.ledger_terms.specs.declared.what.What.TheVariants as what
 use Rattle.ledger_terms.specs.declared.submission.Submission.{Submission}
 use Rattle.ledger_terms.specs.Answers.{◌>>=◌, check}
 use Rattle.json_walk.specs.declared.limits.TheConstants.{ACT_AS, ADVANCE, COMMANDS, LEDGER_TIME, ROUNDS, SUBMISSIONS}
-use Rattle.json_walk.specs.Walk.{Place, within_limit, name_of, name_in, truth_or, integer_of, has_members, items_of, few_items_of, walk_items, item_count, two_of, member_of}
+use Rattle.json_walk.specs.Walk.{Place, within_limit, name_of, name_in, truth_or, integer_of, has_members}
+use Rattle.json_walk.specs.Walk.{items_of, few_items_of, walk_items, item_count, two_of, member_of}
 use Rattle.json_walk.specs.Lists.{item_step, list_of, few_of, counted_of}
 use Rattle.lang_read.specs.Parties.{party_of}
 use Rattle.json_walk.specs.declared.walk_fault.WalkFault.{WalkFault}

@@ -2,7 +2,8 @@
 ghost use Rattle.std.specs.Prelude.{◌≡◌};
 ghost use Rattle.serde_json.specs.View.{view};
 ghost use Rattle.ledger_terms.specs.Answers.{Follows};
-ghost use Rattle.script_read.specs.Commands.{has_create_members, create_of, has_exercise_members, exercise_of, is_create, is_exercise, create_in, exercise_in, command_of};
+ghost use Rattle.script_read.specs.Commands.{has_create_members, create_of, has_exercise_members, exercise_of, is_create};
+ghost use Rattle.script_read.specs.Commands.{is_exercise, create_in, exercise_in, command_of};
 
 use crate::arg::args_in;
 use crate::reference::reference_in;

@@ -3,7 +3,8 @@ ghost use Rattle.std.specs.Prelude.{◌≡◌};
 ghost use Rattle.serde_json.specs.View.{view};
 ghost use Rattle.ledger_terms.specs.Answers.{Follows, FollowsAs};
 ghost use Rattle.ledger_terms.specs.Grown.{tree_of};
-ghost use Rattle.script_read.specs.Drafts.{alone, actors_in, result_in, create_draft_of, has_fetch_members, fetch_draft_of, is_fetch, create_draft_in, fetch_draft_in, has_draft_members, call_of, effect_of, exercise_draft_of, leaf_of};
+ghost use Rattle.script_read.specs.Drafts.{alone, actors_in, result_in, create_draft_of, has_fetch_members, fetch_draft_of, is_fetch, create_draft_in};
+ghost use Rattle.script_read.specs.Drafts.{fetch_draft_in, has_draft_members, call_of, effect_of, exercise_draft_of, leaf_of};
 
 use crate::arg::{args_in, read_arg};
 use crate::command::is_create;

@@ -4,7 +4,8 @@ ghost use Rattle.serde_json.specs.View.{view, items_view};
 ghost use Rattle.ledger_terms.specs.Answers.{Follows, FollowsOn, FollowsAs};
 ghost use Rattle.json_walk.specs.Walk.{walk_items};
 ghost use Rattle.ledger_terms.specs.Parties.{has_party, set_of};
-ghost use Rattle.script_read.specs.Hosts.{is_participant, new_party_step, party_items_in, new_name_in, has_host_members, host_of, host_step, hosts_of, root_member, participants_at, participants_of, hosts_in};
+ghost use Rattle.script_read.specs.Hosts.{is_participant, new_party_step, party_items_in, new_name_in, has_host_members, host_of};
+ghost use Rattle.script_read.specs.Hosts.{host_step, hosts_of, root_member, participants_at, participants_of, hosts_in};
 
 use json_walk::{
     PARTICIPANTS, PARTIES, Place, WalkFault, check_limit, fits, member, name_in, read_few_items,

@@ -2,7 +2,8 @@
 ghost use Rattle.std.specs.Prelude.{◌≡◌};
 ghost use Rattle.serde_json.specs.View.{view};
 ghost use Rattle.ledger_terms.specs.Answers.{Follows};
-ghost use Rattle.script_read.specs.Drafts.{is_known, has_forged_members, some_id_of, id_of, id_in, salt_in, instance_of, instance_in, forged_of, known_of, input_of, input_in};
+ghost use Rattle.script_read.specs.Drafts.{is_known, has_forged_members, some_id_of, id_of, id_in, salt_in};
+ghost use Rattle.script_read.specs.Drafts.{instance_of, instance_in, forged_of, known_of, input_of, input_in};
 
 use crate::arg::args_in;
 use crate::command::has_create_members;

@@ -2,7 +2,8 @@
 ghost use Rattle.std.specs.Prelude.{◌≡◌, ◌∷◌, IfOk, option_map, []};
 ghost use Rattle.serde_json.specs.View.{view};
 ghost use Rattle.ledger_terms.specs.Answers.{Follows};
-ghost use Rattle.script_read.specs.Refs.{hash_named, hash_of, is_digit, step_named, steps_from, path_named, label_with, label_named, label_of, behind_mark, reference_by, reference_of};
+ghost use Rattle.script_read.specs.Refs.{hash_named, hash_of, is_digit, step_named, steps_from, path_named};
+ghost use Rattle.script_read.specs.Refs.{label_with, label_named, label_of, behind_mark, reference_by, reference_of};
 ghost use Rattle.script_read.specs.Commands.{reference_in};
 
 use crate::host::is_participant;

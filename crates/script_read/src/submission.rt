@@ -2,7 +2,8 @@
 ghost use Rattle.std.specs.Prelude.{◌≡◌, ◌≤◌, ◌+◌, [], length, IfOk};
 ghost use Rattle.serde_json.specs.View.{view};
 ghost use Rattle.ledger_terms.specs.Answers.{Follows};
-ghost use Rattle.script_read.specs.Rounds.{participant_named, participant_of, participant_member, participant_in, act_as_in, time_of, time_in, ledger_time_in, is_prepared, submission_of, submits_of, submits_in};
+ghost use Rattle.script_read.specs.Rounds.{participant_named, participant_of, participant_member, participant_in, act_as_in, time_of};
+ghost use Rattle.script_read.specs.Rounds.{time_in, ledger_time_in, is_prepared, submission_of, submits_of, submits_in};
 
 use crate::what::{are_commands, what_in};
 use json_walk::{

@@ -1,11 +1,13 @@
-use Rattle.std.proofs.Common.{rules, arith, ◌≡◌, ◌≢◌, ◌+◌, ◌-◌, length, drop, Ok}
+use Rattle.std.proofs.Common.{rules, arith, ◌≡◌, ◌≢◌, ◌+◌, ◌-◌, ◌<◌, ◌++◌, ◌∷◌, [], length, get_or, drop, Ok}
 use Rattle.std.proofs.lemmas.Grind.{common_steps}
 use Rattle.ledger_terms.specs.Syntax.{Negate}
 use Rattle.ledger_terms.specs.ExprForms.{expr_form}
 use Rattle.ledger_terms.specs.declared.expr.Expr.{the_lemmas}
-use Rattle.lang_read.specs.Exprs.{negated_of}
-use Rattle.serde_json.specs.View.{items_view}
+use Rattle.ledger_terms.specs.Pointers.{at_item}
+use Rattle.lang_read.specs.Exprs.{expr_of, negated_of}
+use Rattle.serde_json.specs.View.{view, items_view}
 use Rattle.lang_read.proofs.Operands.{behind_one, behind_two, behind_three, negated_other, pair_other, cond_other, call_first}
+use Rattle.lang_read.proofs.Pushed.{operand_pushed}
 use Rattle.lang_read.proofs.expr.+expr.Goals as goal
 
 -- ---- the operator
@@ -95,3 +97,13 @@ pub read_cond-returns : goal.read_cond-returns
 read_cond-returns t c =
     let four : length c.args.items.now.items ≡ 4 = grind arith in
     rw (behind_three c.args.items.now.items c.index.result.now c.index-2.result.now c.index-3.result.now four) (search rules)
+
+-- ---- operands
+
+pub read_operands-operands-preserved : goal.read_operands-operands-preserved
+read_operands-operands-preserved t c =
+    let within : c.operands.i < length c.args.items.now.items = omega arith in
+    let is : c.index.result.now ≡ get_or c.args.items.now.items c.operands.i c.index.result.now = search rules in
+    let found : expr_of c.args.topology.now.hosts (at_item c.args.at.now c.operands.i) (c.args.depth + 1) (view c.index.result.now) ≡ Ok (expr_form c.in_ok-operand.operand) = search rules in
+    let grown : c.push.new.self ≡ c.operands.operands ++ c.in_ok-operand.operand ∷ [] = search rules in
+    operand_pushed c.args.topology.now.hosts c.args.at.now c.args.items.now.items c.operands.i c.index.result.now within is c.args.depth _ _ _ _ found grown c.operands.invariant

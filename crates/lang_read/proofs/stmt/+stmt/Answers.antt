@@ -1,4 +1,4 @@
-use Rattle.std.proofs.Common.{rules, arith, ◌≡◌, ◌<◌, ◌+◌, ◌*◌, Some, Ok, get_or, length}
+use Rattle.std.proofs.Common.{rules, arith, ◌≡◌, ◌<◌, ◌+◌, ◌*◌, ◌++◌, ◌∷◌, [], Some, Ok, get_or, length}
 use Rattle.std.specs.Prelude.{codes}
 use Rattle.serde_json.specs.Data.{array, depth, items_depth}
 use Rattle.serde_json.specs.Find.{get}
@@ -6,12 +6,14 @@ use Rattle.serde_json.specs.View.{view, items_view}
 use Rattle.serde_json.specs.declared.value.Value.{the_lemmas}
 use Rattle.ledger_terms.specs.Syntax.{When}
 use Rattle.ledger_terms.specs.ExprForms.{expr_form}
-use Rattle.ledger_terms.specs.StmtForms.{stmt_list_form}
+use Rattle.ledger_terms.specs.Pointers.{at_item}
+use Rattle.ledger_terms.specs.StmtForms.{stmt_form, stmt_list_form}
 use Rattle.ledger_terms.proofs.StmtRows.{form_When}
-use Rattle.lang_read.specs.Stmts.{when_of}
+use Rattle.lang_read.specs.Stmts.{stmt_of, when_of}
 use Rattle.json_walk.specs.Walk.{member_of}
 use Rattle.lang_read.proofs.Blocks.{stmt_of-is, when_of-is, block_of-is}
 use Rattle.json_walk.proofs.Nested.{get_below, member_below, item_below}
+use Rattle.lang_read.proofs.Pushed.{stmt_pushed}
 use Rattle.lang_read.proofs.stmt.+stmt.Goals as goal
 
 -- ---- what is read next stands deeper
@@ -83,6 +85,19 @@ read_when-returns-in_err-no-clause-first t c = rw (when_of-is c.args.topology.no
 
 pub read_when-returns-clause-first : goal.read_when-returns-clause-first
 read_when-returns-clause-first t c =
-    let whole : when_of c.args.topology.now.hosts c.args.at.now c.args.before (view c.args.value.now) ≡ Ok (When (expr_form c.in_ok-test.test.value) (stmt_list_form c.in_ok-yes.yes) (stmt_list_form c.in_ok-no.no), c.in_ok-no.count) =
+    let whole : when_of c.args.topology.now.hosts c.args.at.now c.args.before (view c.args.value.now) ≡ Ok (When (expr_form c.into_inner-test.result) (stmt_list_form c.in_ok-yes.yes) (stmt_list_form c.in_ok-no.no), c.in_ok-no.count) =
     rw (when_of-is c.args.topology.now.hosts c.args.at.now c.args.before (view c.args.value.now)) (search rules) in
     rw form_When whole
+
+-- ---- the statements of a list
+
+pub read_stmts-stmts-preserved : goal.read_stmts-stmts-preserved
+read_stmts-stmts-preserved t c =
+    let within : c.stmts.i < length c.args.items.now.items = omega arith in
+    let is : c.index.result.now ≡ get_or c.args.items.now.items c.stmts.i c.index.result.now = search rules in
+    let found : stmt_of c.args.topology.now.hosts (at_item c.args.at.now c.stmts.i) c.stmts.count (view c.index.result.now) ≡ Ok (stmt_form c.in_ok-stmt.stmt, c.in_ok-stmt.after) = search rules in
+    let grown : c.push.new.self ≡ c.stmts.stmts ++ c.in_ok-stmt.stmt ∷ [] = search rules in
+    record {
+      walk = stmt_pushed c.args.topology.now.hosts c.args.at.now c.args.items.now.items c.stmts.i c.index.result.now within is c.stmts.count c.in_ok-stmt.after _ _ _ _ found grown c.stmts.invariant.walk;
+      within = c.in_ok-stmt.ensures.within;
+    }
