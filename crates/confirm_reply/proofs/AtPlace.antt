@@ -5,12 +5,15 @@ use Rattle.std.specs.List.{list_any}
 use Rattle.ledger_terms.specs.declared.act.Act.{Act}
 use Rattle.ledger_model.specs.Forest.{acts}
 use Rattle.ledger_model.specs.Opening.{OpenedView, Shown}
-use Rattle.ledger_model.specs.Status.{Status, is_active, is_unknown, shows_inactive, shows_locked, shows_not_fresh}
+use Rattle.ledger_model.specs.Status.{is_active, is_unknown, shows_inactive, shows_locked, shows_not_fresh}
+use Rattle.ledger_model.specs.declared.status.Status.{Status}
 use Rattle.ledger_model.specs.Terms.{Hash, ParticipantId, id_of, is_create, creates}
 use Rattle.ledger_model.proofs.Lists.{In, contains_from_In}
 use Rattle.canton_model.specs.Checks.{Check, first_place, first_shown, verdict_by, verdict_on_view}
 use Rattle.canton_model.specs.Inbox.{Item, has_hosted_stakeholder, is_locked_in_inbox, item_time, status_in_inbox}
-use Rattle.canton_model.specs.Log.{Params, Reject, Locked, Inactive, NotFresh}
+use Rattle.ledger_terms.specs.declared.params.Params.{Params}
+use Rattle.canton_model.specs.declared.reason.Reason.TheVariants.{Locked, Inactive, NotFresh}
+use Rattle.canton_model.specs.declared.local_verdict.LocalVerdict.TheVariants.{Reject}
 use Rattle.canton_model.specs.Reading.{Reading}
 use Rattle.confirm_reply.specs.Facts.{AreAsAt, is_known_locked, known_status}
 use Rattle.confirm_reply.specs.declared.id_facts.IdFacts.{IdFacts}

@@ -4,7 +4,9 @@ use Rattle.std.specs.Prelude.{option_map, if◌then◌else◌}
 use Rattle.std.specs.List.{list_any}
 use Rattle.std.proofs.lemmas.Bool.{cases_Bool}
 use Rattle.ledger_terms.specs.declared.act.Act.{Act}
-use Rattle.canton_model.specs.Log.{LocalVerdict, Reject, Reason}
+use Rattle.canton_model.specs.declared.reason.Reason.{Reason}
+use Rattle.canton_model.specs.declared.local_verdict.LocalVerdict.{LocalVerdict}
+use Rattle.canton_model.specs.declared.local_verdict.LocalVerdict.TheVariants.{Reject}
 use Rattle.canton_model.specs.Checks.{Check, first_place, first_shown}
 use Rattle.confirm_reply.specs.Numbers.{numbers_of}
 use Rattle.confirm_reply.specs.Tried.{first_alone, place_shown, rejected_or}

@@ -3,7 +3,7 @@ ghost use Rattle.std.specs.Prelude.{◌≡◌, ◌&&◌, [], true, not, IfOk};
 ghost use Rattle.ledger_model.specs.Terms.{id_of, instance_of};
 ghost use Rattle.ledger_model.specs.Status.{shows_not_fresh};
 ghost use Rattle.canton_model.specs.Checks.{is_within};
-ghost use Rattle.canton_model.specs.Log.{NotAuthorised};
+ghost use Rattle.canton_model.specs.declared.reason.Reason.TheVariants.{NotAuthorised};
 ghost use Rattle.wire_form.specs.Spellable.{IsSpellableInstance};
 ghost use Rattle.lang_eval.specs.Language.{has_roles};
 ghost use Rattle.interpret.specs.Ids.{is_authentic};

@@ -5,4 +5,4 @@ use Rattle.confirm_reply.proofs.trial.Trial.verdict.Given as goal
 
 abbrev pub invariant-loop-reason : goal.invariant-loop-reason
 invariant-loop-reason l =
-    verdict_after l.self.input.now (matter_of l.self) (drop l.reason-index l.reason-items) ≡ verdict_after l.self.input.now (matter_of l.self) l.reasons
+    verdict_after l.self.input.now (matter_of l.self) (drop l.reason-index l.reasons) ≡ verdict_after l.self.input.now (matter_of l.self) l.reasons
