@@ -109,7 +109,7 @@ module _ (input : CheckInput) (path : Path) (view : OpenedView) (is : view_at pa
       subst (λ (ts : List Tree). All (IsCheckableAt packages ts) core) (sym here) (subst (λ (ns : List ℕ). All (IsCheckableAt packages (trees_of roots)) ns) (sym numbers) all)
 
   pub few_numbers : (core : List ℕ) → core ≡ numbers_of view.core → CanBeChecked input.setup.now.checked (shown_by input.tree) view → length core ≤ 65536
-  few_numbers core numbers can = rw (numbers, length-map (λ (a : ℕ × Act). a.0) view.core) can.few
+  few_numbers core numbers can = rw (numbers, length-map view.core (λ (a : ℕ × Act). a.0)) can.few
 
   -- and gives the verdict that is owed
   pub verdict_given : (trees : List Tree) (core : List ℕ) (is_root : Bool) → trees ≡ trees_of (shown_by input.tree).roots → core ≡ numbers_of view.core

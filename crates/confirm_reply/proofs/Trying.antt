@@ -28,8 +28,8 @@ pub place_is : (test : ℕ → Bool) (shown : Numbered → Bool) (core : List Nu
 place_is test shown [] same = refl
 place_is test shown (a ∷ core) same =
     elim (cases_Bool (shown a)) [
-      | inl yes ↦ rw (same.0, yes) refl
-      | inr no ↦ rw (same.0, no) (ap (option_map suc) (place_is test shown core same.1) ∙ next_place (list_any shown core) (first_place shown core))
+      | inl passes ↦ rw (same.0, passes) refl
+      | inr fails ↦ rw (same.0, fails) (ap (option_map suc) (place_is test shown core same.1) ∙ next_place (list_any shown core) (first_place shown core))
     ]
 
 none_of_false : (core : List Numbered) → list_any (λ (a : Numbered). false) core ≡ false
@@ -62,12 +62,12 @@ tried reason shown more core place rest here later =
 any_same : (p q : Numbered → Bool) (core : List Numbered) → EachIn (λ (a : Numbered). p a ≡ q a) core → list_any p core ≡ list_any q core
 any_same p q [] same = refl
 any_same p q (a ∷ core) same =
-    elim (cases_Bool (q a)) [ inl yes ↦ rw (same.0, yes) refl | inr no ↦ rw (same.0, no) (any_same p q core same.1) ]
+    elim (cases_Bool (q a)) [ inl passes ↦ rw (same.0, passes) refl | inr fails ↦ rw (same.0, fails) (any_same p q core same.1) ]
 
 place_same : (p q : Numbered → Bool) (core : List Numbered) → EachIn (λ (a : Numbered). p a ≡ q a) core → first_place p core ≡ first_place q core
 place_same p q [] same = refl
 place_same p q (a ∷ core) same =
-    elim (cases_Bool (q a)) [ inl yes ↦ rw (same.0, yes) refl | inr no ↦ rw (same.0, no) (ap suc (place_same p q core same.1)) ]
+    elim (cases_Bool (q a)) [ inl passes ↦ rw (same.0, passes) refl | inr fails ↦ rw (same.0, fails) (ap suc (place_same p q core same.1)) ]
 
 pub shown_same : (reason : Reason) (p q : Numbered → Bool) (more others : List Check) (core : List Numbered)
     → EachIn (λ (a : Numbered). p a ≡ q a) core → first_shown more core ≡ first_shown others core
