@@ -1,10 +1,13 @@
 -- What stands at a number, and what it shows.
-use Rattle.std.proofs.Common.{◌≡◌, ℕ, Bool, false, List, [], ◌∷◌, map, take, Option, Some, None, refl, sym, ap, ◌∙◌}
+use Rattle.std.proofs.Common.{◌≡◌, ℕ, Bool, false, List, [], ◌∷◌, length, map, take, Option, Some, None, refl, sym, ap, ◌∙◌}
 use Rattle.std.specs.Prelude.{◌&&◌, option_map, slice_get}
 use Rattle.std.specs.Borrow.{Bor}
+use Rattle.std.proofs.lemmas.List.{length-map}
 use Rattle.std.proofs.lemmas.Option.{slice_get-map}
 use Rattle.ledger_terms.specs.declared.act.Act.{Act}
 use Rattle.ledger_terms.specs.Trees.{ActionNode, Actions}
+use Rattle.ledger_terms.specs.Forest.{size}
+use Rattle.ledger_model.specs.Forest.{trees_of}
 use Rattle.canton_model.specs.declared.reason.Reason.{Reason}
 use Rattle.confirm_reply.specs.Fit.{IsCheckableAt, matter_of}
 use Rattle.confirm_reply.specs.Nodes.{acts_of, trees_in}
@@ -12,6 +15,7 @@ use Rattle.confirm_reply.specs.Opened.{IsCheckable}
 use Rattle.confirm_reply.specs.Tried.{acts_in, is_first, shows, shows_at, tree_shows}
 use Rattle.confirm_reply.specs.declared.trial.Trial.{Trial}
 use Rattle.lang_eval.specs.Found.{Packages}
+use Rattle.confirm_reply.proofs.Placed.{trees_counted}
 
 abbrev tree_in : Bor ActionNode → Act × Actions
 tree_in node = (node.now.root, node.now.below)
@@ -37,3 +41,7 @@ module _ (trial : Trial) (reason : Reason) (n : ℕ) where
 
   pub none_shows : None ≡ slice_get trial.nodes.now n → false ≡ shows_at trial.input.now (matter_of trial) reason n
   none_shows at = ap (tree_shows trial.input.now (matter_of trial) reason n) (sym (tree_at trial.nodes.now n None at))
+
+-- as many nodes as stand in the trees
+pub nodes_counted : (nodes : List (Bor ActionNode)) (roots : Actions) → trees_in nodes ≡ trees_of roots → length nodes ≡ size roots
+nodes_counted nodes roots gathered = sym (length-map nodes tree_in) ∙ (ap (λ (trees : List (Act × Actions)). length trees) gathered ∙ trees_counted roots)

@@ -69,8 +69,17 @@ place_same p q [] same = refl
 place_same p q (a ∷ core) same =
     elim (cases_Bool (q a)) [ inl passes ↦ rw (same.0, passes) refl | inr fails ↦ rw (same.0, fails) (ap suc (place_same p q core same.1)) ]
 
-pub shown_same : (reason : Reason) (p q : Numbered → Bool) (more others : List Check) (core : List Numbered)
-    → EachIn (λ (a : Numbered). p a ≡ q a) core → first_shown more core ≡ first_shown others core
-    → first_shown (record { reason = reason; is_shown_by = p } ∷ more) core ≡ first_shown (record { reason = reason; is_shown_by = q } ∷ others) core
-shown_same reason p q more others core same later =
-    (λ i. if any_same p q core same i then Reject reason (place_same p q core same i) else later i)
+-- checks for the same reasons that agree on a core
+abbrev pub Agree : List Check → List Check → List Numbered → Type 0
+Agree [] [] core = Unit {0}
+Agree [] (d ∷ ds) core = ⊥
+Agree (c ∷ cs) [] core = ⊥
+Agree (c ∷ cs) (d ∷ ds) core = ((c.reason ≡ d.reason) × EachIn (λ (a : Numbered). c.is_shown_by a ≡ d.is_shown_by a) core) × Agree cs ds core
+
+pub same_shown : (cs ds : List Check) (core : List Numbered) → Agree cs ds core → first_shown cs core ≡ first_shown ds core
+same_shown [] [] core agree = refl
+same_shown [] (d ∷ ds) core agree = absurd agree
+same_shown (c ∷ cs) [] core agree = absurd agree
+same_shown (c ∷ cs) (d ∷ ds) core agree =
+    let here = agree.0.1 in
+    (λ i. if any_same c.is_shown_by d.is_shown_by core here i then Reject (agree.0.0 i) (place_same c.is_shown_by d.is_shown_by core here i) else same_shown cs ds core agree.1 i)
