@@ -1,21 +1,24 @@
 -- Facts as at a place give the verdict at that place.
-use Rattle.std.proofs.Common.{◌≡◌, ℕ, Bool, true, false, List, [], ◌∷◌, take, refl, sym, ap, ◌∙◌, inl, inr}
+use Rattle.std.proofs.Common.{◌≡◌, ℕ, Bool, true, false, List, [], ◌∷◌, take, refl, ap, ◌∙◌, inl, inr}
 use Rattle.std.specs.Prelude.{◌&&◌, not, slice_get, if◌then◌else◌}
 use Rattle.std.specs.List.{list_any}
-use Rattle.ledger_terms.specs.Trees.{Act}
+use Rattle.ledger_terms.specs.declared.act.Act.{Act}
 use Rattle.ledger_model.specs.Forest.{acts}
 use Rattle.ledger_model.specs.Opening.{OpenedView, Shown}
-use Rattle.ledger_model.specs.Status.{Status, is_active, is_unknown, shows_inactive, shows_locked, shows_not_fresh}
+use Rattle.ledger_model.specs.Status.{is_active, is_unknown, shows_inactive, shows_locked, shows_not_fresh}
+use Rattle.ledger_model.specs.declared.status.Status.{Status}
 use Rattle.ledger_model.specs.Terms.{Hash, ParticipantId, id_of, is_create, creates}
 use Rattle.ledger_model.proofs.Lists.{In, contains_from_In}
-use Rattle.canton_model.specs.Checks.{Check, first_place, first_shown, verdict_by, verdict_on_view}
+use Rattle.canton_model.specs.Checks.{checks, verdict_by, verdict_on_view}
 use Rattle.canton_model.specs.Inbox.{Item, has_hosted_stakeholder, is_locked_in_inbox, item_time, status_in_inbox}
-use Rattle.canton_model.specs.Log.{Params, Reject, Locked, Inactive, NotFresh}
+use Rattle.ledger_terms.specs.declared.params.Params.{Params}
+use Rattle.canton_model.specs.declared.reason.Reason.TheVariants.{Locked, Inactive, NotFresh}
+use Rattle.canton_model.specs.declared.local_verdict.LocalVerdict.TheVariants.{Reject}
 use Rattle.canton_model.specs.Reading.{Reading}
 use Rattle.confirm_reply.specs.Facts.{AreAsAt, is_known_locked, known_status}
 use Rattle.confirm_reply.specs.declared.id_facts.IdFacts.{IdFacts}
 use Rattle.confirm_reply.proofs.Placed.{EachIn}
-use Rattle.confirm_reply.proofs.Trying.{shown_same}
+use Rattle.confirm_reply.proofs.Trying.{same_shown}
 
 abbrev Numbered : Type 0
 Numbered = ℕ × Act
@@ -27,11 +30,6 @@ each_in P (a ∷ core) all = (all a (inl refl), each_in P core (λ b i. all b (i
 under : (b x y : Bool) → (b ≡ true → x ≡ y) → (b && x) ≡ (b && y)
 under true x y same = same refl
 under false x y same = refl
-
-kept : (check : Check) (more others : List Check) (core : List Numbered) → first_shown more core ≡ first_shown others core
-    → first_shown (check ∷ more) core ≡ first_shown (check ∷ others) core
-kept check more others core later =
-    λ i. if list_any check.is_shown_by core then Reject check.reason (first_place check.is_shown_by core) else later i
 
 module _ (reading : Reading) (params : Params) (p : ParticipantId) (items : List Item) (k time : ℕ) (shown : Shown) (view : OpenedView) (facts : List IdFacts)
     (as_at : AreAsAt reading params p items k facts view.core) where
@@ -73,10 +71,17 @@ module _ (reading : Reading) (params : Params) (p : ParticipantId) (items : List
   same_facts : verdict_by reading params p time shown view (known_status facts) (is_known_locked facts)
       ≡ verdict_by reading params p time shown view (status_in_inbox reading items k) (is_locked_in_inbox reading params items k)
   same_facts =
-      kept _ _ _ view.core (kept _ _ _ view.core (kept _ _ _ view.core
-      (shown_same Locked (locks (is_known_locked facts)) (locks (is_locked_in_inbox reading params items k)) _ _ view.core same_locks
-      (shown_same Inactive (is_inactive (known_status facts)) (is_inactive (status_in_inbox reading items k)) _ _ view.core same_inactive
-      (shown_same NotFresh (is_used (known_status facts)) (is_used (status_in_inbox reading items k)) _ _ view.core same_used refl)))))
+      same_shown (checks reading params p time shown view (known_status facts) (is_known_locked facts))
+      (checks reading params p time shown view (status_in_inbox reading items k) (is_locked_in_inbox reading params items k)) view.core
+      ((refl, each_in _ view.core (λ a i. refl)),
+      ((refl, each_in _ view.core (λ a i. refl)),
+      ((refl, each_in _ view.core (λ a i. refl)),
+      ((refl, same_locks),
+      ((refl, same_inactive),
+      ((refl, same_used),
+      ((refl, each_in _ view.core (λ a i. refl)),
+      ((refl, each_in _ view.core (λ a i. refl)),
+      ((refl, each_in _ view.core (λ a i. refl)), tt)))))))))
 
   pub as_at_place : time ≡ item_time (slice_get items k)
       → verdict_by reading params p time shown view (known_status facts) (is_known_locked facts) ≡ verdict_on_view reading params p items k shown view

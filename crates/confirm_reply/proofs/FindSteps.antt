@@ -1,24 +1,23 @@
 -- Views over trees, one at a time.
+use Rattle.std.specs.Option.{option_or}
 use Rattle.std.proofs.Common.{◌≡◌, ℕ, suc, ◌+◌, ◌<◌, ◌≤◌, List, [], ◌∷◌, Option, Some, None, length, get_or, drop, refl, sym, ◌∙◌, ap, add-one}
-use Rattle.std.specs.Prelude.{option_or}
 use Rattle.std.proofs.lemmas.List.{drop_more}
 use Rattle.std.proofs.Math.ListN.{drop_of_length-le}
-use Rattle.ledger_terms.specs.Trees.{Act}
 use Rattle.ledger_terms.specs.Forest.{Forest, NoRoots, Root, number_from}
-use Rattle.view_split.specs.SplitView.{SplitView}
+use Rattle.view_split.specs.declared.split_view.SplitView.{SplitView}
 use Rattle.view_split.specs.Numbered.{held_in}
-use Rattle.view_split.specs.ViewLists.{part_of, views_of}
+use Rattle.ledger_terms.specs.Grown.{forest_of}
 use Rattle.view_split.specs.declared.placed_view.PlacedView.{PlacedView}
-use Rattle.view_split.specs.declared.view.View.{View}
+use Rattle.view_split.specs.ViewTrees.{View}
 use Rattle.confirm_reply.specs.Located.{after_path, after_step, core_found, core_found_in, core_or}
-use Rattle.confirm_reply.specs.Numbers.{act_of, numbered_trees}
+use Rattle.confirm_reply.specs.Numbers.{numbered_trees}
 use Rattle.confirm_reply.specs.declared.numbered.Numbered.{Numbered}
 
 -- what is found of a view and those below it
 abbrev pub found_of : Option (List ℕ) → View → Numbered → Option (List ℕ)
 found_of left v t =
-    core_or left (part_of v) (t.number, act_of t.node.now) (number_from (suc t.number) t.node.now.children)
-    (core_found left 0 v.subviews (held_in v.core.children (number_from (suc t.number) t.node.now.children)))
+    core_or left v.root (t.number, t.node.now.root) (number_from (suc t.number) t.node.now.below)
+    (core_found left 0 v.below (held_in v.root.below (number_from (suc t.number) t.node.now.below)))
 
 nothing_over : (left : Option (List ℕ)) (k : ℕ) (views : Forest SplitView) → core_found left k views NoRoots ≡ None
 nothing_over left k NoRoots = refl
@@ -26,34 +25,34 @@ nothing_over left k (Root view subviews others) = refl
 
 module _ (left : Option (List ℕ)) (vs : List View) (ts : List Numbered) (i : ℕ) (all : Option (List ℕ)) where
   abbrev pub Keeps : Type 0
-  Keeps = core_found left i (views_of (drop i vs)) (numbered_trees (drop i ts)) ≡ all
+  Keeps = core_found left i (forest_of (drop i vs)) (numbered_trees (drop i ts)) ≡ all
 
   module _ (keeps : Keeps) where
     pub short : length ts ≤ i → None ≡ all
     short past =
         let over : numbered_trees (drop i ts) ≡ NoRoots = rw (drop_of_length-le ts past) refl in
-        sym (nothing_over left i (views_of (drop i vs))) ∙ (ap (core_found left i (views_of (drop i vs))) (sym over) ∙ keeps)
+        sym (nothing_over left i (forest_of (drop i vs))) ∙ (ap (core_found left i (forest_of (drop i vs))) (sym over) ∙ keeps)
 
     pub ended : length vs ≤ i → None ≡ all
     ended past =
-        let over : views_of (drop i vs) ≡ NoRoots = rw (drop_of_length-le vs past) refl in
+        let over : forest_of (drop i vs) ≡ NoRoots = rw (drop_of_length-le vs past) refl in
         ap (λ (f : Forest SplitView). core_found left i f (numbered_trees (drop i ts))) (sym over) ∙ keeps
 
     module _ (v : View) (t : Numbered) (h : i < length vs) (at : v ≡ get_or vs i v) (k : i < length ts) (there : t ≡ get_or ts i t) where
-      parts : option_or (found_of (after_step left i) v t) (core_found left (suc i) (views_of (drop (i + 1) vs)) (numbered_trees (drop (i + 1) ts))) ≡ all
+      parts : option_or (found_of (after_step left i) v t) (core_found left (suc i) (forest_of (drop (i + 1) vs)) (numbered_trees (drop (i + 1) ts))) ≡ all
       parts =
           let view : drop i vs ≡ v ∷ drop (i + 1) vs = rw (drop_more vs i v h, ← at) refl in
           let tree : drop i ts ≡ t ∷ drop (i + 1) ts = rw (drop_more ts i t k, ← there) refl in
-          (λ j. core_found left i (views_of (sym view j)) (numbered_trees (sym tree j))) ∙ keeps
+          (λ j. core_found left i (forest_of (sym view j)) (numbered_trees (sym tree j))) ∙ keeps
 
       pub stopped : (core : List ℕ) → Some core ≡ found_of (after_step left i) v t → Some core ≡ all
       stopped core found =
-          ap (λ (o : Option (List ℕ)). option_or o (core_found left (suc i) (views_of (drop (i + 1) vs)) (numbered_trees (drop (i + 1) ts)))) found ∙ parts
+          ap (λ (o : Option (List ℕ)). option_or o (core_found left (suc i) (forest_of (drop (i + 1) vs)) (numbered_trees (drop (i + 1) ts)))) found ∙ parts
 
-      pub goes_on : None ≡ found_of (after_step left i) v t → core_found left (i + 1) (views_of (drop (i + 1) vs)) (numbered_trees (drop (i + 1) ts)) ≡ all
+      pub goes_on : None ≡ found_of (after_step left i) v t → core_found left (i + 1) (forest_of (drop (i + 1) vs)) (numbered_trees (drop (i + 1) ts)) ≡ all
       goes_on none =
-          let rest = core_found left (suc i) (views_of (drop (i + 1) vs)) (numbered_trees (drop (i + 1) ts)) in
-          ap (λ (m : ℕ). core_found left m (views_of (drop (i + 1) vs)) (numbered_trees (drop (i + 1) ts))) (add-one i)
+          let rest = core_found left (suc i) (forest_of (drop (i + 1) vs)) (numbered_trees (drop (i + 1) ts)) in
+          ap (λ (m : ℕ). core_found left m (forest_of (drop (i + 1) vs)) (numbered_trees (drop (i + 1) ts))) (add-one i)
           ∙ (ap (λ (o : Option (List ℕ)). option_or o rest) none ∙ parts)
 
 nothing_over_in : (path : List ℕ) (placed : List PlacedView) → core_found_in path placed NoRoots ≡ None

@@ -3,5 +3,12 @@ mod Conformance
 mod Located
 mod Placed
 mod Trying
+mod ShownAt
 mod Verdicts
 mod AtPlace
+mod CoreSteps
+mod FindSteps
+mod Gathering
+mod NumberSteps
+mod Checked
+mod Checkable

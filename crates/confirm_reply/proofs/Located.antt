@@ -1,17 +1,16 @@
 -- The core that a walk finds is that of the first view with the path.
-use Rattle.std.proofs.Common.{◌≡◌, ℕ, suc, Bool, true, false, List, [], ◌∷◌, ◌++◌, map, Option, Some, None, refl, sym, ap, ◌∙◌, inl, inr}
-use Rattle.std.specs.Prelude.{find, nat_eq, option_map, option_or}
+use Rattle.std.specs.Option.{option_or}
+use Rattle.std.proofs.Common.{◌≡◌, ℕ, suc, Bool, List, [], ◌∷◌, ◌++◌, map, Option, Some, None, refl, sym, ap, ◌∙◌, inl, inr}
+use Rattle.std.specs.Prelude.{find, nat_eq, option_map}
 use Rattle.std.specs.Str.{bytes_eq}
 use Rattle.std.proofs.lemmas.Bool.{cases_Bool}
 use Rattle.std.proofs.lemmas.List.{map-append}
 use Rattle.std.proofs.lemmas.List.Folds.{find-append}
-use Rattle.ledger_terms.specs.Trees.{Act}
+use Rattle.ledger_terms.specs.declared.act.Act.{Act}
 use Rattle.ledger_terms.specs.Forest.{Forest, NoRoots, Root, preorder, paths_from}
 use Rattle.ledger_model.specs.Terms.{Path}
 use Rattle.ledger_model.specs.Opening.{OpenedView}
-use Rattle.view_split.specs.Holed.{Holed}
-use Rattle.view_split.specs.SplitView.{SplitView}
-use Rattle.view_split.specs.ViewLists.{part_of}
+use Rattle.view_split.specs.declared.split_view.SplitView.{SplitView}
 use Rattle.view_split.specs.Numbered.{core_in, held_in, with_cores}
 use Rattle.view_split.specs.Placed.{placed_forest}
 use Rattle.view_split.specs.Seen.{opened_as}
@@ -104,7 +103,7 @@ first_is_found wanted [] trees = refl
 first_is_found wanted (p ∷ placed) NoRoots = refl
 first_is_found wanted (p ∷ placed) (Root x children more) =
     let left = after_path (Some wanted) p.path in
-    let held = held_in p.view.core.children children in
-    step wanted left p.path (part_of p.view) x children (preorder (laid (paths_from p.path 0 p.view.subviews) held)) (preorder (laid (placed_forest placed) more))
-    (core_found left 0 p.view.subviews held) (core_found_in wanted placed more)
-    (same_path wanted p.path) (located wanted p.path 0 p.view.subviews held) (first_is_found wanted placed more)
+    let held = held_in p.view.root.below children in
+    step wanted left p.path p.view.root x children (preorder (laid (paths_from p.path 0 p.view.below) held)) (preorder (laid (placed_forest placed) more))
+    (core_found left 0 p.view.below held) (core_found_in wanted placed more)
+    (same_path wanted p.path) (located wanted p.path 0 p.view.below held) (first_is_found wanted placed more)

@@ -4,12 +4,13 @@ use Rattle.std.specs.Prelude.{slice_get, nat_lt}
 use Rattle.std.proofs.lemmas.Bool.{cases_Bool, ltb-true, ltb-false}
 use Rattle.std.proofs.lemmas.List.{length-append, map-append}
 use Rattle.std.proofs.lemmas.Option.{none-some, same_Some}
-use Rattle.ledger_terms.specs.Trees.{Act, Actions}
+use Rattle.ledger_terms.specs.declared.act.Act.{Act}
+use Rattle.ledger_terms.specs.Trees.{Actions}
 use Rattle.ledger_terms.specs.Forest.{Forest, NoRoots, Root, below_at, join, number_from, preorder, size}
 use Rattle.ledger_model.specs.Forest.{trees_of}
 use Rattle.ledger_model.specs.Terms.{Path}
 use Rattle.view_split.specs.Holed.{Holed, NoMore, Inner, Hole}
-use Rattle.view_split.specs.SplitView.{SplitView}
+use Rattle.view_split.specs.declared.split_view.SplitView.{SplitView}
 use Rattle.view_split.specs.Numbered.{core_in, held_in, with_cores}
 
 -- ---- each of a forest

@@ -2,13 +2,14 @@
 use Rattle.std.proofs.Common.{◌≡◌, ℕ, Bool, true, false, List, [], ◌∷◌, take, refl, sym, ap, ◌∙◌}
 use Rattle.std.specs.Prelude.{not, ◌&&◌, ◌||◌, slice_get}
 use Rattle.std.proofs.Math.Bool.{and_comm}
-use Rattle.ledger_terms.specs.Trees.{Act}
+use Rattle.ledger_terms.specs.declared.act.Act.{Act}
 use Rattle.ledger_terms.specs.Forest.{below_at}
 use Rattle.ledger_model.specs.Forest.{acts, trees_of}
 use Rattle.ledger_model.specs.Language.{roles_of}
 use Rattle.ledger_model.specs.Opening.{OpenedView, Shown}
 use Rattle.ledger_model.specs.Status.{shows_inactive, shows_locked, shows_not_fresh, shows_unordered}
-use Rattle.canton_model.specs.Log.{Reason, IdMismatch, NotVetted, TimeSkew, Locked, Inactive, NotFresh, Unordered, NotConformant, NotAuthorised}
+use Rattle.canton_model.specs.declared.reason.Reason.{Reason}
+use Rattle.canton_model.specs.declared.reason.Reason.TheVariants.{IdMismatch, NotVetted, TimeSkew, Locked, Inactive, NotFresh, Unordered, NotConformant, NotAuthorised}
 use Rattle.canton_model.specs.Checks.{Check, first_shown, first_tree, is_authorised_by_known, is_root_view, is_within}
 use Rattle.canton_model.specs.Checks.{is_first as is_first_of}
 use Rattle.lang_eval.specs.Language.{roles_in}

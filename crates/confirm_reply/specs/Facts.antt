@@ -2,8 +2,9 @@
 use Rattle.std.specs.Prelude.{◌≡◌, ℕ, Bool, true, false, List, Option, Some, None, find, Contains}
 use Rattle.std.specs.Str.{bytes_eq}
 use Rattle.ledger_model.specs.Terms.{Act, Hash, ParticipantId, id_of}
-use Rattle.ledger_model.specs.Status.{Status, Unknown}
-use Rattle.canton_model.specs.Log.{Params}
+use Rattle.ledger_model.specs.declared.status.Status.{Status}
+use Rattle.ledger_model.specs.declared.status.Status.TheVariants.{Unknown}
+use Rattle.ledger_terms.specs.declared.params.Params.{Params}
 use Rattle.canton_model.specs.Reading.{Reading}
 use Rattle.canton_model.specs.Inbox.{Item, has_hosted_stakeholder, is_locked_in_inbox, status_in_inbox}
 use Rattle.confirm_reply.specs.declared.id_facts.IdFacts.{IdFacts}

@@ -1,9 +1,9 @@
 -- The core of the first view with a path, found by walking down.
-use Rattle.std.specs.Prelude.{ℕ, suc, Bool, true, false, List, [], ◌∷◌, Option, Some, None, option_or, if◌then◌else◌, nat_eq}
-use Rattle.ledger_terms.specs.Trees.{Act}
+use Rattle.std.specs.Option.{option_or}
+use Rattle.std.specs.Prelude.{ℕ, suc, Bool, true, false, List, [], ◌∷◌, Option, Some, None, if◌then◌else◌, nat_eq}
+use Rattle.ledger_terms.specs.declared.act.Act.{Act}
 use Rattle.ledger_terms.specs.Forest.{Forest, NoRoots, Root}
-use Rattle.view_split.specs.SplitView.{SplitView}
-use Rattle.view_split.specs.ViewLists.{part_of}
+use Rattle.view_split.specs.declared.split_view.SplitView.{SplitView}
 use Rattle.view_split.specs.Numbered.{core_in, held_in}
 use Rattle.view_split.specs.declared.placed_view.PlacedView.{PlacedView}
 use Rattle.confirm_reply.specs.Numbers.{numbers_of}
@@ -42,6 +42,6 @@ core_found_in path [] trees = None
 core_found_in path (placed ∷ others) NoRoots = None
 core_found_in path (placed ∷ others) (Root x children more) =
     option_or
-    (core_or (after_path (Some path) placed.path) (part_of placed.view) x children
-    (core_found (after_path (Some path) placed.path) 0 placed.view.subviews (held_in placed.view.core.children children)))
+    (core_or (after_path (Some path) placed.path) placed.view.root x children
+    (core_found (after_path (Some path) placed.path) 0 placed.view.below (held_in placed.view.root.below children)))
     (core_found_in path others more)

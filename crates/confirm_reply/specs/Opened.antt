@@ -1,9 +1,11 @@
--- What is opened to who checks it.
-use Rattle.std.specs.Prelude.{◌≡◌, ◌≤◌, true, All, List, Option, find, length}
+-- What is opened to who checks it, and which of its views can be checked.
+use Rattle.std.specs.Prelude.{◌≡◌, ◌≤◌, ℕ, true, All, Option, find, length}
 use Rattle.std.specs.Str.{bytes_eq}
-use Rattle.ledger_model.specs.Terms.{Act, Path, instance_of}
-use Rattle.ledger_model.specs.Forest.{acts}
-use Rattle.ledger_model.specs.Opening.{OpenedView}
+use Rattle.ledger_terms.specs.declared.act.Act.{Act}
+use Rattle.ledger_terms.specs.Forest.{below_at, roots_of}
+use Rattle.ledger_terms.specs.Trees.{Actions}
+use Rattle.ledger_model.specs.Opening.{OpenedView, Shown}
+use Rattle.ledger_model.specs.Terms.{Path, instance_of}
 use Rattle.lang_eval.specs.Found.{Packages}
 use Rattle.lang_eval.specs.Language.{has_roles}
 use Rattle.wire_form.specs.Spellable.{IsSpellableInstance}
@@ -14,9 +16,13 @@ use Rattle.view_split.specs.declared.opened_tree.OpenedTree.{OpenedTree}
 abbrev pub view_at : Path → OpenedTree → Option OpenedView
 view_at path tree = find (λ (view : OpenedView). bytes_eq path view.path) (shown_by tree).views
 
--- Each action that is opened has roles, and an instance that can be spelled; and no core has more actions than its verdict can
--- number.
-pub record CanBeChecked (packages : Packages) (tree : OpenedTree) : Type 0 where
-  pub roles : All (λ (act : Act). has_roles packages act.action ≡ true) (acts (shown_by tree).roots)
-  pub spellable : All (λ (act : Act). IsSpellableInstance (instance_of act.action)) (acts (shown_by tree).roots)
-  pub few : All (λ (view : OpenedView). length view.core ≤ 65536) (shown_by tree).views
+-- an action with what stands below it has roles, as those directly below it have, and its instance can be spelled
+pub record IsCheckable (packages : Packages) (act : Act) (below : Actions) : Type 0 where
+  pub roles : has_roles packages act.action ≡ true
+  pub below_roles : All (λ (child : Act). has_roles packages child.action ≡ true) (roots_of below)
+  pub spellable : IsSpellableInstance (instance_of act.action)
+
+-- Each action of the view's core is so, and the core has no more than a verdict can number.
+pub record CanBeChecked (packages : Packages) (shown : Shown) (view : OpenedView) : Type 0 where
+  pub each : All (λ (a : ℕ × Act). IsCheckable packages a.1 (below_at a.0 shown.roots)) view.core
+  pub few : length view.core ≤ 65536

@@ -1,11 +1,14 @@
 -- The reasons as they are tried, by what stands at an action's number.
 use Rattle.std.specs.Prelude.{ℕ, suc, Bool, false, List, [], ◌∷◌, Option, Some, None, option_map, if◌then◌else◌, not, ◌&&◌, ◌||◌, nat_eq, slice_get, take, map}
-use Rattle.ledger_terms.specs.Trees.{Act, Actions}
+use Rattle.ledger_terms.specs.declared.act.Act.{Act}
+use Rattle.ledger_terms.specs.Trees.{Actions}
 use Rattle.ledger_terms.specs.Vetting.{vets}
-use Rattle.ledger_terms.specs.declared.action_node.ActionNode.{ActionNode}
 use Rattle.ledger_model.specs.Terms.{instance_of}
 use Rattle.ledger_model.specs.Status.{shows_locked, shows_inactive, shows_not_fresh, shows_unordered}
-use Rattle.canton_model.specs.Log.{LocalVerdict, Approve, Reject, Reason, IdMismatch, NotVetted, TimeSkew, Locked, Inactive, NotFresh, Unordered, NotConformant, NotAuthorised}
+use Rattle.canton_model.specs.declared.reason.Reason.{Reason}
+use Rattle.canton_model.specs.declared.reason.Reason.TheVariants.{IdMismatch, NotVetted, TimeSkew, Locked, Inactive, NotFresh, Unordered, NotConformant, NotAuthorised}
+use Rattle.canton_model.specs.declared.local_verdict.LocalVerdict.{LocalVerdict}
+use Rattle.canton_model.specs.declared.local_verdict.LocalVerdict.TheVariants.{Approve, Reject}
 use Rattle.canton_model.specs.Inbox.{has_hosted_stakeholder}
 use Rattle.canton_model.specs.Checks.{is_within, is_authorised_by_known}
 use Rattle.lang_eval.specs.Language.{roles_in}

@@ -1,6 +1,6 @@
 -- The verdict of a check.
 use Rattle.ledger_model.specs.Opening.{OpenedView}
-use Rattle.canton_model.specs.Log.{LocalVerdict}
+use Rattle.canton_model.specs.declared.local_verdict.LocalVerdict.{LocalVerdict}
 use Rattle.canton_model.specs.Checks.{verdict_by}
 use Rattle.view_split.specs.Placed.{shown_by}
 use Rattle.confirm_reply.specs.Facts.{known_status, is_known_locked}

@@ -3,9 +3,8 @@ ghost use Rattle.std.specs.Prelude.{◌≡◌, ◌++◌, ◌∷◌, [], Some, su
 ghost use Rattle.ledger_terms.specs.Forest.{join, number_from};
 ghost use Rattle.view_split.specs.CoreLists.{children_of};
 ghost use Rattle.view_split.specs.Numbered.{core_in, held_in};
-ghost use Rattle.view_split.specs.ViewLists.{part_of};
 ghost use Rattle.confirm_reply.specs.Located.{after_path, after_step, core_found, core_found_in, core_or, is_all};
-ghost use Rattle.confirm_reply.specs.Numbers.{act_of, numbered_trees, numbers_of};
+ghost use Rattle.confirm_reply.specs.Numbers.{numbered_trees, numbers_of};
 
 use crate::numbered::Numbered;
 use crate::numbering::numbered_below;
@@ -60,7 +59,7 @@ fn put_child<'a>(
 }
 
 fn after_step(left: Option<&[u16]>, step: usize) -> Option<&[u16]>
-    ensures { option_copied result ≡ after_step (option_copied left) step }
+    ensures { option_copied result ≡ after_step (option_copied left.entry) step }
 {
     match left {
         Some([first, rest @ ..]) => {
@@ -85,7 +84,7 @@ fn after_path<'p>(wanted: &'p [u16], path: &[u16]) -> Option<&'p [u16]>
 }
 
 fn is_all(left: Option<&[u16]>) -> bool
-    ensures { result ≡ is_all (option_copied left) }
+    ensures { result ≡ is_all (option_copied left.entry) }
 {
     match left {
         Some(rest) => rest.is_empty(),
@@ -101,9 +100,9 @@ fn core_of_view(
     tree: &Numbered<'_>,
     left: Option<&[u16]>,
 ) -> Result<Option<Vec<usize>>, AllocError>
-    ensures { IfOk result (λ found. option_map (λ v. v.items) found ≡ core_or (option_copied left) (part_of view.now) (tree.now.number, act_of tree.now.node.now)
-        (number_from (suc tree.now.number) tree.now.node.now.children)
-        (core_found (option_copied left) 0 view.now.subviews (held_in view.now.core.children (number_from (suc tree.now.number) tree.now.node.now.children)))) }
+    ensures { IfOk result (λ found. option_map (λ v. v.items) found ≡ core_or (option_copied left.entry) view.now.root (tree.now.number, tree.now.node.now.root)
+        (number_from (suc tree.now.number) tree.now.node.now.below)
+        (core_found (option_copied left.entry) 0 view.now.below (held_in view.now.root.below (number_from (suc tree.now.number) tree.now.node.now.below)))) }
 {
     let below = numbered_below(alloc, tree)?;
     let mut core = Vec::new(alloc);
@@ -111,7 +110,7 @@ fn core_of_view(
     core.push(tree.number)?;
     put_core(
         alloc,
-        &view.core.children,
+        &view.root.below,
         below.as_slice(),
         &mut core,
         &mut held,
@@ -119,7 +118,7 @@ fn core_of_view(
     if is_all(left) {
         return Ok(Some(core));
     }
-    core_among(alloc, &view.subviews, held.as_slice(), left)
+    core_among(alloc, &view.below, held.as_slice(), left)
 }
 
 #[cycle(find)]
@@ -129,7 +128,7 @@ fn core_among(
     trees: &[Numbered<'_>],
     left: Option<&[u16]>,
 ) -> Result<Option<Vec<usize>>, AllocError>
-    ensures { IfOk result (λ found. option_map (λ v. v.items) found ≡ core_found (option_copied left) 0 views.now (numbered_trees trees.now)) }
+    ensures { IfOk result (λ found. option_map (λ v. v.items) found ≡ core_found (option_copied left.entry) 0 views.now (numbered_trees trees.now)) }
 {
     let items = views.as_slice();
     for at in 0..items.len() {

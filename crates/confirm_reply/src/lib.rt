@@ -6,6 +6,7 @@ mod cores;
 mod facts;
 mod hosting;
 mod id_facts;
+pub mod laws;
 mod numbered;
 mod numbering;
 mod opened;

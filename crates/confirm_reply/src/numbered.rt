@@ -9,5 +9,5 @@ use ledger_terms::ActionNode;
 pub(crate) struct Numbered<'a> {
     pub(crate) number: usize,
     pub(crate) node: &'a ActionNode,
-    ghost within: { number + size node.now.children + 1 < 2 ^ 63 },
+    ghost within: { number + size node.now.below + 1 < 2 ^ 63 },
 }

@@ -13,7 +13,7 @@ fn count_of(trees: &ActionNodeList) -> usize
 {
     let mut count: usize = 0;
     for node in trees.as_slice() {
-        count += count_of(&node.children) + 1;
+        count += count_of(&node.below) + 1;
     }
     count
 }
@@ -29,7 +29,7 @@ fn number_into<'a>(
 {
     let mut next = first;
     for node in trees.as_slice() {
-        let below = count_of(&node.children);
+        let below = count_of(&node.below);
         out.push(Numbered { number: next, node })?;
         next += below + 1;
     }
@@ -55,7 +55,7 @@ pub(crate) fn numbered_below<'a>(
     alloc: Global,
     tree: &Numbered<'a>,
 ) -> Result<Vec<Numbered<'a>>, AllocError>
-    ensures { IfOk result (λ v. numbered_trees v.items ≡ number_from (suc tree.now.number) tree.now.node.now.children) }
+    ensures { IfOk result (λ v. numbered_trees v.items ≡ number_from (suc tree.now.number) tree.now.node.now.below) }
 {
-    numbered(alloc, &tree.node.children, tree.number + 1)
+    numbered(alloc, &tree.node.below, tree.number + 1)
 }

@@ -26,7 +26,7 @@ fn gather<'a>(trees: &'a ActionNodeList, nodes: &mut Vec<&'a ActionNode>) -> Res
 {
     for node in trees.as_slice() {
         nodes.push(node)?;
-        gather(&node.children, nodes)?;
+        gather(&node.below, nodes)?;
     }
     Ok(())
 }
@@ -52,7 +52,7 @@ pub(crate) fn actions_of<'a>(
 {
     let mut acts = Vec::new(alloc);
     for node in nodes {
-        acts.push(Earlier::of(*node))?;
+        acts.push(Earlier::of(&node.root))?;
     }
     Ok(acts)
 }

@@ -1,7 +1,8 @@
 //! The reasons, one after another over a whole core.
-ghost use Rattle.std.specs.Prelude.{◌≡◌, ◌&&◌, IfOk, take};
-ghost use Rattle.confirm_reply.specs.Fit.{IsCheckable, IsFit, matter_of};
-ghost use Rattle.confirm_reply.specs.Numbers.{act_of};
+ghost use Rattle.std.specs.Prelude.{◌≡◌, ◌&&◌, IfOk, slice_get, take};
+ghost use Rattle.confirm_reply.specs.Fit.{IsCheckableAt, IsFit, matter_of};
+ghost use Rattle.confirm_reply.specs.Nodes.{acts_of, trees_in};
+ghost use Rattle.confirm_reply.specs.Opened.{IsCheckable};
 ghost use Rattle.confirm_reply.specs.Tried.{first_alone, is_first, place_of, place_shown, shows, shows_at, verdict_after};
 
 use crate::trial::Trial;
@@ -29,15 +30,21 @@ fn is_first(core: &[usize], number: usize) -> bool
     }
 }
 
-impl Trial<'_> {
+fn node_at<'n>(nodes: &[&'n ActionNode], number: usize) -> Option<&'n ActionNode>
+    ensures { result ≡ slice_get nodes.now number }
+{
+    nodes.get(number).copied()
+}
+
+impl Trial<'_, '_, '_> {
     fn node_shows(
         &self,
         reason: Reason,
         number: usize,
         node: &ActionNode,
     ) -> Result<bool, AllocError>
-        requires { IsCheckable self.now.input.now.setup.now.checked (act_of node.now) node.now.children }
-        ensures { IfOk result (λ b. b ≡ shows self.now.input.now reason (act_of node.now) node.now.children (take number self.now.earlier.now)
+        requires { IsCheckable self.now.input.now.setup.now.checked node.now.root node.now.below }
+        ensures { IfOk result (λ b. b ≡ shows self.now.input.now reason node.now.root node.now.below (take number self.now.earlier.now)
             (self.now.is_root && is_first self.now.core.now number)) }
     {
         let asks = self.is_root && is_first(self.core, number);
@@ -46,11 +53,12 @@ impl Trial<'_> {
 
     // Whether the action with a number shows a reason.
     fn shows_at(&self, reason: Reason, number: usize) -> Result<bool, AllocError>
-        requires { IsFit self.now }
+        requires checkable { IsCheckableAt self.now.input.now.setup.now.checked (trees_in self.now.nodes.now) number }
+        requires earlier { self.now.earlier.now ≡ acts_of self.now.nodes.now }
         ensures { IfOk result (λ b. b ≡ shows_at self.now.input.now (matter_of self.now) reason number) }
     {
-        match self.nodes.get(number) {
-            Some(node) => self.node_shows(reason, number, *node),
+        match node_at(self.nodes, number) {
+            Some(node) => self.node_shows(reason, number, node),
             None => Ok(false),
         }
     }

@@ -3,14 +3,13 @@ ghost use Rattle.std.specs.Prelude.{◌≡◌, ◌&&◌, [], true, not, IfOk};
 ghost use Rattle.ledger_model.specs.Terms.{id_of, instance_of};
 ghost use Rattle.ledger_model.specs.Status.{shows_not_fresh};
 ghost use Rattle.canton_model.specs.Checks.{is_within};
-ghost use Rattle.canton_model.specs.Log.{NotAuthorised};
+ghost use Rattle.canton_model.specs.declared.reason.Reason.TheVariants.{NotAuthorised};
 ghost use Rattle.wire_form.specs.Spellable.{IsSpellableInstance};
 ghost use Rattle.lang_eval.specs.Language.{has_roles};
 ghost use Rattle.interpret.specs.Ids.{is_authentic};
 ghost use Rattle.interpret.specs.Tries.{is_tree_possible};
 ghost use Rattle.confirm_reply.specs.Facts.{known_status};
-ghost use Rattle.confirm_reply.specs.Fit.{IsCheckable};
-ghost use Rattle.confirm_reply.specs.Numbers.{act_of};
+ghost use Rattle.confirm_reply.specs.Opened.{IsCheckable};
 ghost use Rattle.confirm_reply.specs.Tried.{is_hosted, is_requested, shows};
 
 use crate::facts::{is_locked, status_of};
@@ -43,12 +42,12 @@ fn is_used(status: Status, action: &Action) -> bool
     }
 }
 
-impl Trial<'_> {
+impl Trial<'_, '_, '_> {
     fn is_mismatched(&self, node: &ActionNode) -> Result<bool, AllocError>
-        requires { IsSpellableInstance (instance_of node.now.action) }
-        ensures { IfOk result (λ b. b ≡ not (is_authentic (act_of node.now))) }
+        requires { IsSpellableInstance (instance_of node.now.root.action) }
+        ensures { IfOk result (λ b. b ≡ not (is_authentic node.now.root)) }
     {
-        Ok(!is_authentic(self.alloc, &node.seed, &node.action)?)
+        Ok(!is_authentic(self.alloc, &node.root.seed, &node.root.action)?)
     }
 
     fn is_skewed(&self) -> bool
@@ -79,9 +78,8 @@ impl Trial<'_> {
         status_of(&self.input.facts, action.id())
     }
 
-    #[tactic(auto, using(crate::proofs::Conformance::possible_where_it_conforms))]
     fn conforms(&self, node: &ActionNode) -> Result<bool, AllocError>
-        ensures { IfOk result (λ b. b ≡ is_tree_possible self.now.input.now.setup.now.checked node.now.action node.now.children) }
+        ensures { IfOk result (λ b. b ≡ is_tree_possible self.now.input.now.setup.now.checked node.now.root.action node.now.below) }
     {
         reexecute(self.alloc, &self.input.setup.checked, node)
     }
@@ -102,8 +100,8 @@ impl Trial<'_> {
     }
 
     fn lacks_authority(&self, node: &ActionNode, asks: bool) -> Result<bool, AllocError>
-        requires { IsCheckable self.now.input.now.setup.now.checked (act_of node.now) node.now.children }
-        ensures { IfOk result (λ b. b ≡ shows self.now.input.now NotAuthorised (act_of node.now) node.now.children [] asks) }
+        requires { IsCheckable self.now.input.now.setup.now.checked node.now.root node.now.below }
+        ensures { IfOk result (λ b. b ≡ shows self.now.input.now NotAuthorised node.now.root node.now.below [] asks) }
     {
         if !children_authorised(self.alloc, &self.input.setup.checked, node)? {
             return Ok(true);
@@ -111,7 +109,7 @@ impl Trial<'_> {
         if !asks {
             return Ok(false);
         }
-        Ok(!self.is_requested(&node.action)?)
+        Ok(!self.is_requested(&node.root.action)?)
     }
 
     /// Whether an action shows a reason after those before it; `asks` tells whether the requesters have to authorise it.
@@ -122,10 +120,10 @@ impl Trial<'_> {
         earlier: &[Earlier<'_>],
         asks: bool,
     ) -> Result<bool, AllocError>
-        requires { IsCheckable self.now.input.now.setup.now.checked (act_of node.now) node.now.children }
-        ensures { IfOk result (λ b. b ≡ shows self.now.input.now reason (act_of node.now) node.now.children earlier.now asks) }
+        requires { IsCheckable self.now.input.now.setup.now.checked node.now.root node.now.below }
+        ensures { IfOk result (λ b. b ≡ shows self.now.input.now reason node.now.root node.now.below earlier.now asks) }
     {
-        let action = &node.action;
+        let action = &node.root.action;
         match reason {
             Reason::IdMismatch => self.is_mismatched(node),
             Reason::NotVetted => Ok(!has_vetted(self.input, action.instance().template.package)),

@@ -6,11 +6,11 @@ use std::alloc::Global;
 
 /// What is opened to a participant, in pre-order, with the numbers of a view's core.
 #[derive(Drop)]
-pub(crate) struct Trial<'a> {
+pub(crate) struct Trial<'a, 's, 'n> {
     pub(crate) alloc: Global,
-    pub(crate) input: &'a CheckInput<'a>,
-    pub(crate) nodes: &'a [&'a ActionNode],
-    pub(crate) earlier: &'a [Earlier<'a>],
+    pub(crate) input: &'a CheckInput<'s>,
+    pub(crate) nodes: &'a [&'n ActionNode],
+    pub(crate) earlier: &'a [Earlier<'n>],
     pub(crate) core: &'a [usize],
     pub(crate) is_root: bool,
 }

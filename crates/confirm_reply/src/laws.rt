@@ -1,0 +1,21 @@
+//! Laws of checks, each the contract of a function with nothing to do.
+ghost use Rattle.std.specs.Prelude.{◌≡◌, ◌≤◌, true, All, Contains, length};
+ghost use Rattle.ledger_terms.specs.declared.act.Act.{Act};
+ghost use Rattle.ledger_model.specs.Forest.{acts};
+ghost use Rattle.ledger_model.specs.Opening.{OpenedView};
+ghost use Rattle.ledger_model.specs.Terms.{instance_of};
+ghost use Rattle.lang_eval.specs.Found.{Packages};
+ghost use Rattle.lang_eval.specs.Language.{has_roles};
+ghost use Rattle.wire_form.specs.Spellable.{IsSpellableInstance};
+ghost use Rattle.view_split.specs.Placed.{shown_by};
+ghost use Rattle.view_split.specs.declared.opened_tree.OpenedTree.{OpenedTree};
+ghost use Rattle.confirm_reply.specs.Opened.{CanBeChecked};
+
+/// Each view that is opened can be checked where all that is opened has roles and can be encoded, and the view's core has no
+/// more actions than a verdict can number.
+pub fn opened_views_can_be_checked()
+    ensures { (packages : Packages) (tree : OpenedTree) (view : OpenedView) → Contains (shown_by tree).views view
+        → All (λ (act : Act). has_roles packages act.action ≡ true) (acts (shown_by tree).roots)
+        → All (λ (act : Act). IsSpellableInstance (instance_of act.action)) (acts (shown_by tree).roots)
+        → length view.core ≤ 65536 → CanBeChecked packages (shown_by tree) view }
+{}
