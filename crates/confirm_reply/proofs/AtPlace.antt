@@ -1,6 +1,6 @@
 -- Facts as at a place give the verdict at that place.
 use Rattle.std.proofs.Common.{◌≡◌, ℕ, Bool, true, false, List, [], ◌∷◌, take, refl, ap, ◌∙◌, inl, inr}
-use Rattle.std.specs.Prelude.{◌&&◌, not, slice_get, if◌then◌else◌}
+use Rattle.std.specs.Prelude.{◌&&◌, not, slice_get}
 use Rattle.std.specs.List.{list_any}
 use Rattle.ledger_terms.specs.declared.act.Act.{Act}
 use Rattle.ledger_model.specs.Forest.{acts}
@@ -12,8 +12,6 @@ use Rattle.ledger_model.proofs.Lists.{In, contains_from_In}
 use Rattle.canton_model.specs.Checks.{checks, verdict_by, verdict_on_view}
 use Rattle.canton_model.specs.Inbox.{Item, has_hosted_stakeholder, is_locked_in_inbox, item_time, status_in_inbox}
 use Rattle.ledger_terms.specs.declared.params.Params.{Params}
-use Rattle.canton_model.specs.declared.reason.Reason.TheVariants.{Locked, Inactive, NotFresh}
-use Rattle.canton_model.specs.declared.local_verdict.LocalVerdict.TheVariants.{Reject}
 use Rattle.canton_model.specs.Reading.{Reading}
 use Rattle.confirm_reply.specs.Facts.{AreAsAt, is_known_locked, known_status}
 use Rattle.confirm_reply.specs.declared.id_facts.IdFacts.{IdFacts}
@@ -72,16 +70,31 @@ module _ (reading : Reading) (params : Params) (p : ParticipantId) (items : List
       ≡ verdict_by reading params p time shown view (status_in_inbox reading items k) (is_locked_in_inbox reading params items k)
   same_facts =
       same_shown (checks reading params p time shown view (known_status facts) (is_known_locked facts))
-      (checks reading params p time shown view (status_in_inbox reading items k) (is_locked_in_inbox reading params items k)) view.core
-      ((refl, each_in _ view.core (λ a i. refl)),
-      ((refl, each_in _ view.core (λ a i. refl)),
-      ((refl, each_in _ view.core (λ a i. refl)),
-      ((refl, same_locks),
-      ((refl, same_inactive),
-      ((refl, same_used),
-      ((refl, each_in _ view.core (λ a i. refl)),
-      ((refl, each_in _ view.core (λ a i. refl)),
-      ((refl, each_in _ view.core (λ a i. refl)), tt)))))))))
+      (checks reading params p time shown view (status_in_inbox reading items k) (is_locked_in_inbox reading params items k)) view.core (
+        (refl, each_in _ view.core (λ a i. refl)),
+        (
+          (refl, each_in _ view.core (λ a i. refl)),
+          (
+            (refl, each_in _ view.core (λ a i. refl)),
+            (
+              (refl, same_locks),
+              (
+                (refl, same_inactive),
+                (
+                  (refl, same_used),
+                  (
+                    (refl, each_in _ view.core (λ a i. refl)),
+                    (
+                      (refl, each_in _ view.core (λ a i. refl)),
+                      ((refl, each_in _ view.core (λ a i. refl)), tt),
+                    ),
+                  ),
+                ),
+              ),
+            ),
+          ),
+        ),
+      )
 
   pub as_at_place : time ≡ item_time (slice_get items k)
       → verdict_by reading params p time shown view (known_status facts) (is_known_locked facts) ≡ verdict_on_view reading params p items k shown view

@@ -1,13 +1,12 @@
-use Rattle.std.proofs.Common.{◌≡◌, Some, refl, sym, ap, ◌∙◌, arith}
-use Rattle.std.specs.Prelude.{ℕ, length, nat_eq, option_map}
+use Rattle.std.proofs.Common.{Some, ap, ◌∙◌, arith}
+use Rattle.std.specs.Prelude.{ℕ, nat_eq}
 use Rattle.std.proofs.lemmas.Result.{IfOk-weaker}
-use Rattle.ledger_terms.specs.Forest.{size}
 use Rattle.view_split.specs.Placed.{shown_by}
 use Rattle.confirm_reply.specs.LocalReading.{local_reading}
 use Rattle.confirm_reply.specs.Nodes.{trees_in}
 use Rattle.confirm_reply.specs.Numbers.{numbered_trees}
 use Rattle.confirm_reply.proofs.AtPlace.{as_at_place}
-use Rattle.confirm_reply.proofs.Checked.{IsInHand, few_numbers, not_lost, numbers_checkable, verdict_given}
+use Rattle.confirm_reply.proofs.Checked.{few_numbers, not_lost, numbers_checkable, verdict_given}
 use Rattle.confirm_reply.proofs.ShownAt.{nodes_counted}
 use Rattle.confirm_reply.proofs.view_check.check_view.Goals as goal
 
