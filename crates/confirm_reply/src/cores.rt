@@ -42,8 +42,10 @@ fn put_child<'a>(
     core: &mut Vec<usize>,
     held: &mut Vec<Numbered<'a>>,
 ) -> Result<(), AllocError>
-    ensures core { OnOk result (core.new.items ≡ core.old.items ++ numbers_of (core_in (children_of (child.now ∷ [])) (numbered_trees (tree.now ∷ [])))) }
-    ensures held { OnOk result (numbered_trees held.new.items ≡ join (numbered_trees held.old.items) (held_in (children_of (child.now ∷ [])) (numbered_trees (tree.now ∷ [])))) }
+    ensures core { OnOk result (core.new.items
+        ≡ core.old.items ++ numbers_of (core_in (children_of (child.now ∷ [])) (numbered_trees (tree.now ∷ [])))) }
+    ensures held { OnOk result (numbered_trees held.new.items
+        ≡ join (numbered_trees held.old.items) (held_in (children_of (child.now ∷ [])) (numbered_trees (tree.now ∷ [])))) }
 {
     match child {
         CoreChild::Inner(node) => {
