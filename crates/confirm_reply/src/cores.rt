@@ -102,7 +102,8 @@ fn core_of_view(
     tree: &Numbered<'_>,
     left: Option<&[u16]>,
 ) -> Result<Option<Vec<usize>>, AllocError>
-    ensures { IfOk result (λ found. option_map (λ v. v.items) found ≡ core_or (option_copied left.entry) view.now.root (tree.now.number, tree.now.node.now.root)
+    ensures { IfOk result (λ found. option_map (λ v. v.items) found
+        ≡ core_or (option_copied left.entry) view.now.root (tree.now.number, tree.now.node.now.root)
         (number_from (suc tree.now.number) tree.now.node.now.below)
         (core_found (option_copied left.entry) 0 view.now.below (held_in view.now.root.below (number_from (suc tree.now.number) tree.now.node.now.below)))) }
 {
