@@ -15,7 +15,7 @@ use Rattle.blind_tree.specs.Vertices.{Vertices, BlindVertex, InnerVertex}
 use Rattle.blind_tree.specs.Digests.{Hashing}
 use Rattle.blind_tree.specs.LeafBytes.{roles_bytes, core_bytes}
 use Rattle.blind_tree.specs.Blind.{Visibility, leaf_of, roles_digest, core_digest, view_digests, views_shown, informees_alone, visibility, shown_to, is_hidden, shows_roles, shows_core, vertices_shown, has_sight, sees_root, blind_for, is_host_named}
-use Rattle.blind_tree.specs.KeptParts.{KeptPart}
+use Rattle.blind_tree.specs.declared.kept_view.KeptView.{KeptView}
 use Rattle.blind_tree.specs.Kept.{kept_leaf, kept_digests, kept_views, kept_part, kept_tree, is_kept_sight, has_kept_sight, sees_kept_root, cut_leaf, cut_part, cut_views, cut_for_mediator, cut_shows, cut_tree}
 use Rattle.blind_tree.specs.declared.recipient.Recipient.{Recipient}
 use Rattle.blind_tree.specs.declared.recipient.Recipient.TheVariants.{Participant, Mediator}
@@ -55,7 +55,7 @@ module _ (sha : Hashing) where
       then BlindVertex digest others
       else InnerVertex (leaf_of sha (shows_roles mark) 3 view.first.seed (roles_bytes view)) (leaf_of sha (shows_core mark) 4 view.first.seed (core_bytes view)) subviews others
 
-  one_cut : (view : SplitView) (sees below : Bool) (f : Forest KeptPart) (v o : Vertices)
+  one_cut : (view : SplitView) (sees below : Bool) (f : Forest KeptView) (v o : Vertices)
       → cut_part sees below (kept_part sha view f) v o ≡ marked_vertex view (visibility sees below) (sha (view_hash_string (roles_digest sha view) (core_digest sha view) (kept_digests f))) v o
   one_cut view true below f v o = refl
   one_cut view false true f v o = refl

@@ -12,9 +12,9 @@ use Rattle.blind_tree.specs.Vertices.{Vertices, NoVertices, BlindVertex, InnerVe
 use Rattle.blind_tree.specs.Digests.{Hashing}
 use Rattle.blind_tree.specs.LeafBytes.{common_bytes, roles_bytes, core_bytes}
 use Rattle.blind_tree.specs.Blind.{salt_of, digest_of, is_host_named}
-use Rattle.blind_tree.specs.KeptParts.{KeptPart}
 use Rattle.blind_tree.specs.declared.kept_leaf.KeptLeaf.{KeptLeaf}
 use Rattle.blind_tree.specs.declared.kept_tree.KeptTree.{KeptTree}
+use Rattle.blind_tree.specs.declared.kept_view.KeptView.{KeptView}
 use Rattle.blind_tree.specs.declared.leaf.Leaf.{Leaf}
 use Rattle.blind_tree.specs.declared.leaf.Leaf.TheVariants.{Blind, Plain}
 use Rattle.blind_tree.specs.declared.tree.Tree.{Tree}
@@ -25,11 +25,11 @@ abbrev pub kept_leaf : Hashing → (kind : ℕ) (seed bytes : List ℕ) → Kept
 kept_leaf sha kind seed bytes = record { salt = salt_of sha kind seed; bytes = bytes; hash = digest_of sha kind seed bytes }
 
 -- the hashes of views side by side
-abbrev pub kept_digests : Forest KeptPart → List (List ℕ)
+abbrev pub kept_digests : Forest KeptView → List (List ℕ)
 kept_digests NoRoots = []
 kept_digests (Root part subviews others) = part.hash ∷ kept_digests others
 
-abbrev pub kept_part : Hashing → SplitView → Forest KeptPart → KeptPart
+abbrev pub kept_part : Hashing → SplitView → Forest KeptView → KeptView
 kept_part sha view below =
     let informees_leaf = kept_leaf sha 3 view.first.seed (roles_bytes view) in
     let contents_leaf = kept_leaf sha 4 view.first.seed (core_bytes view) in
@@ -40,7 +40,7 @@ kept_part sha view below =
       hash = sha (view_hash_string informees_leaf.hash contents_leaf.hash (kept_digests below));
     }
 
-abbrev pub kept_views : Hashing → Forest SplitView → Forest KeptPart
+abbrev pub kept_views : Hashing → Forest SplitView → Forest KeptView
 kept_views sha NoRoots = NoRoots
 kept_views sha (Root view subviews others) = Root (kept_part sha view (kept_views sha subviews)) (kept_views sha subviews) (kept_views sha others)
 
@@ -52,13 +52,13 @@ kept_tree sha views sender =
       views = kept_views sha views.roots;
     }
 
-abbrev pub is_kept_sight : (List ℕ → Bool) → KeptPart → Bool
+abbrev pub is_kept_sight : (List ℕ → Bool) → KeptView → Bool
 is_kept_sight hosts part = list_any hosts part.informees
 
-abbrev pub has_kept_sight : (List ℕ → Bool) → Forest KeptPart → Bool
+abbrev pub has_kept_sight : (List ℕ → Bool) → Forest KeptView → Bool
 has_kept_sight hosts views = list_any (is_kept_sight hosts) (preorder views)
 
-abbrev pub sees_kept_root : (List ℕ → Bool) → Forest KeptPart → Bool
+abbrev pub sees_kept_root : (List ℕ → Bool) → Forest KeptView → Bool
 sees_kept_root hosts NoRoots = false
 sees_kept_root hosts (Root part subviews others) = is_kept_sight hosts part || sees_kept_root hosts others
 
@@ -66,25 +66,25 @@ abbrev pub cut_leaf : Bool → KeptLeaf → Leaf
 cut_leaf shows leaf = if shows then Plain leaf.salt leaf.bytes else Blind leaf.hash
 
 -- a view and what is cut of those below it, with what is cut of those after it
-abbrev pub cut_part : (sees below : Bool) → KeptPart → (subviews others : Vertices) → Vertices
+abbrev pub cut_part : (sees below : Bool) → KeptView → (subviews others : Vertices) → Vertices
 cut_part sees below part subviews others =
     if sees || below
     then InnerVertex (cut_leaf sees part.informees_leaf) (cut_leaf sees part.contents_leaf) subviews others
     else BlindVertex part.hash others
 
 -- what a participant gets of views
-abbrev pub cut_views : (hosts : List ℕ → Bool) (above : Bool) → Forest KeptPart → Vertices
+abbrev pub cut_views : (hosts : List ℕ → Bool) (above : Bool) → Forest KeptView → Vertices
 cut_views hosts above NoRoots = NoVertices
 cut_views hosts above (Root part subviews others) =
     let sees = above || is_kept_sight hosts part in
     cut_part sees (has_kept_sight hosts subviews) part (cut_views hosts sees subviews) (cut_views hosts above others)
 
 -- the same of one view, seen or not
-abbrev pub cut_one : (hosts : List ℕ → Bool) (sees : Bool) → KeptPart → Forest KeptPart → Vertices
+abbrev pub cut_one : (hosts : List ℕ → Bool) (sees : Bool) → KeptView → Forest KeptView → Vertices
 cut_one hosts sees part subviews = cut_part sees (has_kept_sight hosts subviews) part (cut_views hosts sees subviews) NoVertices
 
 -- what the mediator gets of views
-abbrev pub cut_for_mediator : Forest KeptPart → Vertices
+abbrev pub cut_for_mediator : Forest KeptView → Vertices
 cut_for_mediator NoRoots = NoVertices
 cut_for_mediator (Root part subviews others) =
     InnerVertex (cut_leaf true part.informees_leaf) (cut_leaf false part.contents_leaf) (cut_for_mediator subviews) (cut_for_mediator others)

@@ -9,9 +9,6 @@ pub mod Agreement
 pub mod Cores
 pub mod LeafBytes
 pub mod Blind
-pub mod KeptParts
-pub mod KeptLists
-pub mod KeptFall
 pub mod Kept
 pub mod Opening
 pub mod Told

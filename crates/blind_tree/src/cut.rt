@@ -1,15 +1,15 @@
 //! Cutting a recipient's tree from a transaction's tree with every hash. Nothing is hashed here.
 ghost use Rattle.std.specs.Prelude.{◌≡◌, IfOk, OnOk, false};
+ghost use Rattle.ledger_terms.specs.Grown.{tree_of};
 ghost use Rattle.ledger_terms.specs.Hosting.{hosts_at};
 ghost use Rattle.blind_tree.specs.Vertices.{beside};
 ghost use Rattle.blind_tree.specs.VertexLists.{one_vertex};
 ghost use Rattle.blind_tree.specs.Blind.{is_host_named};
-ghost use Rattle.blind_tree.specs.KeptLists.{one_kept, part_kept};
 ghost use Rattle.blind_tree.specs.Kept.{cut_views, cut_for_mediator, cut_leaf, cut_one, cut_tree, has_kept_sight, sees_kept_root};
 
 use crate::kept_leaf::KeptLeaf;
-use crate::kept_list::{KeptList, KeptView};
 use crate::kept_tree::KeptTree;
+use crate::kept_view::{KeptList, KeptNode};
 use crate::leaf::Leaf;
 use crate::recipient::Recipient;
 use crate::sight::hosts_any;
@@ -61,7 +61,7 @@ fn sees_root(views: &KeptList, topology: &Topology, at: ParticipantId) -> bool
     ensures { result ≡ sees_kept_root (hosts_at topology.now.hosts at) views.now }
 {
     for view in views.as_slice() {
-        if hosts_any(topology, at, &view.informees) {
+        if hosts_any(topology, at, &view.root.informees) {
             return true;
         }
     }
@@ -73,7 +73,7 @@ fn is_seen(views: &KeptList, topology: &Topology, at: ParticipantId) -> bool
     ensures { result ≡ has_kept_sight (hosts_at topology.now.hosts at) views.now }
 {
     for view in views.as_slice() {
-        if hosts_any(topology, at, &view.informees) || is_seen(&view.subviews, topology, at) {
+        if hosts_any(topology, at, &view.root.informees) || is_seen(&view.below, topology, at) {
             return true;
         }
     }
@@ -107,7 +107,7 @@ fn cut_into(
     ensures { OnOk result (out.new ≡ beside out.old (cut_views (hosts_at topology.now.hosts at) above views.now)) }
 {
     for view in views.as_slice() {
-        let sees = above || hosts_any(topology, at, &view.informees);
+        let sees = above || hosts_any(topology, at, &view.root.informees);
         let vertex = cut_view(alloc, view, topology, at, sees)?;
         out.push(vertex)?;
     }
@@ -117,21 +117,21 @@ fn cut_into(
 #[cycle(cut)]
 fn cut_view(
     alloc: Global,
-    view: &KeptView,
+    view: &KeptNode,
     topology: &Topology,
     at: ParticipantId,
     sees: bool,
 ) -> Result<Vertex, AllocError>
-    ensures { IfOk result (λ vertex. one_vertex vertex ≡ cut_one (hosts_at topology.now.hosts at) sees (part_kept view.now) view.now.subviews) }
+    ensures { IfOk result (λ vertex. one_vertex vertex ≡ cut_one (hosts_at topology.now.hosts at) sees view.now.root view.now.below) }
 {
-    if !sees && !is_seen(&view.subviews, topology, at) {
-        return Ok(Vertex::Blind(view.hash));
+    if !sees && !is_seen(&view.below, topology, at) {
+        return Ok(Vertex::Blind(view.root.hash));
     }
     let mut subviews = VertexList::new(alloc);
-    cut_into(alloc, &view.subviews, topology, at, sees, &mut subviews)?;
+    cut_into(alloc, &view.below, topology, at, sees, &mut subviews)?;
     Ok(Vertex::Inner {
-        informees: leaf_of(&view.informees_leaf, sees)?,
-        contents: leaf_of(&view.contents_leaf, sees)?,
+        informees: leaf_of(&view.root.informees_leaf, sees)?,
+        contents: leaf_of(&view.root.contents_leaf, sees)?,
         subviews,
     })
 }
@@ -149,14 +149,14 @@ fn informees_into(alloc: Global, views: &KeptList, out: &mut VertexList) -> Resu
 }
 
 #[cycle(informees)]
-fn informees_vertex(alloc: Global, view: &KeptView) -> Result<Vertex, AllocError>
-    ensures { IfOk result (λ vertex. one_vertex vertex ≡ cut_for_mediator (one_kept view.now)) }
+fn informees_vertex(alloc: Global, view: &KeptNode) -> Result<Vertex, AllocError>
+    ensures { IfOk result (λ vertex. one_vertex vertex ≡ cut_for_mediator (tree_of view.now)) }
 {
     let mut subviews = VertexList::new(alloc);
-    informees_into(alloc, &view.subviews, &mut subviews)?;
+    informees_into(alloc, &view.below, &mut subviews)?;
     Ok(Vertex::Inner {
-        informees: leaf_of(&view.informees_leaf, true)?,
-        contents: leaf_of(&view.contents_leaf, false)?,
+        informees: leaf_of(&view.root.informees_leaf, true)?,
+        contents: leaf_of(&view.root.contents_leaf, false)?,
         subviews,
     })
 }

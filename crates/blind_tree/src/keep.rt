@@ -6,15 +6,14 @@ ghost use Rattle.wire_form.specs.Spelling.{spell_parties};
 ghost use Rattle.wire_form.specs.Spellable.{IsSpellableSet};
 ghost use Rattle.ledger_terms.specs.Grown.{tree_of};
 ghost use Rattle.blind_tree.specs.LeafBytes.{AreSpellable, AreSpellableViews, IsSpellableView, common_bytes, core_bytes, roles_bytes};
-ghost use Rattle.blind_tree.specs.KeptLists.{one_kept};
 ghost use Rattle.blind_tree.specs.Kept.{kept_views, kept_digests, kept_leaf, kept_tree};
 
 use crate::core_bytes::encode_core;
 use crate::kept_leaf::KeptLeaf;
-use crate::kept_list::{KeptList, KeptView};
 use crate::kept_tree::KeptTree;
+use crate::kept_view::{KeptList, KeptNode, KeptView};
 use hash_id::{leaf_hash, leaf_salt, view_hash};
-use ledger_terms::{Bytes, Hash, Name, PartySet};
+use ledger_terms::{Bytes, Hash, Name, PartySet, Tree};
 use std::alloc::{AllocError, Global};
 use view_split::{SplitView, View, ViewList, Views};
 use wire_form::{encode_name, encode_parties, encode_u64};
@@ -100,9 +99,9 @@ fn keep_into(alloc: Global, views: &ViewList, out: &mut KeptList) -> Result<(), 
 }
 
 #[cycle(keep)]
-fn keep_view(alloc: Global, view: &View) -> Result<KeptView, AllocError>
+fn keep_view(alloc: Global, view: &View) -> Result<KeptNode, AllocError>
     requires { AreSpellableViews (tree_of view.now) }
-    ensures { IfOk result (λ one. one_kept one ≡ kept_views sha256 (tree_of view.now)) }
+    ensures { IfOk result (λ one. tree_of one ≡ kept_views sha256 (tree_of view.now)) }
 {
     let mut subviews = KeptList::new(alloc);
     keep_into(alloc, &view.below, &mut subviews)?;
@@ -111,12 +110,15 @@ fn keep_view(alloc: Global, view: &View) -> Result<KeptView, AllocError>
     let informees_leaf = keep_leaf(3, seed, spelled_roles(alloc, &view.root)?);
     let contents_leaf = keep_leaf(4, seed, spelled_core(alloc, &view.root)?);
     let hash = view_hash(&informees_leaf.hash, &contents_leaf.hash, below.as_slice());
-    Ok(KeptView {
+    let root = KeptView {
         informees: view.root.informees.clone()?,
         informees_leaf,
         contents_leaf,
         hash,
-        subviews,
+    };
+    Ok(Tree {
+        root,
+        below: subviews,
     })
 }
 
@@ -126,7 +128,7 @@ fn hashes_of(alloc: Global, views: &KeptList) -> Result<Vec<Hash>, AllocError>
 {
     let mut hashes = Vec::new(alloc);
     for view in views.as_slice() {
-        hashes.push(view.hash)?;
+        hashes.push(view.root.hash)?;
     }
     Ok(hashes)
 }

@@ -1,7 +1,6 @@
 -- Each action of a sealed request has somebody that is asked.
-use Rattle.std.proofs.Common.{◌≡◌, ℕ, true, List, Option, Some, filter, ◌∙◌}
+use Rattle.std.proofs.Common.{filter}
 use Rattle.std.specs.Prelude.{Contains}
-use Rattle.std.specs.List.{list_any}
 use Rattle.ledger_model.specs.Terms.{Act, ParticipantId}
 use Rattle.ledger_model.specs.Forest.{acts, project}
 use Rattle.ledger_model.specs.Opening.{roots_in}

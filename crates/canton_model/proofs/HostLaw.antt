@@ -1,22 +1,21 @@
 -- What a host of a stakeholder counts is what the ledger says.
-use Rattle.std.proofs.Common.{◌≡◌, ℕ, suc, ◌<◌, Bool, true, false, List, take, length, Option, Some, None, filter, refl, sym, ap, ◌∙◌, inl, inr, arith}
-use Rattle.std.specs.Prelude.{◌&&◌, ◌||◌, Contains, ◌++◌}
+use Rattle.std.proofs.Common.{◌≡◌, ℕ, suc, ◌<◌, true, false, List, take, length, Option, Some, None, filter, refl, ap, ◌∙◌, inl, inr, arith}
+use Rattle.std.specs.Prelude.{◌&&◌, ◌||◌, ◌++◌}
 use Rattle.std.specs.List.{list_any}
 use Rattle.std.proofs.lemmas.Bool.{and_parts, or_cases}
-use Rattle.ledger_model.specs.Terms.{Hash, Act, Instance, id_of, creates, consumes}
+use Rattle.ledger_model.specs.Terms.{Act, Instance, id_of, creates, consumes}
 use Rattle.ledger_model.specs.Forest.{acts}
 use Rattle.ledger_model.specs.Status.{status_after, is_locked_by}
-use Rattle.canton_model.specs.Evidence.{acts_of, IsShownChanges, is_locked_at, status_at, past_at, pending_at}
+use Rattle.canton_model.specs.Evidence.{acts_of, IsShownChanges, pending_at}
 use Rattle.ledger_model.specs.Terms.{ParticipantId}
 use Rattle.canton_model.specs.Log.{Params, Entry, Request, request_at}
-use Rattle.ledger_model.specs.Opening.{roots_in}
 use Rattle.canton_model.specs.Reading.{Reading}
 use Rattle.canton_model.specs.Ledger.{commit_of, read_by, whole_at, opened_to, status_in}
-use Rattle.canton_model.specs.Inbox.{inbox, past_in, pending_in, has_hosted_stakeholder, is_informed, OpensProjection, is_locked_in_inbox, status_in_inbox}
+use Rattle.canton_model.specs.Inbox.{inbox, pending_in, has_hosted_stakeholder, is_informed, OpensProjection, is_locked_in_inbox, status_in_inbox}
 use Rattle.canton_model.specs.Genuine.{Genuine, IsSealed, NoCollision}
 use Rattle.canton_model.specs.Causes.{is_locked_in}
 use Rattle.canton_model.proofs.Lawful.{Informs}
-use Rattle.ledger_model.proofs.Lists.{In, contains_from_In, in_from_Contains}
+use Rattle.ledger_model.proofs.Lists.{In, contains_from_In}
 use Rattle.ledger_model.proofs.Lists.{from_on}
 use Rattle.ledger_model.proofs.Projected.{filter_project}
 use Rattle.canton_model.proofs.Decided.{final_of_log}

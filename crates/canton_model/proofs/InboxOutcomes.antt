@@ -8,7 +8,7 @@ use Rattle.ledger_model.specs.Forest.{acts}
 use Rattle.ledger_model.specs.Status.{status_after, is_locked_by}
 use Rattle.ledger_model.specs.Opening.{OpenedView, Shown, roots_in}
 use Rattle.canton_model.specs.Log.{Params, Entry, Request, ViewVerdict, request_at, time_of, decision_time_of}
-use Rattle.canton_model.specs.Timeline.{Moment, timeline_of, is_decided_at, is_approved_in, verdict_on, is_past, outcome_of, outcome_from}
+use Rattle.canton_model.specs.Timeline.{Moment, timeline_of, is_decided_at, is_approved_in, verdict_on, is_past, outcome_of}
 use Rattle.canton_model.specs.Ledger.{Timely}
 use Rattle.canton_model.specs.Reading.{Reading, is_recipient}
 use Rattle.canton_model.specs.Inbox.{Item, item_after, inbox, moments, item_time, shown_in, shown_at, opened_at, decision_time_in, is_decided_in, outcome_in, past_in, pending_in, status_in_inbox, is_locked_in_inbox}

@@ -1,7 +1,7 @@
 -- Each rejection is what the check of the participant that rejects gives.
-use Rattle.std.proofs.Common.{◌≡◌, ℕ, suc, ◌<◌, true, List, [], ◌∷◌, take, drop, map, Option, Some, None, filter, refl, sym, ap, ◌∙◌, subst, inl, inr, arith, length-take}
+use Rattle.std.proofs.Common.{◌≡◌, ℕ, suc, ◌<◌, List, [], ◌∷◌, take, map, Option, Some, None, filter, refl, sym, ap, ◌∙◌, subst, inl, inr, arith, length-take}
 use Rattle.std.proofs.lemmas.Bool.{cases_lt}
-use Rattle.std.proofs.lemmas.Option.{none-some, slice_get_past}
+use Rattle.std.proofs.lemmas.Option.{slice_get_past}
 use Rattle.ledger_model.specs.Terms.{ParticipantId, Path}
 use Rattle.canton_model.specs.Log.{Params, Entry, Request, ViewVerdict, Reject, Reason, Decision, Rejected, request_in, request_at, verdict_of}
 use Rattle.canton_model.specs.Timeline.{Moment, timeline_of, verdict_on}

@@ -1,34 +1,31 @@
 -- Each rejection's named cause holds.
-use Rattle.std.proofs.Common.{◌≡◌, ℕ, suc, ◌<◌, Bool, true, false, List, [], ◌∷◌, ◌++◌, take, drop, map, length, Option, Some, None, filter, refl, sym, ap, ◌∙◌, subst, inl, inr, arith, length-take}
-use Rattle.std.specs.Prelude.{slice_get, nat_eq, ◌&&◌, ◌||◌}
+use Rattle.std.proofs.Common.{◌≡◌, ℕ, suc, ◌<◌, Bool, true, false, List, [], ◌∷◌, ◌++◌, take, drop, length, Option, Some, None, filter, refl, sym, ap, ◌∙◌, subst, inl, inr, arith}
+use Rattle.std.specs.Prelude.{slice_get, nat_eq, ◌&&◌}
 use Rattle.std.specs.List.{list_any}
-use Rattle.std.proofs.lemmas.Bool.{cases_Bool, cases_lt, and_parts, or_cases, both_ways, not-true, not-false, eq-eqb}
-use Rattle.std.proofs.lemmas.Option.{none-some, slice_get_past, slice_get_within}
-use Rattle.ledger_model.specs.Terms.{Hash, Act, Instance, id_of, creates, consumes, ParticipantId, Path}
+use Rattle.std.proofs.lemmas.Bool.{cases_Bool, and_parts, both_ways, not-true, not-false, eq-eqb}
+use Rattle.std.proofs.lemmas.Option.{none-some, slice_get_within}
+use Rattle.ledger_model.specs.Terms.{Hash, Act, Instance, id_of, creates, ParticipantId, Path}
 use Rattle.ledger_model.specs.Forest.{Forest, acts, project}
 use Rattle.ledger_model.specs.Status.{status_after, is_active, is_unknown, is_locked_by}
 use Rattle.canton_model.specs.Evidence.{acts_of, IsShownChanges, is_locked_at, status_at, past_at, pending_at}
-use Rattle.canton_model.specs.Log.{Params, Entry, Request, ViewVerdict, Reject, Reason, IdMismatch, NotVetted, TimeSkew, Locked, Inactive, NotFresh, Unordered, NotConformant, NotAuthorised, Decision, Rejected, request_in, request_at, verdict_of}
-use Rattle.canton_model.specs.Timeline.{Moment, timeline_of, verdict_on}
-use Rattle.canton_model.specs.Mediation.{scan}
+use Rattle.canton_model.specs.Log.{Params, Entry, Request, Reject, Reason, IdMismatch, NotVetted, TimeSkew, Locked, Inactive, NotFresh, Unordered, NotConformant, NotAuthorised, Rejected, request_in, request_at}
+use Rattle.canton_model.specs.Timeline.{timeline_of, verdict_on}
 use Rattle.ledger_model.specs.Opening.{OpenedView, Shown, roots_in}
 use Rattle.canton_model.specs.Reading.{Reading}
-use Rattle.canton_model.specs.Ledger.{VerdictFits, FitsIfVerdict, commit_of, read_by, whole_at, opened_to}
+use Rattle.canton_model.specs.Ledger.{commit_of, read_by, whole_at}
 use Rattle.canton_model.specs.Inbox.{inbox, item_time, past_in, pending_in, status_in_inbox, is_locked_in_inbox, has_hosted_stakeholder, is_informed, OpensProjection}
-use Rattle.canton_model.specs.Checks.{Check, first_shown, first_place, checks, verdict_on_view, is_confirmed_by, verdicts_on, verdicts_owed}
+use Rattle.canton_model.specs.Checks.{Check, first_shown, first_place, checks, verdict_on_view}
 use Rattle.canton_model.specs.Genuine.{Genuine, IsSealed, NoCollision}
 use Rattle.canton_model.proofs.Lawful.{Informs}
 use Rattle.canton_model.specs.Causes.{NotCreatedBefore, ReasonHolds, RejectionHolds}
-use Rattle.ledger_model.proofs.Lists.{In, contains_from_In, in_from_Contains, in_any, from_any, from_filter, in_at, at_in, in_drop_in, in_take_in, in_filter, at_split, from_on}
-use Rattle.ledger_model.proofs.Projected.{filter_project, placed}
-use Rattle.canton_model.proofs.Decided.{verdict_place, entry_at, verdict_message, final_of_log}
+use Rattle.ledger_model.proofs.Lists.{In, contains_from_In, in_from_Contains, in_any, from_any, from_filter, at_in, in_filter, at_split, from_on}
+use Rattle.ledger_model.proofs.Projected.{placed}
+use Rattle.canton_model.proofs.Decided.{final_of_log}
 use Rattle.canton_model.proofs.HostStatus.{same_locked, same_status}
-use Rattle.canton_model.proofs.InboxFacts.{slice_get_take}
-use Rattle.canton_model.proofs.InboxGrows.{same_counted, same_pending, shown_here}
+use Rattle.canton_model.proofs.InboxGrows.{same_counted, same_pending}
 use Rattle.canton_model.proofs.RejectionChecks.{rejection_stands}
 use Rattle.canton_model.proofs.HostLaw.{shown as changes_shown}
-use Rattle.canton_model.proofs.FromGenuine.{guards, r, opened_is, shown_in_whole, second, checked_of_log}
-use Rattle.canton_model.proofs.Approved.{response_message, no_request}
+use Rattle.canton_model.proofs.FromGenuine.{guards, r, shown_in_whole, second, checked_of_log}
 
 -- reasons told apart by computation
 abbrev number : Reason → ℕ

@@ -1,18 +1,16 @@
 -- The worked requests are sealed.
-use Rattle.std.proofs.Common.{◌≡◌, ℕ, zero, suc, ◌<◌, ◌≤◌, Bool, true, false, List, [], ◌∷◌, ◌++◌, length, map, Option, Some, None, Contains, refl, sym, ap, ◌∙◌, subst, inl, inr, arith}
-use Rattle.std.specs.Prelude.{slice_get, nat_eq, ◌&&◌, ◌||◌, if◌then◌else◌}
+use Rattle.std.proofs.Common.{◌≡◌, ℕ, zero, suc, Bool, true, false, List, [], ◌∷◌, map, Some, None, refl, sym, ap, ◌∙◌, subst, inl, inr, arith}
+use Rattle.std.specs.Prelude.{nat_eq, if◌then◌else◌}
 use Rattle.std.specs.List.{list_any}
 use Rattle.std.specs.List.Sorted.{IsStrictlyIncreasing}
-use Rattle.std.specs.Str.{bytes_eq}
 use Rattle.std.proofs.lemmas.Bool.{and_parts, or_cases, eqb-true}
 use Rattle.std.proofs.lemmas.Option.{same_Some, none-some}
 use Rattle.std.proofs.lemmas.Slice.Eq.{bytes_eq-Decides}
 use Rattle.ledger_terms.specs.Parties.{IsRising}
-use Rattle.ledger_model.specs.Terms.{Name, PartySet, Act, Instance, instance_of, ParticipantId}
+use Rattle.ledger_model.specs.Terms.{Name, PartySet, Act, instance_of}
 use Rattle.ledger_model.specs.Forest.{Forest, NoRoots, Root, acts, trees_of, root_trees}
-use Rattle.ledger_model.specs.Opening.{Transaction, OpenedView, Shown, roots_in, shown_if, shown_of, opened_of, opened_views_of}
+use Rattle.ledger_model.specs.Opening.{Transaction, OpenedView, Shown, roots_in, shown_if, shown_of, opened_views_of}
 use Rattle.canton_model.specs.Log.{Request}
-use Rattle.canton_model.specs.Reading.{Reading}
 use Rattle.canton_model.specs.Checks.{is_confirmed_by}
 use Rattle.canton_model.specs.Genuine.{Answers, TellsOf, IsCovered, IsRootCovered, IsSealed}
 use Rattle.canton_model.specs.Worked.{alice, bank, carol, contract, create, first_field, hosts, is_empty, is_sealed, is_that, issue, language, of_alice, reading, request_for, transfer, transfer_act}

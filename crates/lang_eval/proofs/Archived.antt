@@ -1,5 +1,5 @@
 -- Templates of which the first have the choice Archive.
-use Rattle.std.proofs.Common.{◌≡◌, ℕ, zero, suc, ◌+◌, ◌<◌, List, [], ◌∷◌, ◌++◌, length, map, take, drop, get_or, slice_set, sym, ap, ◌∙◌, arith}
+use Rattle.std.proofs.Common.{◌≡◌, ℕ, zero, suc, ◌+◌, ◌<◌, List, [], ◌∷◌, ◌++◌, length, map, take, drop, get_or, slice_set, ap, ◌∙◌, arith}
 use Rattle.ledger_terms.specs.Packages.{TemplateForm}
 use Rattle.lang_eval.specs.Builtin.{with_archive}
 

@@ -1,5 +1,5 @@
 -- The parties of contracts, choices and actions are named by the packages, or by the contract, the call or the action.
-use Rattle.std.proofs.Common.{◌≡◌, ℕ, Bool, true, false, cond, List, [], ◌∷◌, ◌++◌, map, Option, Some, None, Result, Ok, Err, refl}
+use Rattle.std.proofs.Common.{ℕ, Bool, true, false, cond, List, [], ◌∷◌, ◌++◌, map, Option, Some, None, Result, Ok, Err, refl}
 use Rattle.std.specs.Prelude.{if◌then◌else◌, codes}
 use Rattle.std.specs.List.{flat_map}
 use Rattle.ledger_terms.specs.Parties.{set_of}
@@ -9,14 +9,13 @@ use Rattle.ledger_terms.specs.declared.value.Value.TheVariants.{Unit as UnitValu
 use Rattle.ledger_terms.specs.declared.action.Action.{Action}
 use Rattle.ledger_terms.specs.declared.action.Action.TheVariants.{Create, Exercise, Fetch}
 use Rattle.ledger_terms.specs.Syntax.{ExprForm}
-use Rattle.ledger_terms.specs.Packages.{PackageForm, TemplateForm, ChoiceForm}
+use Rattle.ledger_terms.specs.Packages.{TemplateForm, ChoiceForm}
 use Rattle.ledger_model.specs.declared.step.ChoiceCall.{ChoiceCall}
 use Rattle.lang_eval.specs.declared.eval_fault.EvalFault.{EvalFault}
 use Rattle.lang_eval.specs.declared.eval_fault.EvalFault.TheVariants.{Ensure}
-use Rattle.lang_eval.specs.declared.role_fault.RoleFault.{RoleFault}
 use Rattle.lang_eval.specs.declared.role_fault.RoleFault.TheVariants.{NoRoles}
 use Rattle.lang_eval.specs.declared.contract_parties.ContractParties.{ContractParties}
-use Rattle.lang_eval.specs.Names.{Names, with_this}
+use Rattle.lang_eval.specs.Names.{Names}
 use Rattle.lang_eval.specs.Value.{val, truth, with_value}
 use Rattle.lang_eval.specs.Found.{Packages, template_in, choice_in}
 use Rattle.lang_eval.specs.Kinds.{has_kinds, call_has_kinds}

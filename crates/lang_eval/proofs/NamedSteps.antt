@@ -1,5 +1,5 @@
 -- What a body asks for, and its result, name no party beyond those of the packages, of the call and of what was seen.
-use Rattle.std.proofs.Common.{◌≡◌, ℕ, Bool, true, false, cond, List, [], ◌∷◌, ◌++◌, length, take, Option, Some, None, Result, Ok, Err, refl}
+use Rattle.std.proofs.Common.{ℕ, Bool, true, false, cond, List, [], ◌∷◌, ◌++◌, length, Option, Some, None, Result, Ok, Err, refl}
 use Rattle.std.specs.Prelude.{codes, find}
 use Rattle.std.specs.List.{flat_map}
 use Rattle.ledger_terms.specs.Parties.{same_name}
@@ -16,7 +16,6 @@ use Rattle.ledger_model.specs.declared.step.Step.{Step}
 use Rattle.ledger_model.specs.declared.step.Step.TheVariants.{Create as CreateNext, Exercise as ExerciseNext, Fetch as FetchNext, Done}
 use Rattle.lang_eval.specs.declared.binding.Binding.{Binding}
 use Rattle.lang_eval.specs.declared.eval_fault.EvalFault.{EvalFault}
-use Rattle.lang_eval.specs.declared.eval_fault.EvalFault.TheVariants.{Assert as AssertFault}
 use Rattle.lang_eval.specs.Names.{Names, bound_to, with_fields, with_this, with_self}
 use Rattle.lang_eval.specs.Value.{val, vals, truth, with_value}
 use Rattle.lang_eval.specs.Found.{Packages, template_in, template_of, choice_in, choice_of, fields_of}

@@ -1,11 +1,7 @@
 -- The test of the sealed form decides it.
-use Rattle.std.proofs.Common.{◌≡◌, ℕ, ◌≤◌, Bool, true, false, List, length, Option, Some, None, Contains, refl, sym, ap, ◌∙◌, subst}
-use Rattle.std.specs.Prelude.{nat_eq, nat_le, ◌&&◌}
+use Rattle.std.proofs.Common.{◌≡◌, ℕ, ◌≤◌, true, List, length, Option, Some, None, Contains, refl, sym, ap, subst}
 use Rattle.std.specs.Bool.{Decides}
 use Rattle.std.specs.List.{list_all}
-use Rattle.std.specs.Str.{bytes_eq}
-use Rattle.std.specs.Cmp.Lexicographic.{pointwise}
-use Rattle.std.proofs.lemmas.Option.{same_Some, none-some}
 use Rattle.std.proofs.lemmas.Slice.Eq.{bytes_eq-Decides}
 use Rattle.ledger_terms.proofs.Deciding.{lists_decide}
 use Rattle.ledger_terms.specs.Hosting.{hosts_at}
@@ -21,7 +17,7 @@ use Rattle.interpret.specs.NamedParties.{parties_in_forest}
 use Rattle.view_split.specs.declared.views.Views.{Views}
 use Rattle.blind_tree.specs.Blind.{is_host_named}
 use Rattle.sealed_form.specs.SealedForm.{CanBeSealed, IsSealedForm, Whole, request_of, roles_by, split_as, views_by, whole_of}
-use Rattle.sealed_form.specs.SealedTest.{are_informees_hosted, are_parties_hosted, can_be_sealed, have_roles, is_made_of, is_sealed_form, is_short, is_spellable, same_envelope, same_request}
+use Rattle.sealed_form.specs.SealedTest.{are_informees_hosted, can_be_sealed, is_made_of, is_sealed_form, is_short, same_envelope, same_request}
 use Rattle.sealed_form.specs.Within.{is_hosted}
 use Rattle.sealed_form.proofs.Deciding.{all_decide, at_most, both_decide, equal, five_decide, four_decide, itself}
 use Rattle.sealed_form.proofs.RangeDecided.{hash_decides, range_decides, small_decides}

@@ -13,7 +13,7 @@ pub mod OneId
 pub mod Asked
 pub mod Given
 pub mod Parties
-pub mod Sealable
+pub mod Submitted
 pub mod Short
 pub mod Limited
 pub mod Blinded

@@ -1,7 +1,7 @@
 -- The parties of a valid topology are few, and what names no others is among them.
-use Rattle.std.proofs.Common.{◌≡◌, ℕ, zero, suc, ◌≤◌, Bool, true, false, List, [], ◌∷◌, ◌++◌, length, Option, Some, None, Contains, refl, sym, ◌∙◌, subst, inl, inr, arith}
-use Rattle.std.specs.Prelude.{is_some, option_map, if◌then◌else◌, ◌||◌}
-use Rattle.std.specs.List.{AllByRecursion, flat_map, list_all}
+use Rattle.std.proofs.Common.{◌≡◌, ℕ, zero, suc, Bool, true, false, List, [], ◌∷◌, ◌++◌, Option, Some, None, Contains, refl, sym, ◌∙◌, subst, inl, inr, arith}
+use Rattle.std.specs.Prelude.{is_some, option_map, if◌then◌else◌}
+use Rattle.std.specs.List.{AllByRecursion, flat_map}
 use Rattle.std.proofs.lemmas.Bool.{cases_Bool, or_left, or_right}
 use Rattle.std.proofs.lemmas.Grind.{flat_map-append}
 use Rattle.std.proofs.lemmas.List.Concat.{length-flat_map}
@@ -18,11 +18,10 @@ use Rattle.ledger_terms.specs.declared.action.Action.{Action}
 use Rattle.ledger_terms.specs.declared.action.Action.TheVariants.{Create, Exercise, Fetch}
 use Rattle.ledger_terms.specs.declared.host.Host.{Host}
 use Rattle.ledger_terms.specs.declared.topology.Topology.{Topology}
-use Rattle.ledger_model.proofs.Lists.{In, in_from_Contains}
+use Rattle.ledger_model.proofs.Lists.{In}
 use Rattle.ledger_model.specs.Language.{Language, informees_of, stakeholders}
 use Rattle.ledger_model.specs.declared.roles.Roles.{Roles}
 use Rattle.lang_eval.specs.Found.{Packages}
-use Rattle.lang_eval.specs.Language.{roles_in}
 use Rattle.lang_eval.specs.Named.{AreKnown, parties_in_action, parties_in_packages, parties_in_roles}
 use Rattle.lang_eval.specs.Parts.{PartyNames}
 use Rattle.lang_eval.proofs.Informed.{no_size}
@@ -51,7 +50,7 @@ listed (host ∷ hosts) party h =
       | inl here ↦ parts ∙ or_left (has_party host.parties party) (has_party (parties_of hosts) party) here
       | inr later ↦
           parts ∙ or_right (has_party host.parties party) (has_party (parties_of hosts) party)
-              (listed hosts party (later_host (host_of hosts party) (rw later at h)))
+          (listed hosts party (later_host (host_of hosts party) (rw later at h)))
     ]
   where
     later_host : (o : Option ℕ) → is_some (option_map suc o) ≡ true → is_some o ≡ true

@@ -1,6 +1,6 @@
 -- The tests of what is in range and has room decide it.
-use Rattle.std.proofs.Common.{◌≡◌, ℕ, ◌≤◌, ◌^◌, Bool, true, ℤ, pos, negsuc, List, [], ◌∷◌, length, refl}
-use Rattle.std.specs.Prelude.{All, FitsSigned, nat_le, nat_lt, ◌&&◌}
+use Rattle.std.proofs.Common.{ℕ, ◌^◌, ℤ, pos, negsuc, List, [], ◌∷◌, length, refl}
+use Rattle.std.specs.Prelude.{All, FitsSigned}
 use Rattle.std.specs.Bool.{Decides}
 use Rattle.std.specs.Int.{w64}
 use Rattle.std.specs.List.{list_all}

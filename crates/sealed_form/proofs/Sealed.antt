@@ -1,5 +1,5 @@
 -- A sealed request is sealed to the ledger's laws.
-use Rattle.std.proofs.Common.{ℕ, Bool, true, false, List, ◌++◌, refl, ap}
+use Rattle.std.proofs.Common.{ℕ, true, false, List, ◌++◌, refl, ap}
 use Rattle.std.specs.Prelude.{option_map}
 use Rattle.ledger_terms.specs.declared.topology.Topology.{Topology}
 use Rattle.ledger_terms.specs.declared.action.Action.{Action}

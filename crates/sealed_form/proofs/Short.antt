@@ -1,26 +1,21 @@
 -- The trees of a transaction within the limits are short.
-use Rattle.std.proofs.Common.{◌≡◌, ℕ, suc, ◌+◌, ◌*◌, ◌≤◌, Bool, true, false, List, [], ◌∷◌, ◌++◌, length, refl, inl, inr, arith}
-use Rattle.std.specs.Prelude.{nat_le, ◌&&◌}
+use Rattle.std.proofs.Common.{◌≡◌, ℕ, ◌+◌, ◌*◌, ◌≤◌, Bool, true, false, List, ◌∷◌, ◌++◌, length, refl, inl, inr, arith}
 use Rattle.std.specs.Int.{w16, w32, w64, to_be_bytes}
-use Rattle.std.specs.List.{flat_map, AllByRecursion}
-use Rattle.std.proofs.lemmas.Bool.{cases_Bool, leb-true}
+use Rattle.std.proofs.lemmas.Bool.{cases_Bool}
 use Rattle.std.proofs.lemmas.List.{length-append}
-use Rattle.std.proofs.lemmas.List.Elements.{recursion_from_All}
 use Rattle.hash_id.specs.Strings.{leaf_hash_string, leaf_salt_string, view_hash_string}
-use Rattle.ledger_terms.specs.Names.{is_spelled, IsName}
+use Rattle.ledger_terms.specs.Names.{IsName}
 use Rattle.ledger_terms.specs.declared.act.Act.{Act}
 use Rattle.ledger_terms.specs.Forest.{Forest, NoRoots, Root, join, size}
 use Rattle.ledger_terms.specs.declared.action.Action.{Action}
 use Rattle.ledger_model.specs.Views.{its_informees, starts}
 use Rattle.ledger_model.specs.Opening.{Transaction}
 use Rattle.ledger_model.specs.declared.roles.Roles.{Roles}
-use Rattle.wire_form.specs.Spelling.{spell_name, spell_parties, spell_action}
+use Rattle.wire_form.specs.Spelling.{spell_name, spell_parties}
 use Rattle.wire_form.specs.InRange.{IsHash, IsPartySet}
-use Rattle.view_split.specs.Holed.{width}
 use Rattle.view_split.specs.declared.split_view.SplitView.{SplitView}
-use Rattle.view_split.specs.Split.{core_of, view_at, split_below, split}
+use Rattle.view_split.specs.Split.{view_at, split_below, split}
 use Rattle.blind_tree.specs.Vertices.{count}
-use Rattle.blind_tree.specs.Cores.{spell_children}
 use Rattle.blind_tree.specs.Digests.{Hashing}
 use Rattle.blind_tree.specs.LeafBytes.{common_bytes, roles_bytes, core_bytes}
 use Rattle.blind_tree.specs.Blind.{Salts, Visibility, is_hidden, leaf_of, leaf_with, roles_digest, salt_of, core_digest, view_digests, views_shown}

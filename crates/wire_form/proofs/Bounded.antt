@@ -1,5 +1,5 @@
 -- What is read has room in a spelling, whatever bytes it is read from.
-use Rattle.std.proofs.Common.{◌≡◌, ℕ, zero, suc, ◌+◌, ◌≤◌, Bool, List, [], ◌∷◌, ◌++◌, length, take, drop, Result, Ok, Err, refl, sym, ap, subst, ◌∙◌, arith, cond, inl, inr}
+use Rattle.std.proofs.Common.{◌≡◌, ℕ, zero, suc, ◌+◌, ◌≤◌, Bool, List, [], ◌∷◌, ◌++◌, length, take, drop, Ok, Err, sym, ap, subst, ◌∙◌, arith, cond}
 use Rattle.std.specs.Prelude.{nat_le}
 use Rattle.std.specs.Int.{w16, from_be_bytes}
 use Rattle.std.specs.Str.{is_utf8}
@@ -11,8 +11,6 @@ use Rattle.std.proofs.lemmas.List.Elements.{All-from_recursion}
 use Rattle.ledger_terms.specs.Parties.{stands_above}
 use Rattle.ledger_terms.specs.declared.value.Value.{Value}
 use Rattle.ledger_terms.specs.declared.value.Value.TheVariants.{Unit as UnitValue, Int, Bool as BoolValue, Text, Party, Contract, Parties}
-use Rattle.ledger_terms.specs.declared.instance.Instance.{Instance}
-use Rattle.ledger_terms.specs.declared.action.Action.{Action}
 use Rattle.wire_form.specs.Formats.{◌>>=◌, Reading, both_at, seen_at, one_more, items_at, counted_at, any_item}
 use Rattle.wire_form.specs.Fields.{bytes_at, count_at, small_count_at, int_at, truth_at, text_at, name_at, hash_at}
 use Rattle.wire_form.specs.Reading.{set_at, value_at, tagged_value_at, values_at, instance_of, instance_at, create_of, create_at, input_at, exercise_of, exercise_at, fetch_of, fetch_at, action_at, tagged_action_at}

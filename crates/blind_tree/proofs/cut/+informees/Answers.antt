@@ -1,12 +1,13 @@
 use Rattle.std.proofs.Common.{◌≤◌, arith}
-use Rattle.blind_tree.specs.KeptLists.{one_kept, kept_count}
-use Rattle.blind_tree.proofs.KeptGrow.{kept_at, named_step, named_end}
+use Rattle.ledger_terms.specs.Grown.{tree_of, node_count}
+use Rattle.ledger_terms.proofs.Grow.{tree_within}
+use Rattle.blind_tree.proofs.KeptGrow.{named_step, named_end}
 use Rattle.blind_tree.proofs.cut.+informees.Goals as goal
 
 pub informees_into-informees_vertex-requires : goal.informees_into-informees_vertex-requires
 informees_into-informees_vertex-requires t c =
-    let less : kept_count (one_kept c.view-item.result) ≤ kept_count c.args.views.now =
-    rw (c.view-item.is, ← c.as_slice-view-items.ensures) (kept_at _ _ _ c.loop-view-test.true) in
+    let less : node_count (tree_of c.view-item.result) ≤ node_count c.args.views.now =
+    rw (c.view-item.is, ← c.as_slice-view-items.ensures) (tree_within _ _ _ c.loop-view-test.true) in
     (omega (arith, less, c.decreases), tt)
 
 pub informees_into-loop-view-preserved : goal.informees_into-loop-view-preserved

@@ -1,4 +1,4 @@
-use Rattle.std.proofs.Common.{rules, arith}
+use Rattle.std.proofs.Common.{arith}
 use Rattle.lang_eval.proofs.Archived.{archived_more}
 use Rattle.lang_eval.proofs.checked.package_with_archives.Goals as goal
 

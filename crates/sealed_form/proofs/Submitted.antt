@@ -1,6 +1,5 @@
 -- A submitted transaction within the limits can be sealed, within a valid topology.
 use Rattle.std.proofs.Common.{◌≡◌, ℕ, ◌^◌, ◌<◌, true, List, Ok, Contains, refl, sym, ap, ◌∙◌, subst}
-use Rattle.sha2.specs.Sha256.{sha256}
 use Rattle.sha2.proofs.Facts256.{length-sha256}
 use Rattle.hash_id.specs.Strings.{leaf_salt_string}
 use Rattle.ledger_terms.specs.Names.{IsName}
