@@ -3,7 +3,7 @@ use Rattle.std.proofs.Common.{◌≡◌, [], ◌∷◌, Option, Some, None, refl
 use Rattle.std.specs.Prelude.{IsSome}
 use Rattle.ledger_model.specs.Opening.{OpenedView}
 use Rattle.ledger_model.specs.Terms.{Path}
-use Rattle.canton_model.specs.Log.{LocalVerdict}
+use Rattle.canton_model.specs.declared.local_verdict.LocalVerdict.{LocalVerdict}
 use Rattle.confirm_reply.specs.Opened.{view_at}
 use Rattle.confirm_reply.specs.Verdict.{verdict_of}
 use Rattle.confirm_reply.specs.declared.check_input.CheckInput.{CheckInput}

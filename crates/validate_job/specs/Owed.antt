@@ -2,7 +2,7 @@
 use Rattle.std.specs.Prelude.{◌≡◌, List, [], ◌∷◌, Option, Some, None, IsSome, flat_map}
 use Rattle.ledger_model.specs.Opening.{OpenedView}
 use Rattle.ledger_model.specs.Terms.{Path}
-use Rattle.canton_model.specs.Log.{ViewVerdict}
+use Rattle.canton_model.specs.declared.view_verdict.ViewVerdict.{ViewVerdict}
 use Rattle.view_split.specs.Placed.{shown_by}
 use Rattle.confirm_reply.specs.Opened.{CanBeChecked, view_at}
 use Rattle.confirm_reply.specs.Verdict.{verdict_of}
