@@ -9,7 +9,7 @@ use Rattle.ledger_model.specs.Status.{is_active, is_unknown, shows_inactive, sho
 use Rattle.ledger_model.specs.declared.status.Status.{Status}
 use Rattle.ledger_model.specs.Terms.{Hash, ParticipantId, id_of, is_create, creates}
 use Rattle.ledger_model.proofs.Lists.{In, contains_from_In}
-use Rattle.canton_model.specs.Checks.{Check, first_place, first_shown, verdict_by, verdict_on_view}
+use Rattle.canton_model.specs.Checks.{checks, verdict_by, verdict_on_view}
 use Rattle.canton_model.specs.Inbox.{Item, has_hosted_stakeholder, is_locked_in_inbox, item_time, status_in_inbox}
 use Rattle.ledger_terms.specs.declared.params.Params.{Params}
 use Rattle.canton_model.specs.declared.reason.Reason.TheVariants.{Locked, Inactive, NotFresh}
@@ -18,7 +18,7 @@ use Rattle.canton_model.specs.Reading.{Reading}
 use Rattle.confirm_reply.specs.Facts.{AreAsAt, is_known_locked, known_status}
 use Rattle.confirm_reply.specs.declared.id_facts.IdFacts.{IdFacts}
 use Rattle.confirm_reply.proofs.Placed.{EachIn}
-use Rattle.confirm_reply.proofs.Trying.{shown_same}
+use Rattle.confirm_reply.proofs.Trying.{same_shown}
 
 abbrev Numbered : Type 0
 Numbered = ℕ × Act
@@ -30,11 +30,6 @@ each_in P (a ∷ core) all = (all a (inl refl), each_in P core (λ b i. all b (i
 under : (b x y : Bool) → (b ≡ true → x ≡ y) → (b && x) ≡ (b && y)
 under true x y same = same refl
 under false x y same = refl
-
-kept : (check : Check) (more others : List Check) (core : List Numbered) → first_shown more core ≡ first_shown others core
-    → first_shown (check ∷ more) core ≡ first_shown (check ∷ others) core
-kept check more others core later =
-    λ i. if list_any check.is_shown_by core then Reject check.reason (first_place check.is_shown_by core) else later i
 
 module _ (reading : Reading) (params : Params) (p : ParticipantId) (items : List Item) (k time : ℕ) (shown : Shown) (view : OpenedView) (facts : List IdFacts)
     (as_at : AreAsAt reading params p items k facts view.core) where
@@ -76,10 +71,17 @@ module _ (reading : Reading) (params : Params) (p : ParticipantId) (items : List
   same_facts : verdict_by reading params p time shown view (known_status facts) (is_known_locked facts)
       ≡ verdict_by reading params p time shown view (status_in_inbox reading items k) (is_locked_in_inbox reading params items k)
   same_facts =
-      kept _ _ _ view.core (kept _ _ _ view.core (kept _ _ _ view.core
-      (shown_same Locked (locks (is_known_locked facts)) (locks (is_locked_in_inbox reading params items k)) _ _ view.core same_locks
-      (shown_same Inactive (is_inactive (known_status facts)) (is_inactive (status_in_inbox reading items k)) _ _ view.core same_inactive
-      (shown_same NotFresh (is_used (known_status facts)) (is_used (status_in_inbox reading items k)) _ _ view.core same_used refl)))))
+      same_shown (checks reading params p time shown view (known_status facts) (is_known_locked facts))
+      (checks reading params p time shown view (status_in_inbox reading items k) (is_locked_in_inbox reading params items k)) view.core
+      ((refl, each_in _ view.core (λ a i. refl)),
+      ((refl, each_in _ view.core (λ a i. refl)),
+      ((refl, each_in _ view.core (λ a i. refl)),
+      ((refl, same_locks),
+      ((refl, same_inactive),
+      ((refl, same_used),
+      ((refl, each_in _ view.core (λ a i. refl)),
+      ((refl, each_in _ view.core (λ a i. refl)),
+      ((refl, each_in _ view.core (λ a i. refl)), tt)))))))))
 
   pub as_at_place : time ≡ item_time (slice_get items k)
       → verdict_by reading params p time shown view (known_status facts) (is_known_locked facts) ≡ verdict_on_view reading params p items k shown view

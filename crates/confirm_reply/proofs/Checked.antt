@@ -1,6 +1,6 @@
 -- What a check has in hand is what its verdict asks.
-use Rattle.std.proofs.Common.{◌≡◌, ◌≤◌, ℕ, suc, Bool, true, List, [], ◌∷◌, length, map, Option, Some, refl, sym, ap, ◌∙◌, subst, inl, inr, arith}
-use Rattle.std.specs.Prelude.{All, find, nat_eq, option_map, slice_get}
+use Rattle.std.proofs.Common.{◌≡◌, ◌≤◌, ℕ, suc, Bool, true, List, [], ◌∷◌, length, map, Option, Some, None, refl, sym, ap, ◌∙◌, subst, inl, inr, arith}
+use Rattle.std.specs.Prelude.{All, IsSome, find, nat_eq, option_map, slice_get}
 use Rattle.std.specs.Str.{bytes_eq}
 use Rattle.std.proofs.lemmas.Bool.{cases_Bool}
 use Rattle.std.proofs.lemmas.List.{length-map}
@@ -97,23 +97,51 @@ module _ (packages : Packages) (roots : Actions) where
   all_checkable (a ∷ core) e can =
       All-cons (IsCheckableAt packages (trees_of roots)) a.0 (numbers_of core) (one_checkable a e.0 can.0) (all_checkable core e.1 can.1)
 
-module _ (input : CheckInput) (path : Path) (view : OpenedView) (is : view_at path input.tree ≡ Some view) where
-  -- the core that is found can be tried
-  pub numbers_checkable : (trees : List Tree) (core : List ℕ) → trees ≡ trees_of (shown_by input.tree).roots → core ≡ numbers_of view.core
-      → CanBeChecked input.setup.now.checked (shown_by input.tree) view → All (IsCheckableAt input.setup.now.checked trees) core
-  numbers_checkable trees core here numbers can =
-      let roots = (shown_by input.tree).roots in
-      let packages = input.setup.now.checked in
-      let all = all_checkable packages roots view.core (core_stands input.tree path view is)
-      (each_from_all (λ (a : ℕ × Act). IsCheckable packages a.1 (below_at a.0 roots)) view.core can.each) in
-      subst (λ (ts : List Tree). All (IsCheckableAt packages ts) core) (sym here) (subst (λ (ns : List ℕ). All (IsCheckableAt packages (trees_of roots)) ns) (sym numbers) all)
+some_of : (found : Option OpenedView) → IsSome found → (view : OpenedView) × (found ≡ Some view)
+some_of None some = absurd (grind (arith, some))
+some_of (Some view) some = (view, refl)
 
-  pub few_numbers : (core : List ℕ) → core ≡ numbers_of view.core → CanBeChecked input.setup.now.checked (shown_by input.tree) view → length core ≤ 65536
-  few_numbers core numbers can = rw (numbers, length-map (λ (a : ℕ × Act). a.0) view.core) can.few
+-- what a check has in hand: all that is opened, and the numbers of the core that is found
+pub record IsInHand (input : CheckInput) (path : Path) (trees : List Tree) (core : List ℕ) : Type 0 where
+  pub numbered : Forest (ℕ × Act)
+  pub roots : Actions
+  pub put : roots ≡ put_back (placed_forest input.tree.views)
+  pub gathered : trees ≡ trees_of roots
+  pub counted : numbered ≡ number_from 0 roots
+  pub found : Some core ≡ core_found_in path input.tree.views numbered
 
-  -- and gives the verdict that is owed
-  pub verdict_given : (trees : List Tree) (core : List ℕ) (is_root : Bool) → trees ≡ trees_of (shown_by input.tree).roots → core ≡ numbers_of view.core
-      → is_root ≡ nat_eq (length path) 1 → verdict_after input (record { trees = trees; core = core; is_root = is_root }) all_reasons ≡ verdict_of input view
-  verdict_given trees core is_root here numbers root =
-      (λ i. verdict_after input (record { trees = here i; core = numbers i; is_root = (root ∙ ap (λ (p : Path). nat_eq (length p) 1) (same_path input.tree path view is)) i }) all_reasons)
-      ∙ verdict_is input view (core_stands input.tree path view is)
+pub not_lost : (input : CheckInput) (path : Path) (view : OpenedView) → view_at path input.tree ≡ Some view → (numbered : Forest (ℕ × Act)) (roots : Actions)
+    → roots ≡ put_back (placed_forest input.tree.views) → numbered ≡ number_from 0 roots → None ≡ core_found_in path input.tree.views numbered → ⊥
+not_lost input path view is numbered roots put counted lost = none-some (numbers_of view.core) (numbers_found input.tree path view is None numbered roots lost counted put)
+
+module _ (input : CheckInput) (path : Path) (trees : List Tree) (core : List ℕ) (h : IsInHand input path trees core) where
+  module _ (view : OpenedView) (is : view_at path input.tree ≡ Some view) where
+    numbers : core ≡ numbers_of view.core
+    numbers = same_Some core (numbers_of view.core) (numbers_found input.tree path view is (Some core) h.numbered h.roots h.found h.counted h.put)
+
+    whole : trees ≡ trees_of (shown_by input.tree).roots
+    whole = h.gathered ∙ ap trees_of h.put
+
+    pub verdict_given : (is_root : Bool) → is_root ≡ nat_eq (length path) 1
+        → verdict_after input (record { trees = trees; core = core; is_root = is_root }) all_reasons ≡ verdict_of input view
+    verdict_given is_root root =
+        (λ i. verdict_after input (record { trees = whole i; core = numbers i; is_root = (root ∙ ap (λ (p : Path). nat_eq (length p) 1) (same_path input.tree path view is)) i }) all_reasons)
+        ∙ verdict_is input view (core_stands input.tree path view is)
+
+  module _ (opened : IsSome (view_at path input.tree))
+      (can : (view : OpenedView) → view_at path input.tree ≡ Some view → CanBeChecked input.setup.now.checked (shown_by input.tree) view) where
+    -- the core can be tried
+    pub numbers_checkable : All (IsCheckableAt input.setup.now.checked trees) core
+    numbers_checkable =
+        let v = some_of (view_at path input.tree) opened in
+        let roots = (shown_by input.tree).roots in
+        let packages = input.setup.now.checked in
+        let all = all_checkable packages roots (v.0).core (core_stands input.tree path v.0 v.1)
+        (each_from_all (λ (a : ℕ × Act). IsCheckable packages a.1 (below_at a.0 roots)) (v.0).core (can v.0 v.1).each) in
+        subst (λ (ts : List Tree). All (IsCheckableAt packages ts) core) (sym (whole v.0 v.1))
+        (subst (λ (ns : List ℕ). All (IsCheckableAt packages (trees_of roots)) ns) (sym (numbers v.0 v.1)) all)
+
+    pub few_numbers : length core ≤ 65536
+    few_numbers =
+        let v = some_of (view_at path input.tree) opened in
+        rw (numbers v.0 v.1, length-map (v.0).core (λ (a : ℕ × Act). a.0)) (can v.0 v.1).few

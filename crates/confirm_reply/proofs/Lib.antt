@@ -3,6 +3,7 @@ mod Conformance
 mod Located
 mod Placed
 mod Trying
+mod ShownAt
 mod Verdicts
 mod AtPlace
 mod CoreSteps

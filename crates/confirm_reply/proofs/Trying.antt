@@ -28,8 +28,8 @@ pub place_is : (test : ℕ → Bool) (shown : Numbered → Bool) (core : List Nu
 place_is test shown [] same = refl
 place_is test shown (a ∷ core) same =
     elim (cases_Bool (shown a)) [
-      | inl yes ↦ rw (same.0, yes) refl
-      | inr no ↦ rw (same.0, no) (ap (option_map suc) (place_is test shown core same.1) ∙ next_place (list_any shown core) (first_place shown core))
+      | inl passes ↦ rw (same.0, passes) refl
+      | inr fails ↦ rw (same.0, fails) (ap (option_map suc) (place_is test shown core same.1) ∙ next_place (list_any shown core) (first_place shown core))
     ]
 
 none_of_false : (core : List Numbered) → list_any (λ (a : Numbered). false) core ≡ false
@@ -62,15 +62,24 @@ tried reason shown more core place rest here later =
 any_same : (p q : Numbered → Bool) (core : List Numbered) → EachIn (λ (a : Numbered). p a ≡ q a) core → list_any p core ≡ list_any q core
 any_same p q [] same = refl
 any_same p q (a ∷ core) same =
-    elim (cases_Bool (q a)) [ inl yes ↦ rw (same.0, yes) refl | inr no ↦ rw (same.0, no) (any_same p q core same.1) ]
+    elim (cases_Bool (q a)) [ inl passes ↦ rw (same.0, passes) refl | inr fails ↦ rw (same.0, fails) (any_same p q core same.1) ]
 
 place_same : (p q : Numbered → Bool) (core : List Numbered) → EachIn (λ (a : Numbered). p a ≡ q a) core → first_place p core ≡ first_place q core
 place_same p q [] same = refl
 place_same p q (a ∷ core) same =
-    elim (cases_Bool (q a)) [ inl yes ↦ rw (same.0, yes) refl | inr no ↦ rw (same.0, no) (ap suc (place_same p q core same.1)) ]
+    elim (cases_Bool (q a)) [ inl passes ↦ rw (same.0, passes) refl | inr fails ↦ rw (same.0, fails) (ap suc (place_same p q core same.1)) ]
 
-pub shown_same : (reason : Reason) (p q : Numbered → Bool) (more others : List Check) (core : List Numbered)
-    → EachIn (λ (a : Numbered). p a ≡ q a) core → first_shown more core ≡ first_shown others core
-    → first_shown (record { reason = reason; is_shown_by = p } ∷ more) core ≡ first_shown (record { reason = reason; is_shown_by = q } ∷ others) core
-shown_same reason p q more others core same later =
-    (λ i. if any_same p q core same i then Reject reason (place_same p q core same i) else later i)
+-- checks for the same reasons that agree on a core
+abbrev pub Agree : List Check → List Check → List Numbered → Type 0
+Agree [] [] core = Unit {0}
+Agree [] (d ∷ ds) core = ⊥
+Agree (c ∷ cs) [] core = ⊥
+Agree (c ∷ cs) (d ∷ ds) core = ((c.reason ≡ d.reason) × EachIn (λ (a : Numbered). c.is_shown_by a ≡ d.is_shown_by a) core) × Agree cs ds core
+
+pub same_shown : (cs ds : List Check) (core : List Numbered) → Agree cs ds core → first_shown cs core ≡ first_shown ds core
+same_shown [] [] core agree = refl
+same_shown [] (d ∷ ds) core agree = absurd agree
+same_shown (c ∷ cs) [] core agree = absurd agree
+same_shown (c ∷ cs) (d ∷ ds) core agree =
+    let here = agree.0.1 in
+    (λ i. if any_same c.is_shown_by d.is_shown_by core here i then Reject (agree.0.0 i) (place_same c.is_shown_by d.is_shown_by core here i) else same_shown cs ds core agree.1 i)

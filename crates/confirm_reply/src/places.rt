@@ -1,5 +1,5 @@
 //! The reasons, one after another over a whole core.
-ghost use Rattle.std.specs.Prelude.{◌≡◌, ◌&&◌, IfOk, take};
+ghost use Rattle.std.specs.Prelude.{◌≡◌, ◌&&◌, IfOk, slice_get, take};
 ghost use Rattle.confirm_reply.specs.Fit.{IsCheckableAt, IsFit, matter_of};
 ghost use Rattle.confirm_reply.specs.Nodes.{acts_of, trees_in};
 ghost use Rattle.confirm_reply.specs.Opened.{IsCheckable};
@@ -30,6 +30,12 @@ fn is_first(core: &[usize], number: usize) -> bool
     }
 }
 
+fn node_at<'n>(nodes: &[&'n ActionNode], number: usize) -> Option<&'n ActionNode>
+    ensures { result ≡ slice_get nodes.now number }
+{
+    nodes.get(number).copied()
+}
+
 impl Trial<'_, '_, '_> {
     fn node_shows(
         &self,
@@ -51,8 +57,8 @@ impl Trial<'_, '_, '_> {
         requires earlier { self.now.earlier.now ≡ acts_of self.now.nodes.now }
         ensures { IfOk result (λ b. b ≡ shows_at self.now.input.now (matter_of self.now) reason number) }
     {
-        match self.nodes.get(number) {
-            Some(node) => self.node_shows(reason, number, *node),
+        match node_at(self.nodes, number) {
+            Some(node) => self.node_shows(reason, number, node),
             None => Ok(false),
         }
     }

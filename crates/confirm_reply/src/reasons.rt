@@ -78,7 +78,6 @@ impl Trial<'_, '_, '_> {
         status_of(&self.input.facts, action.id())
     }
 
-    #[tactic(auto, using(crate::proofs::Conformance::possible_where_it_conforms))]
     fn conforms(&self, node: &ActionNode) -> Result<bool, AllocError>
         ensures { IfOk result (λ b. b ≡ is_tree_possible self.now.input.now.setup.now.checked node.now.root.action node.now.below) }
     {
