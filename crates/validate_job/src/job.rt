@@ -45,7 +45,6 @@ impl<'s> Model for ValidateJob<'s> {
 }
 
 // A view's path with the verdict on it.
-#[tactic(auto, using(crate::proofs::OpenedViews::owed_where_opened))]
 fn verdict_on(alloc: Global, input: &CheckInput<'_>, path: &Path) -> Result<ViewVerdict, AllocError>
     requires { CanCheck input.now path.now }
     ensures { IfOk result (λ verdict. owed_on input.now path.now ≡ verdict ∷ []) }
