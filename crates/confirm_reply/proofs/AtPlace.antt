@@ -1,6 +1,6 @@
 -- Facts as at a place give the verdict at that place.
 use Rattle.std.proofs.Common.{◌≡◌, ℕ, Bool, true, false, List, [], ◌∷◌, take, refl, ap, ◌∙◌, inl, inr}
-use Rattle.std.specs.Prelude.{◌&&◌, not, slice_get, if◌then◌else◌}
+use Rattle.std.specs.Prelude.{◌&&◌, not}
 use Rattle.std.specs.List.{list_any}
 use Rattle.ledger_terms.specs.declared.act.Act.{Act}
 use Rattle.ledger_model.specs.Forest.{acts}
@@ -9,13 +9,14 @@ use Rattle.ledger_model.specs.Status.{is_active, is_unknown, shows_inactive, sho
 use Rattle.ledger_model.specs.declared.status.Status.{Status}
 use Rattle.ledger_model.specs.Terms.{Hash, ParticipantId, id_of, is_create, creates}
 use Rattle.ledger_model.proofs.Lists.{In, contains_from_In}
-use Rattle.canton_model.specs.Checks.{checks, verdict_by, verdict_on_view}
-use Rattle.canton_model.specs.Inbox.{Item, has_hosted_stakeholder, is_locked_in_inbox, item_time, status_in_inbox}
+use Rattle.canton_model.specs.Checks.{checks, verdict_by}
+use Rattle.canton_model.specs.Inbox.{Item, has_hosted_stakeholder, is_locked_in_inbox, status_in_inbox}
 use Rattle.ledger_terms.specs.declared.params.Params.{Params}
-use Rattle.canton_model.specs.declared.reason.Reason.TheVariants.{Locked, Inactive, NotFresh}
-use Rattle.canton_model.specs.declared.local_verdict.LocalVerdict.TheVariants.{Reject}
 use Rattle.canton_model.specs.Reading.{Reading}
 use Rattle.confirm_reply.specs.Facts.{AreAsAt, is_known_locked, known_status}
+use Rattle.view_split.specs.Placed.{shown_by}
+use Rattle.confirm_reply.specs.Verdict.{IsAtPlace, reading_of, verdict_at, verdict_of}
+use Rattle.confirm_reply.specs.declared.check_input.CheckInput.{CheckInput}
 use Rattle.confirm_reply.specs.declared.id_facts.IdFacts.{IdFacts}
 use Rattle.confirm_reply.proofs.Placed.{EachIn}
 use Rattle.confirm_reply.proofs.Trying.{same_shown}
@@ -72,18 +73,35 @@ module _ (reading : Reading) (params : Params) (p : ParticipantId) (items : List
       ≡ verdict_by reading params p time shown view (status_in_inbox reading items k) (is_locked_in_inbox reading params items k)
   same_facts =
       same_shown (checks reading params p time shown view (known_status facts) (is_known_locked facts))
-      (checks reading params p time shown view (status_in_inbox reading items k) (is_locked_in_inbox reading params items k)) view.core
-      ((refl, each_in _ view.core (λ a i. refl)),
-      ((refl, each_in _ view.core (λ a i. refl)),
-      ((refl, each_in _ view.core (λ a i. refl)),
-      ((refl, same_locks),
-      ((refl, same_inactive),
-      ((refl, same_used),
-      ((refl, each_in _ view.core (λ a i. refl)),
-      ((refl, each_in _ view.core (λ a i. refl)),
-      ((refl, each_in _ view.core (λ a i. refl)), tt)))))))))
+      (checks reading params p time shown view (status_in_inbox reading items k) (is_locked_in_inbox reading params items k)) view.core (
+        (refl, each_in _ view.core (λ a i. refl)),
+        (
+          (refl, each_in _ view.core (λ a i. refl)),
+          (
+            (refl, each_in _ view.core (λ a i. refl)),
+            (
+              (refl, same_locks),
+              (
+                (refl, same_inactive),
+                (
+                  (refl, same_used),
+                  (
+                    (refl, each_in _ view.core (λ a i. refl)),
+                    (
+                      (refl, each_in _ view.core (λ a i. refl)),
+                      ((refl, each_in _ view.core (λ a i. refl)), tt),
+                    ),
+                  ),
+                ),
+              ),
+            ),
+          ),
+        ),
+      )
 
-  pub as_at_place : time ≡ item_time (slice_get items k)
-      → verdict_by reading params p time shown view (known_status facts) (is_known_locked facts) ≡ verdict_on_view reading params p items k shown view
-  as_at_place same =
-      same_facts ∙ ap (λ (t : ℕ). verdict_by reading params p t shown view (status_in_inbox reading items k) (is_locked_in_inbox reading params items k)) same
+pub as_at_place : (input : CheckInput) (view : OpenedView) (items : List Item) (k : ℕ) → IsAtPlace input items k view → verdict_of input view ≡ verdict_at input items k view
+as_at_place input view items k place =
+    let params = input.setup.now.topology.params in
+    same_facts (reading_of input) params input.me items k input.time (shown_by input.tree) view input.facts place.facts
+    ∙ ap (λ (t : ℕ). verdict_by (reading_of input) params input.me t (shown_by input.tree) view (status_in_inbox (reading_of input) items k)
+    (is_locked_in_inbox (reading_of input) params items k)) place.time

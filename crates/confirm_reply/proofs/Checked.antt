@@ -1,6 +1,6 @@
 -- What a check has in hand is what its verdict asks.
 use Rattle.std.proofs.Common.{◌≡◌, ◌≤◌, ℕ, suc, Bool, true, List, [], ◌∷◌, length, map, Option, Some, None, refl, sym, ap, ◌∙◌, subst, inl, inr, arith}
-use Rattle.std.specs.Prelude.{All, IsSome, find, nat_eq, option_map, slice_get}
+use Rattle.std.specs.Prelude.{All, IsSome, find, nat_eq, option_map}
 use Rattle.std.specs.Str.{bytes_eq}
 use Rattle.std.proofs.lemmas.Bool.{cases_Bool}
 use Rattle.std.proofs.lemmas.List.{length-map}

@@ -29,7 +29,8 @@ abbrev pub is_known_locked : List IdFacts → Hash → Bool
 is_known_locked facts c = lock_of (fact_on facts c)
 
 -- Of each contract with a hosted stakeholder in a core the facts say what the first k + 1 items of an inbox say.
-pub record AreAsAt (reading : Reading) (params : Params) (p : ParticipantId) (items : List Item) (k : ℕ) (facts : List IdFacts) (core : List (ℕ × Act)) : Type 0 where
+pub record AreAsAt (reading : Reading) (params : Params) (p : ParticipantId) (items : List Item) (k : ℕ) (facts : List IdFacts)
+    (core : List (ℕ × Act)) : Type 0 where
   pub status : (a : ℕ × Act) → Contains core a → has_hosted_stakeholder reading p a.1 ≡ true
       → known_status facts (id_of (a.1).action) ≡ status_in_inbox reading items k (id_of (a.1).action)
   pub locked : (a : ℕ × Act) → Contains core a → has_hosted_stakeholder reading p a.1 ≡ true

@@ -6,7 +6,8 @@ use Rattle.ledger_terms.specs.Vetting.{vets}
 use Rattle.ledger_model.specs.Terms.{instance_of}
 use Rattle.ledger_model.specs.Status.{shows_locked, shows_inactive, shows_not_fresh, shows_unordered}
 use Rattle.canton_model.specs.declared.reason.Reason.{Reason}
-use Rattle.canton_model.specs.declared.reason.Reason.TheVariants.{IdMismatch, NotVetted, TimeSkew, Locked, Inactive, NotFresh, Unordered, NotConformant, NotAuthorised}
+use Rattle.canton_model.specs.declared.reason.Reason.TheVariants.{IdMismatch, NotVetted, TimeSkew, Locked, Inactive}
+use Rattle.canton_model.specs.declared.reason.Reason.TheVariants.{NotFresh, Unordered, NotConformant, NotAuthorised}
 use Rattle.canton_model.specs.declared.local_verdict.LocalVerdict.{LocalVerdict}
 use Rattle.canton_model.specs.declared.local_verdict.LocalVerdict.TheVariants.{Approve, Reject}
 use Rattle.canton_model.specs.Inbox.{has_hosted_stakeholder}

@@ -42,8 +42,10 @@ fn put_child<'a>(
     core: &mut Vec<usize>,
     held: &mut Vec<Numbered<'a>>,
 ) -> Result<(), AllocError>
-    ensures core { OnOk result (core.new.items ≡ core.old.items ++ numbers_of (core_in (children_of (child.now ∷ [])) (numbered_trees (tree.now ∷ [])))) }
-    ensures held { OnOk result (numbered_trees held.new.items ≡ join (numbered_trees held.old.items) (held_in (children_of (child.now ∷ [])) (numbered_trees (tree.now ∷ [])))) }
+    ensures core { OnOk result (core.new.items
+        ≡ core.old.items ++ numbers_of (core_in (children_of (child.now ∷ [])) (numbered_trees (tree.now ∷ [])))) }
+    ensures held { OnOk result (numbered_trees held.new.items
+        ≡ join (numbered_trees held.old.items) (held_in (children_of (child.now ∷ [])) (numbered_trees (tree.now ∷ [])))) }
 {
     match child {
         CoreChild::Inner(node) => {
@@ -100,7 +102,8 @@ fn core_of_view(
     tree: &Numbered<'_>,
     left: Option<&[u16]>,
 ) -> Result<Option<Vec<usize>>, AllocError>
-    ensures { IfOk result (λ found. option_map (λ v. v.items) found ≡ core_or (option_copied left.entry) view.now.root (tree.now.number, tree.now.node.now.root)
+    ensures { IfOk result (λ found. option_map (λ v. v.items) found
+        ≡ core_or (option_copied left.entry) view.now.root (tree.now.number, tree.now.node.now.root)
         (number_from (suc tree.now.number) tree.now.node.now.below)
         (core_found (option_copied left.entry) 0 view.now.below (held_in view.now.root.below (number_from (suc tree.now.number) tree.now.node.now.below)))) }
 {

@@ -1,16 +1,13 @@
 //! The local check of a view.
-ghost use Rattle.std.specs.Prelude.{◌≡◌, ◌≤◌, ℕ, All, List, Some, IfOk, IsSome, length, slice_get};
+ghost use Rattle.std.specs.Prelude.{◌≡◌, ◌≤◌, ℕ, All, List, Some, IfOk, IsSome, length};
 ghost use Rattle.ledger_model.specs.Opening.{OpenedView};
-ghost use Rattle.canton_model.specs.Checks.{verdict_on_view};
-ghost use Rattle.canton_model.specs.Inbox.{Item, item_time};
+ghost use Rattle.canton_model.specs.Inbox.{Item};
 ghost use Rattle.view_split.specs.Placed.{shown_by};
-ghost use Rattle.confirm_reply.specs.Facts.{AreAsAt};
 ghost use Rattle.confirm_reply.specs.Fit.{IsCheckableAt};
 ghost use Rattle.confirm_reply.specs.Nodes.{trees_in};
 ghost use Rattle.confirm_reply.specs.Tried.{all_reasons, verdict_after};
-ghost use Rattle.confirm_reply.specs.LocalReading.{local_reading};
 ghost use Rattle.confirm_reply.specs.Opened.{CanBeChecked, view_at};
-ghost use Rattle.confirm_reply.specs.Verdict.{verdict_of};
+ghost use Rattle.confirm_reply.specs.Verdict.{IsAtPlace, verdict_at, verdict_of};
 
 use crate::check_input::CheckInput;
 use crate::cores::core_at;
@@ -31,12 +28,10 @@ pub fn check_view(
     requires opened { IsSome (view_at view.now input.now.tree) }
     requires checkable { (opened : OpenedView) → view_at view.now input.now.tree ≡ Some opened
         → CanBeChecked input.now.setup.now.checked (shown_by input.now.tree) opened }
-    ensures by_facts { IfOk result (λ verdict. (opened : OpenedView) → view_at view.now input.now.tree ≡ Some opened → verdict ≡ verdict_of input.now opened) }
+    ensures by_facts { IfOk result (λ verdict. (opened : OpenedView) → view_at view.now input.now.tree ≡ Some opened
+        → verdict ≡ verdict_of input.now opened) }
     ensures at_place { IfOk result (λ verdict. (opened : OpenedView) (items : List Item) (k : ℕ) → view_at view.now input.now.tree ≡ Some opened
-        → input.now.time ≡ item_time (slice_get items k)
-        → AreAsAt (local_reading input.now.setup.now.topology input.now.setup.now.checked) input.now.setup.now.topology.params input.now.me items k input.now.facts opened.core
-        → verdict ≡ verdict_on_view (local_reading input.now.setup.now.topology input.now.setup.now.checked) input.now.setup.now.topology.params input.now.me items k
-        (shown_by input.now.tree) opened) }
+        → IsAtPlace input.now items k opened → verdict ≡ verdict_at input.now items k opened) }
 {
     let roots = roots_of(alloc, &input.tree.views)?;
     let nodes = nodes_of(alloc, &roots)?;
@@ -62,7 +57,8 @@ fn verdict_on<'a>(
 ) -> Result<LocalVerdict, AllocError>
     requires checkable { All (IsCheckableAt input.now.setup.now.checked (trees_in nodes.now)) core.now }
     requires few { length core.now ≤ 65536 }
-    ensures { IfOk result (λ verdict. verdict ≡ verdict_after input.now (record { trees = trees_in nodes.now; core = core.now; is_root = is_root }) all_reasons) }
+    ensures { IfOk result (λ verdict. verdict
+        ≡ verdict_after input.now (record { trees = trees_in nodes.now; core = core.now; is_root = is_root }) all_reasons) }
 {
     let earlier = actions_of(alloc, nodes)?;
     let trial = Trial {

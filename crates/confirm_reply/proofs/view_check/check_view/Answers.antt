@@ -1,13 +1,10 @@
-use Rattle.std.proofs.Common.{◌≡◌, Some, refl, sym, ap, ◌∙◌, arith}
-use Rattle.std.specs.Prelude.{ℕ, length, nat_eq, option_map}
+use Rattle.std.proofs.Common.{Some, ap, ◌∙◌, arith}
+use Rattle.std.specs.Prelude.{ℕ, nat_eq}
 use Rattle.std.proofs.lemmas.Result.{IfOk-weaker}
-use Rattle.ledger_terms.specs.Forest.{size}
-use Rattle.view_split.specs.Placed.{shown_by}
-use Rattle.confirm_reply.specs.LocalReading.{local_reading}
 use Rattle.confirm_reply.specs.Nodes.{trees_in}
 use Rattle.confirm_reply.specs.Numbers.{numbered_trees}
 use Rattle.confirm_reply.proofs.AtPlace.{as_at_place}
-use Rattle.confirm_reply.proofs.Checked.{IsInHand, few_numbers, not_lost, numbers_checkable, verdict_given}
+use Rattle.confirm_reply.proofs.Checked.{few_numbers, not_lost, numbers_checkable, verdict_given}
 use Rattle.confirm_reply.proofs.ShownAt.{nodes_counted}
 use Rattle.confirm_reply.proofs.view_check.check_view.Goals as goal
 
@@ -60,11 +57,10 @@ returns-in-Some-clause-at_place c =
       counted = ap numbered_trees c.as_slice.ensures.value ∙ c.in_ok-trees.ensures;
       found = ap Some c.as_slice-in-Some-2.ensures.value ∙ (rw c.in-Some.is at c.in_ok-core.ensures);
     }) in
-    let input = c.args.input.now in
-    IfOk-weaker c.verdict_on.result _ _ (λ verdict given opened items k is time as_at.
+    IfOk-weaker c.verdict_on.result _ _ (λ verdict given opened items k is place.
     given
     ∙ (owed opened is (nat_eq c.len.result 1) (ap (λ (n : ℕ). nat_eq n 1) c.len.ensures)
-    ∙ as_at_place (local_reading input.setup.now.topology input.setup.now.checked) input.setup.now.topology.params input.me items k input.time (shown_by input.tree) opened input.facts as_at time))
+    ∙ as_at_place c.args.input.now opened items k place))
     c.verdict_on.ensures
 
 pub returns-clause-by_facts : goal.returns-clause-by_facts
@@ -74,5 +70,5 @@ returns-clause-by_facts c =
 
 pub returns-clause-at_place : goal.returns-clause-at_place
 returns-clause-at_place c =
-    λ opened items k is time as_at. absurd (not_lost c.args.input.now c.args.view.now opened is (numbered_trees c.as_slice.result.now) c.in_ok-roots.roots c.in_ok-roots.ensures
+    λ opened items k is place. absurd (not_lost c.args.input.now c.args.view.now opened is (numbered_trees c.as_slice.result.now) c.in_ok-roots.roots c.in_ok-roots.ensures
     (ap numbered_trees c.as_slice.ensures.value ∙ c.in_ok-trees.ensures) (rw c.in-None.is at c.in_ok-core.ensures))
