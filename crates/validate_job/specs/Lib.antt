@@ -1,0 +1,3 @@
+pub mod Job
+pub mod Owed
+pub mod Outcome

@@ -1,0 +1,120 @@
+//! The job of checking a request's views.
+ghost use Rattle.std.specs.Prelude.{◌≡◌, ◌+◌, ◌-◌, ◌<◌, ◌^◌, ◌∷◌, [], All, IfNone, IfOk, IfSome, OnErr, OnOk, length, min};
+ghost use Rattle.validate_job.specs.Owed.{CanCheck, owed_on};
+ghost use Rattle.validate_job.specs.Outcome.{IsOutcome};
+
+use crate::finished::Finished;
+use canton_model::{ViewVerdict, ViewVerdictList};
+use confirm_reply::{CheckInput, check_view};
+use ledger_terms::{Exact, Path, PathList};
+use std::alloc::{AllocError, Global};
+use std::marker::Model;
+use std::mem;
+
+/// Checks views of a request, one at each step. As a future it takes one step at each poll.
+#[derive(Drop)]
+pub struct ValidateJob<'s> {
+    input: CheckInput<'s>,
+    place: u64,
+    views: PathList,
+    // How many of the views are checked.
+    checked: usize,
+    // The verdicts on those, until the last is handed out with them.
+    verdicts: ViewVerdictList,
+}
+
+impl<'s> Model for ValidateJob<'s> {
+    ghost use Rattle.std.specs.Prelude.{◌≡◌, ◌-◌, ◌<◌, ◌≤◌, ◌++◌, All, drop, length};
+    ghost use Rattle.validate_job.specs.Job.{Job};
+
+    ghost Value = { Job };
+
+    ghost use Rattle.ledger_terms.specs.Forest.{coded_forest};
+    ghost use Rattle.ledger_terms.specs.Packages.{coded_package};
+    ghost use Rattle.view_split.specs.Holed.{coded_holed};
+    ghost use Rattle.std.specs.Coded.{codes};
+
+    ghost coded = { Prim.hlevel (codes, coded_forest, coded_holed, coded_package) };
+
+    ghost view = { λ j. record { given = record { input = j.input; place = j.place; views = j.views }; left = length j.views - j.checked } };
+
+    ghost use Rattle.validate_job.specs.Owed.{CanCheck, owed_on_each};
+
+    ghost invariant = { λ j. All (CanCheck j.input) j.views × (j.checked ≤ length j.views)
+        × (j.checked < length j.views → j.verdicts ++ owed_on_each j.input (drop j.checked j.views) ≡ owed_on_each j.input j.views) };
+}
+
+// A view's path with the verdict on it.
+fn verdict_on(alloc: Global, input: &CheckInput<'_>, path: &Path) -> Result<ViewVerdict, AllocError>
+    requires { CanCheck input.now path.now }
+    ensures { IfOk result (λ verdict. owed_on input.now path.now ≡ verdict ∷ []) }
+{
+    let verdict = check_view(alloc, input, path)?;
+    let view = path.copied()?;
+    Ok(ViewVerdict { view, verdict })
+}
+
+impl<'s> ValidateJob<'s> {
+    /// The check of the views with these paths of the request at a place, none of them checked yet.
+    pub fn new(input: CheckInput<'s>, place: u64, views: PathList) -> ValidateJob<'s>
+        requires some { 0 < length views }
+        requires each { All (CanCheck input) views }
+        ensures { result ≡ record { given = record { input = input.entry; place = place; views = views }; left = length views } }
+    {
+        let verdicts = ViewVerdictList::new(*views.allocator());
+        ValidateJob {
+            input,
+            place,
+            views,
+            checked: 0,
+            verdicts,
+        }
+    }
+
+    /// The place of the request.
+    pub fn place(&self) -> u64
+        ensures { result ≡ self.now.given.place }
+    {
+        self.place
+    }
+
+    /// How many views are left, or the greatest number that can be told where that is more.
+    pub fn left(&self) -> u32
+        ensures { result ≡ min self.now.left (2 ^ 32 - 1) }
+    {
+        let left = self.views.len() - self.checked;
+        left.min(u32::MAX as usize) as u32
+    }
+
+    /// Gives the check up, for the place of the request.
+    pub fn cancel(self) -> u64
+        ensures { result ≡ self.entry.given.place }
+    {
+        let ValidateJob { place, .. } = self;
+        place
+    }
+
+    /// Checks the next view, and gives all verdicts after the last. None where views remain.
+    pub fn check_next(&mut self) -> Result<Option<Finished>, AllocError>
+        requires { 0 < self.old.left }
+        ensures one_view { OnOk result (self.new.left + 1 ≡ self.old.left) }
+        ensures given { self.new.given ≡ self.old.given }
+        ensures none { IfOk result (λ o. IfNone o (0 < self.new.left)) }
+        ensures last { IfOk result (λ o. IfSome o (λ finished. self.new.left ≡ 0)) }
+        ensures finished { IfOk result (λ o. IfSome o (λ finished. IsOutcome self.old.given finished)) }
+        ensures err { OnErr result (self.new ≡ self.old) }
+    {
+        let alloc = *self.views.allocator();
+        let verdict = verdict_on(alloc, &self.input, &self.views.as_slice()[self.checked])?;
+        self.verdicts.push(verdict)?;
+        self.checked += 1;
+        if self.checked < self.views.len() {
+            return Ok(None);
+        }
+        let verdicts = mem::replace(&mut self.verdicts, ViewVerdictList::new(alloc));
+        Ok(Some(Finished {
+            place: self.place,
+            verdicts,
+        }))
+    }
+}
