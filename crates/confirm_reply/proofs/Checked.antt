@@ -97,9 +97,9 @@ module _ (packages : Packages) (roots : Actions) where
   all_checkable (a ∷ core) e can =
       All-cons (IsCheckableAt packages (trees_of roots)) a.0 (numbers_of core) (one_checkable a e.0 can.0) (all_checkable core e.1 can.1)
 
-some_of : (found : Option OpenedView) → IsSome found → (view : OpenedView) × (found ≡ Some view)
+pub some_of : {X : Type 0} (found : Option X) → IsSome found → (x : X) × (found ≡ Some x)
 some_of None some = absurd (grind (arith, some))
-some_of (Some view) some = (view, refl)
+some_of (Some x) some = (x, refl)
 
 -- what a check has in hand: all that is opened, and the numbers of the core that is found
 pub record IsInHand (input : CheckInput) (path : Path) (trees : List Tree) (core : List ℕ) : Type 0 where

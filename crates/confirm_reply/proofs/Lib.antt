@@ -12,3 +12,4 @@ mod Gathering
 mod NumberSteps
 mod Checked
 mod Checkable
+mod FactsAt

@@ -28,6 +28,11 @@ known_status facts c = status_of (fact_on facts c)
 abbrev pub is_known_locked : List IdFacts → Hash → Bool
 is_known_locked facts c = lock_of (fact_on facts c)
 
+-- the first k + 1 items of an inbox say it
+pub record IsFactAt (reading : Reading) (params : Params) (items : List Item) (k : ℕ) (fact : IdFacts) : Type 0 where
+  pub status : fact.status ≡ status_in_inbox reading items k fact.id
+  pub locked : fact.locked ≡ is_locked_in_inbox reading params items k fact.id
+
 -- Of each contract with a hosted stakeholder in a core the facts say what the first k + 1 items of an inbox say.
 pub record AreAsAt (reading : Reading) (params : Params) (p : ParticipantId) (items : List Item) (k : ℕ) (facts : List IdFacts)
     (core : List (ℕ × Act)) : Type 0 where

@@ -1,0 +1,106 @@
+-- What the words after a command say: which argument is given which text.
+use Rattle.std.specs.Prelude.{◌≡◌, ℕ, Bool, true, ◌&&◌, ◌||◌, not, List, [], ◌∷◌, ◌++◌, Option, Some, None, if◌then◌else◌, codes}
+use Rattle.std.specs.List.{list_any}
+use Rattle.std.specs.Str.{bytes_eq, is_utf8}
+use Rattle.clap.specs.Lexer.{long_of, short_of}
+
+abbrev pub Text : Type 0
+Text = List ℕ
+
+-- an argument by its name, with the text that it is given
+abbrev pub Argument : Type 0
+Argument = Text × Text
+
+abbrev pub AreUtf8 : List Text → Type 0
+AreUtf8 [] = Unit {0}
+AreUtf8 (word ∷ words) = (is_utf8 word ≡ true) × AreUtf8 words
+
+-- ---- one word
+
+-- What a word looks like: `--`; `--name` or `--name=text`; another word with a hyphen before something; and any other word, a
+-- lone hyphen among them.
+pub data Form : Type 0 where
+  ending : Form
+  option : Text → Option Text → Form
+  flag : Form
+  plain : Form
+
+abbrev pub form_behind : Option (Text × Option Text) → Option Text → Form
+form_behind (Some named) short = option named.0 named.1
+form_behind None (Some letters) = flag
+form_behind None None = plain
+
+abbrev pub form_of : Text → Form
+form_of word = if bytes_eq word (codes "--") then ending else form_behind (long_of word) (short_of word)
+
+-- ---- arguments
+
+abbrev pub is_option : Text → Bool
+is_option name = bytes_eq (codes "workers") name || bytes_eq (codes "log") name
+
+-- the positionals, in their order
+abbrev pub positionals : List Text
+positionals = codes "count" ∷ codes "seed" ∷ []
+
+abbrev pub is_given : Text → List Argument → Bool
+is_given name given = list_any (λ (a : Argument). bytes_eq a.0 name) given
+
+-- the text that an argument is given
+abbrev pub text_of : Text → List Argument → Option Text
+text_of name [] = None
+text_of name (a ∷ given) = if bytes_eq a.0 name then Some a.1 else text_of name given
+
+-- an option that isn't given yet, and what the words after it say
+abbrev pub with_option : List Argument → Text → Text → (List Argument → Option (List Argument)) → Option (List Argument)
+with_option given name text after =
+    if is_option name && not (is_given name given) then after (given ++ (name, text) ∷ []) else None
+
+-- the first positional of those that are left, and what the words after it say
+abbrev pub with_positional : List Argument → List Text → Text → (List Argument → List Text → Option (List Argument))
+    → Option (List Argument)
+with_positional given [] text after = None
+with_positional given (name ∷ left) text after = after (given ++ (name, text) ∷ []) left
+
+-- ---- all words
+
+-- After `--` each word is a positional.
+abbrev pub positionals_from : List Argument → List Text → List Text → Option (List Argument)
+positionals_from given left [] = Some given
+positionals_from given left (word ∷ words) =
+    with_positional given left word (λ given' left'. positionals_from given' left' words)
+
+-- what the form of a word makes of it; nothing where the word begins with a single hyphen
+abbrev pub by_form : Form → (Unit {0} → Option (List Argument)) → (Text → Text → Option (List Argument))
+    → (Text → Option (List Argument)) → (Unit {0} → Option (List Argument)) → Option (List Argument)
+by_form ending last joined apart other = last tt
+by_form (option name (Some text)) last joined apart other = joined name text
+by_form (option name None) last joined apart other = apart name
+by_form flag last joined apart other = None
+by_form plain last joined apart other = other tt
+
+-- nothing but a plain word
+abbrev pub if_plain : Form → (Unit {0} → Option (List Argument)) → Option (List Argument)
+if_plain plain other = other tt
+if_plain _ other = None
+
+abbrev mutual
+  -- The arguments that are given, with those of the words; `left` are the positionals that are still to come. An option's text
+  -- is joined to it by `=`, or is the next word.
+  pub arguments_from : List Argument → List Text → List Text → Option (List Argument)
+  arguments_from given left [] = Some given
+  arguments_from given left (word ∷ words) =
+      by_form (form_of word)
+      (λ _. positionals_from given left words)
+      (λ name text. with_option given name text (λ given'. arguments_from given' left words))
+      (λ name. text_from given left name words)
+      (λ _. with_positional given left word (λ given' left'. arguments_from given' left' words))
+
+  -- The same, where the next word is the text of the named option. It doesn't begin with a hyphen.
+  pub text_from : List Argument → List Text → Text → List Text → Option (List Argument)
+  text_from given left name [] = None
+  text_from given left name (word ∷ words) =
+      if_plain (form_of word) (λ _. with_option given name word (λ given'. arguments_from given' left words))
+
+-- the arguments that the words say, in any order; none where the words are at fault
+abbrev pub arguments_of : List Text → Option (List Argument)
+arguments_of words = arguments_from [] positionals words

@@ -1,0 +1,54 @@
+-- The words after a command, as `clap` has them.
+use Rattle.std.specs.Prelude.{true, List, [], ◌∷◌, Some, codes}
+use Rattle.clap.specs.Walk.{Rule, Row}
+use Rattle.clap.specs.Matches.{found_of, first_value}
+use Rattle.clap.specs.declared.parser.matches.ArgMatches.{ArgMatches}
+use Rattle.clap.specs.Simple.{App, new_rule, new_shape, matches_of}
+use Rattle.clap.specs.Faults.{fault_of}
+use Rattle.clap.specs.Kinds.{Kinds}
+use Rattle.clap.specs.declared.builder.action.ArgAction.TheVariants.{Set}
+use Rattle.cli_words.specs.Arguments.{Text}
+use Rattle.cli_words.specs.Jobs.{Given}
+
+-- an option with one text
+abbrev pub option_rule : Text → Rule
+option_rule name = record (new_rule name) { long = Some name; action = Some Set }
+
+-- a positional
+abbrev pub positional_rule : Text → Rule
+positional_rule name = record (new_rule name) { action = Some Set }
+
+-- with these arguments, and no help
+abbrev app_with : List Rule → App
+app_with rules =
+    record {
+      top = record (new_shape (codes "words")) { no_binary_name = true; disable_help_flag = true; rules = rules };
+      subs = [];
+    }
+
+-- the options of all commands
+abbrev pub options_app : App
+options_app = app_with (option_rule (codes "workers") ∷ option_rule (codes "log") ∷ [])
+
+-- the arguments of all commands
+abbrev pub words_app : App
+words_app =
+    app_with (option_rule (codes "workers") ∷ option_rule (codes "log") ∷ positional_rule (codes "count") ∷ positional_rule (codes "seed") ∷ [])
+
+-- what is wrong with the words; nothing where `clap` takes them
+unfoldable pub words_fault : List Text → Kinds
+words_fault words = fault_of words_app words
+
+-- what each argument was given
+unfoldable pub words_rows : List Text → List Row
+words_rows words = matches_of words_app words
+
+-- the texts of the arguments that `clap` has found
+abbrev pub matches_given : ArgMatches → Given
+matches_given m =
+    record {
+      workers = first_value (found_of m) (codes "workers");
+      log = first_value (found_of m) (codes "log");
+      count = first_value (found_of m) (codes "count");
+      seed = first_value (found_of m) (codes "seed");
+    }

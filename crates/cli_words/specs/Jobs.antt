@@ -1,0 +1,94 @@
+-- The job that words ask for: `run [--workers N] [--log N]` or `gen COUNT SEED [--workers N]`.
+use Rattle.std.specs.Prelude.{ℕ, Bool, ◌&&◌, List, [], ◌∷◌, length, Option, Some, None, if◌then◌else◌, nat_le, option_map, codes}
+use Rattle.std.specs.Borrow.{Bor}
+use Rattle.std.specs.List.{list_all}
+use Rattle.std.specs.Str.{bytes_eq}
+use Rattle.std.specs.Str.Parse.{digits_value}
+use Rattle.std.specs.Char.{is_ascii_digit}
+use Rattle.ledger_terms.specs.declared.limits.TheConstants.{MOST_PLACES}
+use Rattle.cli_words.specs.Arguments.{Text, Argument, text_of, arguments_of}
+use Rattle.cli_words.specs.declared.limits.TheConstants.{MOST_DIGITS, MOST_WORKERS, MOST_COUNT, MOST_SEED}
+use Rattle.cli_words.specs.declared.job.Job.{Job}
+use Rattle.cli_words.specs.declared.job.Job.TheVariants.{Run, Gen}
+
+infixl 10 ◌>>=◌
+abbrev pub ◌>>=◌ : {A B : Type 0} → Option A → (A → Option B) → Option B
+Some a >>= f = f a
+None >>= f = None
+
+-- ---- numbers
+
+-- the text behind a reference
+abbrev pub text_now : Option (Bor Text) → Option Text
+text_now = option_map (λ (s : Bor Text). s.now)
+
+-- 1 to 20 decimal digits
+abbrev pub is_number : Text → Bool
+is_number text = nat_le 1 (length text) && nat_le (length text) MOST_DIGITS && list_all is_ascii_digit text
+
+-- the number that a text writes, from `low` to `high`
+unfoldable pub number_in : ℕ → ℕ → Text → Option ℕ
+number_in low high text =
+    if is_number text && nat_le low (digits_value 10 text) && nat_le (digits_value 10 text) high then Some (digits_value 10 text) else None
+
+-- the same of an argument that may be left out
+abbrev pub number_or : ℕ → ℕ → ℕ → Option Text → Option ℕ
+number_or default low high None = Some default
+number_or default low high (Some text) = number_in low high text
+
+-- the same of one that may not
+abbrev pub number_of : ℕ → ℕ → Option Text → Option ℕ
+number_of low high None = None
+number_of low high (Some text) = number_in low high text
+
+-- nothing may be given
+abbrev pub absent : Option Text → Option (Unit {0})
+absent None = Some tt
+absent (Some text) = None
+
+-- ---- jobs
+
+-- the texts of the arguments
+pub record Given : Type 0 where
+  pub workers : Option Text
+  pub log : Option Text
+  pub count : Option Text
+  pub seed : Option Text
+
+abbrev pub given_in : List Argument → Given
+given_in given =
+    record {
+      workers = text_of (codes "workers") given;
+      log = text_of (codes "log") given;
+      count = text_of (codes "count") given;
+      seed = text_of (codes "seed") given;
+    }
+
+-- what the words say; nothing where they are at fault
+unfoldable pub given_of : List Text → Option Given
+given_of words = option_map given_in (arguments_of words)
+
+unfoldable pub run_of : Given → Option Job
+run_of given = do
+  _ ← absent given.count
+  _ ← absent given.seed
+  workers ← number_or 0 0 MOST_WORKERS given.workers
+  log ← number_or MOST_PLACES 1 MOST_PLACES given.log
+  Some (Run workers log)
+
+unfoldable pub gen_of : Given → Option Job
+gen_of given = do
+  _ ← absent given.log
+  count ← number_of 1 MOST_COUNT given.count
+  seed ← number_of 0 MOST_SEED given.seed
+  workers ← number_or 0 0 MOST_WORKERS given.workers
+  Some (Gen count seed workers)
+
+abbrev pub job_by : Text → Given → Option Job
+job_by command given =
+    if bytes_eq command (codes "run") then run_of given else (if bytes_eq command (codes "gen") then gen_of given else None)
+
+-- The job that the words ask for, after the program's name; none where they are not accepted.
+unfoldable pub job_of : List Text → Option Job
+job_of [] = None
+job_of (command ∷ words) = given_of words >>= job_by command

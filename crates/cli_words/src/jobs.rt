@@ -1,0 +1,63 @@
+//! Jobs from what is given.
+ghost use Rattle.std.specs.Prelude.{◌≡◌};
+ghost use Rattle.cli_words.specs.Command.{matches_given};
+ghost use Rattle.cli_words.specs.Jobs.{number_or, run_of, gen_of, job_by};
+
+use crate::job::Job;
+use crate::limits::{MOST_COUNT, MOST_SEED, MOST_WORKERS};
+use crate::numbers::{number_of, number_or};
+use clap::ArgMatches;
+use ledger_terms::limits::MOST_PLACES;
+
+/// How many workers there are.
+fn workers_of(given: &ArgMatches<'_>) -> Option<u32>
+    ensures { result ≡ number_or 0 0 MOST_WORKERS (matches_given given.now).workers }
+{
+    let workers = number_or(0, 0, MOST_WORKERS, given.get_str("workers"))?;
+    Some(workers as u32)
+}
+
+/// A run of the source's script.
+#[tactic(auto, unfolding(crate::specs::Jobs::run_of))]
+fn run_of(given: &ArgMatches<'_>) -> Option<Job>
+    ensures { result ≡ run_of (matches_given given.now) }
+{
+    if given.get_str("count").is_some() || given.get_str("seed").is_some() {
+        return None;
+    }
+    let workers = workers_of(given)?;
+    let most = MOST_PLACES as u64;
+    let log = number_or(most, 1, most, given.get_str("log"))?;
+    Some(Job::Run { workers, log })
+}
+
+/// A run of a generated script.
+#[tactic(auto, unfolding(crate::specs::Jobs::gen_of))]
+fn gen_of(given: &ArgMatches<'_>) -> Option<Job>
+    ensures { result ≡ gen_of (matches_given given.now) }
+{
+    if given.get_str("log").is_some() {
+        return None;
+    }
+    let count = number_of(1, MOST_COUNT, given.get_str("count"))?;
+    let seed = number_of(0, MOST_SEED, given.get_str("seed"))?;
+    let workers = workers_of(given)?;
+    Some(Job::Gen {
+        count: count as u32,
+        seed,
+        workers,
+    })
+}
+
+/// The job of a command.
+pub(crate) fn job_by(command: &str, given: &ArgMatches<'_>) -> Option<Job>
+    ensures { result ≡ job_by command.now (matches_given given.now) }
+{
+    if command == "run" {
+        run_of(given)
+    } else if command == "gen" {
+        gen_of(given)
+    } else {
+        None
+    }
+}

@@ -1,0 +1,20 @@
+-- Generated scripts: debts in one round, and their transfers in the next.
+use Rattle.std.specs.Prelude.{ℕ, false, List, [], ◌∷◌}
+use Rattle.ledger_terms.specs.declared.submission.Submission.{Submission}
+use Rattle.script_read.specs.declared.round.Round.{Round}
+use Rattle.script_read.specs.declared.script.Script.{Script}
+use Rattle.load_gen.specs.Scripts.{hosts, params, packages}
+use Rattle.load_gen.specs.Submissions.{debts, transfers}
+
+-- a round in which nobody is paused, no verdict is held back, and the time isn't moved
+abbrev pub round_of : List Submission → Round
+round_of submits = record { advance = 0; paused = []; hold_verdicts = false; submits = submits }
+
+-- the script of a seed and a count
+abbrev pub generated : ℕ → ℕ → Script
+generated seed count =
+    record {
+      topology = record { hosts = hosts; params = params };
+      checked = packages;
+      rounds = round_of (debts seed count) ∷ round_of (transfers count) ∷ [];
+    }

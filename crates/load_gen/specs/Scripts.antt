@@ -1,0 +1,28 @@
+-- The participants and the packages of a generated script.
+use Rattle.std.specs.Prelude.{ℕ, List, [], ◌∷◌, map, codes}
+use Rattle.std.specs.List.{range_with_len}
+use Rattle.ledger_terms.specs.Packages.{PackageForm}
+use Rattle.ledger_terms.specs.declared.host.Host.{Host}
+use Rattle.ledger_terms.specs.declared.params.Params.{Params}
+use Rattle.lang_eval.specs.Builtin.{checked_packages}
+use Rattle.load_gen.specs.Iou.{iou_package}
+use Rattle.load_gen.specs.Numbers.{participant_at, party_at}
+use Rattle.load_gen.specs.declared.topology.TheConstants.{PARTICIPANTS, RESPONSE_TIMEOUT, REACTION_TIMEOUT, SKEW}
+
+-- all packages
+abbrev pub vetted : List (List ℕ)
+vetted = codes "Note" ∷ codes "Iou" ∷ []
+
+-- the participant at a place, with its one party
+abbrev pub host_at : ℕ → Host
+host_at place = record { name = participant_at place; parties = party_at place ∷ []; vetted = vetted }
+
+abbrev pub hosts : List Host
+hosts = map host_at (range_with_len 0 PARTICIPANTS)
+
+abbrev pub params : Params
+params = record { response_timeout = RESPONSE_TIMEOUT; reaction_timeout = REACTION_TIMEOUT; skew = SKEW }
+
+-- Iou, and what is built in
+abbrev pub packages : List PackageForm
+packages = checked_packages (iou_package ∷ [])

@@ -1,0 +1,55 @@
+-- What is submitted: debts, and their transfers.
+use Rattle.std.specs.Prelude.{ℕ, ◌+◌, ◌%◌, pos, List, [], ◌∷◌, None, map, codes}
+use Rattle.std.specs.List.{range_with_len}
+use Rattle.ledger_terms.specs.declared.arg.Arg.{Arg}
+use Rattle.ledger_terms.specs.declared.arg.Arg.TheVariants.{Plain}
+use Rattle.ledger_terms.specs.declared.command.Command.{Command}
+use Rattle.ledger_terms.specs.declared.command.Command.TheVariants.{Create, Exercise}
+use Rattle.ledger_terms.specs.declared.contract_ref.ContractRef.{ContractRef}
+use Rattle.ledger_terms.specs.declared.contract_ref.ContractRef.TheVariants.{Label}
+use Rattle.ledger_terms.specs.declared.submission.Submission.{Submission}
+use Rattle.ledger_terms.specs.declared.value.Value.TheVariants.{Party, Int}
+use Rattle.ledger_terms.specs.declared.what.What.TheVariants.{Commands}
+use Rattle.load_gen.specs.Iou.{iou_template, transfer_name}
+use Rattle.load_gen.specs.Numbers.{number, amount_by, numbered, participant_at, party_at}
+use Rattle.load_gen.specs.declared.topology.TheConstants.{PARTICIPANTS}
+
+-- who takes the part `step` in the turn i: of the debt, 0 owes, 1 is owed, and 2 is owed after the transfer
+abbrev pub in_turn : ℕ → ℕ → ℕ
+in_turn i step = (i + step) % PARTICIPANTS
+
+-- one command of the participant at a place, as its party
+abbrev pub submitted : ℕ → List ℕ → Command → Submission
+submitted place name command =
+    record {
+      participant = place;
+      command = name;
+      act_as = party_at place ∷ [];
+      ledger_time = None;
+      what = Commands (command ∷ []);
+    }
+
+abbrev pub party_arg : ℕ → Arg
+party_arg place = Plain (Party (party_at place))
+
+-- the i-th debt, of an amount by a number
+abbrev pub debt_by : ℕ → ℕ → Submission
+debt_by i x =
+    submitted (in_turn i 0) (numbered (codes "c") i)
+    (Create iou_template (party_arg (in_turn i 0) ∷ party_arg (in_turn i 1) ∷ Plain (Int (pos (amount_by x))) ∷ []))
+
+-- the contract of the i-th debt
+abbrev pub debt_label : ℕ → ContractRef
+debt_label i = Label (record { participant = participant_at (in_turn i 0); command = numbered (codes "c") i; path = 0 ∷ [] })
+
+-- the transfer of the i-th debt
+abbrev pub transfer_of : ℕ → Submission
+transfer_of i =
+    submitted (in_turn i 1) (numbered (codes "t") i) (Exercise iou_template (debt_label i) transfer_name (party_arg (in_turn i 2) ∷ []))
+
+-- the debts, the i-th by the number i + 1
+abbrev pub debts : ℕ → ℕ → List Submission
+debts seed count = map (λ i. debt_by i (number seed (i + 1))) (range_with_len 0 count)
+
+abbrev pub transfers : ℕ → List Submission
+transfers count = map transfer_of (range_with_len 0 count)

@@ -1,0 +1,38 @@
+//! Generated scripts.
+ghost use Rattle.std.specs.Prelude.{◌≡◌, IfOk};
+ghost use Rattle.load_gen.specs.Generated.{round_of, generated};
+
+use crate::packages::generated_packages;
+use crate::submissions::{generated_debts, generated_transfers};
+use crate::topology::generated_topology;
+use ledger_terms::{ParticipantIdList, SubmissionList};
+use script_read::{Round, RoundList, Script};
+use std::alloc::{AllocError, Global};
+
+/// A round in which nobody is paused, no verdict is held back, and the time isn't moved.
+fn round_of(alloc: Global, submits: SubmissionList) -> Round
+    ensures { result ≡ round_of submits }
+{
+    Round {
+        advance: 0,
+        paused: ParticipantIdList::new(alloc),
+        hold_verdicts: false,
+        submits,
+    }
+}
+
+/// The script of a count and a seed: so many debts in one round, and their transfers in the next.
+pub fn generate(alloc: Global, count: u32, seed: u64) -> Result<Script, AllocError>
+    ensures { IfOk result (λ script. script ≡ generated seed count) }
+{
+    let topology = generated_topology(alloc)?;
+    let checked = generated_packages(alloc)?;
+    let mut rounds = RoundList::new(alloc);
+    rounds.push(round_of(alloc, generated_debts(alloc, count, seed)?))?;
+    rounds.push(round_of(alloc, generated_transfers(alloc, count)?))?;
+    Ok(Script {
+        topology,
+        checked,
+        rounds,
+    })
+}
