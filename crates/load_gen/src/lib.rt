@@ -11,8 +11,8 @@ mod script;
 mod submissions;
 mod topology;
 
-pub use script::generate;
 pub use iou::iou_package;
 pub use packages::generated_packages;
+pub use script::generate;
 pub use submissions::{generated_debts, generated_transfers};
 pub use topology::generated_topology;
