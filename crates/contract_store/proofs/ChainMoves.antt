@@ -89,7 +89,7 @@ module _ {K : Type 0} (eq : K → K → Bool) (same : (a b : K) → eq a b ≡ t
         stays q e None w = refl
         stays q e (Some i) w = elim (places_on q i (apart q e) w) [
           | inl h ↦ among_in (suc (length moved)) i (omega arith) ∙ sym (among_in (length moved) i h)
-          | inr h ↦ among_out (suc (length moved)) i (omega arith) ∙ sym (among_out (length moved) i (omega arith))
+          | inr h ↦ among_out (suc (length moved)) i (let o = order in omega arith) ∙ sym (among_out (length moved) i (let o = order in omega arith))
         ]
 
         leads : (q : K) (b : Bool) → eq x.key q ≡ b → among (suc (length moved)) (g q) ≡ cond b (Some (length moved)) (among (length moved) (f q))
@@ -102,14 +102,14 @@ module _ {K : Type 0} (eq : K → K → Bool) (same : (a b : K) → eq a b ≡ t
         places_now : (q : K) (b : Bool) → eq x.key q ≡ b → (i : ℕ) → g q ≡ Some i → (i < length (moved ++ x ∷ [])) ⊎ (suc next ≤ i)
         places_now q true e i w = let p : Some (length moved) ≡ Some i = sym (here q e) ∙ w in let s : length moved ≡ i = cc in let n = longer in inl (omega arith)
         places_now q false e i w = elim (places_on q i (apart q e) (sym (elsewhere q e) ∙ w)) [
-          | inl h ↦ let n = longer in inl (omega arith)
+          | inl h ↦ (let n = longer in inl (omega arith))
           | inr h ↦ inr h
         ]
 
         ahead_now : (q : K) (b : Bool) → eq x.key q ≡ b → (i : ℕ) → g q ≡ Some i → suc next ≤ i
             → (m : Link K) × (slice_get links i ≡ Some m) × (is_live_at eq q m ≡ true)
         ahead_now q true e i w past =
-            absurd (let p : Some (length moved) ≡ Some i = sym (here q e) ∙ w in let s : length moved ≡ i = cc in omega arith)
+            absurd (let p : Some (length moved) ≡ Some i = sym (here q e) ∙ w in let s : length moved ≡ i = cc in let o = order in omega arith)
         ahead_now q false e i w past = half.ahead q i (sym (elsewhere q e) ∙ w) (omega arith)
 
         there_now : (q : K) (b : Bool) → eq x.key q ≡ b → is_some (f q) ≡ true → is_some (g q) ≡ true

@@ -123,7 +123,7 @@ moving_moved held slots next to ids ids' places places' moving h x at hold live 
   count = (let n : length (holds_of (take to slots) ++ x.hold ∷ []) ≡ length (holds_of (take to slots)) + 1 = length-append (holds_of (take to slots)) (x.hold ∷ []) in
       let m = moving.count in ap length grown ∙ (omega arith));
   order = let o = moving.order in omega arith;
-  fits = (let n = length-set slots to x in omega arith);
+  fits = (let n = length-set slots to x in let w = within in omega arith);
   long = length-set slots to x ∙ moving.long;
 }
   where

@@ -55,6 +55,6 @@ returns-clause-holds c =
 
 pub returns-clause-count : goal.returns-clause-count
 returns-clause-count c =
-    let past : length c.args.slots.now.items ≤ c.loop-next.next = grind (arith, common_steps) in
-    rw c.truncate.ensures.items
-    (moving_ends c.args.slots.now.items c.loop-next.slots.items c.loop-next.next c.loop-next.to _ _ c.loop-next.invariant.moving past).2
+    let count = c.loop-next.invariant.moving.count in
+    let fits = c.loop-next.invariant.moving.fits in
+    rw c.truncate.ensures.items (grind (arith, common_steps))
