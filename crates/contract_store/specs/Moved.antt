@@ -1,5 +1,6 @@
 -- Holds that were not released move towards the start of the vector, over those that were.
-use Rattle.std.specs.Prelude.{◌≡◌, ℕ, ◌<◌, ◌≤◌, ◌⊎◌, ◌++◌, Bool, true, List, Option, Some, None, is_some, if◌then◌else◌, nat_eq, nat_lt, map, take, drop, length, slice_get}
+use Rattle.std.specs.Prelude.{◌≡◌, ℕ, ◌<◌, ◌≤◌, ◌⊎◌, ◌++◌, Bool, true, List, Option, Some, None, is_some, if◌then◌else◌}
+use Rattle.std.specs.Prelude.{nat_eq, nat_lt, map, take, drop, length, slice_get}
 use Rattle.std.specs.Str.{bytes_eq}
 use Rattle.contract_store.specs.declared.hold.KeptHold.{KeptHold}
 use Rattle.contract_store.specs.Chains.{Link, is_live_at, Chains}

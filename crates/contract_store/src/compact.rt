@@ -1,5 +1,6 @@
 //! Released holds go out of the vector, and the others move towards its start.
-ghost use Rattle.std.specs.Prelude.{◌≡◌, ◌+◌, ◌<◌, ◌≤◌, ℕ, true, List, Option, Some, if◌then◌else◌, IsSome, length, nat_eq, slice_get, slice_set, vec_len, vec_capacity};
+ghost use Rattle.std.specs.Prelude.{◌≡◌, ◌+◌, ◌<◌, ◌≤◌, ℕ, true, List, Option, Some, if◌then◌else◌, IsSome, length, nat_eq};
+ghost use Rattle.std.specs.Prelude.{slice_get, slice_set, vec_len, vec_capacity};
 ghost use Rattle.std.specs.Str.{bytes_eq};
 ghost use Rattle.indexmap.specs.IndexMap.{get, keys, spare};
 ghost use Rattle.contract_store.specs.Leads.{row_behind, hold_behind};
