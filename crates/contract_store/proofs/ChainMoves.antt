@@ -10,16 +10,15 @@ use Rattle.contract_store.proofs.Places.{get_within}
 use Rattle.contract_store.proofs.ChainSteps.{chains_push, chains_as}
 use Rattle.contract_store.proofs.StoreSteps.{empty_chains}
 
-among_none : (o : Option ℕ) → among 0 o ≡ None
-among_none None = refl
-among_none (Some zero) = refl
-among_none (Some (suc i)) = refl
-
 among_in : (n i : ℕ) → i < n → among n (Some i) ≡ Some i
 among_in n i h = ap (λ b. cond b (Some i) None) (lt-ltb i n h)
 
 among_out : (n i : ℕ) → n ≤ i → among n (Some i) ≡ None
 among_out n i h = ap (λ b. cond b (Some i) None) (le-ltb i n h)
+
+among_none : (o : Option ℕ) → among 0 o ≡ None
+among_none None = refl
+among_none (Some i) = among_out 0 i (omega arith)
 
 false_right : (a b : Bool) → b ≡ false → (a && b) ≡ false
 false_right true b e = e
