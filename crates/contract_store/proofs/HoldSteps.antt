@@ -70,7 +70,7 @@ module _ (links : List (Link (List ℕ))) (i : ℕ) (l : Link (List ℕ)) (at : 
           last_elsewhere bytes_eq same_bytes equal_bytes links i l at q (f q)
           (λ w. absurd (let u : true ≡ false = sym (equal_bytes q) ∙ ap (λ k. bytes_eq k q) (sym (own q w)) ∙ e in cc)) (chains.last q)
 
-link_there : {K : Type 0} (link : KeptHold → Link K) (slots : List KeptHold) (i : ℕ) (h : KeptHold) → slice_get slots i ≡ Some h
+pub link_there : {K : Type 0} (link : KeptHold → Link K) (slots : List KeptHold) (i : ℕ) (h : KeptHold) → slice_get slots i ≡ Some h
     → slice_get (map link slots) i ≡ Some (link h)
 link_there link slots i h at = slice_get-map link slots i ∙ ap (option_map link) at
 

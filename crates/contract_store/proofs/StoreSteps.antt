@@ -25,7 +25,7 @@ ready_there m c h = there m c ∙ h
 pub there_ready : {X S : Type 0} (m : IndexMap (List ℕ) X S) (c : List ℕ) → IsSome (get bytes_eq m c) → is_ready (keys m) c ≡ true
 there_ready m c h = sym (there m c) ∙ h
 
-empty_chains : {K : Type 0} (eq : K → K → Bool) (f : K → Option ℕ) → ((k : K) → f k ≡ None) → Chains eq [] f
+pub empty_chains : {K : Type 0} (eq : K → K → Bool) (f : K → Option ℕ) → ((k : K) → f k ≡ None) → Chains eq [] f
 empty_chains eq f none = record {
   last = λ k. record { none = λ j l h at. absurd (cc); here = λ i e. absurd (let w : None ≡ Some i = sym (none k) ∙ e in cc) };
   linked = record { below = λ i l at. absurd (cc); alike = λ i j l at e. absurd (cc); between = λ i j l m at to h u. absurd (cc) };

@@ -22,6 +22,8 @@ pub record Stored : Type 0 where
   pub ready : List Hash
   -- how many more changes take no memory
   pub spare : ℕ
+  -- how many holds are kept, those that were released too
+  pub kept : ℕ
 
 -- whether the id or salt is among those made ready
 abbrev pub is_ready : List Hash → Hash → Bool

@@ -1,6 +1,6 @@
 //! The holds, in a vector, and the chains through it.
 ghost use Rattle.std.specs.Prelude.{◌≡◌, ◌≢◌, IsTrue, IsFalse, false, ◌+◌, ◌<◌, ◌≤◌, ℕ, true, [], ◌∷◌, ◌++◌, List, Some, Option, map, nat_eq};
-ghost use Rattle.std.specs.Prelude.{if◌then◌else◌, IsSome, slice_get, slice_set, vec_len, vec_capacity};
+ghost use Rattle.std.specs.Prelude.{◌^◌, if◌then◌else◌, IsSome, length, slice_get, slice_set, vec_len, vec_capacity};
 ghost use Rattle.std.specs.Str.{bytes_eq};
 ghost use Rattle.indexmap.specs.IndexMap.{get, keys, spare};
 ghost use Rattle.contract_store.specs.Leads.{row_behind, hold_behind};
@@ -65,8 +65,8 @@ pub fn push_hold(
     put_place(places, hold.place, at);
 }
 
-// The hold at a place in the vector.
-fn slot_at(slots: &Vec<KeptHold>, at: usize) -> KeptHold
+/// The hold at a place in the vector.
+pub fn slot_at(slots: &Vec<KeptHold>, at: usize) -> KeptHold
     requires { at < vec_len slots.now }
     ensures { slice_get slots.now.items at ≡ Some result }
 {
@@ -125,80 +125,62 @@ fn leads_to(ids: &IndexMap<Hash, Behind>, id: &Hash, at: usize) -> bool
     }
 }
 
+// One more released hold, if it was live.
+fn count_dead(dead: &mut usize, live: bool)
+    requires { (if live then 1 else 0) + dead.old < 2 ^ 63 }
+    ensures { dead.new ≡ (if live then 1 else 0) + dead.old }
+{
+    *dead += usize::from(live);
+}
+
 // Releases the hold at a place in the vector, and gives the place of the one before it of the same request.
 fn release_next(
     slots: &mut Vec<KeptHold>,
     ids: &mut IndexMap<Hash, Behind>,
+    dead: &mut usize,
     at: usize,
 ) -> Option<usize>
     requires within { at < vec_len slots.old }
     requires on { Chains bytes_eq (map link_on slots.old.items) (λ c. hold_behind (get bytes_eq ids.old c)) }
     requires linked { IsLinked nat_eq (map link_at slots.old.items) }
+    requires count { dead.old + length (holds_of slots.old.items) ≡ vec_len slots.old }
     ensures below { above result ≤ at }
     ensures step { (place : ℕ) (left : List Hold) (places : ℕ → Option ℕ)
         → Releasing place left slots.old.items (λ c. hold_behind (get bytes_eq ids.old c)) places (Some at)
         → Releasing place left slots.new.items (λ c. hold_behind (get bytes_eq ids.new c)) places result }
+    ensures count { dead.new + length (holds_of slots.new.items) ≡ vec_len slots.new }
     ensures rows { (c : List ℕ) → row_behind (get bytes_eq ids.new c) ≡ row_behind (get bytes_eq ids.old c) }
     ensures keys { keys ids.new ≡ keys ids.old }
     ensures len { vec_len slots.new ≡ vec_len slots.old }
     ensures capacity { vec_capacity slots.new ≡ vec_capacity slots.old }
 {
-    let before = slot_at(slots, at).before_at;
+    let slot = slot_at(slots, at);
     release_hold(slots, ids, at);
-    before
+    count_dead(dead, slot.live);
+    slot.before_at
 }
 
-// Takes the last hold out if it was released.
-fn pop_released(slots: &mut Vec<KeptHold>) -> bool
-    ensures leads { (ids : List ℕ → Option ℕ) (places : ℕ → Option ℕ) → LeadsToHolds slots.old.items ids places → LeadsToHolds slots.new.items ids places }
-    ensures holds { holds_of slots.new.items ≡ holds_of slots.old.items }
-    ensures len { (if result then 1 else 0) + vec_len slots.new ≡ vec_len slots.old }
-    ensures capacity { vec_capacity slots.old ≤ vec_capacity slots.new }
-{
-    let Some(last) = slots.pop() else {
-        return false;
-    };
-    if last.live {
-        slots.push(last).unwrap();
-        return false;
-    }
-    true
-}
-
-// Takes released holds out from the end on.
-fn pop_all_released(slots: &mut Vec<KeptHold>)
-    ensures leads { (ids : List ℕ → Option ℕ) (places : ℕ → Option ℕ) → LeadsToHolds slots.old.items ids places → LeadsToHolds slots.new.items ids places }
-    ensures holds { holds_of slots.new.items ≡ holds_of slots.old.items }
-    ensures len { vec_len slots.new ≤ vec_len slots.old }
-    ensures capacity { vec_capacity slots.old ≤ vec_capacity slots.new }
-{
-    let count = slots.len();
-    'back: for _ in 0..count {
-        if !pop_released(slots) {
-            return;
-        }
-    }
-}
-
-/// Releases the holds of a request.
+/// Releases the holds of a request, and counts them with those that were released before.
 pub fn release_place(
     slots: &mut Vec<KeptHold>,
     ids: &mut IndexMap<Hash, Behind>,
     places: &mut IndexMap<u64, usize>,
+    dead: &mut usize,
     place: u64,
 )
     requires leads { LeadsToHolds slots.old.items (λ c. hold_behind (get bytes_eq ids.old c)) (λ p. get nat_eq places.old p) }
+    requires count { dead.old + length (holds_of slots.old.items) ≡ vec_len slots.old }
     ensures leads { LeadsToHolds slots.new.items (λ c. hold_behind (get bytes_eq ids.new c)) (λ p. get nat_eq places.new p) }
     ensures holds { holds_of slots.new.items ≡ released place (holds_of slots.old.items) }
+    ensures count { dead.new + length (holds_of slots.new.items) ≡ vec_len slots.new }
     ensures rows { (c : List ℕ) → row_behind (get bytes_eq ids.new c) ≡ row_behind (get bytes_eq ids.old c) }
     ensures keys { keys ids.new ≡ keys ids.old }
-    ensures len { vec_len slots.new ≤ vec_len slots.old }
-    ensures capacity { vec_capacity slots.old ≤ vec_capacity slots.new }
+    ensures len { vec_len slots.new ≡ vec_len slots.old }
+    ensures capacity { vec_capacity slots.new ≡ vec_capacity slots.old }
     ensures spare { spare places.old ≤ spare places.new }
 {
     let mut cursor = places.swap_remove(&place);
     'back: while let Some(at) = cursor {
-        cursor = release_next(slots, ids, at);
+        cursor = release_next(slots, ids, dead, at);
     }
-    pop_all_released(slots);
 }

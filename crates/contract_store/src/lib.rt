@@ -2,6 +2,7 @@
 #![tactic(auto)]
 
 mod active;
+mod compact;
 mod hold;
 mod holds;
 mod keys;

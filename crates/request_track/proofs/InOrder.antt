@@ -2,7 +2,7 @@
 use Rattle.std.proofs.Common.{◌≡◌, ℕ, zero, suc, ◌<◌, ◌≤◌, List, [], ◌∷◌, length, get_or, refl, ap, arith}
 use Rattle.std.specs.Prelude.{insert, remove}
 use Rattle.std.proofs.lemmas.Bool.{le-leb, lt-leb, eq-eqb, ne_eqb}
-use Rattle.request_track.specs.Pairs.{in_place, without}
+use Rattle.request_track.specs.Pairs.{in_place, without, NotBelow, Rising}
 
 pub inserted : (p : ℕ) (xs : List ℕ) (i : ℕ) → i ≤ length xs → ((k : ℕ) → k < i → get_or xs k 0 < p) → (i < length xs → p ≤ get_or xs i 0)
     → insert xs i p ≡ in_place p xs
@@ -21,3 +21,16 @@ removed p (x ∷ xs) (suc i) within low here =
 pub not_there : (p : ℕ) (xs : List ℕ) → ((k : ℕ) → k < length xs → p ≡ get_or xs k 0 → ⊥) → without p xs ≡ xs
 not_there p [] low = refl
 not_there p (x ∷ xs) low = rw (ne_eqb p x (low 0 (omega arith))) (ap (λ ys. x ∷ ys) (not_there p xs (λ k h. low (suc k) (omega arith))))
+
+at_least : (n : ℕ) (xs : List ℕ) (k : ℕ) → NotBelow n xs → k < length xs → n ≤ get_or xs k 0
+at_least n [] k r within = absurd (omega arith)
+at_least n (x ∷ xs) zero r within = r.0
+at_least n (x ∷ xs) (suc k) r within = at_least n xs k r.1 (omega arith)
+
+-- no place is greater than one behind it
+pub risen : (xs : List ℕ) (k i : ℕ) → Rising xs → k ≤ i → i < length xs → get_or xs k 0 ≤ get_or xs i 0
+risen [] k i r order within = absurd (omega arith)
+risen (x ∷ xs) zero zero r order within = omega arith
+risen (x ∷ xs) zero (suc i) r order within = at_least x xs i r.0 (omega arith)
+risen (x ∷ xs) (suc k) zero r order within = absurd (omega arith)
+risen (x ∷ xs) (suc k) (suc i) r order within = risen xs k i r.1 (omega arith) (omega arith)

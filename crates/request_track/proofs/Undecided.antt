@@ -6,7 +6,7 @@ use Rattle.indexmap.specs.IndexMap.{insert_entry}
 use Rattle.canton_model.specs.declared.outcome.Outcome.{Outcome}
 use Rattle.request_track.specs.declared.tracked.Tracked.{Tracked}
 use Rattle.request_track.specs.Pairs.{Pair, is_undecided, is_open, tracked_at, settled, clean_of, in_place, undecided_of, without, first_or, put_if}
-use Rattle.request_track.specs.Pairs.{drop_if, Apart}
+use Rattle.request_track.specs.Pairs.{drop_if, Apart, NotBelow, Rising}
 
 -- a value written at a place that is tracked, with its decision time, settles it
 pub settles : (place decision : ℕ) (o : Outcome) (ps : List Pair) → option_map (λ (t : Tracked). t.decision) (tracked_at ps place) ≡ Some decision
@@ -53,14 +53,6 @@ without-in_place p (x ∷ xs) = elim (cases_lt x p) [
   | inr h ↦ rw (le-leb p x h, eq-eqb p p refl) refl
 ]
 
-abbrev NotBelow : ℕ → List ℕ → Type 0
-NotBelow n [] = Unit {0}
-NotBelow n (x ∷ xs) = (n ≤ x) × NotBelow n xs
-
-abbrev Rising : List ℕ → Type 0
-Rising [] = Unit {0}
-Rising (x ∷ xs) = NotBelow x xs × Rising xs
-
 lower : (m n : ℕ) (xs : List ℕ) → m ≤ n → NotBelow n xs → NotBelow m xs
 lower m n [] h r = tt
 lower m n (x ∷ xs) h r = (let k = r.0 in omega arith, lower m n xs h r.1)
@@ -86,6 +78,26 @@ rising_if false p xs r = r
 pub rising_undecided : (ps : List Pair) → Rising (undecided_of ps)
 rising_undecided [] = tt
 rising_undecided (p ∷ ps) = rising_if (is_open p) p.0 (undecided_of ps) (rising_undecided ps)
+
+not_below_without : (n p : ℕ) (xs : List ℕ) → NotBelow n xs → NotBelow n (without p xs)
+not_below_without n p [] r = tt
+not_below_without n p (x ∷ xs) r = by (nat_eq p x) (not_below_without n p xs r.1)
+  where
+    by : (b : Bool) → NotBelow n (without p xs) → NotBelow n (if b then xs else x ∷ without p xs)
+    by true rest = r.1
+    by false rest = (r.0, rest)
+
+rising_without : (p : ℕ) (xs : List ℕ) → Rising xs → Rising (without p xs)
+rising_without p [] r = tt
+rising_without p (x ∷ xs) r = by (nat_eq p x) (rising_without p xs r.1)
+  where
+    by : (b : Bool) → Rising (without p xs) → Rising (if b then xs else x ∷ without p xs)
+    by true rest = r.1
+    by false rest = (not_below_without x p xs r.0, rest)
+
+pub rising_drop : (b : Bool) (p : ℕ) (xs : List ℕ) → Rising xs → Rising (drop_if b p xs)
+rising_drop true p xs r = rising_without p xs r
+rising_drop false p xs r = r
 
 front : (p : ℕ) (xs : List ℕ) → NotBelow p xs → in_place p xs ≡ p ∷ xs
 front p [] r = refl

@@ -1,5 +1,5 @@
 -- The requests that a participant tracks, and the clean place.
-use Rattle.std.specs.Prelude.{◌≡◌, ℕ, Bool, true, false, List, [], ◌∷◌, Option, Some, None, option_map, if◌then◌else◌, ◌&&◌, map, min, nat_eq, nat_le, nat_lt}
+use Rattle.std.specs.Prelude.{◌≡◌, ◌≤◌, ℕ, Bool, true, false, List, [], ◌∷◌, Option, Some, None, option_map, if◌then◌else◌, ◌&&◌, map, min, nat_eq, nat_le, nat_lt}
 use Rattle.std.specs.Map.{lookup}
 use Rattle.canton_model.specs.declared.outcome.Outcome.{Outcome}
 use Rattle.canton_model.specs.declared.outcome.Outcome.TheVariants.{Undecided, Approved, Rejected, TimedOut, Expired}
@@ -48,6 +48,16 @@ clean_of (p ∷ ps) cursor = if is_open p then min p.0 (clean_of ps cursor) else
 abbrev pub in_place : ℕ → List ℕ → List ℕ
 in_place p [] = p ∷ []
 in_place p (q ∷ qs) = if nat_le p q then p ∷ q ∷ qs else q ∷ in_place p qs
+
+-- none of the places is smaller than n
+abbrev pub NotBelow : ℕ → List ℕ → Type 0
+NotBelow n [] = Unit {0}
+NotBelow n (q ∷ qs) = (n ≤ q) × NotBelow n qs
+
+-- each place is at least the one before it
+abbrev pub Rising : List ℕ → Type 0
+Rising [] = Unit {0}
+Rising (q ∷ qs) = NotBelow q qs × Rising qs
 
 -- the undecided places in rising order
 abbrev pub undecided_of : List Pair → List ℕ

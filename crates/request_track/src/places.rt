@@ -1,23 +1,37 @@
 //! Places in rising order.
-ghost use Rattle.std.specs.Prelude.{◌≡◌, ◌+◌, ◌<◌, ◌≤◌, ℕ, true, min, length, insert, remove, vec_len, vec_capacity, MatchOption};
-ghost use Rattle.request_track.specs.Pairs.{in_place, without, first_or, put_if, drop_if};
+ghost use Rattle.std.specs.Prelude.{◌≡◌, ◌+◌, ◌<◌, ◌≤◌, ℕ, true, min, length, get_or, insert, remove, vec_len, vec_capacity, MatchOption};
+ghost use Rattle.request_track.specs.Pairs.{Rising, in_place, without, first_or, put_if, drop_if};
 
-// Where a place belongs: in front of the first that isn't smaller.
+// The place at an index.
+fn place_at(places: &Vec<u64>, at: usize) -> u64
+    requires { at < vec_len places.now }
+    ensures { result ≡ get_or places.now.items at 0 }
+{
+    places[at]
+}
+
+// Where a place belongs: in front of the first that isn't smaller. It is looked for from the back, where a new request's place
+// belongs.
 fn place_for(places: &Vec<u64>, place: u64) -> usize
+    requires { Rising places.now.items }
     ensures within { result ≤ vec_len places.now }
     ensures parts { insert places.now.items result place ≡ in_place place places.now.items }
 {
-    'forth: for (at, there) in places.iter().enumerate() {
-        if place <= *there {
+    let mut at = places.len();
+    'back: while at > 0 {
+        let last = place_at(places, at - 1);
+        if last < place {
             return at;
         }
+        at -= 1;
     }
-    places.len()
+    0
 }
 
 /// One more place, in the room that is there.
 pub fn insert_place(places: &mut Vec<u64>, place: u64)
-    requires { vec_len places.old < vec_capacity places.old }
+    requires room { vec_len places.old < vec_capacity places.old }
+    requires rising { Rising places.old.items }
     ensures places { places.new.items ≡ in_place place places.old.items }
     ensures len { vec_len places.new ≡ vec_len places.old + 1 }
     ensures capacity { vec_capacity places.old ≤ vec_capacity places.new }
@@ -62,7 +76,8 @@ pub fn first_or(places: &Vec<u64>, cursor: u64) -> u64
 
 /// One more place, if it is wanted, in the room that is there.
 pub fn insert_if(places: &mut Vec<u64>, wanted: bool, place: u64)
-    requires { vec_len places.old < vec_capacity places.old }
+    requires room { vec_len places.old < vec_capacity places.old }
+    requires rising { Rising places.old.items }
     ensures places { places.new.items ≡ put_if wanted place places.old.items }
     ensures capacity { vec_capacity places.old ≤ vec_capacity places.new }
 {

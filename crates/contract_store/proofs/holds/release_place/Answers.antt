@@ -21,6 +21,7 @@ back-init c =
       keys = refl;
       len = refl;
       capacity = refl;
+      count = c.requires.count;
     }
 
 pub release_next-cursor-requires-clause-within : goal.release_next-cursor-requires-clause-within
@@ -41,18 +42,17 @@ back-preserved c =
       keys = e.keys ∙ inv.keys;
       len = e.len ∙ inv.len;
       capacity = e.capacity ∙ inv.capacity;
+      count = e.count;
     }
 
 pub returns-clause-leads : goal.returns-clause-leads
 returns-clause-leads c =
-    c.pop_all_released.ensures.leads (λ k. hold_behind (get bytes_eq c.back.ids k)) (λ q. get nat_eq c.swap_remove-cursor.new.self q)
     (release_ends c.args.place c.back.slots.items (λ k. hold_behind (get bytes_eq c.back.ids k)) (λ q. get nat_eq c.args.places.now q)
     (λ q. get nat_eq c.swap_remove-cursor.new.self q)
     (released c.args.place (holds_of c.args.slots.now.items)) (rw c.in_default.is at c.back.invariant.step) c.back.invariant.gone).0
 
 pub returns-clause-holds : goal.returns-clause-holds
 returns-clause-holds c =
-    c.pop_all_released.ensures.holds
-    ∙ (release_ends c.args.place c.back.slots.items (λ k. hold_behind (get bytes_eq c.back.ids k)) (λ q. get nat_eq c.args.places.now q)
+    (release_ends c.args.place c.back.slots.items (λ k. hold_behind (get bytes_eq c.back.ids k)) (λ q. get nat_eq c.args.places.now q)
     (λ q. get nat_eq c.swap_remove-cursor.new.self q)
     (released c.args.place (holds_of c.args.slots.now.items)) (rw c.in_default.is at c.back.invariant.step) c.back.invariant.gone).1

@@ -1,4 +1,4 @@
-use Rattle.std.proofs.Common.{◌≡◌, ◌≤◌, ℕ, true, List, None, nat_eq}
+use Rattle.std.proofs.Common.{◌≡◌, ◌+◌, ◌≤◌, ℕ, true, List, None, length, nat_eq}
 use Rattle.std.specs.Prelude.{vec_len, vec_capacity}
 use Rattle.std.specs.Str.{bytes_eq}
 use Rattle.indexmap.specs.IndexMap.{get, keys, spare}
@@ -17,6 +17,7 @@ invariant-back l = record {
   keys : keys l.ids ≡ keys l.fn.ids;
   len : vec_len l.slots ≡ vec_len l.fn.slots;
   capacity : vec_capacity l.slots ≡ vec_capacity l.fn.slots;
+  count : l.dead + length (holds_of l.slots.items) ≡ vec_len l.slots;
 }
 
 abbrev pub decreases-back : goal.decreases-back

@@ -23,4 +23,6 @@ invariant_of-self c =
       grind (arith, common_steps),
       grind (arith, common_steps),
       grind (arith, common_steps),
+      c.self.invariant.4,
+      c.self.invariant.5,
     )

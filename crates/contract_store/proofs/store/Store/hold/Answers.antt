@@ -1,8 +1,10 @@
-use Rattle.std.proofs.Common.{sym, arith, nat_eq, ◌<◌}
+use Rattle.std.proofs.Common.{sym, ◌∙◌, arith, nat_eq, ◌<◌}
+use Rattle.std.specs.Prelude.{vec_len}
 use Rattle.std.specs.Str.{bytes_eq}
 use Rattle.std.proofs.lemmas.Grind.{common_steps}
 use Rattle.indexmap.specs.IndexMap.{get}
 use Rattle.contract_store.proofs.Maps.{same_keys}
+use Rattle.contract_store.proofs.Moves.{one_more_held}
 use Rattle.contract_store.proofs.StoreSteps.{ready_there, holds_changed}
 use Rattle.contract_store.proofs.store.Store.hold.Goals as goal
 
@@ -19,5 +21,7 @@ invariant_of-self c =
           (same_keys c.push_hold.new.ids c.self.inside.ids (sym c.push_hold.ensures.keys)),
       grind (arith, common_steps),
       grind (arith, common_steps),
+      grind (arith, common_steps),
+      one_more_held c.self.inside.dead (vec_len c.self.inside.holds) _ _ _ c.push_hold.ensures.holds c.self.invariant.4 ∙ sym c.push_hold.ensures.len,
       grind (arith, common_steps),
     )

@@ -15,4 +15,6 @@ invariant_of-result c =
       grind (arith, common_steps),
       grind (arith, common_steps),
       grind (arith, common_steps),
+      grind (arith, common_steps),
+      grind (arith, common_steps),
     )

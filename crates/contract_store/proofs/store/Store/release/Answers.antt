@@ -1,4 +1,4 @@
-use Rattle.std.proofs.Common.{sym, arith, nat_eq}
+use Rattle.std.proofs.Common.{sym, ◌∙◌, arith, nat_eq}
 use Rattle.std.specs.Str.{bytes_eq}
 use Rattle.std.proofs.lemmas.Grind.{common_steps}
 use Rattle.indexmap.specs.IndexMap.{get}
@@ -10,10 +10,13 @@ pub invariant_of-self : goal.invariant_of-self
 invariant_of-self c = (
   holds_changed c.self.inside.rows.items c.self.inside.holds.items (λ q. get bytes_eq c.self.inside.ids q) (λ q. get bytes_eq c.self.inside.salts q)
       (λ p. get nat_eq c.self.inside.places p) c.self.invariant.0
-      c.release_place.new.slots.items (λ q. get bytes_eq c.release_place.new.ids q)
-      (λ p. get nat_eq c.release_place.new.places p) c.release_place.ensures.leads c.release_place.ensures.rows
-      (same_keys c.release_place.new.ids c.self.inside.ids (sym c.release_place.ensures.keys)),
+      c.drop_released.new.slots.items (λ q. get bytes_eq c.drop_released.new.ids q)
+      (λ p. get nat_eq c.drop_released.new.places p) c.drop_released.ensures.leads
+      (λ q. c.drop_released.ensures.rows q ∙ c.release_place.ensures.rows q)
+      (same_keys c.drop_released.new.ids c.self.inside.ids (sym (c.drop_released.ensures.keys ∙ c.release_place.ensures.keys))),
   grind (arith, common_steps),
   grind (arith, common_steps),
   grind (arith, common_steps),
+  c.drop_released.ensures.count,
+  c.drop_released.ensures.few,
 )

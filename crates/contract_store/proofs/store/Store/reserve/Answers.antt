@@ -1,4 +1,4 @@
-use Rattle.std.proofs.Common.{◌≡◌, ap, true, arith, nat_eq}
+use Rattle.std.proofs.Common.{◌≡◌, ◌∙◌, sym, ap, true, arith, nat_eq}
 use Rattle.std.specs.Prelude.{IsSome}
 use Rattle.std.specs.Map.{lookup}
 use Rattle.std.specs.Str.{bytes_eq}
@@ -22,6 +22,8 @@ invariant_of-self c =
       grind (arith, common_steps),
       grind (arith, common_steps),
       grind (arith, common_steps),
+      rw e.holds (c.self.invariant.4 ∙ sym e.hold_len),
+      grind (arith, common_steps),
     )
 
 pub invariant_of-self-2 : goal.invariant_of-self-2
@@ -37,6 +39,8 @@ invariant_of-self-2 c =
           (λ q. get bytes_eq c.add_all.new.ids q) (λ q. get bytes_eq c.add_all.new.salts q) c.add_all.ensures.grows),
       grind (arith, common_steps),
       grind (arith, common_steps),
+      grind (arith, common_steps),
+      rw e.holds (c.self.invariant.4 ∙ sym e.hold_len),
       grind (arith, common_steps),
     )
 

@@ -2,19 +2,23 @@ use Rattle.std.proofs.Common.{◌≡◌, ◌+◌, ◌++◌, ◌∷◌, [], ◌�
 use Rattle.std.proofs.lemmas.Grind.{common_steps}
 use Rattle.canton_model.specs.declared.outcome.Outcome.TheVariants.{Undecided}
 use Rattle.request_track.specs.Pairs.{Pair, undecided_of, put_if, first_or}
-use Rattle.request_track.proofs.Undecided.{undecided_pushed, few_undecided, clean_first, apart_pushed}
+use Rattle.request_track.proofs.Undecided.{rising_undecided, undecided_pushed, few_undecided, clean_first, apart_pushed}
 use Rattle.request_track.proofs.tracker.Tracker.begin.Goals as goal
 
 pub room_for_one-requires : goal.room_for_one-requires
 room_for_one-requires c = rw c.self.invariant.0 (few_undecided c.self.inside.pairs.entries)
 
-pub insert_if-requires : goal.insert_if-requires
-insert_if-requires c =
+pub insert_if-requires-clause-room : goal.insert_if-requires-clause-room
+insert_if-requires-clause-room c =
     let few = few_undecided c.self.inside.pairs.entries in
     let items = ap length (c.room_for_one.ensures.undecided ∙ c.self.invariant.0) in
     let many = ap length c.room_for_one.ensures.pairs in
     let room = c.in_ok-room_for_one.ensures.room in
     grind (arith, common_steps)
+
+pub insert_if-requires-clause-rising : goal.insert_if-requires-clause-rising
+insert_if-requires-clause-rising c =
+    rw (c.room_for_one.ensures.undecided, c.self.invariant.0) (rising_undecided c.self.inside.pairs.entries)
 
 pub invariant_of-self-2 : goal.invariant_of-self-2
 invariant_of-self-2 c =

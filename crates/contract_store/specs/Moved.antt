@@ -1,0 +1,32 @@
+-- Holds that were not released move towards the start of the vector, over those that were.
+use Rattle.std.specs.Prelude.{◌≡◌, ℕ, ◌<◌, ◌≤◌, ◌⊎◌, ◌++◌, Bool, true, List, Option, Some, None, is_some, if◌then◌else◌}
+use Rattle.std.specs.Prelude.{nat_eq, nat_lt, map, take, drop, length, slice_get}
+use Rattle.std.specs.Str.{bytes_eq}
+use Rattle.contract_store.specs.declared.hold.KeptHold.{KeptHold}
+use Rattle.contract_store.specs.Chains.{Link, is_live_at, Chains}
+use Rattle.contract_store.specs.Holds.{link_on, link_at, holds_of}
+
+-- a place among the first n, and none where it isn't one
+abbrev pub among : ℕ → Option ℕ → Option ℕ
+among n None = None
+among n (Some i) = if nat_lt i n then Some i else None
+
+module _ {K : Type 0} (eq : K → K → Bool) where
+  -- the live ones of the items before a place were moved: the map leads from each key to the last moved one with it, and where
+  -- there is none to one with it that is still to be looked at
+  pub record HalfMoved (links : List (Link K)) (next : ℕ) (moved : List (Link K)) (leads : K → Option ℕ) : Type 0 where
+    pub chains : Chains eq moved (λ k. among (length moved) (leads k))
+    pub places : (k : K) (i : ℕ) → leads k ≡ Some i → (i < length moved) ⊎ (next ≤ i)
+    pub ahead : (k : K) (i : ℕ) → leads k ≡ Some i → next ≤ i → (l : Link K) × (slice_get links i ≡ Some l) × (is_live_at eq k l ≡ true)
+    pub there : (i : ℕ) (l : Link K) → slice_get links i ≡ Some l → l.live ≡ true → is_some (leads l.key) ≡ true
+
+-- of the holds before `next` those that were not released are the first `to` of the vector now, and the others are where they were
+pub record Moving (held : List KeptHold) (next to : ℕ) (slots : List KeptHold) (ids : List ℕ → Option ℕ) (places : ℕ → Option ℕ) : Type 0 where
+  pub on : HalfMoved bytes_eq (map link_on held) next (map link_on (take to slots)) ids
+  pub at : HalfMoved nat_eq (map link_at held) next (map link_at (take to slots)) places
+  pub rest : (i : ℕ) → next ≤ i → slice_get slots i ≡ slice_get held i
+  pub holds : holds_of (take to slots) ++ holds_of (drop next held) ≡ holds_of held
+  pub count : length (holds_of (take to slots)) ≡ to
+  pub order : to ≤ next
+  pub fits : to ≤ length slots
+  pub long : length slots ≡ length held
