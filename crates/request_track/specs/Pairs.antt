@@ -1,5 +1,6 @@
 -- The requests that a participant tracks, and the clean place.
-use Rattle.std.specs.Prelude.{◌≡◌, ◌≤◌, ℕ, Bool, true, false, List, [], ◌∷◌, Option, Some, None, option_map, if◌then◌else◌, ◌&&◌, map, min, nat_eq, nat_le, nat_lt}
+use Rattle.std.specs.Prelude.{◌≡◌, ◌≤◌, ℕ, Bool, true, false, List, [], ◌∷◌, Option}
+use Rattle.std.specs.Prelude.{Some, None, option_map, if◌then◌else◌, ◌&&◌, map, min, nat_eq, nat_le, nat_lt}
 use Rattle.std.specs.Map.{lookup}
 use Rattle.canton_model.specs.declared.outcome.Outcome.{Outcome}
 use Rattle.canton_model.specs.declared.outcome.Outcome.TheVariants.{Undecided, Approved, Rejected, TimedOut, Expired}
