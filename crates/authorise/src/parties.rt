@@ -28,7 +28,7 @@ pub(crate) fn parties_of(
 
 /// The actors and the signatories together.
 #[tactic(auto, using(crate::proofs::Sets::joined_sets))]
-fn joined(actors: &PartySet, signatories: &PartySet) -> Result<PartySet, AllocError>
+fn with_signatories(actors: &PartySet, signatories: &PartySet) -> Result<PartySet, AllocError>
     ensures { IfOk result (λ s. s ≡ set_of (actors.now ++ signatories.now)) }
 {
     // Tells that the actors rise, so that they are the set of themselves.
@@ -49,7 +49,7 @@ pub(crate) fn authorisers_below(
     match action {
         Action::Create { id: _, instance } => {
             let contract = parties_of(alloc, checked, instance)?;
-            joined(&PartySet::new(alloc), &contract.signatories)
+            with_signatories(&PartySet::new(alloc), &contract.signatories)
         }
         Action::Exercise {
             instance,
@@ -57,7 +57,7 @@ pub(crate) fn authorisers_below(
             ..
         } => {
             let contract = parties_of(alloc, checked, instance)?;
-            joined(actors, &contract.signatories)
+            with_signatories(actors, &contract.signatories)
         }
         Action::Fetch {
             instance,
@@ -65,7 +65,7 @@ pub(crate) fn authorisers_below(
             ..
         } => {
             let contract = parties_of(alloc, checked, instance)?;
-            joined(actors, &contract.signatories)
+            with_signatories(actors, &contract.signatories)
         }
     }
 }

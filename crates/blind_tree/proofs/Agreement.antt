@@ -13,7 +13,7 @@ use Rattle.hash_id.specs.Strings.{inner_string, leaf_hash_string, view_hash_stri
 use Rattle.hash_id.specs.declared.tag.Tag.{Tag}
 use Rattle.hash_id.specs.declared.tag.Tag.TheVariants as tags
 use Rattle.blind_tree.specs.Vertices.{Vertices, NoVertices, BlindVertex, InnerVertex}
-use Rattle.blind_tree.specs.Digests.{Hashing, leaf_digest, digests, root_string, root_digest, leaf_strings, vertex_strings, tree_strings}
+use Rattle.blind_tree.specs.TreeHashes.{Hashing, hash_of_leaf, hashes_of_vertices, root_string, hash_of_root, leaf_strings, vertex_strings, tree_strings}
 use Rattle.blind_tree.specs.Agreement.{Clash, IsSizedLeaf, AreSized, IsSized, AgreeLeaf, Agree, AgreeTrees}
 use Rattle.blind_tree.specs.declared.leaf.Leaf.{Leaf}
 use Rattle.blind_tree.specs.declared.leaf.Leaf.TheVariants.{Blind, Plain}
@@ -80,17 +80,17 @@ module _ (sha : Hashing) (long : (s : List ℕ) → length (sha s) ≡ 32) where
         })
       ]
 
-  leaf_long : (kind : ℕ) (l : Leaf) → IsSizedLeaf l → length (leaf_digest sha kind l) ≡ 32
+  leaf_long : (kind : ℕ) (l : Leaf) → IsSizedLeaf l → length (hash_of_leaf sha kind l) ≡ 32
   leaf_long kind (Blind hash) s = s
   leaf_long kind (Plain salt bytes) s = long (leaf_hash_string kind salt bytes)
 
-  digests_long : (v : Vertices) → AreSized v → Sized (digests sha v)
-  digests_long NoVertices s = tt
-  digests_long (BlindVertex hash others) s = (s.0, digests_long others s.1)
-  digests_long (InnerVertex informees contents subviews others) s =
-      (long (view_hash_string (leaf_digest sha 3 informees) (leaf_digest sha 4 contents) (digests sha subviews)), digests_long others s.3)
+  hashes_are_long : (v : Vertices) → AreSized v → Sized (hashes_of_vertices sha v)
+  hashes_are_long NoVertices s = tt
+  hashes_are_long (BlindVertex hash others) s = (s.0, hashes_are_long others s.1)
+  hashes_are_long (InnerVertex informees contents subviews others) s =
+      (long (view_hash_string (hash_of_leaf sha 3 informees) (hash_of_leaf sha 4 contents) (hashes_of_vertices sha subviews)), hashes_are_long others s.3)
 
-  agree_leaf : (kind : ℕ) (l m : Leaf) → IsSizedLeaf l → IsSizedLeaf m → leaf_digest sha kind l ≡ leaf_digest sha kind m → AgreeLeaf l m ⊎ Clash sha (leaf_strings kind l) (leaf_strings kind m)
+  agree_leaf : (kind : ℕ) (l m : Leaf) → IsSizedLeaf l → IsSizedLeaf m → hash_of_leaf sha kind l ≡ hash_of_leaf sha kind m → AgreeLeaf l m ⊎ Clash sha (leaf_strings kind l) (leaf_strings kind m)
   agree_leaf kind (Blind hash) m s t e = inl tt
   agree_leaf kind (Plain salt bytes) (Blind hash) s t e = inl tt
   agree_leaf kind (Plain salt bytes) (Plain salt2 bytes2) s t e =
@@ -123,7 +123,7 @@ module _ (sha : Hashing) (long : (s : List ℕ) → length (sha s) ≡ 32) where
   in_others : (i c : Leaf) (v o : Vertices) (x : List ℕ) → In x (vertex_strings sha o) → In x (vertex_strings sha (InnerVertex i c v o))
   in_others i c v o x h = inr (in_append_right (leaf_strings 3 i) (leaf_strings 4 c ++ (vertex_strings sha v ++ vertex_strings sha o)) x (in_append_right (leaf_strings 4 c) (vertex_strings sha v ++ vertex_strings sha o) x (in_append_right (vertex_strings sha v) (vertex_strings sha o) x h)))
 
-  agree : (v w : Vertices) → AreSized v → AreSized w → digests sha v ≡ digests sha w → Agree v w ⊎ Clash sha (vertex_strings sha v) (vertex_strings sha w)
+  agree : (v w : Vertices) → AreSized v → AreSized w → hashes_of_vertices sha v ≡ hashes_of_vertices sha w → Agree v w ⊎ Clash sha (vertex_strings sha v) (vertex_strings sha w)
   agree NoVertices NoVertices s t e = inl tt
   agree NoVertices (BlindVertex hash others) s t e = cc
   agree NoVertices (InnerVertex informees contents subviews others) s t e = cc
@@ -132,27 +132,27 @@ module _ (sha : Hashing) (long : (s : List ℕ) → length (sha s) ≡ 32) where
   agree (BlindVertex hash others) (BlindVertex hash2 others2) s t e =
       agree others others2 s.1 t.1 cc
   agree (BlindVertex hash others) (InnerVertex i2 c2 v2 o2) s t e =
-      let rest : digests sha others ≡ digests sha o2 = cc in
+      let rest : hashes_of_vertices sha others ≡ hashes_of_vertices sha o2 = cc in
       elim (agree others o2 s.1 t.3 rest) [
         | inl fine ↦ inl fine
         | inr clash ↦ inr (wider (vertex_strings sha others) (vertex_strings sha o2) (vertex_strings sha (BlindVertex hash others)) (vertex_strings sha (InnerVertex i2 c2 v2 o2)) (λ x h. h) (λ x h. in_others i2 c2 v2 o2 x h) clash)
       ]
   agree (InnerVertex i c v o) (BlindVertex hash2 others2) s t e =
-      let rest : digests sha o ≡ digests sha others2 = cc in
+      let rest : hashes_of_vertices sha o ≡ hashes_of_vertices sha others2 = cc in
       elim (agree o others2 s.3 t.1 rest) [
         | inl fine ↦ inl fine
         | inr clash ↦ inr (wider (vertex_strings sha o) (vertex_strings sha others2) (vertex_strings sha (InnerVertex i c v o)) (vertex_strings sha (BlindVertex hash2 others2)) (λ x h. in_others i c v o x h) (λ x h. h) clash)
       ]
   agree (InnerVertex i c v o) (InnerVertex i2 c2 v2 o2) s t e =
-      let one = view_hash_string (leaf_digest sha 3 i) (leaf_digest sha 4 c) (digests sha v) in
-      let two = view_hash_string (leaf_digest sha 3 i2) (leaf_digest sha 4 c2) (digests sha v2) in
+      let one = view_hash_string (hash_of_leaf sha 3 i) (hash_of_leaf sha 4 c) (hashes_of_vertices sha v) in
+      let two = view_hash_string (hash_of_leaf sha 3 i2) (hash_of_leaf sha 4 c2) (hashes_of_vertices sha v2) in
       let here : sha one ≡ sha two = cc in
-      let rest : digests sha o ≡ digests sha o2 = cc in
+      let rest : hashes_of_vertices sha o ≡ hashes_of_vertices sha o2 = cc in
       elim (one_or_clash one two (vertex_strings sha (InnerVertex i c v o)) (vertex_strings sha (InnerVertex i2 c2 v2 o2)) (inl refl) (inl refl) here) [
         | inr clash ↦ inr clash
         | inl same ↦
-            let p = same_parts tags.View (leaf_digest sha 3 i) (leaf_digest sha 4 c) (leaf_digest sha 3 i2) (leaf_digest sha 4 c2) (digests sha v) (digests sha v2)
-            (leaf_long 3 i s.0) (leaf_long 4 c s.1) (leaf_long 3 i2 t.0) (leaf_long 4 c2 t.1) (digests_long v s.2) (digests_long v2 t.2) same in
+            let p = same_parts tags.View (hash_of_leaf sha 3 i) (hash_of_leaf sha 4 c) (hash_of_leaf sha 3 i2) (hash_of_leaf sha 4 c2) (hashes_of_vertices sha v) (hashes_of_vertices sha v2)
+            (leaf_long 3 i s.0) (leaf_long 4 c s.1) (leaf_long 3 i2 t.0) (leaf_long 4 c2 t.1) (hashes_are_long v s.2) (hashes_are_long v2 t.2) same in
             elim (agree_leaf 3 i i2 s.0 t.0 p.0) [
               | inr clash ↦ inr (wider (leaf_strings 3 i) (leaf_strings 3 i2) (vertex_strings sha (InnerVertex i c v o)) (vertex_strings sha (InnerVertex i2 c2 v2 o2)) (λ x h. in_first i c v o x h) (λ x h. in_first i2 c2 v2 o2 x h) clash)
               | inl first ↦ elim (agree_leaf 4 c c2 s.1 t.1 p.1) [
@@ -177,13 +177,13 @@ module _ (sha : Hashing) (long : (s : List ℕ) → length (sha s) ≡ 32) where
   in_views : (t : Tree) (x : List ℕ) → In x (vertex_strings sha t.views) → In x (tree_strings sha t)
   in_views t x h = inr (in_append_right (leaf_strings 1 t.common) (leaf_strings 2 t.requesters ++ vertex_strings sha t.views) x (in_append_right (leaf_strings 2 t.requesters) (vertex_strings sha t.views) x h))
 
-  pub agree_trees : (t u : Tree) → IsSized t → IsSized u → root_digest sha t ≡ root_digest sha u → AgreeTrees t u ⊎ Clash sha (tree_strings sha t) (tree_strings sha u)
+  pub agree_trees : (t u : Tree) → IsSized t → IsSized u → hash_of_root sha t ≡ hash_of_root sha u → AgreeTrees t u ⊎ Clash sha (tree_strings sha t) (tree_strings sha u)
   agree_trees t u s z e =
       elim (one_or_clash (root_string sha t) (root_string sha u) (tree_strings sha t) (tree_strings sha u) (inl refl) (inl refl) e) [
         | inr clash ↦ inr clash
         | inl same ↦
-            let p = same_parts tags.Tree (leaf_digest sha 1 t.common) (leaf_digest sha 2 t.requesters) (leaf_digest sha 1 u.common) (leaf_digest sha 2 u.requesters) (digests sha t.views) (digests sha u.views)
-            (leaf_long 1 t.common s.common_is) (leaf_long 2 t.requesters s.requesters_is) (leaf_long 1 u.common z.common_is) (leaf_long 2 u.requesters z.requesters_is) (digests_long t.views s.vertices) (digests_long u.views z.vertices) same in
+            let p = same_parts tags.Tree (hash_of_leaf sha 1 t.common) (hash_of_leaf sha 2 t.requesters) (hash_of_leaf sha 1 u.common) (hash_of_leaf sha 2 u.requesters) (hashes_of_vertices sha t.views) (hashes_of_vertices sha u.views)
+            (leaf_long 1 t.common s.common_is) (leaf_long 2 t.requesters s.requesters_is) (leaf_long 1 u.common z.common_is) (leaf_long 2 u.requesters z.requesters_is) (hashes_are_long t.views s.vertices) (hashes_are_long u.views z.vertices) same in
             elim (agree_leaf 1 t.common u.common s.common_is z.common_is p.0) [
               | inr clash ↦ inr (wider (leaf_strings 1 t.common) (leaf_strings 1 u.common) (tree_strings sha t) (tree_strings sha u) (λ x h. in_common t x h) (λ x h. in_common u x h) clash)
               | inl common ↦ elim (agree_leaf 2 t.requesters u.requesters s.requesters_is z.requesters_is p.1) [

@@ -13,15 +13,15 @@ use Rattle.wire_form.specs.Spelling.{spell_parties}
 use Rattle.ledger_model.specs.Opening.{Transaction}
 use Rattle.view_split.specs.declared.split_view.SplitView.{SplitView}
 use Rattle.view_split.specs.Numbered.{map_forest}
-use Rattle.view_split.specs.Seen.{is_sight}
+use Rattle.view_split.specs.SeenViews.{is_sight}
 use Rattle.view_split.specs.declared.views.Views.{Views}
 use Rattle.blind_tree.specs.Vertices.{count}
-use Rattle.blind_tree.specs.Digests.{Hashing, leaf_digest, digests, root_digest}
+use Rattle.blind_tree.specs.TreeHashes.{Hashing, hash_of_leaf, hashes_of_vertices, hash_of_root}
 use Rattle.blind_tree.specs.Agreement.{IsSizedLeaf, AreSized, IsSized}
 use Rattle.blind_tree.specs.InRange.{IsSpellableLeaf, AreSpellable, IsSpellableTree, nesting}
 use Rattle.blind_tree.specs.LeafBytes.{common_bytes, roles_bytes, core_bytes}
-use Rattle.blind_tree.specs.Blind.{Visibility, leaf_of, digest_of, roles_digest, core_digest, view_digests, views_shown, informees_alone, shown_to, is_hidden, shows_roles, shows_core, vertices_shown, has_sight, sees_root, leaf_with, Salts, tree_with, tree_to, tree_to_mediator, digest_with, salts_of, transaction_of, blind_for, is_host_named, transaction_digest}
-use Rattle.blind_tree.specs.Seen.{contents_shown, paths_seen, AreSmall, IsSmall}
+use Rattle.blind_tree.specs.Blind.{Visibility, leaf_of, digest_of, roles_digest, core_digest, hashes_of_views, views_shown, informees_alone, shown_to, is_hidden, shows_roles, shows_core, vertices_shown, has_sight, sees_root, leaf_with, Salts, tree_with, tree_to, tree_to_mediator, digest_with, salts_of, transaction_of, blind_for, is_host_named, transaction_digest}
+use Rattle.blind_tree.specs.ShownViews.{contents_shown, paths_seen, AreSmall, IsSmall}
 use Rattle.blind_tree.specs.declared.tree.Tree.{Tree}
 use Rattle.blind_tree.specs.declared.recipient.Recipient.{Recipient}
 use Rattle.blind_tree.specs.declared.recipient.Recipient.TheVariants.{Participant, Mediator}
@@ -43,41 +43,41 @@ none_seen hosts view subviews others none =
     (one.0, two.0, two.1)
 
 module _ (sha : Hashing) where
-  leaf_keeps : (shows : Bool) (kind : ℕ) (seed bytes : List ℕ) → leaf_digest sha kind (leaf_of sha shows kind seed bytes) ≡ digest_of sha kind seed bytes
+  leaf_keeps : (shows : Bool) (kind : ℕ) (seed bytes : List ℕ) → hash_of_leaf sha kind (leaf_of sha shows kind seed bytes) ≡ digest_of sha kind seed bytes
   leaf_keeps true kind seed bytes = refl
   leaf_keeps false kind seed bytes = refl
 
-  vertices_keep : (f : Marked) → digests sha (vertices_shown sha f) ≡ view_digests sha (views_shown f)
+  vertices_keep : (f : Marked) → hashes_of_vertices sha (vertices_shown sha f) ≡ hashes_of_views sha (views_shown f)
   vertices_keep NoRoots = refl
   vertices_keep (Root marked subviews others) =
       let view = marked.1 in
       elim (cases_Bool (is_hidden marked.0)) [
-        | inl hidden ↦ rw hidden (ap (λ (ds : List (List ℕ)). sha (view_hash_string (roles_digest sha view) (core_digest sha view) (view_digests sha (views_shown subviews))) ∷ ds) (vertices_keep others))
+        | inl hidden ↦ rw hidden (ap (λ (ds : List (List ℕ)). sha (view_hash_string (roles_digest sha view) (core_digest sha view) (hashes_of_views sha (views_shown subviews))) ∷ ds) (vertices_keep others))
         | inr inner ↦ rw inner
             (λ i. sha (view_hash_string (leaf_keeps (shows_roles marked.0) 3 (view.first).seed (roles_bytes view) i) (leaf_keeps (shows_core marked.0) 4 (view.first).seed (core_bytes view) i) (vertices_keep subviews i)) ∷ vertices_keep others i)
       ]
 
-  salted_leaf_keeps : (shows : Bool) (kind : ℕ) (salt bytes : List ℕ) → leaf_digest sha kind (leaf_with sha shows kind salt bytes) ≡ sha (leaf_hash_string kind salt bytes)
+  salted_leaf_keeps : (shows : Bool) (kind : ℕ) (salt bytes : List ℕ) → hash_of_leaf sha kind (leaf_with sha shows kind salt bytes) ≡ sha (leaf_hash_string kind salt bytes)
   salted_leaf_keeps true kind salt bytes = refl
   salted_leaf_keeps false kind salt bytes = refl
 
   -- every tree with these salts has one root
   salted_root : (salts : Salts) (sender : List ℕ) (shows : Bool) (t : Transaction) (views : Forest SplitView) (f : Marked) → views_shown f ≡ views
-      → root_digest sha (tree_with sha salts sender shows t f) ≡ digest_with sha salts sender t views
+      → hash_of_root sha (tree_with sha salts sender shows t f) ≡ digest_with sha salts sender t views
   salted_root salts sender shows t views f same =
       λ i. sha (tree_hash_string (sha (leaf_hash_string 1 salts.common (common_bytes sender t.ledger_time))) (salted_leaf_keeps shows 2 salts.requesters (spell_parties t.requesters) i)
-      ((vertices_keep f ∙ ap (view_digests sha) same) i))
+      ((vertices_keep f ∙ ap (hashes_of_views sha) same) i))
 
   pub participants_root : (salts : Salts) (sender : List ℕ) (t : Transaction) (views : Forest SplitView) (hosts : List ℕ → Bool) (sends : Bool)
-      → root_digest sha (tree_to sha salts sender t views hosts sends) ≡ digest_with sha salts sender t views
+      → hash_of_root sha (tree_to sha salts sender t views hosts sends) ≡ digest_with sha salts sender t views
   participants_root salts sender t views hosts sends =
       salted_root salts sender (sees_root hosts views || sends) t views (shown_to hosts false views) (unshown hosts false views)
 
   pub mediators_root : (salts : Salts) (sender : List ℕ) (t : Transaction) (views : Forest SplitView)
-      → root_digest sha (tree_to_mediator sha salts sender t views) ≡ digest_with sha salts sender t views
+      → hash_of_root sha (tree_to_mediator sha salts sender t views) ≡ digest_with sha salts sender t views
   mediators_root salts sender t views = salted_root salts sender false t views (map_forest informees_alone views) (unnamed views)
 
-  pub one_root : (views : Views) (sender : List ℕ) (hosts : List Host) (to : Recipient) → root_digest sha (blind_for sha views sender hosts to) ≡ transaction_digest sha views sender
+  pub one_root : (views : Views) (sender : List ℕ) (hosts : List Host) (to : Recipient) → hash_of_root sha (blind_for sha views sender hosts to) ≡ transaction_digest sha views sender
   one_root views sender hosts (Participant p) =
       participants_root (salts_of sha views.seed) sender (transaction_of views) views.roots (hosts_at hosts p) (is_host_named hosts p sender)
   one_root views sender hosts Mediator = mediators_root (salts_of sha views.seed) sender (transaction_of views) views.roots

@@ -21,7 +21,7 @@ use Rattle.view_split.specs.declared.core_node.CoreChild.{CoreChild}
 use Rattle.view_split.specs.declared.core_node.CoreChild.TheVariants as children
 use Rattle.blind_tree.specs.Cores.{levels, spell_child, spell_children, spell_core, spell_node}
 use Rattle.blind_tree.specs.CoreReading.{NodeParts, node_of, children_with, node_with, tagged_child_at, tagged_hole_at, hole_at, child_at, node_at, core_at}
-use Rattle.blind_tree.specs.Seen.{AreChildren, IsCore}
+use Rattle.blind_tree.specs.ShownViews.{AreChildren, IsCore}
 use Rattle.blind_tree.specs.Leaves.{IsNode}
 use Rattle.blind_tree.proofs.TreeLaws.{respelled_reads}
 

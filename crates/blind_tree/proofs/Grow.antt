@@ -5,7 +5,7 @@ use Rattle.sha2.specs.Sha256.{sha256}
 use Rattle.hash_id.specs.Strings.{view_hash_string}
 use Rattle.blind_tree.specs.Vertices.{Vertices, NoVertices, BlindVertex, InnerVertex, count, beside, AreNarrow}
 use Rattle.blind_tree.specs.VertexLists.{vertices_of, with_vertex, one_vertex, vertex_count}
-use Rattle.blind_tree.specs.Digests.{leaf_digest, digests}
+use Rattle.blind_tree.specs.TreeHashes.{hash_of_leaf, hashes_of_vertices}
 use Rattle.blind_tree.specs.declared.vertex.Vertex.{Vertex}
 use Rattle.blind_tree.specs.declared.leaf.Leaf.{Leaf}
 use Rattle.blind_tree.specs.declared.vertex.Vertex.TheVariants.{Blind, Inner}
@@ -66,27 +66,27 @@ pub narrow_after : (vs : List Vertex) (i : ℕ) (v : Vertex) → i < length vs �
 narrow_after vs i v h at narrow = narrow_with v (vertices_of (drop (i + 1) vs)) (subst AreNarrow (next_vertex vs i v h at) narrow)
 
 -- the hash of one vertex
-abbrev pub digest_of_vertex : Vertex → List ℕ
-digest_of_vertex (Blind hash) = hash
-digest_of_vertex (Inner informees contents subviews) = sha256 (view_hash_string (leaf_digest sha256 3 informees) (leaf_digest sha256 4 contents) (digests sha256 subviews))
+abbrev pub hash_of_vertex : Vertex → List ℕ
+hash_of_vertex (Blind hash) = hash
+hash_of_vertex (Inner informees contents subviews) = sha256 (view_hash_string (hash_of_leaf sha256 3 informees) (hash_of_leaf sha256 4 contents) (hashes_of_vertices sha256 subviews))
 
-digests_with : (v : Vertex) (rest : Vertices) → digests sha256 (with_vertex v rest) ≡ digest_of_vertex v ∷ digests sha256 rest
-digests_with (Blind hash) rest = refl
-digests_with (Inner informees contents subviews) rest = refl
+hashes_with_vertex : (v : Vertex) (rest : Vertices) → hashes_of_vertices sha256 (with_vertex v rest) ≡ hash_of_vertex v ∷ hashes_of_vertices sha256 rest
+hashes_with_vertex (Blind hash) rest = refl
+hashes_with_vertex (Inner informees contents subviews) rest = refl
 
-pub hash_step : (vs : List Vertex) (i : ℕ) (v : Vertex) (all out new : List (List ℕ)) → i < length vs → v ≡ get_or vs i v → new ≡ out ++ digest_of_vertex v ∷ []
-    → out ++ digests sha256 (vertices_of (drop i vs)) ≡ all → new ++ digests sha256 (vertices_of (drop (i + 1) vs)) ≡ all
+pub hash_step : (vs : List Vertex) (i : ℕ) (v : Vertex) (all out new : List (List ℕ)) → i < length vs → v ≡ get_or vs i v → new ≡ out ++ hash_of_vertex v ∷ []
+    → out ++ hashes_of_vertices sha256 (vertices_of (drop i vs)) ≡ all → new ++ hashes_of_vertices sha256 (vertices_of (drop (i + 1) vs)) ≡ all
 hash_step vs i v all out new h at grown before =
     let rest = vertices_of (drop (i + 1) vs) in
-    let next : digests sha256 (vertices_of (drop i vs)) ≡ digest_of_vertex v ∷ digests sha256 rest = ap (digests sha256) (next_vertex vs i v h at) ∙ digests_with v rest in
-    ap (λ (xs : List (List ℕ)). xs ++ digests sha256 rest) grown
-    ∙ (append_assoc out (digest_of_vertex v ∷ []) (digests sha256 rest)
+    let next : hashes_of_vertices sha256 (vertices_of (drop i vs)) ≡ hash_of_vertex v ∷ hashes_of_vertices sha256 rest = ap (hashes_of_vertices sha256) (next_vertex vs i v h at) ∙ hashes_with_vertex v rest in
+    ap (λ (xs : List (List ℕ)). xs ++ hashes_of_vertices sha256 rest) grown
+    ∙ (append_assoc out (hash_of_vertex v ∷ []) (hashes_of_vertices sha256 rest)
     ∙ (ap (λ (xs : List (List ℕ)). out ++ xs) (sym next) ∙ before))
 
-pub digests_length : (v : Vertices) → length (digests sha256 v) ≡ count v
-digests_length NoVertices = refl
-digests_length (BlindVertex hash others) = ap suc (digests_length others)
-digests_length (InnerVertex informees contents subviews others) = ap suc (digests_length others)
+pub hashes_of_vertices_length : (v : Vertices) → length (hashes_of_vertices sha256 v) ≡ count v
+hashes_of_vertices_length NoVertices = refl
+hashes_of_vertices_length (BlindVertex hash others) = ap suc (hashes_of_vertices_length others)
+hashes_of_vertices_length (InnerVertex informees contents subviews others) = ap suc (hashes_of_vertices_length others)
 
 with_one : (v : Vertex) (rest : Vertices) → (vertex_count (one_vertex v) ≤ vertex_count (with_vertex v rest)) × (vertex_count rest ≤ vertex_count (with_vertex v rest))
 with_one (Blind hash) rest = (omega arith, omega arith)

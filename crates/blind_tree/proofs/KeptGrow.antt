@@ -11,7 +11,7 @@ use Rattle.ledger_terms.specs.declared.tree.Tree.{Tree}
 use Rattle.ledger_terms.proofs.Grow.{join-assoc, join-end}
 use Rattle.ledger_terms.specs.Grown.{tree_of, forest_of}
 use Rattle.view_split.specs.declared.split_view.SplitView.{SplitView}
-use Rattle.view_split.specs.Seen.{is_sight}
+use Rattle.view_split.specs.SeenViews.{is_sight}
 use Rattle.view_split.specs.ViewTrees.{View}
 use Rattle.blind_tree.specs.Vertices.{Vertices, NoVertices, beside}
 use Rattle.blind_tree.specs.Blind.{has_sight}

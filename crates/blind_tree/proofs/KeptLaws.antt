@@ -9,12 +9,12 @@ use Rattle.ledger_terms.specs.declared.host.Host.{Host}
 use Rattle.hash_id.specs.Strings.{view_hash_string}
 use Rattle.view_split.specs.declared.split_view.SplitView.{SplitView}
 use Rattle.view_split.specs.Numbered.{map_forest}
-use Rattle.view_split.specs.Seen.{is_sight}
+use Rattle.view_split.specs.SeenViews.{is_sight}
 use Rattle.view_split.specs.declared.views.Views.{Views}
 use Rattle.blind_tree.specs.Vertices.{Vertices, BlindVertex, InnerVertex}
-use Rattle.blind_tree.specs.Digests.{Hashing}
+use Rattle.blind_tree.specs.TreeHashes.{Hashing}
 use Rattle.blind_tree.specs.LeafBytes.{roles_bytes, core_bytes}
-use Rattle.blind_tree.specs.Blind.{Visibility, leaf_of, roles_digest, core_digest, view_digests, views_shown, informees_alone, visibility, shown_to, is_hidden, shows_roles, shows_core, vertices_shown, has_sight, sees_root, blind_for, is_host_named}
+use Rattle.blind_tree.specs.Blind.{Visibility, leaf_of, roles_digest, core_digest, hashes_of_views, views_shown, informees_alone, visibility, shown_to, is_hidden, shows_roles, shows_core, vertices_shown, has_sight, sees_root, blind_for, is_host_named}
 use Rattle.blind_tree.specs.declared.kept_view.KeptView.{KeptView}
 use Rattle.blind_tree.specs.Kept.{kept_leaf, kept_digests, kept_views, kept_part, kept_tree, is_kept_sight, has_kept_sight, sees_kept_root, cut_leaf, cut_part, cut_views, cut_for_mediator, cut_shows, cut_tree}
 use Rattle.blind_tree.specs.declared.recipient.Recipient.{Recipient}
@@ -30,7 +30,7 @@ unnamed NoRoots = refl
 unnamed (Root view subviews others) = λ i. Root view (unnamed subviews i) (unnamed others i)
 
 module _ (sha : Hashing) where
-  digests_kept : (f : Forest SplitView) → kept_digests (kept_views sha f) ≡ view_digests sha f
+  digests_kept : (f : Forest SplitView) → kept_digests (kept_views sha f) ≡ hashes_of_views sha f
   digests_kept NoRoots = refl
   digests_kept (Root view subviews others) =
       λ i. sha (view_hash_string (roles_digest sha view) (core_digest sha view) (digests_kept subviews i)) ∷ digests_kept others i
@@ -68,7 +68,7 @@ module _ (sha : Hashing) where
       one_cut view sees (has_kept_sight hosts (kept_views sha subviews)) (kept_views sha subviews) (cut_views hosts sees (kept_views sha subviews)) (cut_views hosts above (kept_views sha others))
       ∙ (λ i.
       marked_vertex view (visibility sees (sight_kept hosts subviews i))
-      (sha (view_hash_string (roles_digest sha view) (core_digest sha view) ((digests_kept subviews ∙ sym (ap (view_digests sha) (unshown hosts sees subviews))) i)))
+      (sha (view_hash_string (roles_digest sha view) (core_digest sha view) ((digests_kept subviews ∙ sym (ap (hashes_of_views sha) (unshown hosts sees subviews))) i)))
       (cut_is_blind hosts sees subviews i) (cut_is_blind hosts above others i))
 
   pub cut_is_named : (f : Forest SplitView) → cut_for_mediator (kept_views sha f) ≡ vertices_shown sha (map_forest informees_alone f)

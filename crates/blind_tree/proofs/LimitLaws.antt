@@ -23,7 +23,7 @@ use Rattle.view_split.specs.Split.{core_of, view_at, split_below, split}
 use Rattle.view_split.specs.declared.views.Views.{Views}
 use Rattle.blind_tree.specs.Cores.{spell_children, AreSpellableChildren, levels}
 use Rattle.blind_tree.specs.LeafBytes.{core_bytes, AreSpellableViews, AreSpellable}
-use Rattle.blind_tree.specs.Seen.{AreSmall, IsSmall}
+use Rattle.blind_tree.specs.ShownViews.{AreSmall, IsSmall}
 use Rattle.blind_tree.specs.Limits.{acts_length, AreSpellableActs, KeepLimits, HaveSets}
 
 -- ---- sets and names

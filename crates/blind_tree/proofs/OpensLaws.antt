@@ -20,20 +20,20 @@ use Rattle.view_split.specs.Holed.{holes}
 use Rattle.view_split.specs.declared.split_view.SplitView.{SplitView}
 use Rattle.view_split.specs.Filled.{AreFilled}
 use Rattle.view_split.specs.Numbered.{map_forest}
-use Rattle.view_split.specs.Seen.{is_sight, seen_views}
+use Rattle.view_split.specs.SeenViews.{is_sight, seen_views}
 use Rattle.view_split.specs.Placed.{view_with, tops}
 use Rattle.view_split.specs.declared.core_node.CoreNode.{CoreNode}
 use Rattle.view_split.specs.declared.views.Views.{Views}
 use Rattle.view_split.specs.declared.placed_view.PlacedView.{PlacedView}
 use Rattle.blind_tree.specs.Vertices.{count}
-use Rattle.blind_tree.specs.Digests.{Hashing}
+use Rattle.blind_tree.specs.TreeHashes.{Hashing}
 use Rattle.blind_tree.specs.LeafBytes.{common_bytes, roles_bytes, core_bytes}
 use Rattle.blind_tree.specs.Leaves.{spell_common, IsCommon, spell_roles, AreRoles}
 use Rattle.blind_tree.specs.Reading.{ended, with_place, read_all}
 use Rattle.blind_tree.specs.CoreReading.{core_at}
 use Rattle.blind_tree.specs.Blind.{leaf_of, vertices_shown, shown_to, informees_alone, has_sight, sees_root, blind_to, blind_for_mediator}
 use Rattle.blind_tree.specs.Opening.{head_at, roles_at, view_roles, roles_listed, informee_tree_of, ViewParts, parts_read, views_read, views_opened, placed, read_if_plain, tree_opened}
-use Rattle.blind_tree.specs.Seen.{roles_of_all, IsView, AreViews, AreInRange}
+use Rattle.blind_tree.specs.ShownViews.{roles_of_all, IsView, AreViews, AreInRange}
 use Rattle.blind_tree.specs.declared.view_roles.ViewRoles.{ViewRoles}
 use Rattle.blind_tree.proofs.CoreLaws as cores
 use Rattle.blind_tree.proofs.Blinded.{none_seen}

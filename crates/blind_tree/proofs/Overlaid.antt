@@ -6,11 +6,11 @@ use Rattle.std.proofs.lemmas.Bool.{or_parts}
 use Rattle.hash_id.specs.Strings.{view_hash_string}
 use Rattle.ledger_terms.specs.Forest.{Forest, NoRoots, Root, preorder}
 use Rattle.view_split.specs.declared.split_view.SplitView.{SplitView}
-use Rattle.view_split.specs.Seen.{is_sight}
+use Rattle.view_split.specs.SeenViews.{is_sight}
 use Rattle.blind_tree.specs.Vertices.{Vertices, NoVertices, BlindVertex, InnerVertex}
-use Rattle.blind_tree.specs.Digests.{Hashing}
+use Rattle.blind_tree.specs.TreeHashes.{Hashing}
 use Rattle.blind_tree.specs.LeafBytes.{roles_bytes, core_bytes}
-use Rattle.blind_tree.specs.Blind.{Visibility, Hidden, Passed, Whole, visibility, is_hidden, shows_roles, shows_core, leaf_of, roles_digest, core_digest, view_digests, views_shown, shown_to, has_sight, vertices_shown}
+use Rattle.blind_tree.specs.Blind.{Visibility, Hidden, Passed, Whole, visibility, is_hidden, shows_roles, shows_core, leaf_of, roles_digest, core_digest, hashes_of_views, views_shown, shown_to, has_sight, vertices_shown}
 use Rattle.blind_tree.proofs.Blinded.{none_seen}
 use Rattle.blind_tree.proofs.KeptLaws.{unshown}
 use Rattle.blind_tree.specs.Overlay.{either, overlay}
@@ -101,7 +101,7 @@ module _ (sha : Hashing) where
       let v = vertices_shown sha (shown_to h s subviews) in
       let w = vertices_shown sha (shown_to g t subviews) in
       let u = vertices_shown sha (shown_to (either h g) (s || t) subviews) in
-      let digests_of = view_digests sha in
+      let digests_of = hashes_of_views sha in
       overlay_step view s (has_sight h subviews) t (has_sight g subviews)
       (digests_of (views_shown (shown_to h s subviews)))
       (digests_of (views_shown (shown_to g t subviews)))

@@ -4,7 +4,7 @@ use Rattle.ledger_terms.specs.Grown.{forest_of}
 use Rattle.view_split.specs.CoreLists.{children_of}
 use Rattle.view_split.specs.ViewTrees.{View}
 use Rattle.view_split.specs.declared.core_node.CoreChild.{CoreChild}
-use Rattle.blind_tree.specs.Seen.{AreChildren, AreViews}
+use Rattle.blind_tree.specs.ShownViews.{AreChildren, AreViews}
 
 abbrev pub ViewsInRange : List View → Type 0
 ViewsInRange vs = AreViews (forest_of vs)

@@ -11,7 +11,7 @@ use Rattle.ledger_terms.specs.Topologies.{AreApart}
 use Rattle.ledger_terms.specs.declared.host.Host.{Host}
 use Rattle.ledger_model.proofs.Lists.{In, contains_from_In, from_any, from_filter, in_filter, in_from_Contains}
 use Rattle.view_split.specs.declared.split_view.SplitView.{SplitView}
-use Rattle.view_split.specs.Seen.{is_sight}
+use Rattle.view_split.specs.SeenViews.{is_sight}
 use Rattle.blind_tree.specs.Blind.{has_name, has_sight, is_host_named}
 use Rattle.blind_tree.specs.Recipients.{is_recipient, recipients_of}
 

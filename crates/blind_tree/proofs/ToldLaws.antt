@@ -4,7 +4,7 @@ use Rattle.wire_form.specs.declared.wire_fault.WireFault.{WireFault}
 use Rattle.blind_tree.specs.Vertices.{Vertices, NoVertices, BlindVertex, InnerVertex, AreNarrow}
 use Rattle.blind_tree.specs.VertexLists.{vertices_of, with_vertex, one_vertex}
 use Rattle.blind_tree.specs.Opening.{with_read, read_leaf, head_at, roles_at, view_roles, roles_listed, informee_tree_of}
-use Rattle.blind_tree.specs.Told.{roles_after, view_roles_after}
+use Rattle.blind_tree.specs.RolesAfter.{roles_after, view_roles_after}
 use Rattle.blind_tree.specs.declared.leaf.Leaf.{Leaf}
 use Rattle.blind_tree.specs.declared.vertex.Vertex.{Vertex}
 use Rattle.blind_tree.specs.declared.vertex.Vertex.TheVariants.{Blind, Inner}

@@ -1,7 +1,7 @@
 -- When two trees agree.
 use Rattle.std.specs.Prelude.{◌≡◌, ◌≢◌, ℕ, List, Contains}
 use Rattle.wire_form.specs.InRange.{IsHash}
-use Rattle.blind_tree.specs.Digests.{Hashing}
+use Rattle.blind_tree.specs.TreeHashes.{Hashing}
 use Rattle.blind_tree.specs.Vertices.{Vertices, NoVertices, BlindVertex, InnerVertex}
 use Rattle.blind_tree.specs.declared.leaf.Leaf.{Leaf}
 use Rattle.blind_tree.specs.declared.leaf.Leaf.TheVariants.{Blind, Plain}

@@ -11,10 +11,10 @@ use Rattle.ledger_model.specs.Opening.{Transaction}
 use Rattle.view_split.specs.declared.split_view.SplitView.{SplitView}
 use Rattle.view_split.specs.Split.{assembled}
 use Rattle.view_split.specs.Numbered.{map_forest}
-use Rattle.view_split.specs.Seen.{is_sight}
+use Rattle.view_split.specs.SeenViews.{is_sight}
 use Rattle.view_split.specs.declared.views.Views.{Views}
 use Rattle.blind_tree.specs.Vertices.{Vertices, NoVertices, BlindVertex, InnerVertex}
-use Rattle.blind_tree.specs.Digests.{Hashing}
+use Rattle.blind_tree.specs.TreeHashes.{Hashing}
 use Rattle.blind_tree.specs.LeafBytes.{common_bytes, roles_bytes, core_bytes}
 use Rattle.blind_tree.specs.declared.leaf.Leaf.{Leaf}
 use Rattle.blind_tree.specs.declared.leaf.Leaf.TheVariants.{Blind, Plain}
@@ -43,10 +43,10 @@ roles_digest sha view = digest_of sha 3 view.first.seed (roles_bytes view)
 abbrev pub core_digest : Hashing → SplitView → List ℕ
 core_digest sha view = digest_of sha 4 view.first.seed (core_bytes view)
 
-abbrev pub view_digests : Hashing → Forest SplitView → List (List ℕ)
-view_digests sha NoRoots = []
-view_digests sha (Root view subviews others) =
-    sha (view_hash_string (roles_digest sha view) (core_digest sha view) (view_digests sha subviews)) ∷ view_digests sha others
+abbrev pub hashes_of_views : Hashing → Forest SplitView → List (List ℕ)
+hashes_of_views sha NoRoots = []
+hashes_of_views sha (Root view subviews others) =
+    sha (view_hash_string (roles_digest sha view) (core_digest sha view) (hashes_of_views sha subviews)) ∷ hashes_of_views sha others
 
 -- What a tree shows of a view: its hash alone; what stands below it; its informees and confirmers too; or its contents too.
 pub data Visibility : Type 0 where
@@ -82,7 +82,7 @@ vertices_shown sha NoRoots = NoVertices
 vertices_shown sha (Root marked subviews others) =
     if is_hidden marked.0
     then
-    BlindVertex (sha (view_hash_string (roles_digest sha marked.1) (core_digest sha marked.1) (view_digests sha (views_shown subviews))))
+    BlindVertex (sha (view_hash_string (roles_digest sha marked.1) (core_digest sha marked.1) (hashes_of_views sha (views_shown subviews))))
     (vertices_shown sha others)
     else
     InnerVertex
@@ -144,7 +144,7 @@ digest_with sha salts sender transaction views =
     sha (tree_hash_string
     (sha (leaf_hash_string 1 salts.common (common_bytes sender transaction.ledger_time)))
     (sha (leaf_hash_string 2 salts.requesters (spell_parties transaction.requesters)))
-    (view_digests sha views))
+    (hashes_of_views sha views))
 
 -- the salts that a sender makes of its transaction's seed
 abbrev pub salts_of : Hashing → (seed : List ℕ) → Salts

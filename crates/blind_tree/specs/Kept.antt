@@ -9,7 +9,7 @@ use Rattle.wire_form.specs.Spelling.{spell_parties}
 use Rattle.view_split.specs.declared.split_view.SplitView.{SplitView}
 use Rattle.view_split.specs.declared.views.Views.{Views}
 use Rattle.blind_tree.specs.Vertices.{Vertices, NoVertices, BlindVertex, InnerVertex}
-use Rattle.blind_tree.specs.Digests.{Hashing}
+use Rattle.blind_tree.specs.TreeHashes.{Hashing}
 use Rattle.blind_tree.specs.LeafBytes.{common_bytes, roles_bytes, core_bytes}
 use Rattle.blind_tree.specs.Blind.{salt_of, digest_of, is_host_named}
 use Rattle.blind_tree.specs.declared.kept_leaf.KeptLeaf.{KeptLeaf}

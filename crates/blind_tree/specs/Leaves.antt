@@ -6,7 +6,7 @@ use Rattle.wire_form.specs.Spelling.{spell_parties}
 use Rattle.view_split.specs.CoreLists.{act_of}
 use Rattle.view_split.specs.declared.core_node.CoreNode.{CoreNode}
 use Rattle.blind_tree.specs.LeafBytes.{common_bytes}
-use Rattle.blind_tree.specs.Seen.{IsCore}
+use Rattle.blind_tree.specs.ShownViews.{IsCore}
 
 -- sender and ledger time
 abbrev pub spell_common : List ℕ × ℕ → List ℕ

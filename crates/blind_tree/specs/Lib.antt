@@ -1,7 +1,7 @@
 pub mod Vertices
 pub mod VertexLists
 pub mod VerticesFall
-pub mod Digests
+pub mod TreeHashes
 pub mod Spelling
 pub mod InRange
 pub mod Reading
@@ -11,10 +11,10 @@ pub mod LeafBytes
 pub mod Blind
 pub mod Kept
 pub mod Opening
-pub mod Told
+pub mod RolesAfter
 pub mod CoreReading
 pub mod Opened
-pub mod Seen
+pub mod ShownViews
 pub mod Leaves
 pub mod Limits
 pub mod Recipients

@@ -67,4 +67,5 @@ coded_mark = hlevel codes
 
 abbrev pub coded_vertices : Coded Vertices
 coded_vertices =
-    code_by (List (Option Mark)) (coded_list coded_mark) (λ v. marks v []) (λ l. first_or_none (unmarked l [])) (λ v. ap first_or_none (unmarked-marks v [] []))
+    code_by (List (Option Mark)) (coded_list coded_mark) (λ v. marks v []) (λ l. first_or_none (unmarked l []))
+    (λ v. ap first_or_none (unmarked-marks v [] []))

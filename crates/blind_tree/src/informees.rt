@@ -5,7 +5,7 @@ ghost use Rattle.wire_form.specs.declared.wire_fault.WireFault.TheVariants as Wi
 ghost use Rattle.blind_tree.specs.Vertices.{AreNarrow, IsNarrow};
 ghost use Rattle.blind_tree.specs.VertexLists.{one_vertex};
 ghost use Rattle.blind_tree.specs.Opening.{informee_tree_of, view_roles};
-ghost use Rattle.blind_tree.specs.Told.{roles_after, view_roles_after};
+ghost use Rattle.blind_tree.specs.RolesAfter.{roles_after, view_roles_after};
 
 use crate::leaf::Leaf;
 use crate::leaves::{read_head, read_roles};
@@ -127,13 +127,13 @@ pub(crate) fn path_below(above: &Path, at: usize) -> Result<Path, WireFault>
     requires { at < 65536 }
     ensures { Follows WireFault.Memory result (Ok (above.now ++ at ∷ [])) }
 {
-    match extended(above, at) {
+    match extended_path(above, at) {
         Ok(path) => Ok(path),
         Err(_) => Err(WireFault::Memory),
     }
 }
 
-fn extended(above: &Path, at: usize) -> Result<Path, AllocError>
+fn extended_path(above: &Path, at: usize) -> Result<Path, AllocError>
     requires { at < 65536 }
     ensures { IfOk result (λ path. path ≡ above.now ++ at ∷ []) }
 {

@@ -22,7 +22,7 @@ ghost use Rattle.view_split.specs.Filled.{AreFilled};
 ghost use Rattle.view_split.specs.Placed.{placed_forest, tops};
 ghost use Rattle.view_split.specs.Numbered.{map_forest};
 ghost use Rattle.view_split.specs.declared.opened_tree.OpenedTree.{OpenedTree};
-ghost use Rattle.view_split.specs.Seen.{put_back, seen_views};
+ghost use Rattle.view_split.specs.SeenViews.{put_back, seen_views};
 ghost use Rattle.ledger_model.specs.Forest.{acts};
 ghost use Rattle.ledger_model.specs.Terms.{instance_of};
 ghost use Rattle.wire_form.specs.Spellable.{IsSpellableInstance};
@@ -33,7 +33,7 @@ ghost use Rattle.blind_tree.specs.Blind.{Salts, blind_for, blind_for_mediator, b
 ghost use Rattle.blind_tree.specs.Blind.{is_host_named, sees_root, shown_to, transaction_digest, tree_to, tree_to_mediator, vertices_shown};
 ghost use Rattle.blind_tree.specs.Overlay.{either, overlay};
 ghost use Rattle.blind_tree.specs.Recipients.{is_recipient, recipients_of};
-ghost use Rattle.blind_tree.specs.Seen.{AreInRange, AreViews, contents_shown, IsSmall, paths_seen, roles_of_all};
+ghost use Rattle.blind_tree.specs.ShownViews.{AreInRange, AreViews, contents_shown, IsSmall, paths_seen, roles_of_all};
 ghost use Rattle.blind_tree.specs.Opening.{head_at, roles_at, informee_tree_of, tree_opened, views_read};
 ghost use Rattle.blind_tree.specs.CoreReading.{core_at};
 ghost use Rattle.blind_tree.specs.Cores.{spell_node};
@@ -41,7 +41,7 @@ ghost use Rattle.blind_tree.specs.Leaves.{AreRoles, IsCommon, IsNode, spell_comm
 ghost use Rattle.sha2.specs.Sha256.{sha256};
 ghost use Rattle.wire_form.specs.Laws.{HasOneSpelling, IsEnoughFor, NoneBeginsAnother};
 ghost use Rattle.blind_tree.specs.declared.tree.Tree.{Tree};
-ghost use Rattle.blind_tree.specs.Digests.{root_digest, tree_strings};
+ghost use Rattle.blind_tree.specs.TreeHashes.{hash_of_root, tree_strings};
 ghost use Rattle.blind_tree.specs.InRange.{IsSpellableTree, IsTree};
 ghost use Rattle.blind_tree.specs.Spelling.{spell_tree};
 ghost use Rattle.blind_tree.specs.Reading.{tree_at};
@@ -65,18 +65,18 @@ pub fn leaves_have_one_spelling()
 
 /// Two trees of one root agree on every leaf that both show, or two different strings, one hashed in each, have one hash.
 pub fn one_root_one_tree()
-    ensures { (t u : Tree) → IsSized t → IsSized u → root_digest sha256 t ≡ root_digest sha256 u
+    ensures { (t u : Tree) → IsSized t → IsSized u → hash_of_root sha256 t ≡ hash_of_root sha256 u
         → AgreeTrees t u ⊎ Clash sha256 (tree_strings sha256 t) (tree_strings sha256 u) }
 {}
 
 /// All trees of one transaction have one root, also with other salts of the first two leaves than those of its seed.
 pub fn blinding_keeps_the_root()
     ensures root { (views : Views) (sender : List ℕ) (hosts : List Host) (to : Recipient)
-        → root_digest sha256 (blind_for sha256 views sender hosts to) ≡ transaction_digest sha256 views sender }
+        → hash_of_root sha256 (blind_for sha256 views sender hosts to) ≡ transaction_digest sha256 views sender }
     ensures participants { (salts : Salts) (sender : List ℕ) (transaction : Transaction) (views : Forest SplitView) (hosts : List ℕ → Bool) (sends : Bool)
-        → root_digest sha256 (tree_to sha256 salts sender transaction views hosts sends) ≡ digest_with sha256 salts sender transaction views }
+        → hash_of_root sha256 (tree_to sha256 salts sender transaction views hosts sends) ≡ digest_with sha256 salts sender transaction views }
     ensures mediator { (salts : Salts) (sender : List ℕ) (transaction : Transaction) (views : Forest SplitView)
-        → root_digest sha256 (tree_to_mediator sha256 salts sender transaction views) ≡ digest_with sha256 salts sender transaction views }
+        → hash_of_root sha256 (tree_to_mediator sha256 salts sender transaction views) ≡ digest_with sha256 salts sender transaction views }
     ensures sized { (views : Views) (sender : List ℕ) (hosts : List Host) (to : Recipient) → IsSized (blind_for sha256 views sender hosts to) }
 {}
 

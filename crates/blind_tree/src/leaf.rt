@@ -1,7 +1,7 @@
 //! Leaves of trees.
 ghost use Rattle.std.specs.Prelude.{◌≡◌};
 ghost use Rattle.sha2.specs.Sha256.{sha256};
-ghost use Rattle.blind_tree.specs.Digests.{leaf_digest};
+ghost use Rattle.blind_tree.specs.TreeHashes.{hash_of_leaf};
 
 use hash_id::leaf_hash;
 use ledger_terms::{Bytes, Hash};
@@ -15,7 +15,7 @@ pub enum Leaf {
 
 /// The hash of a leaf of that kind: 1 common, 2 requesters, 3 informees, 4 contents.
 pub fn hash_of(kind: u8, leaf: &Leaf) -> Hash
-    ensures { result ≡ leaf_digest sha256 kind leaf.now }
+    ensures { result ≡ hash_of_leaf sha256 kind leaf.now }
 {
     match leaf {
         Leaf::Blind(hash) => *hash,

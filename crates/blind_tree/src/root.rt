@@ -3,7 +3,7 @@ ghost use Rattle.std.specs.Prelude.{◌≡◌, ◌++◌, IfOk, OnOk};
 ghost use Rattle.std.specs.Bool.{Decides};
 ghost use Rattle.sha2.specs.Sha256.{sha256};
 ghost use Rattle.blind_tree.specs.Vertices.{IsNarrow, AreNarrow};
-ghost use Rattle.blind_tree.specs.Digests.{digests, root_digest};
+ghost use Rattle.blind_tree.specs.TreeHashes.{hashes_of_vertices, hash_of_root};
 
 use crate::leaf::hash_of;
 use crate::tree::Tree;
@@ -15,7 +15,7 @@ use std::alloc::{AllocError, Global};
 /// The hash of a tree: the same whatever the tree shows.
 pub fn root_of(alloc: Global, tree: &Tree) -> Result<Hash, AllocError>
     requires { IsNarrow tree.now.views }
-    ensures { IfOk result (λ hash. hash ≡ root_digest sha256 tree.now) }
+    ensures { IfOk result (λ hash. hash ≡ hash_of_root sha256 tree.now) }
 {
     let mut views = Vec::new(alloc);
     hashes_into(&tree.views, &mut views)?;
@@ -27,7 +27,7 @@ pub fn root_of(alloc: Global, tree: &Tree) -> Result<Hash, AllocError>
 /// Whether `root` is the hash of a tree.
 pub fn verify(alloc: Global, tree: &Tree, root: &Hash) -> Result<bool, AllocError>
     requires { IsNarrow tree.now.views }
-    ensures { IfOk result (λ same. Decides same (root.now ≡ root_digest sha256 tree.now)) }
+    ensures { IfOk result (λ same. Decides same (root.now ≡ hash_of_root sha256 tree.now)) }
 {
     let hash = root_of(alloc, tree)?;
     Ok(*root == hash)
@@ -36,7 +36,7 @@ pub fn verify(alloc: Global, tree: &Tree, root: &Hash) -> Result<bool, AllocErro
 // Puts the hashes of vertices at the end.
 fn hashes_into(vertices: &VertexList, out: &mut Vec<Hash>) -> Result<(), AllocError>
     requires { AreNarrow vertices.now }
-    ensures { OnOk result (out.new.items ≡ out.old.items ++ digests sha256 vertices.now) }
+    ensures { OnOk result (out.new.items ≡ out.old.items ++ hashes_of_vertices sha256 vertices.now) }
 {
     for vertex in vertices.as_slice() {
         match vertex {

@@ -3,7 +3,7 @@ ghost use Rattle.std.specs.Prelude.{◌↔◌, ◌≤◌, ◌<◌, ◌^◌, ◌�
 ghost use Rattle.ledger_terms.specs.Names.{IsName};
 ghost use Rattle.wire_form.specs.InRange.{IsHash};
 ghost use Rattle.view_split.specs.Holed.{Inner, NoMore};
-ghost use Rattle.blind_tree.specs.Seen.{AreChildren, AreInRange, AreViews};
+ghost use Rattle.blind_tree.specs.ShownViews.{AreChildren, AreInRange, AreViews};
 ghost use Rattle.view_split.specs.CoreLists.{children_of};
 ghost use Rattle.ledger_terms.specs.Grown.{tree_of};
 ghost use Rattle.blind_tree.specs.Cores.{AreSpellableChildren, IsSpellableChild, IsSpellableCore, levels};

@@ -95,7 +95,7 @@ module _ (reading : Reading) (params : Params) (log : List Entry) (lawful : Info
       by_whole (Some t) i = in_project (is_informed reading p) t.roots a i
 
   same_kind : (k : ℕ) (test : Act → Bool) → ((a : Act) → In a (whole_acts k) → test a ≡ true → is_informed reading p a ≡ true) → filter test (shown_acts k) ≡ filter test (whole_acts k)
-  same_kind k test told = by_whole (read_by reading.whole (request_at log k)) told
+  same_kind k test verdict_content = by_whole (read_by reading.whole (request_at log k)) verdict_content
     where
       by_whole : (w : Option Transaction) → ((a : Act) → In a (acts_of (commit_of k w)) → test a ≡ true → is_informed reading p a ≡ true) → filter test (acts (project_whole reading p w)) ≡ filter test (acts_of (commit_of k w))
       by_whole None h = refl
@@ -132,9 +132,9 @@ module _ (reading : Reading) (params : Params) (log : List Entry) (lawful : Info
       let auth = real j.0 w.0 j.2 j.3 in
       let one : instance_of w.0.action ≡ instance_of a.action = one_instance reading params log lawful distinct genuine sealed opens j.0 k w.0 a j.2 ok j.3 ha (from_on (id_of a.action) w.0 parts.0) in
       let hosts_it : has_hosted_stakeholder reading p w.0 ≡ true = ap (λ (i : Instance). list_any (reading.hosts p) ((reading.language).signatories i ++ (reading.language).observers i)) one ∙ hosted in
-      let told = lawful.stakeholders_informed p w.0 (inr parts.1) hosts_it in
+      let verdict_content = lawful.stakeholders_informed p w.0 (inr parts.1) hosts_it in
       let here = at_place j.0 (omega (arith, j.1)) (request_at log j.0) refl in
-      let kept : In w.0 (filter (is_informed reading p) (shown_acts j.0)) = rw (same_kind j.0 (is_informed reading p) (λ b i e. e)) (in_filter (is_informed reading p) (whole_acts j.0) w.0 j.3 told) in
+      let kept : In w.0 (filter (is_informed reading p) (shown_acts j.0)) = rw (same_kind j.0 (is_informed reading p) (λ b i e. e)) (in_filter (is_informed reading p) (whole_acts j.0) w.0 j.3 verdict_content) in
       let shown = (from_filter (is_informed reading p) (shown_acts j.0) w.0 kept).0 in
       let opened : In w.0 (acts (opened_at its j.0)) = subst (λ (x : Forest Act). In w.0 (acts x)) (sym here.0) shown in
       elim here.1 [

@@ -15,12 +15,12 @@ use Rattle.canton_model.proofs.FromGenuine.{some_shown}
 
 pub somebody_asked : (reading : Reading) (request : Request) (facts : IsSealed reading request) (a : Act) → Informs reading → In a (acts (facts.transaction).roots) → (p : ParticipantId) × Contains request.confirming p
 somebody_asked reading request facts a lawful h =
-    let g = facts.guarded a (contains_from_In (acts (facts.transaction).roots) a h) in
-    let told = is_informed reading g.0 in
+    let g = facts.confirmed a (contains_from_In (acts (facts.transaction).roots) a h) in
+    let verdict_content = is_informed reading g.0 in
     let informed = lawful.signatories_informed g.0 a g.1 in
-    let same = filter_project told told (facts.transaction).roots (λ b i e. e) in
-    let kept : In a (filter told (acts (project told (facts.transaction).roots))) = rw same (in_filter told (acts (facts.transaction).roots) a h informed) in
-    let opened : In a (acts (roots_in (reading.shown g.0 request))) = rw (facts.opens g.0) (from_filter told (acts (project told (facts.transaction).roots)) a kept).0 in
+    let same = filter_project verdict_content verdict_content (facts.transaction).roots (λ b i e. e) in
+    let kept : In a (filter verdict_content (acts (project verdict_content (facts.transaction).roots))) = rw same (in_filter verdict_content (acts (facts.transaction).roots) a h informed) in
+    let opened : In a (acts (roots_in (reading.shown g.0 request))) = rw (facts.opens g.0) (from_filter verdict_content (acts (project verdict_content (facts.transaction).roots)) a kept).0 in
     let place = in_at (acts (roots_in (reading.shown g.0 request))) a opened in
     let s = some_shown (reading.shown g.0 request) place.0 a place.1 in
     let v = facts.viewed g.0 s.0 place.0 a s.1 s.2 g.1 in

@@ -72,10 +72,10 @@ module _ (q : Request) (alone : q.confirming ≡ 0 ∷ []) where
   unfolding covered
   root_covered = record { covered = covered; is_first = refl; first = refl; is_root = refl; known = refl }
 
-  told : (p : ℕ) (shown : Shown) → Example.reading.shown p q ≡ Some shown → TellsOf (record { requesters = Example.alice ∷ []; ledger_time = 0; roots = Example.note_alone }) shown
-  told zero shown is = subst (TellsOf (record { requesters = Example.alice ∷ []; ledger_time = 0; roots = Example.note_alone })) (same_Some _ shown is)
+  verdict_content : (p : ℕ) (shown : Shown) → Example.reading.shown p q ≡ Some shown → TellsOf (record { requesters = Example.alice ∷ []; ledger_time = 0; roots = Example.note_alone }) shown
+  verdict_content zero shown is = subst (TellsOf (record { requesters = Example.alice ∷ []; ledger_time = 0; roots = Example.note_alone })) (same_Some _ shown is)
       (record { ledger_time = refl; requesters = λ names e. sym (same_Some _ names e); path_order = (tt, tt) })
-  told (suc p) shown is = absurd (none-some shown (sym (away_view p q) ∙ is))
+  verdict_content (suc p) shown is = absurd (none-some shown (sym (away_view p q) ∙ is))
 
   answers : (p : ℕ) → In p (0 ∷ []) → Answers Example.reading q p
   unfolding covered
@@ -89,10 +89,10 @@ module _ (q : Request) (alone : q.confirming ≡ 0 ∷ []) where
         is_whole = refl;
         has_roles = λ a h. refl;
         opens = opens;
-        guarded = λ a h. (0, refl);
+        confirmed = λ a h. (0, refl);
         viewed = λ p shown i a is e signs. viewed p shown i a is e;
         numbered = numbered;
-        tells = told;
+        tells = verdict_content;
         confirming_order = rw alone (λ k lt. absurd (omega (arith, lt)));
         answers = λ p h. answers p (in_from_Contains (0 ∷ []) p (rw alone at h));
         asked = λ p shown view is h mine. asked p shown is;

@@ -56,11 +56,11 @@ some_shown (Some s) i a h = (s, refl, h)
 
 module _ (reading : Reading) (params : Params) (log : List Entry) (lawful : Informs reading) (distinct : NoCollision reading log) (genuine : Genuine reading params log) (sealed : (k : ℕ) (request : Request) → request_at log k ≡ Some request → IsSealed reading request) (opens : (p : ParticipantId) → OpensProjection reading p log) where
   -- p confirms a signatory of the instance that the ledger's actions on the contract carry
-  abbrev pub guards : ParticipantId → Hash → Bool
-  guards = is_guard reading log
+  abbrev pub confirms_signatory_of : ParticipantId → Hash → Bool
+  confirms_signatory_of = is_guard reading log
 
   abbrev pub r : Requests
-  r = requests_of reading params log guards
+  r = requests_of reading params log confirms_signatory_of
 
   abbrev whole_acts : ℕ → List Act
   whole_acts k = acts_of (whole_at reading log k)
@@ -83,9 +83,9 @@ module _ (reading : Reading) (params : Params) (log : List Entry) (lawful : Info
   opened_is k q p t at is = (opens p).projected k q at ∙ ap (project_whole reading p) is
 
   in_opened : (k : ℕ) (q : Request) (p : ParticipantId) (t : Transaction) (a : Act) → request_at log k ≡ Some q → reading.whole q ≡ Some t → In a (acts t.roots) → is_informed reading p a ≡ true → In a (acts (roots_in (reading.shown p q)))
-  in_opened k q p t a at is h told =
+  in_opened k q p t a at is h verdict_content =
       let same = filter_project (is_informed reading p) (is_informed reading p) t.roots (λ b i e. e) in
-      let kept : In a (filter (is_informed reading p) (acts (project (is_informed reading p) t.roots))) = rw same (in_filter (is_informed reading p) (acts t.roots) a h told) in
+      let kept : In a (filter (is_informed reading p) (acts (project (is_informed reading p) t.roots))) = rw same (in_filter (is_informed reading p) (acts t.roots) a h verdict_content) in
       rw (opened_is k q p t at is) (from_filter (is_informed reading p) (acts (project (is_informed reading p) t.roots)) a kept).0
 
   pub authentic : (k : ℕ) (a : Act) → is_approved_in k (timeline_of log) ≡ true → In a (whole_acts k) → reading.is_authentic a ≡ true
@@ -94,9 +94,9 @@ module _ (reading : Reading) (params : Params) (log : List Entry) (lawful : Info
       let s = sealed k b.request b.there in
       let same_t : s.transaction ≡ b.transaction = same_Some _ _ (sym s.is_whole ∙ b.is_whole) in
       let in_s : In a (acts (s.transaction).roots) = rw same_t b.in_it in
-      let g = s.guarded a (contains_from_In (acts (s.transaction).roots) a in_s) in
-      let told = lawful.signatories_informed g.0 a g.1 in
-      let place = in_at (acts (roots_in (reading.shown g.0 b.request))) a (in_opened k b.request g.0 b.transaction a b.there b.is_whole b.in_it told) in
+      let g = s.confirmed a (contains_from_In (acts (s.transaction).roots) a in_s) in
+      let verdict_content = lawful.signatories_informed g.0 a g.1 in
+      let place = in_at (acts (roots_in (reading.shown g.0 b.request))) a (in_opened k b.request g.0 b.transaction a b.there b.is_whole b.in_it verdict_content) in
       let s' = some_shown (reading.shown g.0 b.request) place.0 a place.1 in
       not-false _ ((seen k place.0 b.request g.0 s'.0 a ok b.there s'.1 s'.2 g.1).fails _ (inl refl))
 
@@ -110,7 +110,7 @@ module _ (reading : Reading) (params : Params) (log : List Entry) (lawful : Info
       (gather_in (λ n. is_approved_in n (timeline_of log)) (λ n. acts_of (whole_at reading log n)) (length log) k a lt ok h)
 
   -- who guards a contract confirms a signatory of each of the ledger's actions on it
-  signs : (k p : ℕ) (c : Hash) (a : Act) → is_approved_in k (timeline_of log) ≡ true → In a (whole_acts k) → id_of a.action ≡ c → guards p c ≡ true → list_any (reading.confirms p) ((reading.language).signatories (instance_of a.action)) ≡ true
+  signs : (k p : ℕ) (c : Hash) (a : Act) → is_approved_in k (timeline_of log) ≡ true → In a (whole_acts k) → id_of a.action ≡ c → confirms_signatory_of p c ≡ true → list_any (reading.confirms p) ((reading.language).signatories (instance_of a.action)) ≡ true
   signs k p c a ok h same g =
       let w = from_any (λ (b : Act). is_on c b && list_any (reading.confirms p) ((reading.language).signatories (instance_of b.action))) (ledger_acts (ledger reading log)) g in
       let parts = and_parts _ _ w.2 in
@@ -130,7 +130,7 @@ module _ (reading : Reading) (params : Params) (log : List Entry) (lawful : Info
   opened_by_request : (k p : ℕ) (q : Request) → request_at log k ≡ Some q → acts (opened_to reading p (request_at log k)) ≡ acts (roots_in (reading.shown p q))
   opened_by_request k p q at = ap (λ (o : Option Request). acts (opened_to reading p o)) at
 
-  guarded_place : (k p : ℕ) (c : Hash) (o : Option Request) → request_at log k ≡ o → is_approved_in k (timeline_of log) ≡ true → guards p c ≡ true → filter (authentic_on r c) (acts (opened_to reading p o)) ≡ filter (authentic_on r c) (acts_of (commit_of k (read_by reading.whole o)))
+  guarded_place : (k p : ℕ) (c : Hash) (o : Option Request) → request_at log k ≡ o → is_approved_in k (timeline_of log) ≡ true → confirms_signatory_of p c ≡ true → filter (authentic_on r c) (acts (opened_to reading p o)) ≡ filter (authentic_on r c) (acts_of (commit_of k (read_by reading.whole o)))
   guarded_place k p c None e ok g = refl
   guarded_place k p c (Some q) e ok g =
       let s = sealed k q e in
@@ -148,14 +148,14 @@ module _ (reading : Reading) (params : Params) (log : List Entry) (lawful : Info
             let place = in_at (acts (opened_to reading p (request_at log k))) a there in
             let q = opened_request reading p (request_at log k) place.0 a place.1 in
             contains_from_In (whole_acts k) a (shown_in_whole k p q.0 a q.1 (at_in (acts (roots_in (reading.shown p q.0))) place.0 a q.2));
-        guarded = λ p k c lt ok g. guarded_place k p c (request_at log k) refl ok g;
-        guard = λ k a lt ok h.
+        confirmed = λ p k c lt ok g. guarded_place k p c (request_at log k) refl ok g;
+        confirmer = λ k a lt ok h.
             let there = in_from_Contains (whole_acts k) a h in
             let b = behind reading log k a there in
             let s = sealed k b.request b.there in
             let same_t : s.transaction ≡ b.transaction = same_Some _ _ (sym s.is_whole ∙ b.is_whole) in
             let in_s : In a (acts (s.transaction).roots) = rw same_t b.in_it in
-            let g = s.guarded a (contains_from_In (acts (s.transaction).roots) a in_s) in
+            let g = s.confirmed a (contains_from_In (acts (s.transaction).roots) a in_s) in
             (g.0, in_any (λ (x : Act). is_on (id_of a.action) x && list_any (reading.confirms g.0) ((reading.language).signatories (instance_of x.action))) (ledger_acts (ledger reading log)) a (in_ledger k a lt ok there) (and_from _ _ (on_from (id_of a.action) a refl) g.1));
       }
 
@@ -168,15 +168,15 @@ module _ (reading : Reading) (params : Params) (log : List Entry) (lawful : Info
   pub second : (x y : Bool) → x ≡ true → (x && y) ≡ false → y ≡ false
   second x y h e = elim (and_cases x y e) [ inl no' ↦ absurd (both_ways x no' h) | inr out ↦ out ]
 
-  passes : (p k i : ℕ) (q : Request) (a : Act) → is_approved_in k (timeline_of log) ≡ true → request_at log k ≡ Some q → slice_get (acts (roots_in (reading.shown p q))) i ≡ Some a → guards p (id_of a.action) ≡ true → Passes r p k (take i (acts (opened_to reading p (request_at log k)))) a
+  passes : (p k i : ℕ) (q : Request) (a : Act) → is_approved_in k (timeline_of log) ≡ true → request_at log k ≡ Some q → slice_get (acts (roots_in (reading.shown p q))) i ≡ Some a → confirms_signatory_of p (id_of a.action) ≡ true → Passes r p k (take i (acts (opened_to reading p (request_at log k)))) a
   passes p k i q a ok at there g =
       let inside = shown_in_whole k p q a at (at_in (acts (roots_in (reading.shown p q))) i a there) in
       let w = some_shown (reading.shown p q) i a there in
       let s = signs k p (id_of a.action) a ok inside refl g in
       let h = hosted p a s in
       let f = (seen k i q p w.0 a ok at w.1 w.2 s).fails in
-      let past = same_counted reading params log p genuine.timely (opens p) k guards in
-      let pending = same_pending reading params log p genuine.timely (opens p) k guards in
+      let past = same_counted reading params log p genuine.timely (opens p) k confirms_signatory_of in
+      let pending = same_pending reading params log p genuine.timely (opens p) k confirms_signatory_of in
       let same_opened : acts (opened_to reading p (request_at log k)) ≡ acts (w.0).roots = opened_by_request k p q at ∙ ap (λ (o : Option Shown). acts (roots_in o)) w.1 in
       record {
         not_locked = rw (← pending) (second _ _ h (f _ (inr (inr (inr (inl refl))))));
@@ -196,4 +196,4 @@ module _ (reading : Reading) (params : Params) (log : List Entry) (lawful : Info
       }
 
   pub consistent_of_log : Consistent (ledger_acts (ledger reading log))
-  consistent_of_log = one_ledger r (length log) opened_of_log (final_of_log params log genuine.timely reading guards) checked_of_log
+  consistent_of_log = one_ledger r (length log) opened_of_log (final_of_log params log genuine.timely reading confirms_signatory_of) checked_of_log

@@ -13,7 +13,7 @@ use Rattle.ledger_model.specs.Opening.{Transaction, Shown, roots_in}
 use Rattle.canton_model.specs.Reading.{Reading, is_recipient}
 use Rattle.canton_model.specs.Evidence.{commit_if, gather, past_at, pending_at}
 use Rattle.canton_model.specs.Ledger.{opened_to, requests_of, Timely, commit_of, read_by, whole_at, commits_below}
-use Rattle.canton_model.specs.Inbox.{past_in, pending_in, Item, received, told, content_of, item_after, verdict_in, moments, shown_by, shown_in, shown_at, item_time, opened_at, is_decided_in, is_received, clean_from, clean, IsClean, Part, part_if, parts_below, node_log, is_informed, project_whole, OpensProjection, project_ledger}
+use Rattle.canton_model.specs.Inbox.{past_in, pending_in, Item, received, verdict_content, content_of, item_after, verdict_in, moments, shown_by, shown_in, shown_at, item_time, opened_at, is_decided_in, is_received, clean_from, clean, IsClean, part_if, parts_below, node_log, is_informed, project_whole, OpensProjection, project_ledger}
 use Rattle.canton_model.proofs.Decided.{verdict_stays}
 
 -- what is received shows what was shown
@@ -42,7 +42,7 @@ module _ (reading : Reading) (p : ParticipantId) (log : List Entry) where
   item_of entry = record { time = entry.time; content = content_of reading p log entry.message }
 
   -- the verdicts on a request that was received
-  same_told : (m : ℕ) (request : Request) → request_at log m ≡ Some request → is_recipient reading p request ≡ true → (v : Verdict) → decision_on m (verdict_in (told reading p v (request_at log v.request))) ≡ decision_on m (Some v)
+  same_told : (m : ℕ) (request : Request) → request_at log m ≡ Some request → is_recipient reading p request ≡ true → (v : Verdict) → decision_on m (verdict_in (verdict_content reading p v (request_at log v.request))) ≡ decision_on m (Some v)
   same_told m request at here v =
       elim (cases_Bool (nat_eq v.request m)) [
         | inl same ↦
@@ -51,7 +51,7 @@ module _ (reading : Reading) (p : ParticipantId) (log : List Entry) where
         | inr other ↦ rw other (other_told (request_at log v.request) other)
       ]
     where
-      other_told : (o : Option Request) → nat_eq v.request m ≡ false → decision_on m (verdict_in (told reading p v o)) ≡ None
+      other_told : (o : Option Request) → nat_eq v.request m ≡ false → decision_on m (verdict_in (verdict_content reading p v o)) ≡ None
       other_told None e = refl
       other_told (Some q) e = elim (cases_Bool (is_recipient reading p q)) [ inl b ↦ rw (b, e) refl | inr b ↦ rw b refl ]
 
@@ -79,7 +79,7 @@ module _ (reading : Reading) (p : ParticipantId) (log : List Entry) where
   nothing_opened Tick e = refl
   nothing_opened (VerdictMessage v) e = told_nothing (request_at log v.request)
     where
-      told_nothing : (o : Option Request) → shown_by (told reading p v o) ≡ None
+      told_nothing : (o : Option Request) → shown_by (verdict_content reading p v o) ≡ None
       told_nothing None = refl
       told_nothing (Some q) = elim (cases_Bool (is_recipient reading p q)) [ inl b ↦ rw b refl | inr b ↦ rw b refl ]
 
@@ -187,7 +187,7 @@ commit_of_nothing false = refl
 project_append : (keeps : Act → Bool) (xs ys : List Commit) → project_ledger keeps (xs ++ ys) ≡ project_ledger keeps xs ++ project_ledger keeps ys
 project_append keeps [] ys = refl
 project_append keeps (x ∷ xs) ys =
-    ap (λ (zs : List Part). part_if true x.place (project keeps x.roots) ++ zs) (project_append keeps xs ys)
+    ap (λ (zs : List Commit). part_if true x.place (project keeps x.roots) ++ zs) (project_append keeps xs ys)
     ∙ sym (append_assoc (part_if true x.place (project keeps x.roots)) (project_ledger keeps xs) (project_ledger keeps ys))
 
 part_projected : (reading : Reading) (p : ParticipantId) (b : Bool) (k : ℕ) (w : Option Transaction) → part_if b k (project_whole reading p w) ≡ project_ledger (is_informed reading p) (commit_if b (commit_of k w))
@@ -348,13 +348,13 @@ module _ (reading : Reading) (params : Params) (log : List Entry) (p : Participa
             rw (shut, e, silent (reading.shown p q) away) (if_nothing keeps ∙ sym (if_nothing keeps'))
       ]
 
-  pub same_counted_mapped : (guards : ParticipantId → Hash → Bool) → past_in reading its_items k ≡ past_at (requests_of reading params log guards) p k
-  same_counted_mapped guards =
+  pub same_counted_mapped : (confirms_signatory_of : ParticipantId → Hash → Bool) → past_in reading its_items k ≡ past_at (requests_of reading params log confirms_signatory_of) p k
+  same_counted_mapped confirms_signatory_of =
       gather_same (λ x. is_approved_in x (take k (moments its_items))) (λ x. is_approved_in x (take k (timeline_of log)))
       (λ x. filter reading.is_authentic (acts (opened_at its_items x))) (λ x. filter reading.is_authentic (acts (opened_to reading p (request_at log x)))) k (λ m lt. same_place m lt _ _ (λ q e to_it. ap is_approval (same_verdict m q lt e to_it)) (request_at log m) refl)
 
-  pub same_pending_mapped : (guards : ParticipantId → Hash → Bool) → pending_in reading params its_items k ≡ pending_at (requests_of reading params log guards) p k
-  same_pending_mapped guards =
+  pub same_pending_mapped : (confirms_signatory_of : ParticipantId → Hash → Bool) → pending_in reading params its_items k ≡ pending_at (requests_of reading params log confirms_signatory_of) p k
+  same_pending_mapped confirms_signatory_of =
       gather_same (λ x. not (is_decided_in params its_items x k)) (λ x. not (is_decided_at (timeline_of log) x (decision_time_of params log x) k))
       (λ x. filter reading.is_authentic (acts (opened_at its_items x))) (λ x. filter reading.is_authentic (acts (opened_to reading p (request_at log x)))) k (λ m lt. same_place m lt _ _ (λ q e to_it. ap not (same_decided m q lt e to_it)) (request_at log m) refl)
 

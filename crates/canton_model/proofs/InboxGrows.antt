@@ -9,7 +9,7 @@ use Rattle.canton_model.specs.Log.{Params, Entry, Message, RequestMessage, Respo
 use Rattle.canton_model.specs.Mediation.{scan_request}
 use Rattle.canton_model.specs.Reading.{Reading}
 use Rattle.canton_model.specs.Ledger.{FitsIfVerdict, VerdictFits, Timely, requests_of, commits_below}
-use Rattle.canton_model.specs.Inbox.{Content, Item, told, content_of, item_after, items_after, inbox, shown_at, past_in, pending_in, OpensProjection, node_log, project_ledger, is_informed, clean}
+use Rattle.canton_model.specs.Inbox.{Content, Item, verdict_content, content_of, item_after, items_after, inbox, shown_at, past_in, pending_in, OpensProjection, node_log, project_ledger, is_informed, clean}
 use Rattle.canton_model.specs.Evidence.{past_at, pending_at}
 use Rattle.canton_model.proofs.InboxFacts.{mapped, slice_get_take, node_log_projected, same_counted_mapped, same_pending_mapped, shown_here_mapped}
 
@@ -51,7 +51,7 @@ module _ (reading : Reading) (params : Params) (log : List Entry) (p : Participa
       ] in
       let here : slice_get (take i (take n log)) v.request ≡ slice_get log v.request = take_take_slice n i log v.request (omega arith) early in
       let there : slice_get (take n log) v.request ≡ slice_get log v.request = slice_get_take n log v.request (omega arith) in
-      ap (told reading p v) (ap request_in (here ∙ sym there))
+      ap (verdict_content reading p v) (ap request_in (here ∙ sym there))
 
   pub inbox_is_mapped : inbox reading p (take n log) ≡ mapped reading p (take n log)
   inbox_is_mapped =
@@ -60,13 +60,13 @@ module _ (reading : Reading) (params : Params) (log : List Entry) (p : Participa
       let lt : i < n = omega (arith, length-take n log) in
       same_content i e e.message lt (timely.verdicts i e (sym (slice_get_take n log i lt) ∙ at)))
 
-pub same_counted : (reading : Reading) (params : Params) (log : List Entry) (p : ParticipantId) → Timely params log → OpensProjection reading p log → (k : ℕ) (guards : ParticipantId → Hash → Bool) → past_in reading (inbox reading p (take (suc k) log)) k ≡ past_at (requests_of reading params log guards) p k
-same_counted reading params log p timely opens k guards =
-    ap (λ (items : List Item). past_in reading items k) (inbox_is_mapped reading params log p (suc k) timely) ∙ same_counted_mapped reading params log p opens k guards
+pub same_counted : (reading : Reading) (params : Params) (log : List Entry) (p : ParticipantId) → Timely params log → OpensProjection reading p log → (k : ℕ) (confirms_signatory_of : ParticipantId → Hash → Bool) → past_in reading (inbox reading p (take (suc k) log)) k ≡ past_at (requests_of reading params log confirms_signatory_of) p k
+same_counted reading params log p timely opens k confirms_signatory_of =
+    ap (λ (items : List Item). past_in reading items k) (inbox_is_mapped reading params log p (suc k) timely) ∙ same_counted_mapped reading params log p opens k confirms_signatory_of
 
-pub same_pending : (reading : Reading) (params : Params) (log : List Entry) (p : ParticipantId) → Timely params log → OpensProjection reading p log → (k : ℕ) (guards : ParticipantId → Hash → Bool) → pending_in reading params (inbox reading p (take (suc k) log)) k ≡ pending_at (requests_of reading params log guards) p k
-same_pending reading params log p timely opens k guards =
-    ap (λ (items : List Item). pending_in reading params items k) (inbox_is_mapped reading params log p (suc k) timely) ∙ same_pending_mapped reading params log p opens k guards
+pub same_pending : (reading : Reading) (params : Params) (log : List Entry) (p : ParticipantId) → Timely params log → OpensProjection reading p log → (k : ℕ) (confirms_signatory_of : ParticipantId → Hash → Bool) → pending_in reading params (inbox reading p (take (suc k) log)) k ≡ pending_at (requests_of reading params log confirms_signatory_of) p k
+same_pending reading params log p timely opens k confirms_signatory_of =
+    ap (λ (items : List Item). pending_in reading params items k) (inbox_is_mapped reading params log p (suc k) timely) ∙ same_pending_mapped reading params log p opens k confirms_signatory_of
 
 -- what is shown of a request at its own place
 pub shown_here : (reading : Reading) (params : Params) (log : List Entry) (p : ParticipantId) → Timely params log → OpensProjection reading p log → (k : ℕ) (q : Request) → request_at log k ≡ Some q → shown_at (inbox reading p (take (suc k) log)) k ≡ reading.shown p q

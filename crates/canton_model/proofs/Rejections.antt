@@ -25,7 +25,7 @@ use Rattle.canton_model.proofs.HostStatus.{same_locked, same_status}
 use Rattle.canton_model.proofs.InboxGrows.{same_counted, same_pending}
 use Rattle.canton_model.proofs.RejectionChecks.{rejection_stands}
 use Rattle.canton_model.proofs.HostLaw.{shown as changes_shown}
-use Rattle.canton_model.proofs.FromGenuine.{guards, r, shown_in_whole, second, checked_of_log}
+use Rattle.canton_model.proofs.FromGenuine.{confirms_signatory_of, r, shown_in_whole, second, checked_of_log}
 
 -- reasons told apart by computation
 abbrev number : Reason → ℕ
@@ -99,14 +99,14 @@ module _ (reading : Reading) (params : Params) (log : List Entry) (lawful : Info
       let opened : acts s.roots ≡ acts (project (is_informed reading p) (t.transaction).roots) = ap (λ (o : Option Shown). acts (roots_in o)) (sym is) ∙ ap (λ (f : Forest Act). acts f) (t.opens p) in
       let a_opened : In a.1 (acts (roots_in (reading.shown p q))) = subst (λ (o : Option Shown). In a.1 (acts (roots_in o))) (sym is) (at_in (acts s.roots) a.0 a.1 place) in
       let a_whole = shown_in_whole reading params log lawful distinct genuine sealed opens j p q a.1 at a_opened in
-      let told : (b : Act) → In b (acts (t.transaction).roots) → test b ≡ true → is_informed reading p b ≡ true =
+      let verdict_content : (b : Act) → In b (acts (t.transaction).roots) → test b ≡ true → is_informed reading p b ≡ true =
       λ b i e.
       let parts = and_parts _ _ e in
       let m = and_parts _ _ parts.1 in
       let b_whole : In b (acts_of (whole_at reading log j)) = rw whole i in
       let one = distinct j j b a.1 (contains_from_In _ b b_whole) (contains_from_In _ a.1 a_whole) parts.0 real (from_on c b m.0) in
       lawful.stakeholders_informed p b (inl m.1) (ap (λ (x : Instance). list_any (reading.hosts p) ((reading.language).signatories x ++ (reading.language).observers x)) one ∙ hosted) in
-      let w = placed (is_informed reading p) test (t.transaction).roots (take a.0 (acts s.roots)) (drop (suc a.0) (acts s.roots)) a.1 told (sym opened ∙ at_split (acts s.roots) a.0 a.1 place) in
+      let w = placed (is_informed reading p) test (t.transaction).roots (take a.0 (acts s.roots)) (drop (suc a.0) (acts s.roots)) a.1 verdict_content (sym opened ∙ at_split (acts s.roots) a.0 a.1 place) in
       record {
         before = w.before;
         after = w.after;
@@ -136,7 +136,7 @@ module _ (reading : Reading) (params : Params) (log : List Entry) (lawful : Info
         locked = same_locked (r reading params log lawful distinct genuine sealed opens) (length log) p (id_of (a.1).action) shown j inside;
         status = same_status (r reading params log lawful distinct genuine sealed opens) (length log) p (id_of (a.1).action) j
             (record { shows = λ k lt ok. shown.shows k (omega (arith, lt, inside)) })
-            (final_of_log params log genuine.timely reading (guards reading params log lawful distinct genuine sealed opens))
+            (final_of_log params log genuine.timely reading (confirms_signatory_of reading params log lawful distinct genuine sealed opens))
             (checked_of_log reading params log lawful distinct genuine sealed opens)
             inside;
       }
@@ -152,10 +152,10 @@ module _ (reading : Reading) (params : Params) (log : List Entry) (lawful : Info
   its_pending j p = pending_in reading params (inbox reading p (take (suc j) log)) j
 
   its_past_is : (j p : ℕ) → its_past j p ≡ past_at (r reading params log lawful distinct genuine sealed opens) p j
-  its_past_is j p = same_counted reading params log p genuine.timely (opens p) j (guards reading params log lawful distinct genuine sealed opens)
+  its_past_is j p = same_counted reading params log p genuine.timely (opens p) j (confirms_signatory_of reading params log lawful distinct genuine sealed opens)
 
   its_pending_is : (j p : ℕ) → its_pending j p ≡ pending_at (r reading params log lawful distinct genuine sealed opens) p j
-  its_pending_is j p = same_pending reading params log p genuine.timely (opens p) j (guards reading params log lawful distinct genuine sealed opens)
+  its_pending_is j p = same_pending reading params log p genuine.timely (opens p) j (confirms_signatory_of reading params log lawful distinct genuine sealed opens)
 
   abbrev nine : ℕ → Shown → ParticipantId → OpenedView → List Check
   nine j s p view =

@@ -4,7 +4,9 @@ use Rattle.std.specs.List.{list_any}
 use Rattle.ledger_model.specs.Terms.{Act, id_of, is_create, creates, ParticipantId, Path}
 use Rattle.ledger_model.specs.Status.{is_active, is_unknown}
 use Rattle.canton_model.specs.Evidence.{acts_of, is_locked_at}
-use Rattle.canton_model.specs.Log.{Params, Entry, Request, Reason, IdMismatch, NotVetted, TimeSkew, Locked, Inactive, NotFresh, Unordered, NotConformant, NotAuthorised, Reject, Approved, Rejected, TimedOut, request_at, deadline_of, decision_time_of}
+use Rattle.canton_model.specs.Log.{Params, Entry, Request, Reason, IdMismatch, NotVetted, TimeSkew, Locked, Inactive, NotFresh, Unordered}
+use Rattle.canton_model.specs.Log.{NotConformant, NotAuthorised, Reject, Approved, Rejected, TimedOut, request_at, deadline_of}
+use Rattle.canton_model.specs.Log.{decision_time_of}
 use Rattle.canton_model.specs.Timeline.{Outcome, Decided, Expired, Undecided, timeline_of, verdict_on, is_past}
 use Rattle.canton_model.specs.Mediation.{is_response_of}
 use Rattle.ledger_model.specs.Opening.{OpenedView, Shown}

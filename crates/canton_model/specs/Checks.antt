@@ -1,5 +1,6 @@
 -- The local checks of a participant on a view.
-use Rattle.std.specs.Prelude.{ℕ, suc, ◌+◌, Bool, false, List, [], ◌∷◌, Option, Some, None, take, filter, map, length, not, ◌&&◌, ◌||◌, if◌then◌else◌, slice_get, nat_eq, nat_le}
+use Rattle.std.specs.Prelude.{ℕ, suc, ◌+◌, Bool, false, List, [], ◌∷◌, Option, Some, None, take, filter, map, length, not, ◌&&◌, ◌||◌}
+use Rattle.std.specs.Prelude.{if◌then◌else◌, slice_get, nat_eq, nat_le}
 use Rattle.std.specs.List.{list_any, list_all}
 use Rattle.ledger_model.specs.Terms.{PartySet, Hash, Action, Act, instance_of, ParticipantId}
 use Rattle.ledger_model.specs.Forest.{Forest, NoRoots, Root, acts, roots_of, below_at}
@@ -8,7 +9,8 @@ use Rattle.ledger_model.specs.Status.{shows_locked, shows_inactive, shows_not_fr
 use Rattle.ledger_model.specs.Language.{roles_of}
 use Rattle.ledger_model.specs.declared.roles.Roles.{Roles}
 use Rattle.ledger_model.specs.Authority.{is_authorised, authorisers_below}
-use Rattle.canton_model.specs.Log.{Params, ViewVerdict, LocalVerdict, Approve, Reject, Reason, IdMismatch, NotVetted, TimeSkew, Locked, Inactive, NotFresh, Unordered, NotConformant, NotAuthorised}
+use Rattle.canton_model.specs.Log.{Params, ViewVerdict, LocalVerdict, Approve, Reject, Reason, IdMismatch, NotVetted, TimeSkew, Locked}
+use Rattle.canton_model.specs.Log.{Inactive, NotFresh, Unordered, NotConformant, NotAuthorised}
 use Rattle.ledger_model.specs.Opening.{Shown, OpenedView}
 use Rattle.canton_model.specs.Reading.{Reading}
 use Rattle.canton_model.specs.Inbox.{Item, item_time, shown_at, status_in_inbox, is_locked_in_inbox, has_hosted_stakeholder}

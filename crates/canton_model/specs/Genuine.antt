@@ -6,7 +6,8 @@ use Rattle.std.specs.List.{list_any}
 use Rattle.std.specs.Str.{bytes_eq}
 use Rattle.ledger_model.specs.Terms.{Name, PartySet, Act, id_of, instance_of, ParticipantId}
 use Rattle.ledger_model.specs.Forest.{Forest, NoRoots, Root, acts, project, below_at, trees_of, root_trees}
-use Rattle.canton_model.specs.Log.{Params, Entry, Message, RequestMessage, ResponseMessage, VerdictMessage, Tick, Request, Response, request_at, decision_time_of, FollowsTime, time_at_end}
+use Rattle.canton_model.specs.Log.{Params, Entry, Message, RequestMessage, ResponseMessage, VerdictMessage, Tick, Request, Response}
+use Rattle.canton_model.specs.Log.{request_at, decision_time_of, FollowsTime, time_at_end}
 use Rattle.canton_model.specs.Mediation.{has_responded}
 use Rattle.ledger_model.specs.Conformance.{Conforms}
 use Rattle.ledger_model.specs.Opening.{OpenedView, Shown, Transaction, roots_in}
@@ -75,7 +76,7 @@ pub record IsSealed (reading : Reading) (request : Request) : Type 0 where
   -- what is opened to a participant is the projection to its hosted parties
   pub opens : (p : ParticipantId) → roots_in (reading.shown p request) ≡ project (is_informed reading p) transaction.roots
   -- somebody confirms a signatory of each action
-  pub guarded : (a : Act) → Contains (acts transaction.roots) a → (p : ParticipantId) × (confirms_signatory reading p a ≡ true)
+  pub confirmed : (a : Act) → Contains (acts transaction.roots) a → (p : ParticipantId) × (confirms_signatory reading p a ≡ true)
   -- Who confirms a signatory of an action that is opened to it confirms a view in whose core the action stands.
   pub viewed : (p : ParticipantId) (shown : Shown) (i : ℕ) (a : Act) → reading.shown p request ≡ Some shown
       → slice_get (acts shown.roots) i ≡ Some a → confirms_signatory reading p a ≡ true

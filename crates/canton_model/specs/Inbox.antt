@@ -1,5 +1,6 @@
 -- What one participant learns of a log, and what it concludes from that.
-use Rattle.std.specs.Prelude.{◌≡◌, ℕ, zero, suc, ◌+◌, ◌<◌, ◌≤◌, Bool, true, false, List, [], ◌∷◌, ◌++◌, Option, Some, None, length, map, filter, flat_map, take, slice_get, not, if◌then◌else◌, ◌&&◌}
+use Rattle.std.specs.Prelude.{◌≡◌, ℕ, zero, suc, ◌+◌, ◌<◌, ◌≤◌, Bool, true, false, List, [], ◌∷◌, ◌++◌, Option, Some, None, length, map}
+use Rattle.std.specs.Prelude.{filter, flat_map, take, slice_get, not, if◌then◌else◌, ◌&&◌}
 use Rattle.std.specs.List.{list_any}
 use Rattle.std.specs.Str.{bytes_eq}
 use Rattle.ledger_model.specs.Terms.{Hash, Act, ActiveRow, Instance, id_of, instance_of, is_create, consumes, ParticipantId}
@@ -12,7 +13,6 @@ use Rattle.canton_model.specs.Timeline.{Moment, Outcome, is_decided_at, is_appro
 use Rattle.ledger_model.specs.Opening.{Transaction, Shown, roots_in}
 use Rattle.canton_model.specs.Reading.{Reading, is_recipient}
 use Rattle.ledger_model.specs.Language.{informees_of}
-pub use Rattle.ledger_model.specs.declared.commit.Commit.{Commit as Part}
 
 -- a request of which the participant is a recipient, as it is shown; a verdict on such a request; or nothing
 pub data Content : Type 0 where
@@ -28,13 +28,13 @@ abbrev pub received : Option Shown → Content
 received None = Nothing
 received (Some shown) = Received shown
 
-abbrev pub told : Reading → ParticipantId → Verdict → Option Request → Content
-told reading p verdict None = Nothing
-told reading p verdict (Some request) = if is_recipient reading p request then Told verdict else Nothing
+abbrev pub verdict_content : Reading → ParticipantId → Verdict → Option Request → Content
+verdict_content reading p verdict None = Nothing
+verdict_content reading p verdict (Some request) = if is_recipient reading p request then Told verdict else Nothing
 
 abbrev pub content_of : Reading → ParticipantId → List Entry → Message → Content
 content_of reading p log (RequestMessage request) = received (reading.shown p request)
-content_of reading p log (VerdictMessage verdict) = told reading p verdict (request_at log verdict.request)
+content_of reading p log (VerdictMessage verdict) = verdict_content reading p verdict (request_at log verdict.request)
 content_of reading p log (ResponseMessage response) = Nothing
 content_of reading p log Tick = Nothing
 
@@ -130,13 +130,13 @@ clean_from params items k (item ∷ rest) =
 abbrev pub clean : Params → List Item → ℕ
 clean params items = clean_from params items 0 items
 
-abbrev pub part_if : Bool → ℕ → Forest Act → List Part
+abbrev pub part_if : Bool → ℕ → Forest Act → List Commit
 part_if false place roots = []
 part_if true place NoRoots = []
 part_if true place (Root act consequences others) = record { place = place; roots = Root act consequences others } ∷ []
 
 -- the approved requests below a place, as opened, without those of which nothing is
-abbrev pub parts_below : List Item → ℕ → List Part
+abbrev pub parts_below : List Item → ℕ → List Commit
 parts_below items zero = []
 parts_below items (suc k) = parts_below items k ++ part_if (is_approved_in k (moments items)) k (opened_at items k)
 
@@ -151,7 +151,7 @@ abbrev pub clean_time : Params → List Item → ℕ
 clean_time params items = last_time (take (clean params items) items)
 
 -- a participant's log
-abbrev pub node_log : Params → List Item → List Part
+abbrev pub node_log : Params → List Item → List Commit
 node_log params items = parts_below items (clean params items)
 
 -- the contract that a Create makes at a place
@@ -220,6 +220,6 @@ pub record OpensProjection (reading : Reading) (p : ParticipantId) (log : List E
       → roots_in (reading.shown p request) ≡ project_whole reading p (reading.whole request)
 
 -- the projected commits, without the empty ones
-abbrev pub project_ledger : (Act → Bool) → List Commit → List Part
+abbrev pub project_ledger : (Act → Bool) → List Commit → List Commit
 project_ledger keeps [] = []
 project_ledger keeps (commit ∷ rest) = part_if true commit.place (project keeps commit.roots) ++ project_ledger keeps rest

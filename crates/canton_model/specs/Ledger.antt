@@ -6,7 +6,8 @@ use Rattle.ledger_model.specs.Forest.{Forest, NoRoots, acts, Commit, ledger_acts
 use Rattle.ledger_model.specs.Status.{status_after}
 use Rattle.ledger_model.specs.declared.status.Status.{Status}
 use Rattle.canton_model.specs.Evidence.{Requests, ledger_below}
-use Rattle.canton_model.specs.Log.{Params, Entry, Message, RequestMessage, ResponseMessage, VerdictMessage, Tick, Verdict, Request, request_at, decision_time_of, TimesFrom}
+use Rattle.canton_model.specs.Log.{Params, Entry, Message, RequestMessage, ResponseMessage, VerdictMessage, Tick, Verdict, Request}
+use Rattle.canton_model.specs.Log.{request_at, decision_time_of, TimesFrom}
 use Rattle.canton_model.specs.Timeline.{timeline_of, is_decided_at, is_approved_in, verdict_on}
 use Rattle.canton_model.specs.Mediation.{scan}
 use Rattle.ledger_model.specs.Opening.{Transaction, roots_in}
@@ -29,7 +30,7 @@ whole_at reading log k = commit_of k (read_by reading.whole (request_at log k))
 
 -- the requests of a log, as the evidence for one ledger speaks of them. `guards` tells who confirms a signatory of a contract
 abbrev pub requests_of : Reading → Params → List Entry → (ParticipantId → Hash → Bool) → Requests
-requests_of reading params log guards =
+requests_of reading params log confirms_signatory_of =
     record {
       whole = whole_at reading log;
       opened = λ p k. acts (opened_to reading p (request_at log k));
@@ -37,7 +38,7 @@ requests_of reading params log guards =
       is_approved = λ k. is_approved_in k (timeline_of log);
       is_decided_at = λ m k. is_decided_at (timeline_of log) m (decision_time_of params log m) k;
       is_approved_at = λ m k. is_approved_in m (take k (timeline_of log));
-      guards = guards;
+      confirms_signatory_of = confirms_signatory_of;
     }
 
 -- the commits of the approved requests below a place, in order

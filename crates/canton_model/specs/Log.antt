@@ -4,7 +4,8 @@ pub use Rattle.ledger_terms.specs.declared.params.Params.{Params}
 pub use Rattle.canton_model.specs.declared.envelope.Envelope.{Envelope}
 pub use Rattle.canton_model.specs.declared.request.Request.{Request}
 pub use Rattle.canton_model.specs.declared.reason.Reason.{Reason}
-pub use Rattle.canton_model.specs.declared.reason.Reason.TheVariants.{IdMismatch, NotVetted, TimeSkew, Locked, Inactive, NotFresh, Unordered, NotConformant, NotAuthorised}
+pub use Rattle.canton_model.specs.declared.reason.Reason.TheVariants.{IdMismatch, NotVetted, TimeSkew, Locked, Inactive, NotFresh}
+pub use Rattle.canton_model.specs.declared.reason.Reason.TheVariants.{Unordered, NotConformant, NotAuthorised}
 pub use Rattle.canton_model.specs.declared.local_verdict.LocalVerdict.{LocalVerdict}
 pub use Rattle.canton_model.specs.declared.local_verdict.LocalVerdict.TheVariants.{Approve, Reject}
 pub use Rattle.canton_model.specs.declared.view_verdict.ViewVerdict.{ViewVerdict}
@@ -13,7 +14,8 @@ pub use Rattle.canton_model.specs.declared.decision.Decision.{Decision}
 pub use Rattle.canton_model.specs.declared.decision.Decision.TheVariants.{Approved, Rejected, TimedOut}
 pub use Rattle.canton_model.specs.declared.verdict.Verdict.{Verdict}
 pub use Rattle.canton_model.specs.declared.message.Message.{Message}
-pub use Rattle.canton_model.specs.declared.message.Message.TheVariants.{Request as RequestMessage, Response as ResponseMessage, Verdict as VerdictMessage, Tick}
+pub use Rattle.canton_model.specs.declared.message.Message.TheVariants.{Request as RequestMessage, Response as ResponseMessage}
+pub use Rattle.canton_model.specs.declared.message.Message.TheVariants.{Verdict as VerdictMessage, Tick}
 pub use Rattle.canton_model.specs.declared.entry.Entry.{Entry}
 
 abbrev pub request_of : Message → Option Request

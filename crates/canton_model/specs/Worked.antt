@@ -9,10 +9,11 @@ use Rattle.ledger_model.specs.Terms.{Name, PartySet, Value, Instance, Action, Ac
 use Rattle.ledger_model.specs.Forest.{Forest, NoRoots, Root}
 use Rattle.ledger_model.specs.Language.{Language}
 use Rattle.ledger_model.specs.declared.step.ChoiceCall.{ChoiceCall}
-use Rattle.ledger_model.specs.declared.step.Seen.{Seen}
+use Rattle.ledger_model.specs.declared.step.ChildResult.{ChildResult}
 use Rattle.ledger_model.specs.declared.step.Step.{Step}
 use Rattle.ledger_model.specs.declared.step.Step.TheVariants.{Create as CreateNext, Done}
-use Rattle.canton_model.specs.Log.{Params, Entry, Request, ViewVerdict, LocalVerdict, Approve, Reject, Locked, Decision, Approved, Rejected, TimedOut, RequestMessage, ResponseMessage, VerdictMessage, Tick}
+use Rattle.canton_model.specs.Log.{Params, Entry, Request, ViewVerdict, LocalVerdict, Approve, Reject, Locked, Decision, Approved, Rejected}
+use Rattle.canton_model.specs.Log.{TimedOut, RequestMessage, ResponseMessage, VerdictMessage, Tick}
 use Rattle.ledger_model.specs.Opening.{Transaction, shown_of, confirming_of}
 use Rattle.canton_model.specs.Reading.{Reading}
 
@@ -51,7 +52,7 @@ second_field (v ∷ vs) = first_field vs
 abbrev pub transferred : ChoiceCall → List Value
 transferred call = take 1 call.instance.fields ++ call.args
 
-abbrev pub next : ChoiceCall → List Seen → Option Step
+abbrev pub next : ChoiceCall → List ChildResult → Option Step
 next call [] = Some (CreateNext (call.instance).template (transferred call))
 next call (seen ∷ more) = Some (Done UnitValue)
 

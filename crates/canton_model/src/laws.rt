@@ -3,16 +3,21 @@ ghost use Rattle.std.specs.Prelude.{◌≡◌, ◌++◌, ◌∷◌, [], Some, �
 ghost use Rattle.ledger_model.specs.Terms.{Hash, ParticipantId, Act, id_of};
 ghost use Rattle.canton_model.specs.Example;
 ghost use Rattle.canton_model.specs.Worked;
-ghost use Rattle.canton_model.specs.Worked.{v0, v00, v1, two_spends, fetch_of_locked, timeout, early_tick, past_decision_time, clean_behind, asked, alone, issued_again, late};
+ghost use Rattle.canton_model.specs.Worked.{v0, v00, v1, two_spends, fetch_of_locked, timeout, early_tick, past_decision_time};
+ghost use Rattle.canton_model.specs.Worked.{clean_behind, asked, alone, issued_again, late};
 ghost use Rattle.canton_model.specs.Mediation.{scan};
 ghost use Rattle.canton_model.specs.Checks.{verdicts_owed};
-ghost use Rattle.canton_model.specs.Log.{Approve, Reject, Approved, TimedOut, Locked, Inactive, NotFresh, NotVetted, TimeSkew, Unordered, IdMismatch, NotConformant, NotAuthorised, Rejected, Params, Entry, Request, Decision, decision_time_of, request_at};
+ghost use Rattle.canton_model.specs.Log.{Approve, Reject, Approved, TimedOut, Locked, Inactive, NotFresh, NotVetted, TimeSkew, Unordered};
+ghost use Rattle.canton_model.specs.Log.{IdMismatch, NotConformant, NotAuthorised, Rejected, Params, Entry, Request, Decision};
+ghost use Rattle.canton_model.specs.Log.{decision_time_of, request_at};
 ghost use Rattle.ledger_model.specs.Language.{roles_of};
 ghost use Rattle.canton_model.specs.Reading.{Reading, is_recipient};
 ghost use Rattle.ledger_model.specs.Authority.{is_commit_authorised};
 ghost use Rattle.ledger_model.specs.Conformance.{Conforms};
 ghost use Rattle.canton_model.specs.Inbox;
-ghost use Rattle.canton_model.specs.Inbox.{Item, IsClean, item_after, active_of, active_row, clean, inbox, is_informed, node_active, node_log, project_ledger, has_hosted_stakeholder, is_locked_in_inbox, status_in_inbox, is_decided_in, outcome_in};
+ghost use Rattle.canton_model.specs.Inbox.{Item, IsClean, item_after, active_of, active_row, clean, inbox, is_informed, node_active};
+ghost use Rattle.canton_model.specs.Inbox.{node_log, project_ledger, has_hosted_stakeholder, is_locked_in_inbox, status_in_inbox};
+ghost use Rattle.canton_model.specs.Inbox.{is_decided_in, outcome_in};
 ghost use Rattle.canton_model.specs.Ledger.{whole_at, commits_below, Timely, requests_of, ledger, status_in, is_guard};
 ghost use Rattle.canton_model.specs.Genuine.{Genuine, EntryFits, IsReading, IsSealed, NoCollision};
 ghost use Rattle.canton_model.specs.Causes.{CauseOf, LocalCauseOf, is_locked_in};
@@ -20,7 +25,8 @@ ghost use Rattle.canton_model.specs.Timeline.{is_approved_in, is_decided_at, tim
 ghost use Rattle.ledger_model.specs.Consistency.{Consistent};
 ghost use Rattle.ledger_model.specs.Forest.{Commit, acts, ledger_acts};
 ghost use Rattle.ledger_model.specs.Status.{is_locked_by, status_after};
-ghost use Rattle.canton_model.specs.Evidence.{acts_of, IsShownApprovedChanges, IsShownChanges, is_locked_at, past_at, pending_at, status_at, Requests, Opened, Final, Checked, ledger_below};
+ghost use Rattle.canton_model.specs.Evidence.{acts_of, IsShownApprovedChanges, IsShownChanges, is_locked_at, past_at, pending_at};
+ghost use Rattle.canton_model.specs.Evidence.{status_at, Requests, Opened, Final, Checked, ledger_below};
 
 /// The approved requests of a log, in order, are a consistent ledger, whatever requests are.
 pub fn one_ledger()
@@ -33,17 +39,17 @@ pub fn one_ledger()
 
 /// In a log with its times and verdicts in order, a request that is decided stays as it is.
 pub fn decided_is_final()
-    ensures { (reading : Reading) (params : Params) (log : List Entry) (guards : ParticipantId → Hash → Bool)
+    ensures { (reading : Reading) (params : Params) (log : List Entry) (confirms_signatory_of : ParticipantId → Hash → Bool)
         → Timely params log
-        → Final (requests_of reading params log guards) (length log) }
+        → Final (requests_of reading params log confirms_signatory_of) (length log) }
 {}
 
 /// The same of one log.
 pub fn one_ledger_of_log()
-    ensures { (reading : Reading) (params : Params) (log : List Entry) (guards : ParticipantId → Hash → Bool)
+    ensures { (reading : Reading) (params : Params) (log : List Entry) (confirms_signatory_of : ParticipantId → Hash → Bool)
         → Timely params log
-        → Opened (requests_of reading params log guards) (length log)
-        → Checked (requests_of reading params log guards) (length log)
+        → Opened (requests_of reading params log confirms_signatory_of) (length log)
+        → Checked (requests_of reading params log confirms_signatory_of) (length log)
         → Consistent (ledger_acts (ledger reading log)) }
 {}
 
@@ -268,13 +274,15 @@ pub fn worked_checks()
     ensures transfer_bank { verdicts_owed Worked.reading Worked.params 0 (inbox Worked.reading 0 (take 4 two_spends)) 3 ≡ v0 Approve ∷ v00 Approve ∷ [] }
     ensures transfer_alice { verdicts_owed Worked.reading Worked.params 1 (inbox Worked.reading 1 (take 4 two_spends)) 3 ≡ v0 Approve ∷ [] }
     ensures transfer_carol { verdicts_owed Worked.reading Worked.params 2 (inbox Worked.reading 2 (take 4 two_spends)) 3 ≡ [] }
-    ensures second_spend_bank { verdicts_owed Worked.reading Worked.params 0 (inbox Worked.reading 0 (take 5 two_spends)) 4 ≡ v0 (Reject Locked 0) ∷ v00 Approve ∷ [] }
+    ensures second_spend_bank { verdicts_owed Worked.reading Worked.params 0 (inbox Worked.reading 0 (take 5 two_spends)) 4
+        ≡ v0 (Reject Locked 0) ∷ v00 Approve ∷ [] }
     ensures second_spend_alice { verdicts_owed Worked.reading Worked.params 1 (inbox Worked.reading 1 (take 5 two_spends)) 4 ≡ v0 (Reject Locked 0) ∷ [] }
     ensures fetch_of_locked_bank { verdicts_owed Worked.reading Worked.params 0 (inbox Worked.reading 0 fetch_of_locked) 4 ≡ v0 (Reject Locked 0) ∷ [] }
     ensures after_timeout_bank { verdicts_owed Worked.reading Worked.params 0 (inbox Worked.reading 0 (take 8 timeout)) 7 ≡ v0 Approve ∷ v00 Approve ∷ [] }
     ensures forged_input { verdicts_owed Worked.reading Worked.params 0 (inbox Worked.reading 0 (asked 6)) 3 ≡ v0 (Reject IdMismatch 0) ∷ [] }
     ensures invented_input { verdicts_owed Worked.reading Worked.params 0 (inbox Worked.reading 0 (asked 7)) 3 ≡ v0 (Reject Inactive 0) ∷ [] }
-    ensures used_after_bank { verdicts_owed Worked.reading Worked.params 0 (inbox Worked.reading 0 (asked 8)) 3 ≡ v0 Approve ∷ v00 Approve ∷ v1 (Reject Unordered 0) ∷ [] }
+    ensures used_after_bank { verdicts_owed Worked.reading Worked.params 0 (inbox Worked.reading 0 (asked 8)) 3
+        ≡ v0 Approve ∷ v00 Approve ∷ v1 (Reject Unordered 0) ∷ [] }
     ensures used_after_alice { verdicts_owed Worked.reading Worked.params 1 (inbox Worked.reading 1 (asked 8)) 3 ≡ v0 Approve ∷ v1 (Reject Unordered 0) ∷ [] }
     ensures no_authority { verdicts_owed Worked.reading Worked.params 0 (inbox Worked.reading 0 (alone 9)) 0 ≡ v0 (Reject NotAuthorised 0) ∷ [] }
     ensures not_fresh { verdicts_owed Worked.reading Worked.params 0 (inbox Worked.reading 0 issued_again) 3 ≡ v0 (Reject NotFresh 0) ∷ [] }

@@ -13,7 +13,7 @@ use Rattle.ledger_terms.specs.declared.submission.Submission.{Submission}
 use Rattle.ledger_terms.specs.Answers.{◌>>=◌, check}
 use Rattle.json_walk.specs.Walk.{has_members}
 use Rattle.script_read.specs.declared.script_fault.ScriptFault.TheVariants.{NotBuilt}
-use Rattle.lang_eval.specs.Builtin.{note_template}
+use Rattle.lang_eval.specs.Builtin.{note_template_name}
 use Rattle.proto_model.specs.Note.{note_name}
 use Rattle.canton_run.specs.declared.script.Script.{Script}
 use Rattle.canton_run.specs.FirstForm.{Read, text_in, list_in, sole_of, is_text, is_text_if, is_party, is_submission, command_id_in, is_script, words_in, note_args, name_in, parties_in, host_in, fields_in, create_in, command_in, party_of, actor_in, wanted_in, submission_in, submits_in, submits_if, round_in, rounds_in, sole_host_in, played_in, first_form}
@@ -94,7 +94,7 @@ fields_are party (item a (item b (item c (item d rest)))) fields e = absurd cc
 record IsWanted (party : List ℕ) (command : Command) : Type 0 where
   text : List ℕ
   few : length text ≤ 256
-  is : command ≡ Create note_template (note_args party text)
+  is : command ≡ Create note_template_name (note_args party text)
 
 create_is : (party : List ℕ) (d : Data) (command : Command) → create_in party d ≡ Ok command → IsWanted party command
 unfolding create_in
@@ -104,7 +104,7 @@ create_is party d command e =
     let c = bound (list_in (codes "fields") d) _ command b.2 in
     let f = bound (fields_in party c.0) _ command c.2 in
     let g = fields_are party c.0 f.0 f.1 in
-    record { text = g.text; few = g.few; is = sym (ok_is _ command f.2) ∙ ap (λ (fs : List Arg). Create note_template fs) g.are }
+    record { text = g.text; few = g.few; is = sym (ok_is _ command f.2) ∙ ap (λ (fs : List Arg). Create note_template_name fs) g.are }
 
 wanted_is : (party : List ℕ) (d : Data) (command : Command) → wanted_in party d ≡ Ok command → IsWanted party command
 unfolding wanted_in command_in

@@ -34,12 +34,14 @@ Ran words left left' finish text =
 -- the source was read to its end within the limit, and the fault kept is that of its bytes
 abbrev pub KeepsFault : List (List ℕ) → Option (List ℕ) → Option (List ℕ) → Finish → Type 0
 KeepsFault words left left' finish =
-    (bytes : List ℕ) × (fault : ScriptFault) × (are_run words ≡ true) × ReadWhole left left' bytes × (script_of bytes ≡ Err fault) × (finish.fault ≡ Some fault)
+    (bytes : List ℕ) × (fault : ScriptFault) × (are_run words ≡ true) × ReadWhole left left' bytes × (script_of bytes ≡ Err fault)
+    × (finish.fault ≡ Some fault)
 
 -- At most one byte past the limit was taken, and that one exactly at status 6. Without the word run none was.
 abbrev pub TakesUpTo : List (List ℕ) → Option (List ℕ) → Option (List ℕ) → Finish → Type 0
 TakesUpTo words left left' finish =
-    (bytes : List ℕ) × Consumes left left' bytes × (length bytes ≤ MOST_SCRIPT_BYTES + 1) × (finish.status ≡ 6 ↔ (MOST_SCRIPT_BYTES < length bytes)) × (are_run words ≢ true → bytes ≡ [])
+    (bytes : List ℕ) × Consumes left left' bytes × (length bytes ≤ MOST_SCRIPT_BYTES + 1) × (finish.status ≡ 6 ↔ (MOST_SCRIPT_BYTES < length bytes))
+    × (are_run words ≢ true → bytes ≡ [])
 
 -- nothing was run and nothing was written
 abbrev pub RanNothing : Option (List ℕ) → Option (List ℕ) → Finish → Type 0

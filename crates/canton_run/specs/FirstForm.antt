@@ -1,5 +1,6 @@
 -- The form of scripts that is run today, as a function of the JSON value. All else is NotBuilt.
-use Rattle.std.specs.Prelude.{ℕ, Bool, false, ◌&&◌, List, [], ◌∷◌, length, nat_le, Option, Some, None, Result, Ok, Err, ok_or, codes, if◌then◌else◌, option_and_then}
+use Rattle.std.specs.Prelude.{ℕ, Bool, false, ◌&&◌, List, [], ◌∷◌, length, nat_le, Option, Some, None, Result, Ok, Err, ok_or, codes}
+use Rattle.std.specs.Prelude.{if◌then◌else◌, option_and_then}
 use Rattle.std.specs.Str.{bytes_eq}
 use Rattle.serde_json.specs.Data.{Data, Items, no_items, item}
 use Rattle.serde_json.specs.Find.{as_str, as_array, get}
@@ -17,7 +18,7 @@ use Rattle.script_read.specs.declared.script_fault.ScriptFault.{ScriptFault}
 use Rattle.script_read.specs.declared.script_fault.ScriptFault.TheVariants.{NotBuilt}
 use Rattle.ledger_terms.specs.Answers.{◌>>=◌, check}
 use Rattle.json_walk.specs.Walk.{has_members}
-use Rattle.lang_eval.specs.Builtin.{note_template}
+use Rattle.lang_eval.specs.Builtin.{note_template_name}
 use Rattle.proto_model.specs.Note.{note_name}
 use Rattle.canton_run.specs.declared.script.Script.{Script}
 
@@ -107,7 +108,7 @@ create_in party d = do
   _ ← check (is_text_if (codes "Note.Note") (get (codes "template") d)) NotBuilt
   items ← list_in (codes "fields") d
   fields ← fields_in party items
-  Ok (Create note_template fields)
+  Ok (Create note_template_name fields)
 
 unfoldable pub command_in : List ℕ → Data → Read Command
 command_in party d = do

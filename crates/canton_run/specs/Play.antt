@@ -149,7 +149,8 @@ abbrev pub PlayedAs : List Host → Params → Played → Option Request → Typ
 PlayedAs hosts params played None =
     (played.log ≡ []) × (played.results ≡ []) × (played.views ≡ view_in (begun hosts params 0) ∷ [])
 PlayedAs hosts params played (Some request) =
-    (played.log ≡ log_of_request hosts params request) × (played.results ≡ Sent 0 0 ∷ []) × (played.views ≡ view_at (plain_reading hosts) params played.log 0 ∷ [])
+    (played.log ≡ log_of_request hosts params request) × (played.results ≡ Sent 0 0 ∷ [])
+    × (played.views ≡ view_at (plain_reading hosts) params played.log 0 ∷ [])
 
 -- what is written of the request of a script is in range
 abbrev pub IsPlainOf : List Host → Option Submission → Type 0

@@ -72,9 +72,12 @@ pub record IsRun (script : Script) (log : List Entry) (results : List SubmitResu
   pub results_are : results ≡ results_of (request_of_script script)
   -- the approved requests are a consistent, conformant and authorised ledger
   pub consistent : Consistent (ledger_acts (ledger (plain_reading (hosts_of script)) log))
-  pub conforming : (k : ℕ) (commit : Commit) → is_approved_in k (timeline_of log) ≡ true → whole_at (plain_reading (hosts_of script)) log k ≡ Some commit → Conforms built_in_language commit.roots
-  pub authorised : (k : ℕ) (commit : Commit) → is_approved_in k (timeline_of log) ≡ true → whole_at (plain_reading (hosts_of script)) log k ≡ Some commit → is_commit_authorised (roles_of built_in_language) commit ≡ true
+  pub conforming : (k : ℕ) (commit : Commit) → is_approved_in k (timeline_of log) ≡ true → whole_at (plain_reading (hosts_of script)) log k ≡ Some commit
+      → Conforms built_in_language commit.roots
+  pub authorised : (k : ℕ) (commit : Commit) → is_approved_in k (timeline_of log) ≡ true → whole_at (plain_reading (hosts_of script)) log k ≡ Some commit
+      → is_commit_authorised (roles_of built_in_language) commit ≡ true
   pub projected : (p n : ℕ) → n ≤ length log → IsProjected (plain_reading (hosts_of script)) (params_of script) log p n
   pub active : (p n : ℕ) → n ≤ length log → HasActive (plain_reading (hosts_of script)) (params_of script) log p n
   -- each rejection, timeout or expiry has its cause
-  pub caused : (k : ℕ) → CauseOf (plain_reading (hosts_of script)) (params_of script) log k (outcome_of (timeline_of log) k (decision_time_of (params_of script) log k))
+  pub caused : (k : ℕ) → CauseOf (plain_reading (hosts_of script)) (params_of script) log k
+      (outcome_of (timeline_of log) k (decision_time_of (params_of script) log k))

@@ -5,11 +5,14 @@ ghost use Rattle.ledger_terms.specs.Answers.{Follows};
 ghost use Rattle.serde_json.specs.View.{view, items_view};
 ghost use Rattle.serde_json.specs.Find.{get};
 ghost use Rattle.canton_run.specs.FirstScript.{IsFirst};
-ghost use Rattle.canton_run.specs.FirstForm.{default_params, name_in, sole_of, list_in, text_in, is_text, is_text_if, is_party, parties_in, host_in, words_in, note_args, fields_in, create_in, command_in, party_of, actor_in, wanted_in, is_submission, command_id_in, submission_in, submits_in, submits_if, round_in, rounds_in, sole_host_in, is_script, played_in, first_form};
+ghost use Rattle.canton_run.specs.FirstForm.{default_params, name_in, sole_of, list_in, text_in, is_text, is_text_if, is_party, parties_in};
+ghost use Rattle.canton_run.specs.FirstForm.{host_in, words_in, note_args, fields_in, create_in, command_in, party_of, actor_in, wanted_in};
+ghost use Rattle.canton_run.specs.FirstForm.{is_submission, command_id_in, submission_in, submits_in, submits_if, round_in, rounds_in};
+ghost use Rattle.canton_run.specs.FirstForm.{sole_host_in, is_script, played_in, first_form};
 
 use crate::script::Script;
 use json_walk::fits;
-use lang_eval::{note_name, note_template};
+use lang_eval::{note_name, note_template_name};
 use ledger_terms::{
     Arg, ArgList, Command, CommandList, Host, HostList, Name, NameList, Params, ParticipantId,
     PartySet, Submission, SubmissionList, Text, Topology, Value as Term, What,
@@ -187,7 +190,7 @@ fn read_create(alloc: Global, value: &Value, party: Name) -> Result<Command, Scr
     }
     let fields = read_fields(alloc, read_list(value, "fields")?, party)?;
     Ok(Command::Create {
-        template: note_template(),
+        template: note_template_name(),
         fields,
     })
 }

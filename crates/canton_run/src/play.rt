@@ -4,7 +4,8 @@ ghost use Rattle.canton_model.specs.Inbox.{inbox};
 ghost use Rattle.proto_model.specs.PlainReading.{plain_reading};
 ghost use Rattle.node_core.specs.declared.submit_result.SubmitResult.TheVariants.{Sent};
 ghost use Rattle.node_core.specs.NodeState.{begun, reading_of};
-ghost use Rattle.canton_run.specs.Play.{answer_of, with_message, with_answer, view_in, view_at, log_of_request, sole_submission, request_of_script, views_of, PlayedAs, IsPlainScript};
+ghost use Rattle.canton_run.specs.Play.{answer_of, with_message, with_answer, view_in, view_at, log_of_request, sole_submission};
+ghost use Rattle.canton_run.specs.Play.{request_of_script, views_of, PlayedAs, IsPlainScript};
 ghost use Rattle.canton_run.specs.FirstScript.{IsFirst};
 ghost use Rattle.canton_run.specs.Run.{IsRun, hosts_of, params_of};
 
@@ -116,7 +117,8 @@ fn view_of(alloc: Global, node: &Node<'_>) -> Result<NodeView, AllocError>
 
 /// The log, the answers and what the participant knows where there is no request.
 fn nothing(alloc: Global, setup: &Setup) -> Result<Played, AllocError>
-    ensures { IfOk result (λ played. (played.log ≡ []) × (played.results ≡ []) × (played.views ≡ view_in (begun setup.now.topology.hosts setup.now.topology.params 0) ∷ [])) }
+    ensures { IfOk result (λ played. (played.log ≡ []) × (played.results ≡ [])
+        × (played.views ≡ view_in (begun setup.now.topology.hosts setup.now.topology.params 0) ∷ [])) }
 {
     let built_in = BuiltIn::new(alloc)?;
     let node = Node::new(alloc, setup, &built_in, ParticipantId(0));

@@ -16,7 +16,7 @@ use Rattle.ledger_model.specs.Terms.{Path}
 use Rattle.ledger_model.proofs.Lists.{In, contains_from_In}
 use Rattle.lang_eval.specs.Found.{Packages}
 use Rattle.view_split.specs.Placed.{placed_forest, shown_by}
-use Rattle.view_split.specs.Seen.{opened_as, placed_numbered, put_back}
+use Rattle.view_split.specs.SeenViews.{opened_as, placed_numbered, put_back}
 use Rattle.view_split.specs.declared.opened_tree.OpenedTree.{OpenedTree}
 use Rattle.confirm_reply.specs.Fit.{IsCheckableAt}
 use Rattle.confirm_reply.specs.Located.{core_found_in}

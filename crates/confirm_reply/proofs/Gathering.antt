@@ -12,7 +12,7 @@ use Rattle.ledger_model.specs.Forest.{trees_of}
 use Rattle.view_split.specs.Holed.{fill}
 use Rattle.view_split.specs.Numbered.{map_forest}
 use Rattle.view_split.specs.Placed.{placed_forest}
-use Rattle.view_split.specs.Seen.{put_back}
+use Rattle.view_split.specs.SeenViews.{put_back}
 use Rattle.view_split.specs.Split.{assembled}
 use Rattle.view_split.specs.declared.split_view.SplitView.{SplitView}
 use Rattle.ledger_terms.specs.Grown.{tree_of}

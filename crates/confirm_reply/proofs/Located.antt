@@ -13,7 +13,7 @@ use Rattle.ledger_model.specs.Opening.{OpenedView}
 use Rattle.view_split.specs.declared.split_view.SplitView.{SplitView}
 use Rattle.view_split.specs.Numbered.{core_in, held_in, with_cores}
 use Rattle.view_split.specs.Placed.{placed_forest}
-use Rattle.view_split.specs.Seen.{opened_as}
+use Rattle.view_split.specs.SeenViews.{opened_as}
 use Rattle.view_split.specs.declared.placed_view.PlacedView.{PlacedView}
 use Rattle.confirm_reply.specs.Located.{after_path, after_step, core_found, core_found_in, core_or, is_all}
 use Rattle.confirm_reply.specs.Numbers.{numbers_of}

@@ -2,7 +2,7 @@
 ghost use Rattle.std.specs.Prelude.{◌≡◌, ◌++◌, [], IfOk, OnOk};
 ghost use Rattle.ledger_model.specs.Forest.{trees_of};
 ghost use Rattle.view_split.specs.Placed.{placed_forest};
-ghost use Rattle.view_split.specs.Seen.{put_back};
+ghost use Rattle.view_split.specs.SeenViews.{put_back};
 ghost use Rattle.confirm_reply.specs.Nodes.{acts_of, trees_in};
 
 use consist::Earlier;

@@ -12,7 +12,8 @@ placed_from above k (Root act below others) =
     (above ++ k % 2 ^ 16 ∷ [], act) ∷ (placed_from (above ++ k % 2 ^ 16 ∷ []) 0 below ++ placed_from above (suc k) others)
 
 -- it stopped at the path, or it went through all
-abbrev pub IsWalked : (List Act → Act → Bool) → (earlier : List Act) → (path : List ℕ) → (placed : List (List ℕ × Act)) → Bool → (met : List Act) → (left : List ℕ) → Type 0
+abbrev pub IsWalked : (List Act → Act → Bool) → (earlier : List Act) → (path : List ℕ) → (placed : List (List ℕ × Act)) → Bool → (met : List Act)
+    → (left : List ℕ) → Type 0
 IsWalked test earlier path placed true met left = first_found test earlier placed ≡ Some left
 IsWalked test earlier path placed false met left =
     (first_found test earlier placed ≡ None) × (met ≡ earlier ++ acts_in placed) × (left ≡ path)

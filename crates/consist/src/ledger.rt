@@ -32,7 +32,10 @@ fn first_breaking(alloc: Global, ledger: &CommitList) -> Result<Option<LedgerPla
 /// The first action, in commit order and then pre-order, that breaks consistency with those before it: no Create of its
 /// contract stands before it and it is none, it is a Create and not the first on its contract, a consuming Exercise stands
 /// before it, or an earlier action carries another instance.
-pub fn inconsistent(alloc: Global, ledger: &CommitList) -> Result<Option<LedgerPlace>, AllocError>
+pub fn find_inconsistent(
+    alloc: Global,
+    ledger: &CommitList,
+) -> Result<Option<LedgerPlace>, AllocError>
     ensures first { IfOk result (λ found. IfSome found (λ at. IsFirst Breaks (placed_in ledger.now) at)) }
     ensures none { IfOk result (λ found. (found ≡ None) ↔ Consistent (acts_of_parts ledger.now)) }
 {

@@ -12,8 +12,8 @@ mod walk;
 
 pub use earlier::Earlier;
 pub use inactive::is_inactive;
-pub use ledger::inconsistent;
+pub use ledger::find_inconsistent;
 pub use ledger_model::{Commit, CommitList};
 pub use ledger_place::LedgerPlace;
-pub use order::unordered;
+pub use order::find_unordered;
 pub use rule::is_unordered;

@@ -36,7 +36,8 @@ pub(crate) fn walk_trees<'a>(
     earlier: &mut Vec<Earlier<'a>>,
     path: &mut Vec<u16>,
 ) -> Result<bool, AllocError>
-    ensures { IfOk result (λ stopped. IsWalked (fails rule) earlier.old.items path.old.items (placed_from path.old.items 0 roots.now) stopped earlier.new.items path.new.items) }
+    ensures { IfOk result (λ stopped. IsWalked (fails rule) earlier.old.items path.old.items
+        (placed_from path.old.items 0 roots.now) stopped earlier.new.items path.new.items) }
 {
     let nodes = roots.as_slice();
     for at in 0..nodes.len() {

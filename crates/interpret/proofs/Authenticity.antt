@@ -13,7 +13,7 @@ use Rattle.ledger_terms.specs.Forest.{NoRoots, Root, preorder}
 use Rattle.ledger_terms.specs.Trees.{Actions}
 use Rattle.ledger_model.specs.Language.{roles_of}
 use Rattle.ledger_model.specs.Authority.{authorisers_below}
-use Rattle.ledger_model.specs.declared.step.Seen.{Seen}
+use Rattle.ledger_model.specs.declared.step.ChildResult.{ChildResult}
 use Rattle.lang_eval.specs.Found.{Packages}
 use Rattle.lang_eval.specs.Parts.{PartyNames}
 use Rattle.interpret.specs.declared.progress.Progress.{Progress}
@@ -48,7 +48,7 @@ module _ (packages : Packages) (known : List Known) (all : AllOf IsOne known) wh
   after_authentic p seed (Exercise id salt i choice args actors consuming result) made one = made
   after_authentic p seed (Fetch id salt i actors) made one = made
 
-  forest_authentic : (left : ℕ) (source : Source) (result : Value) (by : PartyNames) (seen : List Seen) (seed : Hash) (path : List ℕ) (index : ℕ)
+  forest_authentic : (left : ℕ) (source : Source) (result : Value) (by : PartyNames) (seen : List ChildResult) (seed : Hash) (path : List ℕ) (index : ℕ)
       (progress : Progress) (forest : Actions)
       → AllOf IsOne progress.created → Wanted packages known left source result by seen seed path index progress forest
       → (list_all is_authentic (preorder forest) ≡ true) × AllOf IsOne (after_all progress (preorder forest)).created

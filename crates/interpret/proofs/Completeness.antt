@@ -17,7 +17,7 @@ use Rattle.ledger_terms.specs.Trees.{Actions}
 use Rattle.ledger_terms.specs.Grown.{tree_of}
 use Rattle.ledger_terms.proofs.Grow.{join-assoc, join-end}
 use Rattle.ledger_model.specs.Parties.{is_empty}
-use Rattle.ledger_model.specs.declared.step.Seen.{Seen}
+use Rattle.ledger_model.specs.declared.step.ChildResult.{ChildResult}
 use Rattle.ledger_model.specs.Authority.{same_members}
 use Rattle.lang_eval.specs.Found.{Packages}
 use Rattle.lang_eval.specs.Language.{parties_if_typed, signatories_in}
@@ -27,7 +27,7 @@ use Rattle.interpret.specs.declared.demand.Demand.{Demand}
 use Rattle.interpret.specs.declared.demand.Demand.TheVariants.{Create as CreateDemand, Exercise as ExerciseDemand, Fetch as FetchDemand}
 use Rattle.interpret.specs.Ids.{Hash, child_seed}
 use Rattle.interpret.specs.Tested.{authorisers, fetchers, signers}
-use Rattle.interpret.specs.Act.{Runner, Source, End, Child, with_action, with_spent, do_demand, call_of, body_source, follow, most_children, level, act}
+use Rattle.interpret.specs.Act.{Runner, Source, End, Child, with_action, with_consumed, do_demand, call_of, body_source, follow, most_children, level, act}
 use Rattle.interpret.specs.Wanted.{Wanted, IsTree, after_action, after, after_all, progress_with, one_less, source_of, result_of, no_source}
 use Rattle.interpret.proofs.Facts.{created_back, exercised_back}
 use Rattle.interpret.proofs.Law.{after_all-append}
@@ -47,7 +47,7 @@ one_grows p n = omega (arith, after_action-count p n.root.seed n.root.action, af
 
 module _ (packages : Packages) (known : List Known) where
   -- a wanted forest keeps the limit on actions
-  pub wanted_room : (left : ℕ) (source : Source) (result : Value) (by : PartyNames) (seen : List Seen) (seed : Hash) (path : List ℕ) (index : ℕ)
+  pub wanted_room : (left : ℕ) (source : Source) (result : Value) (by : PartyNames) (seen : List ChildResult) (seed : Hash) (path : List ℕ) (index : ℕ)
       (progress : Progress) (forest : Actions) → progress.count ≤ 64
       → Wanted packages known left source result by seen seed path index progress forest → (after_all progress (preorder forest)).count ≤ 64
   wanted_room left source result by seen seed path index progress NoRoots room w = room
@@ -69,7 +69,7 @@ module _ (packages : Packages) (known : List Known) where
       ≡ Ok (record { root = record { seed = s; action = action }; below = children }, after_all (after_action progress s action) (preorder children))
 
   module _ (left : ℕ) (run : Runner) (complete : Complete left run) (source : Source) (result : Value) (by : PartyNames) (seed : Hash) (path : List ℕ) where
-    pub follow_done : (forest : Actions) (n : ℕ) (progress : Progress) (seen : List Seen) (children : Actions) (index : ℕ) → 64 < n + progress.count
+    pub follow_done : (forest : Actions) (n : ℕ) (progress : Progress) (seen : List ChildResult) (children : Actions) (index : ℕ) → 64 < n + progress.count
         → progress.count ≤ 64 → Wanted packages known left source result by seen seed path index progress forest
         → follow n source run seed path by progress seen children index
         ≡ Ok (record { children = join children forest; result = result; progress = after_all progress (preorder forest) })
@@ -130,9 +130,9 @@ module _ (packages : Packages) (known : List Known) where
         let k : Known = record { id = id'; salt = salt; instance = i } in
         let facts = exercised_back packages (call_of k choice' args') actors consuming result h.sound.possible.1 in
         let kids : Wanted packages known left (body_source packages (call_of k choice' args') path) result (authorisers packages i actors) [] s path
-        0 (with_spent consuming id' (with_action progress)) children = h.children in
+        0 (with_consumed consuming id' (with_action progress)) children = h.children in
         let ran = follow_done left run complete (body_source packages (call_of k choice' args') path) result
-        (authorisers packages i actors) s path children most_children (with_spent consuming id' (with_action progress)) [] NoRoots 0
+        (authorisers packages i actors) s path children most_children (with_consumed consuming id' (with_action progress)) [] NoRoots 0
         (omega (arith, most_is)) (omega (arith, h.room)) kids in
         rw (
           ← h.demanded.0,

@@ -10,7 +10,7 @@ use Rattle.ledger_terms.specs.contracts.template_name.TemplateNamePartialEq.TheI
 use Rattle.lang_eval.specs.Found.{Packages}
 use Rattle.lang_eval.specs.Kinds.{has_kinds}
 use Rattle.interpret.specs.Ids.{Hash}
-use Rattle.interpret.specs.Usable.{same_hash, find_known, is_spent, first_found, of_template, usable}
+use Rattle.interpret.specs.Usable.{same_hash, find_known, is_consumed, first_found, of_template, usable}
 use Rattle.interpret.specs.declared.progress.Progress.{Progress}
 
 find_id : (id : Hash) (k : Known) (xs : List Known) → find_known id xs ≡ Some k → k.id ≡ id
@@ -49,7 +49,7 @@ pub found_facts : (packages : Packages) (known : List Known) (p : Progress) (id 
     → usable packages known p id t ≡ Some k → IsFound packages id t k
 unfolding usable
 found_facts packages known p id t k h =
-    elim (cases_Bool (is_spent id p.spent)) [
+    elim (cases_Bool (is_consumed id p.consumed)) [
       | inl b ↦ let no : None ≡ Some k = rw b at h in absurd cc
       | inr b ↦
           either_found packages id t k (of_template packages t (find_known id known)) (of_template packages t (find_known id p.created))

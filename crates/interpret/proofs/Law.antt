@@ -14,10 +14,10 @@ use Rattle.ledger_terms.specs.Trees.{Actions}
 use Rattle.ledger_terms.specs.Grown.{tree_of}
 use Rattle.ledger_terms.specs.Parties.{is_subset}
 use Rattle.ledger_terms.proofs.Grow.{join-assoc, join-end}
-use Rattle.ledger_model.specs.Conformance.{seen_of}
+use Rattle.ledger_model.specs.Conformance.{result_of_child}
 use Rattle.ledger_model.specs.Parties.{is_empty, within}
 use Rattle.ledger_model.specs.declared.step.ChoiceCall.{ChoiceCall}
-use Rattle.ledger_model.specs.declared.step.Seen.{Seen}
+use Rattle.ledger_model.specs.declared.step.ChildResult.{ChildResult}
 use Rattle.ledger_model.specs.declared.step.Step.{Step}
 use Rattle.ledger_model.specs.declared.step.Step.TheVariants.{Create as CreateNext, Exercise as ExerciseNext, Fetch as FetchNext, Done}
 use Rattle.lang_eval.specs.declared.eval_fault.EvalFault.{EvalFault}
@@ -35,7 +35,7 @@ use Rattle.interpret.specs.Ids.{Hash, child_seed}
 use Rattle.interpret.specs.Sizes.{is_small_result}
 use Rattle.interpret.specs.Usable.{usable}
 use Rattle.interpret.specs.Tested.{created_signatories, call_controllers, are_authorised, authorisers, fetchers, signers}
-use Rattle.interpret.specs.Act.{Runner, Source, Turn, Stop, End, Child, BodyRun, on, at_path, by_turn, with_action, with_created, with_spent, created_node, created_known, do_exercise, do_fetch, do_demand, exercised_node, fetched_node, call_of, body_source, turn_of, step_turn, follow, most_children, level, act}
+use Rattle.interpret.specs.Act.{Runner, Source, Turn, Stop, End, Child, BodyRun, on, at_path, by_turn, with_action, with_created, with_consumed, created_node, created_known, do_exercise, do_fetch, do_demand, exercised_node, fetched_node, call_of, body_source, turn_of, step_turn, follow, most_children, level, act}
 use Rattle.interpret.specs.Wanted.{Wanted, IsTree, after, after_all, progress_with}
 use Rattle.interpret.proofs.Facts.{created_facts, called_facts, exercisable}
 use Rattle.interpret.proofs.Found.{found_facts}
@@ -54,7 +54,7 @@ pub record Right (packages : Packages) (known : List Known) (left : ℕ) (progre
   pub tree : IsTree packages known left progress path seed by demand node
   pub grown : p ≡ progress_with progress node
 
-pub record Rest (packages : Packages) (known : List Known) (left : ℕ) (source : Source) (by : PartyNames) (seen : List Seen) (seed : Hash)
+pub record Rest (packages : Packages) (known : List Known) (left : ℕ) (source : Source) (by : PartyNames) (seen : List ChildResult) (seed : Hash)
     (path : List ℕ) (index : ℕ) (progress : Progress) (children : Actions) (f : BodyRun) : Type 0 where
   pub rest : Actions
   pub joins : f.children ≡ join children rest
@@ -70,10 +70,10 @@ module _ (packages : Packages) (known : List Known) where
   module _ (left : ℕ) (run : Runner) (good : Good left run) (source : Source) (by : PartyNames) (seed : Hash) (path : List ℕ) (f : BodyRun) where
     abbrev Ahead : ℕ → Type 0
     Ahead n =
-        (progress : Progress) (seen : List Seen) (children : Actions) (index : ℕ) → follow n source run seed path by progress seen children index
+        (progress : Progress) (seen : List ChildResult) (children : Actions) (index : ℕ) → follow n source run seed path by progress seen children index
         ≡ Ok f → Rest packages known left source by seen seed path index progress children f
 
-    one_more : (progress : Progress) (seen : List Seen) (children : Actions) (index : ℕ) (d : Demand) (node : ActionNode) (p : Progress)
+    one_more : (progress : Progress) (seen : List ChildResult) (children : Actions) (index : ℕ) (d : Demand) (node : ActionNode) (p : Progress)
         → source.turn index seen ≡ Child d → Right packages known left progress (path ++ index ∷ []) (child_seed seed index) by d node p
         → Rest packages known left source by (source.learn seen node.root.action) seed path (index + 1) p (join children (tree_of node)) f
         → Rest packages known left source by seen seed path index progress children f
@@ -95,7 +95,7 @@ module _ (packages : Packages) (known : List Known) where
               ∙ sym (after_all-append (after progress node.root) (preorder node.below) (preorder more.rest)));
         }
 
-    child_case : (n : ℕ) → Ahead n → (progress : Progress) (seen : List Seen) (children : Actions) (index : ℕ) (d : Demand)
+    child_case : (n : ℕ) → Ahead n → (progress : Progress) (seen : List ChildResult) (children : Actions) (index : ℕ) (d : Demand)
         → source.turn index seen ≡ Child d → (x : Result (ActionNode × Progress) CommandFault)
         → run progress (path ++ index ∷ []) (child_seed seed index) by d ≡ x
         → on x (λ x. follow n source run seed path by x.1 (source.learn seen x.0.root.action) (join children (tree_of x.0)) (index + 1)) ≡ Ok f
@@ -105,7 +105,7 @@ module _ (packages : Packages) (known : List Known) where
         one_more progress seen children index d x.0 x.1 asked (good _ _ _ _ _ x.0 x.1 ran)
         (more x.1 (source.learn seen x.0.root.action) (join children (tree_of x.0)) (index + 1) h)
 
-    turn_case : (n : ℕ) → Ahead n → (progress : Progress) (seen : List Seen) (children : Actions) (index : ℕ) (t : Turn) → source.turn index seen ≡ t
+    turn_case : (n : ℕ) → Ahead n → (progress : Progress) (seen : List ChildResult) (children : Actions) (index : ℕ) (t : Turn) → source.turn index seen ≡ t
         → by_turn t (λ v. Ok (record { children = children; result = v; progress = progress }))
         (λ demand. on (run progress (path ++ index ∷ []) (child_seed seed index) by demand)
         (λ x. follow n source run seed path by x.1 (source.learn seen x.0.root.action) (join children (tree_of x.0)) (index + 1))) ≡ Ok f
@@ -141,12 +141,12 @@ module _ (packages : Packages) (known : List Known) where
   ended_turn path (Ok s) v h = ended_step path s v h
   ended_turn path (Err e) v h = cc
 
-  small_result : (call : ChoiceCall) (at : List ℕ) (left : ℕ) (result : Value) (by : PartyNames) (seen : List Seen) (seed : Hash) (path : List ℕ)
+  small_result : (call : ChoiceCall) (at : List ℕ) (left : ℕ) (result : Value) (by : PartyNames) (seen : List ChildResult) (seed : Hash) (path : List ℕ)
       (index : ℕ) (progress : Progress) (forest : Actions)
       → Wanted packages known left (body_source packages call at) result by seen seed path index progress forest → is_small_result result ≡ true
   small_result call at left result by seen seed path index progress NoRoots w = ended_turn at (next packages call seen) result w
   small_result call at left result by seen seed path index progress (Root a consequences others) w =
-      small_result call at left result by (seen ++ seen_of a.action ∷ []) seed path (index + 1)
+      small_result call at left result by (seen ++ result_of_child a.action ∷ []) seed path (index + 1)
       (after_all (after progress a) (preorder consequences)) others w.6
 
   right_created : (left : ℕ) (progress : Progress) (path : List ℕ) (seed : Hash) (by : PartyNames) (t : TemplateName) (fields : List Value)
@@ -202,7 +202,7 @@ module _ (packages : Packages) (known : List Known) where
       → usable packages known progress id t ≡ Some k → call_controllers packages (call_of k choice args) ≡ Ok actors
       → are_authorised actors by ≡ true
       → follow most_children (body_source packages (call_of k choice args) path) run seed path (authorisers packages k.instance actors)
-      (with_spent (is_consuming_call packages (call_of k choice args)) k.id (with_action progress)) [] NoRoots 0 ≡ Ok f
+      (with_consumed (is_consuming_call packages (call_of k choice args)) k.id (with_action progress)) [] NoRoots 0 ≡ Ok f
       → Right packages known (suc left) progress path seed by (ExerciseDemand t id choice args)
       (exercised_node seed k.salt (call_of k choice args) actors (is_consuming_call packages (call_of k choice args)) f) f.progress
   unfolding signers
@@ -230,10 +230,10 @@ module _ (packages : Packages) (known : List Known) where
           };
           children = subst (λ (forest : Actions). Wanted packages known left (body_source packages (call_of k choice args) path) f.result
               (authorisers packages k.instance actors) [] seed path 0
-              (with_spent (is_consuming_call packages (call_of k choice args)) k.id (with_action progress)) forest) all rest.wanted;
+              (with_consumed (is_consuming_call packages (call_of k choice args)) k.id (with_action progress)) forest) all rest.wanted;
         };
         grown = rest.grown ∙ ap (λ (forest : Actions). after_all
-            (with_spent (is_consuming_call packages (call_of k choice args)) k.id (with_action progress)) (preorder forest)) all;
+            (with_consumed (is_consuming_call packages (call_of k choice args)) k.id (with_action progress)) (preorder forest)) all;
       }
 
   module _ (left : ℕ) (run : Runner) (good : Good left run) (progress : Progress) (path : List ℕ) (seed : Hash) (by : PartyNames) (t : TemplateName)
@@ -241,7 +241,7 @@ module _ (packages : Packages) (known : List Known) where
     ran_case : (k : Known) (actors : PartyNames) → usable packages known progress id t ≡ Some k
         → call_controllers packages (call_of k choice args) ≡ Ok actors → are_authorised actors by ≡ true → (r : Result BodyRun CommandFault)
         → follow most_children (body_source packages (call_of k choice args) path) run seed path (authorisers packages k.instance actors)
-        (with_spent (is_consuming_call packages (call_of k choice args)) k.id (with_action progress)) [] NoRoots 0 ≡ r
+        (with_consumed (is_consuming_call packages (call_of k choice args)) k.id (with_action progress)) [] NoRoots 0 ≡ r
         → on r (λ f. Ok (exercised_node seed k.salt (call_of k choice args) actors (is_consuming_call packages (call_of k choice args)) f, f.progress))
         ≡ Ok x → Right packages known (suc left) progress path seed by (ExerciseDemand t id choice args) x.0 x.1
     ran_case k actors found entered b (Err e) ran h = absurd (let no : Err e ≡ Ok x = h in cc)
@@ -253,7 +253,7 @@ module _ (packages : Packages) (known : List Known) where
         → call_controllers packages (call_of k choice args) ≡ r
         → on (at_path path r) (λ actors. cond (are_authorised actors by)
         (on (follow most_children (body_source packages (call_of k choice args) path) run seed path (authorisers packages k.instance actors)
-        (with_spent (is_consuming_call packages (call_of k choice args)) k.id (with_action progress)) [] NoRoots 0)
+        (with_consumed (is_consuming_call packages (call_of k choice args)) k.id (with_action progress)) [] NoRoots 0)
         (λ f. Ok (exercised_node seed k.salt (call_of k choice args) actors (is_consuming_call packages (call_of k choice args)) f, f.progress)))
         (Err (Unauthorised path))) ≡ Ok x → Right packages known (suc left) progress path seed by (ExerciseDemand t id choice args) x.0 x.1
     entered_case k found (Err e) entered h = absurd (let no : Err (Eval path e) ≡ Ok x = h in cc)

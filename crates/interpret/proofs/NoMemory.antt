@@ -7,7 +7,7 @@ use Rattle.ledger_terms.specs.declared.instance.Instance.{Instance}
 use Rattle.ledger_terms.specs.Packages.{TemplateForm, ChoiceForm}
 use Rattle.ledger_terms.specs.Syntax.{ExprForm, ExprForms, Literal, Var, Add, Sub, Mul, Less, LessEq, Equal, Both, Either, Negate, Cond, Cat, SetOf, Union, Has, NoExprs, MoreExprs, StmtForm, StmtForms, Bind, Assert, Create, Exercise, Fetch, When, NoStmts, MoreStmts}
 use Rattle.ledger_model.specs.declared.step.ChoiceCall.{ChoiceCall}
-use Rattle.ledger_model.specs.declared.step.Seen.{Seen}
+use Rattle.ledger_model.specs.declared.step.ChildResult.{ChildResult}
 use Rattle.ledger_model.specs.declared.step.Step.{Step}
 use Rattle.lang_eval.specs.declared.eval_fault.EvalFault.{EvalFault}
 use Rattle.lang_eval.specs.declared.eval_fault.EvalFault.TheVariants.{Memory, Overflow, TooLarge, Ensure}
@@ -152,7 +152,7 @@ id_plain v = λ h. cc
 id_of_plain : (e : ExprForm) (names : Names) → Plain (id_of e names)
 id_of_plain e names = with_plain (val e names) _ (val_plain e names) (λ v. id_plain v)
 
-taken_ran : (step : Result Step EvalFault) (binds : Seen → Names) (seen : List Seen) → Plain step → PlainRan (taken step binds seen)
+taken_ran : (step : Result Step EvalFault) (binds : ChildResult → Names) (seen : List ChildResult) → Plain step → PlainRan (taken step binds seen)
 taken_ran step binds [] p = p
 taken_ran step binds (s ∷ seen) p = tt
 
@@ -164,7 +164,7 @@ asserted_ran : (b : Bool) (r : Ran) → PlainRan r → PlainRan (asserted b r)
 asserted_ran true r p = p
 asserted_ran false r p = λ h. cc
 
-then_ran : (r : Ran) (rest : Names → List Seen → Ran) → PlainRan r → ((names : Names) (seen : List Seen) → PlainRan (rest names seen))
+then_ran : (r : Ran) (rest : Names → List ChildResult → Ran) → PlainRan r → ((names : Names) (seen : List ChildResult) → PlainRan (rest names seen))
     → PlainRan (then_on r rest)
 then_ran (Stopped step) rest p q = p
 then_ran (Went names seen) rest p q = q names seen
@@ -174,7 +174,7 @@ side_ran true r s p q = p
 side_ran false r s p q = q
 
 mutual
-  ran_plain : (s : StmtForm) (packages : Packages) (names : Names) (seen : List Seen) → PlainRan (ran s packages names seen)
+  ran_plain : (s : StmtForm) (packages : Packages) (names : Names) (seen : List ChildResult) → PlainRan (ran s packages names seen)
   ran_plain (Bind x e) packages names seen = value_ran (val e names) _ (val_plain e names) (λ v. tt)
   ran_plain (Assert e) packages names seen = value_ran (truth e names) _ (truth_plain e names) (λ b. asserted_ran b (Went names seen) tt)
   ran_plain (Create x t fields) packages names seen = taken_ran _ _ seen (with_plain (vals fields names) _ (vals_plain fields names) (λ vs. λ h. cc))
@@ -185,7 +185,7 @@ mutual
       value_ran (truth e names) _ (truth_plain e names)
       (λ b. closed_ran names _ (side_ran b _ _ (all_plain first packages names seen) (all_plain second packages names seen)))
 
-  all_plain : (ss : StmtForms) (packages : Packages) (names : Names) (seen : List Seen) → PlainRan (ran_all ss packages names seen)
+  all_plain : (ss : StmtForms) (packages : Packages) (names : Names) (seen : List ChildResult) → PlainRan (ran_all ss packages names seen)
   all_plain NoStmts packages names seen = tt
   all_plain (MoreStmts s ss) packages names seen = then_ran (ran s packages names seen) _ (ran_plain s packages names seen)
       (λ names seen. all_plain ss packages names seen)
@@ -194,14 +194,14 @@ ended_plain : (c : ChoiceForm) (r : Ran) → PlainRan r → Plain (ended c r)
 ended_plain c (Stopped step) p = p
 ended_plain c (Went names seen) p = with_plain (val c.result names) _ (val_plain c.result names) (λ v. λ h. cc)
 
-in_plain : (o : Option TemplateForm) (c : Option ChoiceForm) (packages : Packages) (call : ChoiceCall) (seen : List Seen)
+in_plain : (o : Option TemplateForm) (c : Option ChoiceForm) (packages : Packages) (call : ChoiceCall) (seen : List ChildResult)
     → Plain (next_in o c packages call seen)
 in_plain None c packages call seen = λ h. cc
 in_plain (Some t) None packages call seen = λ h. cc
 in_plain (Some t) (Some c) packages call seen = ended_plain c (ran_all c.body packages (names_of t c call) seen)
     (all_plain c.body packages (names_of t c call) seen)
 
-pub next_plain : (packages : Packages) (call : ChoiceCall) (seen : List Seen) → Plain (next packages call seen)
+pub next_plain : (packages : Packages) (call : ChoiceCall) (seen : List ChildResult) → Plain (next packages call seen)
 unfolding next
 next_plain packages call seen = in_plain (template_in call.instance.template packages) (choice_in call.instance.template call.choice packages)
     packages call seen

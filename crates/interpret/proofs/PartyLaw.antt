@@ -20,10 +20,10 @@ use Rattle.ledger_terms.specs.Forest.{NoRoots, Root, preorder}
 use Rattle.ledger_terms.specs.Trees.{Actions}
 use Rattle.ledger_model.specs.Parties.{within}
 use Rattle.ledger_model.specs.Language.{roles_of}
-use Rattle.ledger_model.specs.Conformance.{Demands, Possible, seen_of}
+use Rattle.ledger_model.specs.Conformance.{Demands, Possible, result_of_child}
 use Rattle.ledger_model.specs.Authority.{authorisers_below}
 use Rattle.ledger_model.specs.declared.step.ChoiceCall.{ChoiceCall}
-use Rattle.ledger_model.specs.declared.step.Seen.{Seen}
+use Rattle.ledger_model.specs.declared.step.ChildResult.{ChildResult}
 use Rattle.ledger_model.specs.declared.step.Step.{Step}
 use Rattle.ledger_model.specs.declared.step.Step.TheVariants.{Done}
 use Rattle.lang_eval.specs.declared.eval_fault.EvalFault.{EvalFault}
@@ -100,10 +100,10 @@ module _ (is_party : List ℕ → Bool) where
 
   -- what a source asks for and ends with names only these parties
   record FineSource (source : Source) : Type 0 where
-    asks : (index : ℕ) (seen : List Seen) (d : Demand) → Fine (flat_map parties_in_seen seen) → source.turn index seen ≡ Child d
+    asks : (index : ℕ) (seen : List ChildResult) (d : Demand) → Fine (flat_map parties_in_seen seen) → source.turn index seen ≡ Child d
         → Fine (parties_in_step (step_of d))
-    ends : (index : ℕ) (seen : List Seen) (v : Value) → Fine (flat_map parties_in_seen seen) → source.turn index seen ≡ End v → Fine (parties_in_value v)
-    learns : (seen : List Seen) (a : Action) → Fine (flat_map parties_in_seen seen) → Fine (parties_in_action a)
+    ends : (index : ℕ) (seen : List ChildResult) (v : Value) → Fine (flat_map parties_in_seen seen) → source.turn index seen ≡ End v → Fine (parties_in_value v)
+    learns : (seen : List ChildResult) (a : Action) → Fine (flat_map parties_in_seen seen) → Fine (parties_in_action a)
         → Fine (flat_map parties_in_seen (source.learn seen a))
 
   none_asked : FineSource no_source
@@ -114,7 +114,7 @@ module _ (is_party : List ℕ → Bool) where
         learns = λ seen a s h. refl;
       }
 
-  seen_fine : (a : Action) → Fine (parties_in_action a) → Fine (parties_in_seen (seen_of a))
+  seen_fine : (a : Action) → Fine (parties_in_action a) → Fine (parties_in_seen (result_of_child a))
   seen_fine (Create id i) h = refl
   seen_fine (Exercise id salt i choice args actors consuming result) h =
       known_back is_party actors (parties_in_value result)
@@ -122,12 +122,12 @@ module _ (is_party : List ℕ → Bool) where
       (known_back is_party (parties_in_instance i) (parties_in_values args ++ (actors ++ parties_in_value result)) h))
   seen_fine (Fetch id salt i actors) h = known_front is_party (parties_in_instance i) actors h
 
-  seen_more : (seen : List Seen) (a : Action) → Fine (flat_map parties_in_seen seen) → Fine (parties_in_action a)
-      → Fine (flat_map parties_in_seen (seen ++ seen_of a ∷ []))
+  seen_more : (seen : List ChildResult) (a : Action) → Fine (flat_map parties_in_seen seen) → Fine (parties_in_action a)
+      → Fine (flat_map parties_in_seen (seen ++ result_of_child a ∷ []))
   seen_more seen a s h =
-      subst Fine (sym (flat_map-append parties_in_seen seen (seen_of a ∷ [])))
-      (known_append is_party (flat_map parties_in_seen seen) (parties_in_seen (seen_of a) ++ []) s
-      (known_append is_party (parties_in_seen (seen_of a)) [] (seen_fine a h) refl))
+      subst Fine (sym (flat_map-append parties_in_seen seen (result_of_child a ∷ [])))
+      (known_append is_party (flat_map parties_in_seen seen) (parties_in_seen (result_of_child a) ++ []) s
+      (known_append is_party (parties_in_seen (result_of_child a)) [] (seen_fine a h) refl))
 
   controllers_fine : (r : Result ChoiceParties EvalFault) (actors : PartyNames)
       → ((p : ChoiceParties) → r ≡ Ok p → Fine (choice_party_names p)) → are_controllers r actors ≡ true → Fine actors
@@ -158,7 +158,7 @@ module _ (is_party : List ℕ → Bool) where
   module _ (packages : Packages) (fine : Fine (parties_in_packages packages)) where
     body_fine : (call : ChoiceCall) (path : List ℕ) → Fine (parties_in_call call) → FineSource (body_source packages call path)
     body_fine call path k =
-        let step : (seen : List Seen) (s : Step) → Fine (flat_map parties_in_seen seen) → next packages call seen ≡ Ok s → Fine (parties_in_step s) =
+        let step : (seen : List ChildResult) (s : Step) → Fine (flat_map parties_in_seen seen) → next packages call seen ≡ Ok s → Fine (parties_in_step s) =
         λ seen s h is. gives_of is_party parties_in_step (next packages call seen) s (next_known is_party packages call seen fine k h) is in
         record {
           asks = λ index seen d s h. step seen (step_of d) s (turn_asks path (next packages call seen) d h);
@@ -239,7 +239,7 @@ module _ (is_party : List ℕ → Bool) where
         created : AllOf IsKnownContract (after_all progress (preorder forest)).created
         ends : Fine (parties_in_value result)
 
-      fine_forest : (left : ℕ) (source : Source) (result : Value) (by : PartyNames) (seen : List Seen) (seed : Hash) (path : List ℕ) (index : ℕ)
+      fine_forest : (left : ℕ) (source : Source) (result : Value) (by : PartyNames) (seen : List ChildResult) (seed : Hash) (path : List ℕ) (index : ℕ)
           (progress : Progress) (forest : Actions)
           → FineSource source → Fine (flat_map parties_in_seen seen) → AllOf IsKnownContract progress.created
           → Wanted packages known left source result by seen seed path index progress forest → FineForest result progress forest

@@ -15,7 +15,7 @@ use Rattle.ledger_terms.specs.Trees.{Actions}
 use Rattle.ledger_terms.specs.Parties.{is_subset}
 use Rattle.ledger_model.specs.Parties.{is_empty}
 use Rattle.ledger_model.specs.declared.step.ChoiceCall.{ChoiceCall}
-use Rattle.ledger_model.specs.declared.step.Seen.{Seen}
+use Rattle.ledger_model.specs.declared.step.ChildResult.{ChildResult}
 use Rattle.ledger_model.specs.declared.step.Step.{Step}
 use Rattle.ledger_model.specs.declared.step.Step.TheVariants.{Create as CreateNext, Exercise as ExerciseNext, Fetch as FetchNext, Done}
 use Rattle.lang_eval.specs.declared.eval_fault.EvalFault.{EvalFault}
@@ -119,7 +119,7 @@ stop_same : (x y : CommandFault) → Stop x ≡ Stop y → x ≡ y
 stop_same x y h = cc
 
 abbrev PlainSource : Source → Type 0
-PlainSource source = (index : ℕ) (seen : List Seen) (fault : CommandFault) → source.turn index seen ≡ Stop fault → IsPlain fault
+PlainSource source = (index : ℕ) (seen : List ChildResult) (fault : CommandFault) → source.turn index seen ≡ Stop fault → IsPlain fault
 
 step_turn_plain : (path : List ℕ) (s : Step) (g : CommandFault) → step_turn path s ≡ Stop g → IsPlain g
 step_turn_plain path (Done v) g h =
@@ -185,7 +185,7 @@ module _ (packages : Packages) (known : List Known) where
   commands_plain commands index seen g h = command_plain index (slice_get commands index) g h
 
   stops_plain : (b : Before) (left : ℕ) (source : Source) → PlainSource source
-      → (by : PartyNames) (seen : List Seen) (seed : Hash) (path : List ℕ) (index : ℕ) (progress : Progress) (g : CommandFault)
+      → (by : PartyNames) (seen : List ChildResult) (seed : Hash) (path : List ℕ) (index : ℕ) (progress : Progress) (g : CommandFault)
       → Stops packages known left source by seen seed path index progress b g → IsPlain g
   stops_plain Here left source p by seen seed path index progress g (inl itself) = p index seen g itself
   stops_plain Here left source p by seen seed path index progress g (inr asked) = first_plain packages known left progress

@@ -10,9 +10,9 @@ use Rattle.ledger_terms.specs.declared.action.Action.TheVariants.{Create, Exerci
 use Rattle.ledger_terms.specs.Forest.{NoRoots, Root, preorder, size}
 use Rattle.ledger_terms.specs.Trees.{Actions}
 use Rattle.ledger_model.specs.Language.{roles_of}
-use Rattle.ledger_model.specs.Conformance.{AreRest, Conforms, Demands, body_of, seen_of}
+use Rattle.ledger_model.specs.Conformance.{AreRest, Conforms, Demands, body_of, result_of_child}
 use Rattle.ledger_model.specs.Authority.{is_forest_authorised, authorisers_below}
-use Rattle.ledger_model.specs.declared.step.Seen.{Seen}
+use Rattle.ledger_model.specs.declared.step.ChildResult.{ChildResult}
 use Rattle.ledger_model.specs.declared.step.Step.{Step}
 use Rattle.ledger_model.specs.declared.step.Step.TheVariants.{Create as CreateNext, Exercise as ExerciseNext, Fetch as FetchNext, Done}
 use Rattle.lang_eval.specs.declared.eval_fault.EvalFault.{EvalFault}
@@ -71,7 +71,7 @@ child_turn path (Err e) d h = cc
 
 module _ (packages : Packages) (known : List Known) where
   -- the consequences of an action are what its choice does
-  below_conform : (action : Action) (at : List ℕ) (left : ℕ) (by : PartyNames) (seen : List Seen) (seed : Hash) (path : List ℕ) (index : ℕ)
+  below_conform : (action : Action) (at : List ℕ) (left : ℕ) (by : PartyNames) (seen : List ChildResult) (seed : Hash) (path : List ℕ) (index : ℕ)
       (progress : Progress) (forest : Actions)
       → Wanted packages known left (source_of packages at action) (result_of action) by seen seed path index progress forest
       → AreRest (the_language packages) (body_of action) seen forest
@@ -89,11 +89,11 @@ module _ (packages : Packages) (known : List Known) where
     w.4.possible,
     below_conform a.action (path ++ index ∷ []) (one_less left) (authorisers_below (roles_of (the_language packages)) a.action) [] a.seed
         (path ++ index ∷ []) 0 (after progress a) consequences w.5,
-    below_conform (Exercise id salt i choice args actors consuming result) at left by (seen ++ seen_of a.action ∷ []) seed path (index + 1)
+    below_conform (Exercise id salt i choice args actors consuming result) at left by (seen ++ result_of_child a.action ∷ []) seed path (index + 1)
         (after_all (after progress a) (preorder consequences)) others w.6,
   )
 
-  pub roots_conform : (source : Source) (result : Value) (left : ℕ) (by : PartyNames) (seen : List Seen) (seed : Hash) (path : List ℕ) (index : ℕ)
+  pub roots_conform : (source : Source) (result : Value) (left : ℕ) (by : PartyNames) (seen : List ChildResult) (seed : Hash) (path : List ℕ) (index : ℕ)
       (progress : Progress) (forest : Actions) → Wanted packages known left source result by seen seed path index progress forest
       → Conforms (the_language packages) forest
   roots_conform source result left by seen seed path index progress NoRoots w = tt
@@ -104,7 +104,7 @@ module _ (packages : Packages) (known : List Known) where
     roots_conform source result left by (source.learn seen a.action) seed path (index + 1) (after_all (after progress a) (preorder consequences)) others w.6,
   )
 
-  pub all_authorised : (source : Source) (result : Value) (left : ℕ) (by : PartyNames) (seen : List Seen) (seed : Hash) (path : List ℕ) (index : ℕ)
+  pub all_authorised : (source : Source) (result : Value) (left : ℕ) (by : PartyNames) (seen : List ChildResult) (seed : Hash) (path : List ℕ) (index : ℕ)
       (progress : Progress) (forest : Actions) → Wanted packages known left source result by seen seed path index progress forest
       → is_forest_authorised (roles_of (the_language packages)) by forest ≡ true
   all_authorised source result left by seen seed path index progress NoRoots w = refl
@@ -119,7 +119,7 @@ module _ (packages : Packages) (known : List Known) where
   less_deep zero h = absurd (omega arith)
   less_deep (suc n) h = refl
 
-  pub not_deep : (source : Source) (result : Value) (left : ℕ) (by : PartyNames) (seen : List Seen) (seed : Hash) (path : List ℕ) (index : ℕ)
+  pub not_deep : (source : Source) (result : Value) (left : ℕ) (by : PartyNames) (seen : List ChildResult) (seed : Hash) (path : List ℕ) (index : ℕ)
       (progress : Progress) (forest : Actions) → Wanted packages known left source result by seen seed path index progress forest → depth forest ≤ left
   not_deep source result left by seen seed path index progress NoRoots w = omega arith
   not_deep source result left by seen seed path index progress (Root a consequences others) w =

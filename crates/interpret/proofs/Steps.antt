@@ -8,7 +8,7 @@ use Rattle.ledger_terms.specs.Trees.{ActionNode}
 use Rattle.ledger_terms.specs.Forest.{join}
 use Rattle.ledger_terms.specs.Trees.{Actions}
 use Rattle.ledger_terms.specs.Grown.{tree_of}
-use Rattle.ledger_model.specs.declared.step.Seen.{Seen}
+use Rattle.ledger_model.specs.declared.step.ChildResult.{ChildResult}
 use Rattle.lang_eval.specs.Found.{Packages}
 use Rattle.lang_eval.specs.Parts.{PartyNames}
 use Rattle.interpret.specs.declared.command_fault.CommandFault.{CommandFault}
@@ -16,7 +16,7 @@ use Rattle.interpret.specs.declared.command_fault.CommandFault.TheVariants.{TooD
 use Rattle.interpret.specs.declared.progress.Progress.{Progress}
 use Rattle.interpret.specs.declared.turn.Turn.{Turn as Next}
 use Rattle.interpret.specs.declared.turn.Turn.TheVariants.{End as NextEnd, Child as NextChild}
-use Rattle.interpret.specs.Shown.{turn_shown}
+use Rattle.interpret.specs.TurnAnswers.{turn_shown}
 use Rattle.interpret.specs.declared.demand.Demand.{Demand}
 use Rattle.interpret.specs.Ids.{Hash, child_seed}
 use Rattle.interpret.specs.Act.{Runner, Source, Turn, Stop, End, Child, follow, most_children, level, do_demand, act}
@@ -54,7 +54,7 @@ pub act_at : (n m : ℕ) (p : Packages) (k : List Known) (progress : Progress) (
     → n ≡ m → r ≡ act n p k progress path seed by demand → r ≡ act m p k progress path seed by demand
 act_at n m p k progress path seed by demand r same h = h ∙ ap (λ (n : ℕ). act n p k progress path seed by demand) same
 
-module _ (source : Source) (run : Runner) (seed : Hash) (path : List ℕ) (by : PartyNames) (progress : Progress) (seen : List Seen)
+module _ (source : Source) (run : Runner) (seed : Hash) (path : List ℕ) (by : PartyNames) (progress : Progress) (seen : List ChildResult)
     (children : Actions) (index : ℕ) where
   pub follow_none : (n : ℕ) → n ≡ 0 → follow n source run seed path by progress seen children index ≡ Err (TooMany path)
   unfolding follow
@@ -85,7 +85,7 @@ module _ (source : Source) (run : Runner) (seed : Hash) (path : List ℕ) (by : 
       rw (← is, ← here) refl
 
   -- a child that is run
-  pub follow_child : (n m : ℕ) (d : Demand) (node : ActionNode) (next_progress : Progress) (q : List ℕ) (sd : Hash) (seen' : List Seen)
+  pub follow_child : (n m : ℕ) (d : Demand) (node : ActionNode) (next_progress : Progress) (q : List ℕ) (sd : Hash) (seen' : List ChildResult)
       (children' : Actions) → n ≡ m + 1 → Child d ≡ source.turn index seen → q ≡ path ++ index ∷ [] → sd ≡ child_seed seed index
       → Ok (node, next_progress) ≡ run progress q sd by d → seen' ≡ source.learn seen node.root.action → children' ≡ join children (tree_of node)
       → follow n source run seed path by progress seen children index ≡ follow m source run seed path by next_progress seen' children' (index + 1)

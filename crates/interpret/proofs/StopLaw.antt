@@ -12,7 +12,7 @@ use Rattle.ledger_terms.specs.Trees.{Actions}
 use Rattle.ledger_terms.specs.Grown.{tree_of}
 use Rattle.ledger_terms.specs.Parties.{is_subset}
 use Rattle.ledger_model.specs.Parties.{is_empty}
-use Rattle.ledger_model.specs.declared.step.Seen.{Seen}
+use Rattle.ledger_model.specs.declared.step.ChildResult.{ChildResult}
 use Rattle.lang_eval.specs.declared.eval_fault.EvalFault.{EvalFault}
 use Rattle.lang_eval.specs.Found.{Packages}
 use Rattle.lang_eval.specs.Parts.{PartyNames, is_consuming_call}
@@ -57,16 +57,16 @@ module _ (packages : Packages) (known : List Known) where
       → IsRefused packages known left progress path seed by demand fault → run progress path seed by demand ≡ Err fault
 
   module _ (left : ℕ) (run : Runner) (source : Source) (by : PartyNames) (seed : Hash) (path : List ℕ) (fault : CommandFault) where
-    abbrev Stopped : Progress → List Seen → ℕ → Type 0
+    abbrev Stopped : Progress → List ChildResult → ℕ → Type 0
     Stopped progress seen index = (b : Before) × Stops packages known left source by seen seed path index progress b fault
 
     module _ (good : Good packages known left run) (refusing : Refusing left run) where
       abbrev Ahead : ℕ → Type 0
       Ahead n =
-          (progress : Progress) (seen : List Seen) (children : Actions) (index : ℕ) → 64 < n + progress.count → progress.count ≤ 64
+          (progress : Progress) (seen : List ChildResult) (children : Actions) (index : ℕ) → 64 < n + progress.count → progress.count ≤ 64
           → follow n source run seed path by progress seen children index ≡ Err fault → Stopped progress seen index
 
-      child_stop : (n : ℕ) → Ahead n → (progress : Progress) (seen : List Seen) (children : Actions) (index : ℕ) → 64 < suc n + progress.count
+      child_stop : (n : ℕ) → Ahead n → (progress : Progress) (seen : List ChildResult) (children : Actions) (index : ℕ) → 64 < suc n + progress.count
           → progress.count ≤ 64 → (d : Demand) → source.turn index seen ≡ Child d → (x : Result (ActionNode × Progress) CommandFault)
           → run progress (path ++ index ∷ []) (child_seed seed index) by d ≡ x
           → on x (λ x. follow n source run seed path by x.1 (source.learn seen x.0.root.action) (join children (tree_of x.0)) (index + 1)) ≡ Err fault
@@ -95,7 +95,7 @@ module _ (packages : Packages) (known : List Known) where
             ),
           )
 
-      turn_stop : (n : ℕ) → Ahead n → (progress : Progress) (seen : List Seen) (children : Actions) (index : ℕ) → 64 < suc n + progress.count
+      turn_stop : (n : ℕ) → Ahead n → (progress : Progress) (seen : List ChildResult) (children : Actions) (index : ℕ) → 64 < suc n + progress.count
           → progress.count ≤ 64 → (t : Turn) → source.turn index seen ≡ t
           → by_turn t (λ v. Ok (record { children = children; result = v; progress = progress }))
           (λ demand. on (run progress (path ++ index ∷ []) (child_seed seed index) by demand)
@@ -112,7 +112,7 @@ module _ (packages : Packages) (known : List Known) where
       follow_stop (suc n) = λ progress seen children index turns room h. turn_stop n (follow_stop n) progress seen children index turns room _ refl h
 
     module _ (complete : Complete packages known left run) (refused : Refused left run) where
-      pub follow_halts : (b : Before) (n : ℕ) (progress : Progress) (seen : List Seen) (children : Actions) (index : ℕ) → 64 < n + progress.count
+      pub follow_halts : (b : Before) (n : ℕ) (progress : Progress) (seen : List ChildResult) (children : Actions) (index : ℕ) → 64 < n + progress.count
           → progress.count ≤ 64 → Stops packages known left source by seen seed path index progress b fault
           → follow n source run seed path by progress seen children index ≡ Err fault
       unfolding follow

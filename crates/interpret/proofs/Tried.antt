@@ -11,8 +11,8 @@ use Rattle.ledger_terms.specs.Forest.{NoRoots, Root}
 use Rattle.ledger_terms.specs.Trees.{Actions}
 use Rattle.ledger_terms.specs.Grown.{tree_of}
 use Rattle.ledger_terms.specs.Trees.{ActionNode}
-use Rattle.ledger_model.specs.Conformance.{Body, NoBody, BodyOf, body_of, seen_of, Demands, Possible, Ends, Continues, AreRest, Conforms}
-use Rattle.ledger_model.specs.declared.step.Seen.{Seen}
+use Rattle.ledger_model.specs.Conformance.{Body, NoBody, BodyOf, body_of, result_of_child, Demands, Possible, Ends, Continues, AreRest, Conforms}
+use Rattle.ledger_model.specs.declared.step.ChildResult.{ChildResult}
 use Rattle.ledger_model.specs.declared.step.Step.{Step}
 use Rattle.ledger_model.specs.declared.step.Step.TheVariants.{Create as CreateNext, Exercise as ExerciseNext, Fetch as FetchNext, Done}
 use Rattle.lang_eval.specs.declared.eval_fault.EvalFault.{EvalFault}
@@ -23,7 +23,7 @@ use Rattle.interpret.specs.Language.{the_language}
 use Rattle.interpret.specs.Tries.{is_demanded, asks, is_done, gives, is_possible, continues, ends, are_rest, is_tree_possible, has_none}
 
 -- an action without a body has no consequences
-pub no_body : (packages : Packages) (seen : List Seen) (f : Actions) → are_rest packages NoBody seen f ≡ has_none f
+pub no_body : (packages : Packages) (seen : List ChildResult) (f : Actions) → are_rest packages NoBody seen f ≡ has_none f
 no_body packages seen NoRoots = refl
 no_body packages seen (Root act consequences others) = refl
 
@@ -85,35 +85,35 @@ module _ (packages : Packages) where
   possible (Exercise id salt i choice args actors consuming result) = (λ h. both _ _ h, λ h. both_true _ _ h.0 h.1)
   possible (Fetch id salt i actors) = (λ h. h, λ h. h)
 
-  ended : (body : Body) (seen : List Seen) → Decides (ends packages body seen) (Ends (the_language packages) body seen)
+  ended : (body : Body) (seen : List ChildResult) → Decides (ends packages body seen) (Ends (the_language packages) body seen)
   ended NoBody seen = (λ h. tt, λ h. refl)
   ended (BodyOf call result) seen = given (next packages call seen) result
 
-  continued : (body : Body) (seen : List Seen) (a : Action) → Decides (continues packages body seen a) (Continues (the_language packages) body seen a)
+  continued : (body : Body) (seen : List ChildResult) (a : Action) → Decides (continues packages body seen a) (Continues (the_language packages) body seen a)
   continued NoBody seen a = (λ h. cc, λ h. absurd h)
   continued (BodyOf call result) seen a = asked (next packages call seen) a
 
-  pub rest_from_test : (f : Actions) (body : Body) (seen : List Seen) → are_rest packages body seen f ≡ true → AreRest (the_language packages) body seen f
+  pub rest_from_test : (f : Actions) (body : Body) (seen : List ChildResult) → are_rest packages body seen f ≡ true → AreRest (the_language packages) body seen f
   rest_from_test NoRoots body seen h = (ended body seen).0 h
   rest_from_test (Root act consequences others) body seen h =
       let p = both (continues packages body seen act.action
       && (is_possible packages act.action && are_rest packages (body_of act.action) [] consequences))
-      (are_rest packages body (seen ++ seen_of act.action ∷ []) others) h in
+      (are_rest packages body (seen ++ result_of_child act.action ∷ []) others) h in
       let q = both (continues packages body seen act.action) (is_possible packages act.action && are_rest packages (body_of act.action) [] consequences) p.0 in
       let r = both (is_possible packages act.action) (are_rest packages (body_of act.action) [] consequences) q.1 in (
         (continued body seen act.action).0 q.0,
         (possible act.action).0 r.0,
         rest_from_test consequences (body_of act.action) [] r.1,
         rest_from_test
-            others body (seen ++ seen_of act.action ∷ []) p.1,
+            others body (seen ++ result_of_child act.action ∷ []) p.1,
       )
 
-  pub test_from_rest : (f : Actions) (body : Body) (seen : List Seen) → AreRest (the_language packages) body seen f → are_rest packages body seen f ≡ true
+  pub test_from_rest : (f : Actions) (body : Body) (seen : List ChildResult) → AreRest (the_language packages) body seen f → are_rest packages body seen f ≡ true
   test_from_rest NoRoots body seen h = (ended body seen).1 h
   test_from_rest (Root act consequences others) body seen h =
       both_true _ _ (both_true _ _ ((continued body seen act.action).1 h.0)
       (both_true _ _ ((possible act.action).1 h.1) (test_from_rest consequences (body_of act.action) [] h.2)))
-      (test_from_rest others body (seen ++ seen_of act.action ∷ []) h.3)
+      (test_from_rest others body (seen ++ result_of_child act.action ∷ []) h.3)
 
   pub tree_decides : (a : Action) (consequences : Actions) (s : List ℕ)
       → Decides (is_tree_possible packages a consequences) (Conforms (the_language packages) (Root (record { seed = s; action = a }) consequences NoRoots))

@@ -9,7 +9,7 @@ use Rattle.lang_eval.specs.Found.{Packages}
 use Rattle.lang_eval.specs.Kinds.{has_kinds}
 use Rattle.interpret.specs.declared.progress.Progress.{Progress}
 use Rattle.interpret.specs.Ids.{Hash}
-use Rattle.interpret.specs.Usable.{find_known, is_spent, first_found, of_template, usable}
+use Rattle.interpret.specs.Usable.{find_known, is_consumed, first_found, of_template, usable}
 
 module _ (P : Known → Type 0) where
   abbrev pub AllOf : List Known → Type 0
@@ -44,7 +44,7 @@ module _ (P : Known → Type 0) where
       → AllOf known → AllOf p.created → usable packages known p id t ≡ Some k → P k
   unfolding usable
   used packages known p id t k all made h =
-      elim (cases_Bool (is_spent id p.spent)) [
+      elim (cases_Bool (is_consumed id p.consumed)) [
         | inl b ↦ let no : None ≡ Some k = rw b at h in absurd cc
         | inr b ↦
             either_one k (of_template packages t (find_known id known)) (of_template packages t (find_known id p.created))

@@ -9,7 +9,7 @@ use Rattle.ledger_terms.specs.declared.known.Known.{Known}
 use Rattle.ledger_terms.specs.declared.command.Command.{Command}
 use Rattle.ledger_terms.specs.Forest.{NoRoots, Root, preorder}
 use Rattle.ledger_terms.specs.Trees.{Actions}
-use Rattle.ledger_model.specs.declared.step.Seen.{Seen}
+use Rattle.ledger_model.specs.declared.step.ChildResult.{ChildResult}
 use Rattle.lang_eval.specs.Found.{Packages}
 use Rattle.lang_eval.specs.Parts.{PartyNames}
 use Rattle.wire_form.specs.Lengths.{capped}
@@ -36,7 +36,7 @@ module _ (packages : Packages) (known : List Known) where
   command_ends root None v h = cc
   command_ends root (Some c) v h = asked_ends (command_demand packages known root c) v h
 
-  pub roots_end : (commands : List Command) (left : ℕ) (result : Value) (by : PartyNames) (seen : List Seen) (seed : Hash) (path : List ℕ)
+  pub roots_end : (commands : List Command) (left : ℕ) (result : Value) (by : PartyNames) (seen : List ChildResult) (seed : Hash) (path : List ℕ)
       (index : ℕ) (progress : Progress) (forest : Actions)
       → Wanted packages known left (commands_source packages known commands) result by seen seed path index progress forest → result ≡ UnitValue
   roots_end commands left result by seen seed path index progress NoRoots w = command_ends index (slice_get commands index) result w

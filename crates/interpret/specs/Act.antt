@@ -11,10 +11,10 @@ use Rattle.ledger_terms.specs.Trees.{Actions}
 use Rattle.ledger_terms.specs.Grown.{tree_of}
 use Rattle.ledger_terms.specs.Parties.{is_subset}
 use Rattle.ledger_terms.specs.declared.limits.TheConstants.{MOST_ACTIONS}
-use Rattle.ledger_model.specs.Conformance.{seen_of}
+use Rattle.ledger_model.specs.Conformance.{result_of_child}
 use Rattle.ledger_model.specs.Parties.{is_empty}
 use Rattle.ledger_model.specs.declared.step.ChoiceCall.{ChoiceCall}
-use Rattle.ledger_model.specs.declared.step.Seen.{Seen}
+use Rattle.ledger_model.specs.declared.step.ChildResult.{ChildResult}
 use Rattle.ledger_model.specs.declared.step.Step.{Step}
 use Rattle.ledger_model.specs.declared.step.Step.TheVariants.{Create as CreateNext, Exercise as ExerciseNext, Fetch as FetchNext, Done}
 use Rattle.lang_eval.specs.declared.eval_fault.EvalFault.{EvalFault}
@@ -43,13 +43,13 @@ at_path path (Err e) = Err (Eval path e)
 
 -- what a transaction did, with one more action, contract or consumption
 abbrev pub with_action : Progress → Progress
-with_action p = record { created = p.created; spent = p.spent; count = p.count + 1 }
+with_action p = record { created = p.created; consumed = p.consumed; count = p.count + 1 }
 
 abbrev pub with_created : Known → Progress → Progress
-with_created k p = record { created = p.created ++ k ∷ []; spent = p.spent; count = p.count }
+with_created k p = record { created = p.created ++ k ∷ []; consumed = p.consumed; count = p.count }
 
-abbrev pub with_spent : Bool → Hash → Progress → Progress
-with_spent consuming id p = record { created = p.created; spent = cond consuming (p.spent ++ id ∷ []) p.spent; count = p.count }
+abbrev pub with_consumed : Bool → Hash → Progress → Progress
+with_consumed consuming id p = record { created = p.created; consumed = cond consuming (p.consumed ++ id ∷ []) p.consumed; count = p.count }
 
 -- an action that is asked for, as the next step of a body
 abbrev pub step_of : Demand → Step
@@ -69,8 +69,8 @@ pub data Turn : Type 0 where
 
 -- What asks for actions one after another: what comes at an index after what was learnt, and what is learnt of an action.
 pub record Source : Type 0 where
-  pub turn : ℕ → List Seen → Turn
-  pub learn : List Seen → Action → List Seen
+  pub turn : ℕ → List ChildResult → Turn
+  pub learn : List ChildResult → Action → List ChildResult
 
 -- the children of an action, its result, and the progress after them
 pub record BodyRun : Type 0 where
@@ -84,7 +84,7 @@ by_turn (End v) done child = done v
 by_turn (Child s) done child = child s
 
 -- the rest of what a source asks for, after these children, in so many turns
-unfoldable pub follow : ℕ → Source → Runner → Hash → List ℕ → PartyNames → Progress → List Seen → Actions → ℕ → Result BodyRun CommandFault
+unfoldable pub follow : ℕ → Source → Runner → Hash → List ℕ → PartyNames → Progress → List ChildResult → Actions → ℕ → Result BodyRun CommandFault
 follow zero source run seed path by progress seen children index = Err (TooMany path)
 follow (suc turns) source run seed path by progress seen children index =
     by_turn (source.turn index seen) (λ v. Ok (record { children = children; result = v; progress = progress })) (λ demand.
@@ -111,7 +111,7 @@ abbrev pub body_source : Packages → ChoiceCall → List ℕ → Source
 body_source packages call path =
     record {
       turn = λ index seen. turn_of path (next packages call seen);
-      learn = λ seen a. seen ++ seen_of a ∷ [];
+      learn = λ seen a. seen ++ result_of_child a ∷ [];
     }
 
 abbrev pub created_node : Hash → Instance → ActionNode
@@ -142,14 +142,15 @@ abbrev pub exercise_on : Packages → Runner → Progress → List ℕ → Hash 
 exercise_on packages run progress path seed by salt call =
     on (at_path path (call_controllers packages call)) (λ actors. cond (are_authorised actors by)
     (on (follow most_children (body_source packages call path) run seed path (authorisers packages call.instance actors)
-    (with_spent (is_consuming_call packages call) call.id progress) [] NoRoots 0) (λ f.
+    (with_consumed (is_consuming_call packages call) call.id progress) [] NoRoots 0) (λ f.
     Ok (exercised_node seed salt call actors (is_consuming_call packages call) f, f.progress)))
     (Err (Unauthorised path)))
 
 abbrev pub do_exercise : Packages → Runner → Progress → List ℕ → Hash → PartyNames → Option Known → List ℕ → List Value
     → Result (ActionNode × Progress) CommandFault
 do_exercise packages run progress path seed by None choice args = Err (ContractUnknown path)
-do_exercise packages run progress path seed by (Some k) choice args = exercise_on packages run (with_action progress) path seed by k.salt (call_of k choice args)
+do_exercise packages run progress path seed by (Some k) choice args = exercise_on packages run (with_action progress) path seed by k.salt
+    (call_of k choice args)
 
 abbrev pub fetched_node : Hash → Known → PartyNames → ActionNode
 fetched_node seed k actors = record { root = record { seed = seed; action = Fetch k.id k.salt k.instance actors }; below = NoRoots }

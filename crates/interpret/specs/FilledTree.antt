@@ -1,5 +1,6 @@
 -- A finished tree that is what drafts ask for, and where drafts stop: recognised from the drafts as they stand.
-use Rattle.std.specs.Prelude.{◌≡◌, ℕ, suc, ◌<◌, ◌≤◌, Bool, true, ◌&&◌, if◌then◌else◌, nat_le, nat_lt, is_some, length, List, [], ◌∷◌, ◌++◌, Option, Some, None, flat_map, ◌⊎◌}
+use Rattle.std.specs.Prelude.{◌≡◌, ℕ, suc, ◌<◌, ◌≤◌, Bool, true, ◌&&◌, if◌then◌else◌, nat_le, nat_lt, is_some, length, List, [], ◌∷◌, ◌++◌}
+use Rattle.std.specs.Prelude.{Option, Some, None, flat_map, ◌⊎◌}
 use Rattle.ledger_terms.specs.declared.known.Known.{Known}
 use Rattle.ledger_terms.specs.declared.instance.Instance.{Instance}
 use Rattle.ledger_terms.specs.declared.value.Value.{Value}

@@ -18,7 +18,7 @@ use Rattle.wire_form.specs.Encoded.{encoded_bytes}
 
 -- nothing was done yet
 abbrev pub nothing_done : Progress
-nothing_done = record { created = []; spent = []; count = 0 }
+nothing_done = record { created = []; consumed = []; count = 0 }
 
 -- the roots, 16 levels deep at most
 abbrev pub run_commands : Packages → List Known → Hash → PartyNames → List Command → Result BodyRun CommandFault

@@ -7,7 +7,7 @@ pub mod Tested
 pub mod Act
 pub mod Commands
 pub mod Interpreted
-pub mod Shown
+pub mod TurnAnswers
 pub mod Wanted
 pub mod Keeping
 pub mod Stops

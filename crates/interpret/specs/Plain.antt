@@ -2,7 +2,8 @@
 use Rattle.std.specs.Prelude.{◌≢◌}
 use Rattle.lang_eval.specs.declared.eval_fault.EvalFault.TheVariants.{Memory as NoMemory}
 use Rattle.interpret.specs.declared.command_fault.CommandFault.{CommandFault}
-use Rattle.interpret.specs.declared.command_fault.CommandFault.TheVariants.{UnknownTemplate, UnknownChoice, BadArgs, ContractUnknown, Eval, TooDeep, TooMany, Unauthorised, TooBig, Memory}
+use Rattle.interpret.specs.declared.command_fault.CommandFault.TheVariants.{UnknownTemplate, UnknownChoice, BadArgs, ContractUnknown, Eval}
+use Rattle.interpret.specs.declared.command_fault.CommandFault.TheVariants.{TooDeep, TooMany, Unauthorised, TooBig, Memory}
 
 -- the fault of an evaluation is one of the language
 abbrev pub IsPlain : CommandFault → Type 0

@@ -9,7 +9,7 @@ use Rattle.ledger_terms.specs.Trees.{Actions}
 use Rattle.ledger_terms.specs.Parties.{is_subset}
 use Rattle.ledger_terms.specs.declared.limits.TheConstants.{MOST_ACTIONS, MOST_ACTION_DEPTH, MOST_ACTION_BYTES}
 use Rattle.ledger_model.specs.Parties.{is_empty}
-use Rattle.ledger_model.specs.declared.step.Seen.{Seen}
+use Rattle.ledger_model.specs.declared.step.ChildResult.{ChildResult}
 use Rattle.wire_form.specs.Lengths.{capped}
 use Rattle.lang_eval.specs.declared.eval_fault.EvalFault.{EvalFault}
 use Rattle.lang_eval.specs.Found.{Packages}
@@ -22,7 +22,7 @@ use Rattle.interpret.specs.declared.progress.Progress.{Progress}
 use Rattle.interpret.specs.Ids.{Hash, child_seed}
 use Rattle.interpret.specs.Usable.{usable}
 use Rattle.interpret.specs.Tested.{created_signatories, call_controllers, are_authorised, authorisers, fetchers}
-use Rattle.interpret.specs.Act.{Source, Stop, Child, body_source, call_of, with_action, with_spent}
+use Rattle.interpret.specs.Act.{Source, Stop, Child, body_source, call_of, with_action, with_consumed}
 use Rattle.interpret.specs.Commands.{commands_source}
 use Rattle.wire_form.specs.Encoded.{encoded_bytes}
 use Rattle.interpret.specs.Interpreted.{nothing_done}
@@ -63,7 +63,8 @@ is_zero (suc n) = false
 -- actions, the contract, the evaluations, the authority.
 abbrev pub first_fault : Packages → List Known → ℕ → Progress → List ℕ → PartyNames → Demand → Option CommandFault
 first_fault packages known left progress path by demand =
-    fault_where (is_zero left) (TooDeep path) (fault_where (nat_le MOST_ACTIONS progress.count) (TooMany path) (demand_fault packages known progress path by demand))
+    fault_where (is_zero left) (TooDeep path) (fault_where (nat_le MOST_ACTIONS progress.count) (TooMany path)
+    (demand_fault packages known progress path by demand))
 
 -- What stands before the place of the stop. It is next; or the next action is a whole tree, with what follows; or it is an
 -- Exercise that was begun by these actors, and the stop is inside.
@@ -84,11 +85,11 @@ pub record IsBegun (packages : Packages) (known : List Known) (left : ℕ) (prog
 
 -- a consuming Exercise has consumed its contract when its body runs
 abbrev pub progress_inside : Packages → Progress → Known → List ℕ → List Value → Progress
-progress_inside packages progress k choice args = with_spent (is_consuming_call packages (call_of k choice args)) k.id (with_action progress)
+progress_inside packages progress k choice args = with_consumed (is_consuming_call packages (call_of k choice args)) k.id (with_action progress)
 
 -- What a source asks for stops there, with that fault: the source itself has it, or the action that it asks for fails that
 -- test first.
-abbrev pub Stops : Packages → List Known → ℕ → Source → PartyNames → List Seen → Hash → List ℕ → ℕ → Progress → Before → CommandFault → Type 0
+abbrev pub Stops : Packages → List Known → ℕ → Source → PartyNames → List ChildResult → Hash → List ℕ → ℕ → Progress → Before → CommandFault → Type 0
 Stops packages known left source by seen seed path index progress Here fault =
     (source.turn index seen ≡ Stop fault)
     ⊎ ((demand : Demand) × (source.turn index seen ≡ Child demand) × (first_fault packages known left progress (path ++ index ∷ []) by demand ≡ Some fault))

@@ -9,8 +9,8 @@ use Rattle.ledger_terms.specs.contracts.template_name.TemplateNamePartialEq.TheI
 use Rattle.ledger_terms.specs.Forest.{NoRoots, Root}
 use Rattle.ledger_terms.specs.Trees.{Actions}
 use Rattle.ledger_terms.specs.Parties.{same_name}
-use Rattle.ledger_model.specs.Conformance.{Body, NoBody, BodyOf, body_of, seen_of}
-use Rattle.ledger_model.specs.declared.step.Seen.{Seen}
+use Rattle.ledger_model.specs.Conformance.{Body, NoBody, BodyOf, body_of, result_of_child}
+use Rattle.ledger_model.specs.declared.step.ChildResult.{ChildResult}
 use Rattle.ledger_model.specs.declared.step.Step.{Step}
 use Rattle.ledger_model.specs.declared.step.Step.TheVariants.{Create as CreateNext, Exercise as ExerciseNext, Fetch as FetchNext, Done}
 use Rattle.lang_eval.specs.declared.eval_fault.EvalFault.{EvalFault}
@@ -49,20 +49,20 @@ is_possible packages (Exercise id salt i choice args actors consuming result) =
     has_kinds packages i && is_exercisable packages (record { id = id; instance = i; choice = choice; args = args }) actors consuming result
 is_possible packages (Fetch id salt i actors) = has_kinds packages i
 
-abbrev pub continues : Packages → Body → List Seen → Action → Bool
+abbrev pub continues : Packages → Body → List ChildResult → Action → Bool
 continues packages NoBody seen action = false
 continues packages (BodyOf call result) seen action = asks (next packages call seen) action
 
-abbrev pub ends : Packages → Body → List Seen → Bool
+abbrev pub ends : Packages → Body → List ChildResult → Bool
 ends packages NoBody seen = true
 ends packages (BodyOf call result) seen = gives (next packages call seen) result
 
 -- these trees are the rest of what a body does, and each is possible
-abbrev pub are_rest : Packages → Body → List Seen → Actions → Bool
+abbrev pub are_rest : Packages → Body → List ChildResult → Actions → Bool
 are_rest packages body seen NoRoots = ends packages body seen
 are_rest packages body seen (Root act consequences others) =
     (continues packages body seen act.action && (is_possible packages act.action && are_rest packages (body_of act.action) [] consequences))
-    && are_rest packages body (seen ++ seen_of act.action ∷ []) others
+    && are_rest packages body (seen ++ result_of_child act.action ∷ []) others
 
 -- one tree
 abbrev pub is_tree_possible : Packages → Action → Actions → Bool

@@ -19,8 +19,8 @@ find_known id known = find (λ k. same_hash k.id id) known
 abbrev pub find_salt : Hash → List Known → Option Known
 find_salt salt known = find (λ k. same_hash k.salt salt) known
 
-abbrev pub is_spent : Hash → List Hash → Bool
-is_spent id spent = list_any (λ d. same_hash d id) spent
+abbrev pub is_consumed : Hash → List Hash → Bool
+is_consumed id consumed = list_any (λ d. same_hash d id) consumed
 
 -- the first, and else the second
 abbrev pub first_found : Option Known → Option Known → Option Known
@@ -36,5 +36,5 @@ of_template packages template (Some k) = cond (template_eq.ghosts.eq k.instance.
 -- consumed it.
 unfoldable pub usable : Packages → List Known → Progress → Hash → TemplateName → Option Known
 usable packages known progress id template =
-    cond (is_spent id progress.spent) None
+    cond (is_consumed id progress.consumed) None
     (first_found (of_template packages template (find_known id known)) (of_template packages template (find_known id progress.created)))

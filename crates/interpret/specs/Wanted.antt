@@ -14,7 +14,7 @@ use Rattle.ledger_terms.specs.declared.limits.TheConstants.{MOST_ACTIONS, MOST_A
 use Rattle.ledger_model.specs.Language.{roles_of}
 use Rattle.ledger_model.specs.Conformance.{Demands, Possible}
 use Rattle.ledger_model.specs.Authority.{is_authorised, authorisers_below}
-use Rattle.ledger_model.specs.declared.step.Seen.{Seen}
+use Rattle.ledger_model.specs.declared.step.ChildResult.{ChildResult}
 use Rattle.lang_eval.specs.Found.{Packages}
 use Rattle.lang_eval.specs.Parts.{PartyNames}
 use Rattle.interpret.specs.declared.demand.Demand.{Demand}
@@ -23,7 +23,7 @@ use Rattle.interpret.specs.Ids.{Hash, child_seed, contract_id}
 use Rattle.interpret.specs.Language.{the_language}
 use Rattle.interpret.specs.Tested.{fetchers}
 use Rattle.interpret.specs.Usable.{usable}
-use Rattle.interpret.specs.Act.{Source, End, Child, body_source, step_of, with_action, with_created, with_spent}
+use Rattle.interpret.specs.Act.{Source, End, Child, body_source, step_of, with_action, with_created, with_consumed}
 use Rattle.interpret.specs.Commands.{commands_source}
 use Rattle.interpret.specs.Interpreted.{nothing_done}
 use Rattle.wire_form.specs.Encoded.{encoded_bytes}
@@ -53,7 +53,7 @@ pub record IsSound (packages : Packages) (known : List Known) (progress : Progre
 -- what a transaction did, with one more action
 abbrev pub after_action : Progress → Hash → Action → Progress
 after_action p seed (Create id i) = with_created (record { id = id; salt = seed; instance = i }) (with_action p)
-after_action p seed (Exercise id salt i choice args actors consuming result) = with_spent consuming id (with_action p)
+after_action p seed (Exercise id salt i choice args actors consuming result) = with_consumed consuming id (with_action p)
 after_action p seed (Fetch id salt i actors) = with_action p
 
 abbrev pub after : Progress → Act → Progress
@@ -86,7 +86,7 @@ result_of (Fetch id salt i actors) = UnitValue
 -- These trees are the rest of what a source asks for, after this progress, with so many levels left: each action is the
 -- one that is asked for, has the seed of its place, is sound, and has the consequences that its choice asks for; they end
 -- with the result.
-abbrev pub Wanted : Packages → List Known → ℕ → Source → Value → PartyNames → List Seen → Hash → List ℕ → ℕ → Progress → Actions → Type 0
+abbrev pub Wanted : Packages → List Known → ℕ → Source → Value → PartyNames → List ChildResult → Hash → List ℕ → ℕ → Progress → Actions → Type 0
 Wanted packages known left source result by seen seed path index progress NoRoots = source.turn index seen ≡ End result
 Wanted packages known left source result by seen seed path index progress (Root act consequences others) =
     ((demand : Demand) × (source.turn index seen ≡ Child demand) × Demands (Some (step_of demand)) act.action)
@@ -114,7 +114,8 @@ pub record IsTree (packages : Packages) (known : List Known) (left : ℕ) (progr
   pub demanded : Demands (Some (step_of demand)) node.root.action
   pub sound : IsSound packages known progress by node.root.seed node.root.action
   pub children : Wanted packages known (one_less left) (source_of packages path node.root.action) (result_of node.root.action)
-      (authorisers_below (roles_of (the_language packages)) node.root.action) [] node.root.seed path 0 (after_action progress node.root.seed node.root.action) node.below
+      (authorisers_below (roles_of (the_language packages)) node.root.action) [] node.root.seed path 0
+      (after_action progress node.root.seed node.root.action) node.below
 
 abbrev pub progress_with : Progress → ActionNode → Progress
 progress_with p n = after_all (after p n.root) (preorder n.below)

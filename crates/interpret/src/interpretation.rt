@@ -4,7 +4,7 @@ ghost use Rattle.ledger_terms.specs.Answers.{UnlessMemory};
 ghost use Rattle.interpret.specs.Commands.{args_have_kinds, called_demand, command_demand, command_turn, create_demand, exercise_demand, kind_of_arg};
 ghost use Rattle.interpret.specs.Interpreted.{if_small, interp, run_roots};
 ghost use Rattle.interpret.specs.Plain.{IsPlain};
-ghost use Rattle.interpret.specs.Shown.{turn_shown};
+ghost use Rattle.interpret.specs.TurnAnswers.{turn_shown};
 ghost use Rattle.interpret.specs.Stops.{StopsWith};
 ghost use Rattle.interpret.specs.Wanted.{IsWanted};
 

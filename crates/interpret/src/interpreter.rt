@@ -3,20 +3,21 @@ ghost use Rattle.std.specs.Prelude.{◌≡◌, ◌≢◌, ◌<◌, ◌-◌, [], 
 ghost use Rattle.ledger_terms.specs.Forest.{NoRoots};
 ghost use Rattle.ledger_terms.specs.declared.action.Action.TheVariants.{Exercise};
 ghost use Rattle.lang_eval.specs.Next.{next};
-ghost use Rattle.interpret.specs.Act.{act, action_answer, body_answer, body_source, do_create, do_demand, do_fetch, exercise_on, follow, most_children, turn_of};
-ghost use Rattle.interpret.specs.Shown.{turn_shown};
+ghost use Rattle.interpret.specs.Act.{act, action_answer, body_answer, body_source, do_create, do_demand, do_fetch, exercise_on, follow};
+ghost use Rattle.interpret.specs.Act.{most_children, turn_of};
+ghost use Rattle.interpret.specs.TurnAnswers.{turn_shown};
 
 use crate::command_fault::{CommandFault, copy_path, eval_fault};
 use crate::demand::Demand;
 use crate::ids::contract_id;
 use crate::place::Place;
-use crate::progress::{Progress, spend, usable};
-use crate::seen_of::what_is_seen;
+use crate::progress::{Progress, consume, usable};
+use crate::result_of_child::result_of_child;
 use crate::sizes::is_small_result;
 use crate::tested::{are_authorised, authorisers, call_controllers, created_signatories, fetchers};
 use crate::turn::Turn;
 use lang_eval::{Checked, EvalFault, is_consuming_call, next_step};
-use ledger_model::{ChoiceCall, SeenList, Step};
+use ledger_model::{ChildResultList, ChoiceCall, Step};
 use ledger_terms::limits::MOST_ACTIONS;
 use ledger_terms::{
     Act, Action, ActionNode, ActionNodeList, Exact, Hash, Instance, Known, KnownContracts, Name,
@@ -195,7 +196,12 @@ impl<K: KnownContracts> Interpreter<'_, K> {
     }
 
     /// What the body of a call does next, of the Exercise at a path.
-    fn turn(&self, call: &ChoiceCall, path: &Path, seen: &SeenList) -> Result<Turn, CommandFault>
+    fn turn(
+        &self,
+        call: &ChoiceCall,
+        path: &Path,
+        seen: &ChildResultList,
+    ) -> Result<Turn, CommandFault>
         ensures { result ≢ Err CommandFault.Memory → turn_shown result ≡ turn_of path.now (next self.now.checked.now call.now seen.now) }
     {
         match next_step(self.alloc, self.checked, call, seen) {
@@ -228,7 +234,7 @@ impl<K: KnownContracts> Interpreter<'_, K> {
             });
         }
         let consuming = is_consuming_call(self.checked, &call);
-        spend(progress, consuming, call.id)?;
+        consume(progress, consuming, call.id)?;
         let below = authorisers(self.alloc, self.checked, &call.instance, &actors)?;
         let mut children = ActionNodeList::new(self.alloc);
         let value = match self.follow(progress, place, &below, &call, &mut children) {
@@ -258,7 +264,7 @@ impl<K: KnownContracts> Interpreter<'_, K> {
             (body_source self.now.checked.now call.now place.now.path) (act (place.now.left - 1) self.now.checked.now (K.rows self.now.known.now))
             place.now.seed place.now.path by.now progress.old [] children.old 0 }
     {
-        let mut seen = SeenList::new(self.alloc);
+        let mut seen = ChildResultList::new(self.alloc);
         for index in 0..65u16 {
             let demand = match self.turn(call, &place.path, &seen) {
                 Ok(Turn::Child(demand)) => demand,
@@ -270,7 +276,7 @@ impl<K: KnownContracts> Interpreter<'_, K> {
                 Ok(child) => child,
                 Err(fault) => return Err(fault),
             };
-            seen.push(what_is_seen(&child.root.action)?)?;
+            seen.push(result_of_child(&child.root.action)?)?;
             children.push(child)?;
         }
         Err(CommandFault::TooMany {

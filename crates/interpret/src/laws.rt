@@ -97,7 +97,8 @@ pub fn reexecution_decides_conformance()
 
 /// Each action of a wanted transaction names only parties that packages, commands and known contracts name.
 pub fn wanted_transactions_name_no_other_parties()
-    ensures { (is_party : List ℕ → Bool) (packages : Packages) (known : List Known) (seed : Hash) (act_as : PartyNames) (commands : List Command) (forest : Actions)
+    ensures { (is_party : List ℕ → Bool) (packages : Packages) (known : List Known) (seed : Hash) (act_as : PartyNames)
+        (commands : List Command) (forest : Actions)
         → AreKnown is_party (parties_in_packages packages)
         → AreKnown is_party (parties_in_contracts known)
         → AreKnown is_party (parties_in_commands commands)

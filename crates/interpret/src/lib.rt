@@ -14,7 +14,7 @@ mod place;
 mod progress;
 mod references;
 mod replay;
-mod seen_of;
+mod result_of_child;
 mod sizes;
 mod tested;
 mod turn;

@@ -2,9 +2,9 @@
 ghost use Rattle.std.specs.Prelude.{◌≡◌, ◌&&◌, IfOk, OnOk, option_copied};
 ghost use Rattle.ledger_terms.specs.contracts.template_name.TemplateNamePartialEq.TheImpl as template_eq;
 ghost use Rattle.lang_eval.specs.Kinds.{has_kinds};
-ghost use Rattle.interpret.specs.Act.{with_spent};
+ghost use Rattle.interpret.specs.Act.{with_consumed};
 ghost use Rattle.interpret.specs.Interpreted.{nothing_done};
-ghost use Rattle.interpret.specs.Usable.{find_known, is_spent, of_template, usable};
+ghost use Rattle.interpret.specs.Usable.{find_known, is_consumed, of_template, usable};
 
 use lang_eval::{Checked, has_kinds};
 use ledger_terms::{Exact, Hash, Known, KnownContracts, KnownList, ListOf, TemplateName};
@@ -17,7 +17,7 @@ pub type HashList = ListOf<Hash>;
 #[derive(Drop)]
 pub struct Progress {
     pub created: KnownList,
-    pub spent: HashList,
+    pub consumed: HashList,
     pub count: usize,
 }
 
@@ -27,7 +27,7 @@ pub(crate) fn nothing_done(alloc: Global) -> Progress
 {
     Progress {
         created: KnownList::new(alloc),
-        spent: HashList::new(alloc),
+        consumed: HashList::new(alloc),
         count: 0,
     }
 }
@@ -38,10 +38,10 @@ fn find_created<'k>(created: &'k [Known], id: &Hash) -> Option<&'k Known>
     created.iter().find(|k| k.id == *id)
 }
 
-fn is_spent(spent: &[Hash], id: &Hash) -> bool
-    ensures { result ≡ is_spent id.now spent.now }
+fn is_consumed(consumed: &[Hash], id: &Hash) -> bool
+    ensures { result ≡ is_consumed id.now consumed.now }
 {
-    spent.iter().any(|d| *d == *id)
+    consumed.iter().any(|d| *d == *id)
 }
 
 fn has_template(checked: &Checked, template: TemplateName, known: &Known) -> bool
@@ -101,7 +101,7 @@ pub(crate) fn usable<K: KnownContracts>(
 ) -> Result<Option<Known>, AllocError>
     ensures { IfOk result (λ k. k ≡ usable checked.now (K.rows known.now) progress.now id.now template) }
 {
-    if is_spent(progress.spent.as_slice(), id) {
+    if is_consumed(progress.consumed.as_slice(), id) {
         return Ok(None);
     }
     match usable_known(checked, known, id, template) {
@@ -116,11 +116,11 @@ pub(crate) fn usable<K: KnownContracts>(
 }
 
 /// Notes a contract as consumed, where it is.
-pub(crate) fn spend(progress: &mut Progress, consuming: bool, id: Hash) -> Result<(), AllocError>
-    ensures { OnOk result (progress.new ≡ with_spent consuming id progress.old) }
+pub(crate) fn consume(progress: &mut Progress, consuming: bool, id: Hash) -> Result<(), AllocError>
+    ensures { OnOk result (progress.new ≡ with_consumed consuming id progress.old) }
 {
     if consuming {
-        progress.spent.push(id)?;
+        progress.consumed.push(id)?;
     }
     Ok(())
 }

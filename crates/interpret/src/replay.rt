@@ -8,13 +8,13 @@ ghost use Rattle.lang_eval.specs.Next.{next};
 ghost use Rattle.interpret.specs.Language.{the_language, same_truth, are_controllers, is_creatable, is_exercisable};
 ghost use Rattle.interpret.specs.Tries.{are_rest, asks, gives, has_none, is_demanded, is_done, is_possible, is_tree_possible};
 
-use crate::seen_of::what_is_seen;
+use crate::result_of_child::result_of_child;
 use crate::sizes::{are_small_args, is_small_instance, is_small_result};
 use lang_eval::{
     Checked, EvalFault, call_has_kinds, has_kinds, is_consuming_call, next_step, parties_of_choice,
     parties_of_created,
 };
-use ledger_model::{ChoiceCall, SeenList, Step};
+use ledger_model::{ChildResultList, ChoiceCall, Step};
 use ledger_terms::{
     Action, ActionNode, ActionNodeList, Exact, Hash, Instance, Name, PartySet, Value, ValueList,
 };
@@ -103,7 +103,7 @@ impl Replay<'_> {
     fn asks_for(
         &self,
         call: &ChoiceCall,
-        seen: &SeenList,
+        seen: &ChildResultList,
         action: &Action,
     ) -> Result<bool, AllocError>
         ensures { IfOk result (λ b. b ≡ asks (next self.now.checked.now call.now seen.now) action.now) }
@@ -119,7 +119,7 @@ impl Replay<'_> {
     fn ends_with(
         &self,
         call: &ChoiceCall,
-        seen: &SeenList,
+        seen: &ChildResultList,
         wanted: &Value,
     ) -> Result<bool, AllocError>
         ensures { IfOk result (λ b. b ≡ gives (next self.now.checked.now call.now seen.now) wanted.now) }
@@ -255,11 +255,12 @@ impl Replay<'_> {
     fn child_follows(
         &self,
         call: &ChoiceCall,
-        seen: &SeenList,
+        seen: &ChildResultList,
         node: &ActionNode,
     ) -> Result<bool, AllocError>
         ensures { IfOk result (λ b. b ≡
-            (asks (next self.now.checked.now call.now seen.now) node.now.root.action && is_tree_possible self.now.checked.now node.now.root.action node.now.below)) }
+            (asks (next self.now.checked.now call.now seen.now) node.now.root.action
+            && is_tree_possible self.now.checked.now node.now.root.action node.now.below)) }
     {
         if !self.asks_for(call, seen, &node.root.action)? {
             return Ok(false);
@@ -278,12 +279,12 @@ impl Replay<'_> {
     ) -> Result<bool, AllocError>
         ensures { IfOk result (λ b. b ≡ are_rest self.now.checked.now (BodyOf call.now wanted.now) [] children.now) }
     {
-        let mut seen = SeenList::new(self.alloc);
+        let mut seen = ChildResultList::new(self.alloc);
         for node in children.as_slice() {
             if !self.child_follows(call, &seen, node)? {
                 return Ok(false);
             }
-            seen.push(what_is_seen(&node.root.action)?)?;
+            seen.push(result_of_child(&node.root.action)?)?;
         }
         self.ends_with(call, &seen, wanted)
     }

@@ -47,5 +47,7 @@ counted_of item_of at limit d = do
   walk_items (counted_step item_of at) 0 ([], 0) items
 
 -- what a call gives after a count within the bound follows the definition
-pub record CountsBy {A : Type 0} (bound : ℕ) (post : Bor Value → Bor (List ℕ) → ℕ → Result (A × ℕ) WalkFault → Type 0) (item_of : ℕ → Place → Data → Result (A × ℕ) WalkFault) : Type 0 where
-  pub each : (v : Bor Value) (at : Bor (List ℕ)) (n : ℕ) (r : Result (A × ℕ) WalkFault) → n ≤ bound → post v at n r → Follows Memory r (item_of n at.now (view v.now))
+pub record CountsBy {A : Type 0} (bound : ℕ) (post : Bor Value → Bor (List ℕ) → ℕ → Result (A × ℕ) WalkFault → Type 0)
+    (item_of : ℕ → Place → Data → Result (A × ℕ) WalkFault) : Type 0 where
+  pub each : (v : Bor Value) (at : Bor (List ℕ)) (n : ℕ) (r : Result (A × ℕ) WalkFault) → n ≤ bound → post v at n r
+      → Follows Memory r (item_of n at.now (view v.now))

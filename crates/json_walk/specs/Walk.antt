@@ -1,7 +1,8 @@
 -- Reading as a function from a JSON value to what it says or its first fault. The order of a definition is the order of the
 -- walk. `x_of` is what a value says, `x_in` what a member of an object says, `x_if` and `x_or` what stands for a member that is
 -- absent, `x_named` what a word names.
-use Rattle.std.specs.Prelude.{ℕ, ℤ, pos, negsuc, ◌+◌, ◌&&◌, ◌||◌, Bool, true, false, List, nat_le, if◌then◌else◌, Option, Some, None, Result, Ok, Err, is_some, ok_or, ⊤}
+use Rattle.std.specs.Prelude.{ℕ, ℤ, pos, negsuc, ◌+◌, ◌&&◌, ◌||◌, Bool, true, false, List, nat_le, if◌then◌else◌, Option, Some, None}
+use Rattle.std.specs.Prelude.{Result, Ok, Err, is_some, ok_or, ⊤}
 use Rattle.std.specs.List.{list_all}
 use Rattle.std.specs.Str.{is_utf8}
 use Rattle.ledger_terms.specs.Answers.{◌>>=◌, check}

@@ -135,7 +135,8 @@ fn push_counted<T: Drop, F: Fn(&Value, &Place, u64) -> Result<(T, u64), WalkFaul
 ) -> Result<u64, WalkFault>
     requires few { before ≤ bound }
     requires callable { (v : Bor Value) (p : Bor (List ℕ)) (n : ℕ) → n ≤ bound → F.pre read_item.now v p n }
-    requires within { (v : Bor Value) (p : Bor (List ℕ)) (n : ℕ) (r : Result _ WalkFault) → n ≤ bound → F.post read_item.now v p n r → IfOk r (λ s. s.1 ≤ bound) }
+    requires within { (v : Bor Value) (p : Bor (List ℕ)) (n : ℕ) (r : Result _ WalkFault) → n ≤ bound → F.post read_item.now v p n r
+        → IfOk r (λ s. s.1 ≤ bound) }
     ensures read { (item_of : ℕ → List ℕ → Data → Result _ WalkFault) → CountsBy bound (F.post read_item.now) item_of
         → FollowsAs WalkFault.Memory (λ n. (list.new, n)) result (counted_item item_of here.now (list.old, before) (view value.now)) }
     ensures few { IfOk result (λ n. n ≤ bound) }
@@ -153,7 +154,8 @@ fn read_each_counted<T: Drop, F: Fn(&Value, &Place, u64) -> Result<(T, u64), Wal
     read_item: &F,
 ) -> Result<(ListOf<T>, u64), WalkFault>
     requires callable { (v : Bor Value) (p : Bor (List ℕ)) (n : ℕ) → n ≤ bound → F.pre read_item.now v p n }
-    requires within { (v : Bor Value) (p : Bor (List ℕ)) (n : ℕ) (r : Result _ WalkFault) → n ≤ bound → F.post read_item.now v p n r → IfOk r (λ s. s.1 ≤ bound) }
+    requires within { (v : Bor Value) (p : Bor (List ℕ)) (n : ℕ) (r : Result _ WalkFault) → n ≤ bound → F.post read_item.now v p n r
+        → IfOk r (λ s. s.1 ≤ bound) }
     ensures { (item_of : ℕ → List ℕ → Data → Result _ WalkFault) → CountsBy bound (F.post read_item.now) item_of
         → Follows WalkFault.Memory result (walk_items (counted_step item_of at.now) 0 ([], 0) (items_view items.now)) }
 {

@@ -8,7 +8,7 @@ use Rattle.ledger_terms.specs.declared.template_name.TemplateName.{TemplateName}
 use Rattle.ledger_terms.specs.Packages.{TemplateForm, ChoiceForm}
 use Rattle.ledger_terms.specs.Syntax.{ExprForm}
 use Rattle.ledger_model.specs.declared.step.ChoiceCall.{ChoiceCall}
-use Rattle.ledger_model.specs.declared.step.Seen.{Seen}
+use Rattle.ledger_model.specs.declared.step.ChildResult.{ChildResult}
 use Rattle.ledger_model.specs.declared.step.Step.{Step}
 use Rattle.ledger_model.specs.declared.step.Step.TheVariants.{Done}
 use Rattle.lang_eval.specs.declared.eval_fault.EvalFault.{EvalFault}
@@ -33,19 +33,19 @@ use Rattle.lang_check.proofs.Refuted.{body_refuted, body_fails}
 use Rattle.lang_check.proofs.Lookups.{template_checked, template_more, template_typed, in_template, mapped_template, choice_checked, choice_typed}
 use Rattle.lang_check.proofs.NoteTyped.{with_note}
 
-answer_at : (packages : Packages) (call : ChoiceCall) (seen before so_far : List Seen) (s : Seen) (after : List Seen) → AreAnswers packages call so_far seen
+answer_at : (packages : Packages) (call : ChoiceCall) (seen before so_far : List ChildResult) (s : ChildResult) (after : List ChildResult) → AreAnswers packages call so_far seen
     → seen ≡ before ++ s ∷ after → (step : Step) × (next packages call (so_far ++ before) ≡ Ok step) × IsAnswer packages step s
 answer_at packages call [] [] so_far s after h e = absurd (let other : [] ≡ s ∷ after = e in cc)
 answer_at packages call [] (b ∷ before) so_far s after h e = absurd (let other : [] ≡ b ∷ (before ++ s ∷ after) = e in cc)
 answer_at packages call (x ∷ seen) [] so_far s after h e =
     let same : x ≡ s = cc in
-    (h.0.0, ap (λ (l : List Seen). next packages call l) (append-nil so_far) ∙ h.0.1, subst (λ (s : Seen). IsAnswer packages h.0.0 s) same h.0.2)
+    (h.0.0, ap (λ (l : List ChildResult). next packages call l) (append-nil so_far) ∙ h.0.1, subst (λ (s : ChildResult). IsAnswer packages h.0.0 s) same h.0.2)
 answer_at packages call (x ∷ seen) (b ∷ before) so_far s after h e =
     let same : x ≡ b = cc in
     let rest : seen ≡ before ++ s ∷ after = cc in
     let g = answer_at packages call seen before (so_far ++ x ∷ []) s after h.1 rest in
-    let places = ap (λ (y : Seen). so_far ++ y ∷ before) (sym same) ∙ sym (append_assoc so_far (x ∷ []) before) in
-    (g.0, ap (λ (l : List Seen). next packages call l) places ∙ g.1, g.2)
+    let places = ap (λ (y : ChildResult). so_far ++ y ∷ before) (sym same) ∙ sym (append_assoc so_far (x ∷ []) before) in
+    (g.0, ap (λ (l : List ChildResult). next packages call l) places ∙ g.1, g.2)
 
 names_kinds : (t : TemplateForm) (c : ChoiceForm) (call : ChoiceCall) → have_kinds call.instance.fields t.fields ≡ true
     → have_kinds call.args c.params ≡ true → kinds_in (names_of t c call) ≡ body_scope t c
@@ -57,7 +57,7 @@ steps_on : (c : ChoiceForm) (r : Ran) → then_on r (λ n l. Stopped (with_value
 steps_on c (Stopped r) = refl
 steps_on c (Went n l) = refl
 
-next_is : (packages : Packages) (call : ChoiceCall) (seen : List Seen) (t : TemplateForm) (c : ChoiceForm)
+next_is : (packages : Packages) (call : ChoiceCall) (seen : List ChildResult) (t : TemplateForm) (c : ChoiceForm)
     → template_in call.instance.template packages ≡ Some t → choice_in call.instance.template call.choice packages ≡ Some c
     → next packages call seen ≡ next_of t c packages call seen
 unfolding next
@@ -86,15 +86,15 @@ known_choice p packages h t template name c e k =
     let typed = template_typed (p ++ h.0) t template h.1 (template_more t p h.0 template e) in
     ap (λ (o : Option TemplateForm). choice_of o name) (known_template p packages h t template e) ∙ choice_checked typed.0 template name c typed.3 k
 
-body_of_choice : (packages p : Packages) (first : AreFirst p packages) (t : TemplateForm) (c : ChoiceForm) (call : ChoiceCall) (seen : List Seen)
+body_of_choice : (packages p : Packages) (first : AreFirst p packages) (t : TemplateForm) (c : ChoiceForm) (call : ChoiceCall) (seen : List ChildResult)
     (step : Step) → template_in call.instance.template packages ≡ Some (with_archive t) → choice_in call.instance.template call.choice packages ≡ Some c
     → have_kinds call.instance.fields t.fields ≡ true → have_kinds call.args c.params ≡ true → IsBody p t c → AreAnswers packages call [] seen
     → next packages call seen ≡ Ok step → IsAsked packages c.returns step
 unfolding Answered
 body_of_choice packages p first t c call seen step there chosen fields args body answers h =
     let names = names_of (with_archive t) c call in
-    let rest = λ (n : Names) (l : List Seen). Stopped (with_value (val c.result n) (λ v. Ok (Done v))) in
-    let steps = λ (seen : List Seen). steps_on c (ran_all c.body packages names seen) ∙ ap (λ (r : Result Step EvalFault). Stopped r)
+    let rest = λ (n : Names) (l : List ChildResult). Stopped (with_value (val c.result n) (λ v. Ok (Done v))) in
+    let steps = λ (seen : List ChildResult). steps_on c (ran_all c.body packages names seen) ∙ ap (λ (r : Result Step EvalFault). Stopped r)
     (sym (next_is packages call seen (with_archive t) c there chosen)) in
     let scope = names_kinds (with_archive t) c call fields args in
     body_asks packages p (known_template p packages first) (known_choice p packages first) c.returns c.body c.result names body.0 seen step
@@ -104,19 +104,19 @@ body_of_choice packages p first t c call seen step there chosen fields args body
     (g.0, steps before ∙ ap (λ (r : Result Step EvalFault). Stopped r) g.1, g.2))
     (steps seen ∙ ap (λ (r : Result Step EvalFault). Stopped r) h)
 
-answered_steps : (packages : Packages) (t : TemplateForm) (c : ChoiceForm) (call : ChoiceCall) (seen : List Seen)
+answered_steps : (packages : Packages) (t : TemplateForm) (c : ChoiceForm) (call : ChoiceCall) (seen : List ChildResult)
     → template_in call.instance.template packages ≡ Some t → choice_in call.instance.template call.choice packages ≡ Some c
     → AreAnswers packages call [] seen → Answered packages
     (λ seen. then_on (ran_all c.body packages (names_of t c call) seen) (λ n l. Stopped (with_value (val c.result n) (λ v. Ok (Done v))))) seen
 unfolding Answered
 answered_steps packages t c call seen there chosen answers =
-    let steps = λ (seen : List Seen). steps_on c (ran_all c.body packages (names_of t c call) seen) ∙ ap (λ (r : Result Step EvalFault). Stopped r)
+    let steps = λ (seen : List ChildResult). steps_on c (ran_all c.body packages (names_of t c call) seen) ∙ ap (λ (r : Result Step EvalFault). Stopped r)
     (sym (next_is packages call seen t c there chosen)) in
     λ before s after is.
     let g = answer_at packages call seen before [] s after answers is in
     (g.0, steps before ∙ ap (λ (r : Result Step EvalFault). Stopped r) g.1, g.2)
 
-pub body_defaults : (packages : Packages) (call : ChoiceCall) (t : TemplateForm) (c : ChoiceForm) (seen : List Seen) → AreChecked packages
+pub body_defaults : (packages : Packages) (call : ChoiceCall) (t : TemplateForm) (c : ChoiceForm) (seen : List ChildResult) → AreChecked packages
     → template_in call.instance.template packages ≡ Some t → choice_in call.instance.template call.choice packages ≡ Some c
     → has_kinds packages call.instance ≡ true → have_kinds call.args c.params ≡ true → AreAnswers packages call [] seen
     → BodyTakesNoDefault t c packages call seen
@@ -141,14 +141,14 @@ body_defaults packages call t c seen checked there chosen kinds args answers =
     let scope : kinds_in (names_of t c call) ≡ body_scope m.0 c = names_kinds t c call fields args ∙ sym given in
     let ends = subst (λ (s : Scope). AreTyped c.body typed.0 s body.0) (sym scope) body.1 in
     let steps = answered_steps packages t c call seen there chosen answers in
-    let rest = λ (n : Names) (l : List Seen). Stopped (with_value (val c.result n) (λ v. Ok (Done v))) in (
+    let rest = λ (n : Names) (l : List ChildResult). Stopped (with_value (val c.result n) (λ v. Ok (Done v))) in (
       all_no_default packages typed.0 (known_template typed.0 packages first) (known_choice typed.0 packages first) c.body (names_of t c call) body.0 rest
           seen ends steps,
       λ n l is. result_no_default packages typed.0 (known_template typed.0 packages first) (known_choice typed.0 packages first) c.body c.result c.returns
           (names_of t c call) body.0 rest seen ends body.2 steps n l is,
     )
 
-pub body_asserts : (packages : Packages) (call : ChoiceCall) (t : TemplateForm) (c : ChoiceForm) (seen : List Seen) → AreChecked packages
+pub body_asserts : (packages : Packages) (call : ChoiceCall) (t : TemplateForm) (c : ChoiceForm) (seen : List ChildResult) → AreChecked packages
     → template_in call.instance.template packages ≡ Some t → choice_in call.instance.template call.choice packages ≡ Some c
     → has_kinds packages call.instance ≡ true → have_kinds call.args c.params ≡ true → AreAnswers packages call [] seen
     → (next packages call seen ≡ Err AssertFault) ↔ AreRefuted c.body packages (names_of t c call) seen
@@ -157,7 +157,7 @@ body_asserts packages call t c seen checked there chosen kinds args answers =
     let is = next_is packages call seen t c there chosen in
     (λ h. body_refuted c packages (names_of t c call) seen d.0 (sym is ∙ h), λ h. is ∙ body_fails c packages (names_of t c call) seen h)
 
-pub call_asks : (packages : Packages) (call : ChoiceCall) (c : ChoiceForm) (seen : List Seen) (step : Step) → AreChecked packages
+pub call_asks : (packages : Packages) (call : ChoiceCall) (c : ChoiceForm) (seen : List ChildResult) (step : Step) → AreChecked packages
     → choice_in call.instance.template call.choice packages ≡ Some c → has_kinds packages call.instance ≡ true → have_kinds call.args c.params ≡ true
     → AreAnswers packages call [] seen → next packages call seen ≡ Ok step → IsAsked packages c.returns step
 call_asks packages call c seen step checked chosen kinds args answers h =

@@ -8,7 +8,7 @@ use Rattle.ledger_terms.specs.declared.field_decl.FieldDecl.{FieldDecl}
 use Rattle.ledger_terms.specs.declared.template_name.TemplateName.{TemplateName}
 use Rattle.ledger_terms.specs.Syntax.{ExprForm, ExprForms, Literal, Var, Add, Sub, Mul, Less, LessEq, Equal, Both, Either, Negate, Cond, Cat, SetOf, Union, Has, NoExprs, MoreExprs, StmtForm, StmtForms, Bind, Assert, Create, Exercise, Fetch, When, NoStmts, MoreStmts}
 use Rattle.ledger_terms.specs.Packages.{TemplateForm, ChoiceForm}
-use Rattle.ledger_model.specs.declared.step.Seen.{Seen}
+use Rattle.ledger_model.specs.declared.step.ChildResult.{ChildResult}
 use Rattle.lang_eval.specs.declared.binding.Binding.{Binding}
 use Rattle.lang_eval.specs.Names.{Names, binding_of}
 use Rattle.lang_eval.specs.Value.{val, truth}
@@ -110,7 +110,7 @@ module _ (packages p : Packages)
     (choices : (t : TemplateName) (template : TemplateForm) (name : List ℕ) (c : ChoiceForm) → template_in t p ≡ Some template
     → choice_named template name ≡ Some c → choice_in t name packages ≡ Some c) where
   mutual
-    stmt_no_default : (s : StmtForm) (names : Names) (after : Scope) (rest : Names → List Seen → Ran) (seen : List Seen) → IsTyped s p (kinds_in names) after
+    stmt_no_default : (s : StmtForm) (names : Names) (after : Scope) (rest : Names → List ChildResult → Ran) (seen : List ChildResult) → IsTyped s p (kinds_in names) after
         → Answered packages (λ seen. then_on (ran s packages names seen) rest) seen → RunsWithoutDefault s packages names seen
     stmt_no_default (Bind x e) names after rest seen t a = no_default e names t.0 t.1
     stmt_no_default (Assert e) names after rest seen t a = operand e names BoolKind t.0
@@ -119,7 +119,7 @@ module _ (packages p : Packages)
         ((t.2, choices n t.0 choice t.2 t.1 t.3), operand e names ContractKind t.4, no_defaults args names t.2.params t.5)
     stmt_no_default (Fetch x n e) names after rest seen t a = ((with_archive t.0, templates n t.0 t.1), operand e names ContractKind t.2)
     stmt_no_default (When e first second) names after rest seen t a =
-        let inside = λ (n : Names) (l : List Seen). rest (take (length names) n) l in (
+        let inside = λ (n : Names) (l : List ChildResult). rest (take (length names) n) l in (
           operand e names BoolKind t.0,
           (λ h. all_no_default first names t.1.0 inside seen t.1.1
               (side_answered packages p templates choices true first second names rest seen (truth e names) (truth_is e names true h) a)),
@@ -127,12 +127,12 @@ module _ (packages p : Packages)
               (side_answered packages p templates choices false first second names rest seen (truth e names) (truth_is e names false h) a)),
         )
 
-    pub all_no_default : (ss : StmtForms) (names : Names) (end : Scope) (rest : Names → List Seen → Ran) (seen : List Seen)
+    pub all_no_default : (ss : StmtForms) (names : Names) (end : Scope) (rest : Names → List ChildResult → Ran) (seen : List ChildResult)
         → AreTyped ss p (kinds_in names) end → Answered packages (λ seen. then_on (ran_all ss packages names seen) rest) seen
         → RunWithoutDefault ss packages names seen
     all_no_default NoStmts names end rest seen t a = tt
     all_no_default (MoreStmts s ss) names end rest seen t a =
-        let k = λ (n : Names) (l : List Seen). ran_all ss packages n l in
+        let k = λ (n : Names) (l : List ChildResult). ran_all ss packages n l in
         let both = answered_same packages (λ seen. then_on (then_on (ran s packages names seen) k) rest)
         (λ seen. then_on (ran s packages names seen) (λ n l. then_on (k n l) rest)) seen seen
         (λ before. then_on_then_on (ran s packages names before) k rest) refl a in (
@@ -142,9 +142,9 @@ module _ (packages p : Packages)
               all_no_default ss n end rest l (subst (λ (scope : Scope). AreTyped ss p scope end) (sym f.0) t.2) f.1,
         )
 
-  pub result_no_default : (body : StmtForms) (result : ExprForm) (returns : Kind) (names : Names) (end : Scope) (rest : Names → List Seen → Ran)
-      (seen : List Seen) → AreTyped body p (kinds_in names) end → HasKind result end returns
-      → Answered packages (λ seen. then_on (ran_all body packages names seen) rest) seen → (n : Names) (l : List Seen)
+  pub result_no_default : (body : StmtForms) (result : ExprForm) (returns : Kind) (names : Names) (end : Scope) (rest : Names → List ChildResult → Ran)
+      (seen : List ChildResult) → AreTyped body p (kinds_in names) end → HasKind result end returns
+      → Answered packages (λ seen. then_on (ran_all body packages names seen) rest) seen → (n : Names) (l : List ChildResult)
       → ran_all body packages names seen ≡ Went n l → TakesNoDefault result n
   result_no_default body result returns names end rest seen t u a n l is =
       let f = all_go_on packages p templates choices body names end rest seen n l t a is in

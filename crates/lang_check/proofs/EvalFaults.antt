@@ -8,7 +8,7 @@ use Rattle.ledger_terms.specs.contracts.value.ValuePartialEq.TheImpl as value_eq
 use Rattle.ledger_terms.specs.Packages.{TemplateForm, ChoiceForm}
 use Rattle.ledger_terms.specs.Syntax.{ExprForm, ExprForms, Literal, Var, Add, Sub, Mul, Less, LessEq, Equal, Both, Either, Negate, Cond, Cat, SetOf, Union, Has, NoExprs, MoreExprs, StmtForm, StmtForms, Bind, Assert, Create, Exercise, Fetch, When, NoStmts, MoreStmts}
 use Rattle.ledger_model.specs.declared.step.ChoiceCall.{ChoiceCall}
-use Rattle.ledger_model.specs.declared.step.Seen.{Seen}
+use Rattle.ledger_model.specs.declared.step.ChildResult.{ChildResult}
 use Rattle.ledger_model.specs.declared.step.Step.{Step}
 use Rattle.ledger_model.specs.declared.step.Step.TheVariants.{Create as CreateNext, Exercise as ExerciseNext, Fetch as FetchNext, Done}
 use Rattle.lang_eval.specs.declared.eval_fault.EvalFault.{EvalFault}
@@ -154,12 +154,12 @@ unfolding Ends Met
 value_ends (Ok v) go h k = k v
 value_ends (Err e) go h k = h
 
-asserted_ends : (b : Bool) (names : Names) (seen : List Seen) → Ends (asserted b (Went names seen))
+asserted_ends : (b : Bool) (names : Names) (seen : List ChildResult) → Ends (asserted b (Went names seen))
 unfolding Ends Met
 asserted_ends true names seen = tt
 asserted_ends false names seen = tt
 
-taken_ends : (r : Result Step EvalFault) (binds : Seen → Names) (seen : List Seen) → Met IsOfBodies r → Ends (taken r binds seen)
+taken_ends : (r : Result Step EvalFault) (binds : ChildResult → Names) (seen : List ChildResult) → Met IsOfBodies r → Ends (taken r binds seen)
 unfolding Ends
 taken_ends r binds [] h = h
 taken_ends r binds (s ∷ seen) h = tt
@@ -169,7 +169,7 @@ unfolding Ends
 closed_ends names (Stopped r) h = h
 closed_ends names (Went n l) h = tt
 
-then_ends : (r : Ran) (rest : Names → List Seen → Ran) → Ends r → ((n : Names) (l : List Seen) → Ends (rest n l)) → Ends (then_on r rest)
+then_ends : (r : Ran) (rest : Names → List ChildResult → Ran) → Ends r → ((n : Names) (l : List ChildResult) → Ends (rest n l)) → Ends (then_on r rest)
 unfolding Ends
 then_ends (Stopped r) rest h k = h
 then_ends (Went n l) rest h k = k n l
@@ -181,7 +181,7 @@ sides_end false x y h k = k
 mutual
   unfolding Ends
 
-  ran_ends : (s : StmtForm) (p : Packages) (names : Names) (seen : List Seen) → Ends (ran s p names seen)
+  ran_ends : (s : StmtForm) (p : Packages) (names : Names) (seen : List ChildResult) → Ends (ran s p names seen)
   ran_ends (Bind x e) p names seen = value_ends (val e names) (λ v. Went (bound_to x v names) seen) (weaker (val e names) (val_met e names)) (λ v. tt)
   ran_ends (Assert e) p names seen = value_ends (truth e names) (λ b. asserted b (Went names seen)) (weaker (truth e names) (truth_met e names))
       (λ b. asserted_ends b names seen)
@@ -205,7 +205,7 @@ mutual
       (λ b. closed_ends names (cond b (ran_all first p names seen) (ran_all second p names seen))
       (sides_end b (ran_all first p names seen) (ran_all second p names seen) (all_end first p names seen) (all_end second p names seen)))
 
-  all_end : (ss : StmtForms) (p : Packages) (names : Names) (seen : List Seen) → Ends (ran_all ss p names seen)
+  all_end : (ss : StmtForms) (p : Packages) (names : Names) (seen : List ChildResult) → Ends (ran_all ss p names seen)
   all_end NoStmts p names seen = tt
   all_end (MoreStmts s ss) p names seen = then_ends (ran s p names seen) (λ n l. ran_all ss p n l) (ran_ends s p names seen) (λ n l. all_end ss p n l)
 
@@ -214,13 +214,13 @@ unfolding Ends
 ended_met c (Stopped r) h = h
 ended_met c (Went n l) h = step IsOfBodies (val c.result n) (λ v. Ok (Done v)) (weaker (val c.result n) (val_met c.result n)) (λ v. met IsOfBodies (Done v))
 
-found_met : (t : Option TemplateForm) (c : Option ChoiceForm) (p : Packages) (call : ChoiceCall) (seen : List Seen) → Met IsOfBodies (next_in t c p call seen)
+found_met : (t : Option TemplateForm) (c : Option ChoiceForm) (p : Packages) (call : ChoiceCall) (seen : List ChildResult) → Met IsOfBodies (next_in t c p call seen)
 unfolding Met
 found_met None c p call seen = tt
 found_met (Some t) None p call seen = tt
 found_met (Some t) (Some c) p call seen = ended_met c (ran_all c.body p (names_of t c call) seen) (all_end c.body p (names_of t c call) seen)
 
-next_met : (p : Packages) (call : ChoiceCall) (seen : List Seen) → Met IsOfBodies (next p call seen)
+next_met : (p : Packages) (call : ChoiceCall) (seen : List ChildResult) → Met IsOfBodies (next p call seen)
 unfolding next
 next_met p call seen =
     found_met (template_in call.instance.template p) (choice_in call.instance.template call.choice p) p call seen
@@ -233,7 +233,7 @@ fault_met P (Err g) f h e = let same : g ≡ f = cc in subst P same h
 pub val_fault : (e : ExprForm) (names : Names) (f : EvalFault) → val e names ≡ Err f → IsOverLimit f
 val_fault e names f h = fault_met IsOverLimit (val e names) f (val_met e names) h
 
-pub next_fault : (p : Packages) (call : ChoiceCall) (seen : List Seen) (f : EvalFault) → next p call seen ≡ Err f → IsOfBodies f
+pub next_fault : (p : Packages) (call : ChoiceCall) (seen : List ChildResult) (f : EvalFault) → next p call seen ≡ Err f → IsOfBodies f
 next_fault p call seen f h = fault_met IsOfBodies (next p call seen) f (next_met p call seen) h
 
 pub over_limit_no_memory : (f : EvalFault) → IsOverLimit f → f ≢ Memory

@@ -6,7 +6,7 @@ use Rattle.ledger_terms.specs.declared.value.Value.TheVariants.{Bool as BoolValu
 use Rattle.ledger_terms.specs.declared.template_name.TemplateName.{TemplateName}
 use Rattle.ledger_terms.specs.Syntax.{ExprForm, ExprForms, StmtForm, StmtForms, Bind, Assert, Create, Exercise, Fetch, When, NoStmts, MoreStmts}
 use Rattle.ledger_terms.specs.Packages.{ChoiceForm}
-use Rattle.ledger_model.specs.declared.step.Seen.{Seen}
+use Rattle.ledger_model.specs.declared.step.ChildResult.{ChildResult}
 use Rattle.ledger_model.specs.declared.step.Step.{Step}
 use Rattle.ledger_model.specs.declared.step.Step.TheVariants.{Create as CreateNext, Exercise as ExerciseNext, Fetch as FetchNext, Done}
 use Rattle.lang_eval.specs.declared.eval_fault.EvalFault.{EvalFault}
@@ -30,7 +30,7 @@ truth_of : (e : ExprForm) (names : Names) (b : Bool) → val e names ≡ Ok (Boo
 truth_of e names b h = rw h refl
 
 mutual
-  stops_there : (s : StmtForm) (p : Packages) (names : Names) (seen : List Seen) → IsRefuted s p names seen → ran s p names seen ≡ Stopped failed
+  stops_there : (s : StmtForm) (p : Packages) (names : Names) (seen : List ChildResult) → IsRefuted s p names seen → ran s p names seen ≡ Stopped failed
   stops_there (Bind x e) p names seen h = absurd h
   stops_there (Assert e) p names seen h = ap (λ (r : Result Bool EvalFault). on_value r (λ b. asserted b (Went names seen))) (truth_of e names false h)
   stops_there (Create x t fields) p names seen h = absurd h
@@ -45,7 +45,7 @@ mutual
       (truth_of e names false h.0)
       ∙ ap (closed names) (stop_there second p names seen h.1)
 
-  stop_there : (ss : StmtForms) (p : Packages) (names : Names) (seen : List Seen) → AreRefuted ss p names seen → ran_all ss p names seen ≡ Stopped failed
+  stop_there : (ss : StmtForms) (p : Packages) (names : Names) (seen : List ChildResult) → AreRefuted ss p names seen → ran_all ss p names seen ≡ Stopped failed
   stop_there NoStmts p names seen h = absurd h
   stop_there (MoreStmts s ss) p names seen (inl h) = ap (λ (r : Ran). then_on r (λ n l. ran_all ss p n l)) (stops_there s p names seen h)
   stop_there (MoreStmts s ss) p names seen (inr h) = ap (λ (r : Ran). then_on r (λ n l. ran_all ss p n l)) h.2 ∙ stop_there ss p h.0 h.1 h.3
@@ -59,7 +59,7 @@ no_assert r m h = absurd (fault_met IsOverLimit r AssertFault m h)
 stopped_same : (r q : Result Step EvalFault) → Stopped r ≡ Stopped q → r ≡ q
 stopped_same r q h = cc
 
-went_stopped : {B : Type 0} (n : Names) (l : List Seen) (q : Result Step EvalFault) → Went n l ≡ Stopped q → B
+went_stopped : {B : Type 0} (n : Names) (l : List ChildResult) (q : Result Step EvalFault) → Went n l ≡ Stopped q → B
 went_stopped n l q h = absurd (let other : Went n l ≡ Stopped q = h in cc)
 
 value_failed : {A : Type 0} (r : Result A EvalFault) (go : A → Ran) → Met IsOverLimit r → on_value r go ≡ Stopped failed
@@ -70,11 +70,11 @@ value_failed (Err e) go m h =
     let fault : e ≡ AssertFault = cc in
     no_assert (Err e) m (ap (λ (f : EvalFault). Err f) fault)
 
-asserted_failed : (b : Bool) (n : Names) (l : List Seen) → asserted b (Went n l) ≡ Stopped failed → b ≡ false
+asserted_failed : (b : Bool) (n : Names) (l : List ChildResult) → asserted b (Went n l) ≡ Stopped failed → b ≡ false
 asserted_failed true n l h = went_stopped n l failed h
 asserted_failed false n l h = refl
 
-taken_failed : (r : Result Step EvalFault) (binds : Seen → Names) (seen : List Seen) → taken r binds seen ≡ Stopped failed → r ≡ failed
+taken_failed : (r : Result Step EvalFault) (binds : ChildResult → Names) (seen : List ChildResult) → taken r binds seen ≡ Stopped failed → r ≡ failed
 taken_failed r binds [] h = stopped_same r failed h
 taken_failed r binds (s ∷ seen) h = went_stopped (binds s) seen failed h
 
@@ -82,8 +82,8 @@ closed_failed : (names : Names) (r : Ran) → closed names r ≡ Stopped failed 
 closed_failed names (Stopped r) h = h
 closed_failed names (Went n l) h = went_stopped (take (length names) n) l failed h
 
-then_failed : (r : Ran) (k : Names → List Seen → Ran) (A : Type 0) → (r ≡ Stopped failed → A)
-    → ((n : Names) (l : List Seen) → r ≡ Went n l → k n l ≡ Stopped failed → A) → then_on r k ≡ Stopped failed → A
+then_failed : (r : Ran) (k : Names → List ChildResult → Ran) (A : Type 0) → (r ≡ Stopped failed → A)
+    → ((n : Names) (l : List ChildResult) → r ≡ Went n l → k n l ≡ Stopped failed → A) → then_on r k ≡ Stopped failed → A
 then_failed (Stopped r) k A stop go h = stop h
 then_failed (Went n l) k A stop go h = go n l refl h
 
@@ -129,7 +129,7 @@ in_side true x y A f g h = f refl h
 in_side false x y A f g h = g refl h
 
 mutual
-  refuted : (s : StmtForm) (p : Packages) (names : Names) (seen : List Seen) → RunsWithoutDefault s p names seen → ran s p names seen ≡ Stopped failed
+  refuted : (s : StmtForm) (p : Packages) (names : Names) (seen : List ChildResult) → RunsWithoutDefault s p names seen → ran s p names seen ≡ Stopped failed
       → IsRefuted s p names seen
   refuted (Bind x e) p names seen d h =
       let g = value_failed (val e names) (λ v. Went (bound_to x v names) seen) (val_met e names) h in
@@ -154,7 +154,7 @@ mutual
       (λ is h. inr (test false is, are_refuted second p names seen (d.2 (test false is)) h))
       (closed_failed names (cond g.0 (ran_all first p names seen) (ran_all second p names seen)) g.2)
 
-  are_refuted : (ss : StmtForms) (p : Packages) (names : Names) (seen : List Seen) → RunWithoutDefault ss p names seen
+  are_refuted : (ss : StmtForms) (p : Packages) (names : Names) (seen : List ChildResult) → RunWithoutDefault ss p names seen
       → ran_all ss p names seen ≡ Stopped failed → AreRefuted ss p names seen
   are_refuted NoStmts p names seen d h = went_stopped names seen failed h
   are_refuted (MoreStmts s ss) p names seen d h =
@@ -170,10 +170,10 @@ ended_failed c (Went n l) h =
     no_assert (with_value (val c.result n) (λ v. Ok (Done v)))
     (step IsOverLimit (val c.result n) (λ v. Ok (Done v)) (val_met c.result n) (λ v. met IsOverLimit (Done v))) h
 
-pub body_refuted : (c : ChoiceForm) (p : Packages) (names : Names) (seen : List Seen) → RunWithoutDefault c.body p names seen
+pub body_refuted : (c : ChoiceForm) (p : Packages) (names : Names) (seen : List ChildResult) → RunWithoutDefault c.body p names seen
     → ended c (ran_all c.body p names seen) ≡ failed → AreRefuted c.body p names seen
 body_refuted c p names seen d h = are_refuted c.body p names seen d (ended_failed c (ran_all c.body p names seen) h)
 
-pub body_fails : (c : ChoiceForm) (p : Packages) (names : Names) (seen : List Seen) → AreRefuted c.body p names seen
+pub body_fails : (c : ChoiceForm) (p : Packages) (names : Names) (seen : List ChildResult) → AreRefuted c.body p names seen
     → ended c (ran_all c.body p names seen) ≡ failed
 body_fails c p names seen h = ap (ended c) (stop_there c.body p names seen h)

@@ -7,8 +7,8 @@ use Rattle.ledger_terms.specs.declared.instance.Instance.{Instance}
 use Rattle.ledger_terms.specs.Syntax.{ExprForm}
 use Rattle.ledger_terms.specs.Packages.{TemplateForm, ChoiceForm}
 use Rattle.ledger_model.specs.declared.step.ChoiceCall.{ChoiceCall}
-use Rattle.ledger_model.specs.declared.step.Seen.{Seen}
-use Rattle.ledger_model.specs.declared.step.Seen.TheVariants.{Created, Returned, Fetched}
+use Rattle.ledger_model.specs.declared.step.ChildResult.{ChildResult}
+use Rattle.ledger_model.specs.declared.step.ChildResult.TheVariants.{Created, Returned, Fetched}
 use Rattle.ledger_model.specs.declared.step.Step.{Step}
 use Rattle.ledger_model.specs.declared.step.Step.TheVariants.{Create as CreateNext, Exercise as ExerciseNext, Fetch as FetchNext, Done}
 use Rattle.lang_eval.specs.Found.{Packages, template_in, choice_in}
@@ -27,7 +27,7 @@ IsAsked packages returns (FetchNext t id) = (template : TemplateForm) × (templa
 IsAsked packages returns (Done v) = kind_of v ≡ returns
 
 -- What a child gave answers the step that asked for it: an id, a result of the choice's kind, or a contract of the template.
-abbrev pub IsAnswer : Packages → Step → Seen → Type 0
+abbrev pub IsAnswer : Packages → Step → ChildResult → Type 0
 IsAnswer packages (CreateNext t fields) (Created id) = Unit {0}
 IsAnswer packages (ExerciseNext t id choice args) (Returned v) =
     (c : ChoiceForm) × (choice_in t choice packages ≡ Some c) × (kind_of v ≡ c.returns)
@@ -35,7 +35,7 @@ IsAnswer packages (FetchNext t id) (Fetched i) = (i.template ≡ t) × (has_kind
 IsAnswer packages step seen = ⊥
 
 -- After what was seen before, each of these answers the step before it.
-abbrev pub AreAnswers : Packages → ChoiceCall → List Seen → List Seen → Type 0
+abbrev pub AreAnswers : Packages → ChoiceCall → List ChildResult → List ChildResult → Type 0
 AreAnswers packages call before [] = Unit {0}
 AreAnswers packages call before (s ∷ seen) =
     ((step : Step) × (next packages call before ≡ Ok step) × IsAnswer packages step s) × AreAnswers packages call (before ++ s ∷ []) seen

@@ -12,7 +12,7 @@ use Rattle.ledger_terms.specs.Syntax.{Both, Either, Negate, Cond, Cat, SetOf, Un
 use Rattle.ledger_terms.specs.Syntax.{StmtForm, StmtForms, Bind, Assert, Create, Exercise, Fetch, When, NoStmts, MoreStmts}
 use Rattle.ledger_terms.specs.Packages.{TemplateForm, ChoiceForm}
 use Rattle.ledger_model.specs.declared.step.ChoiceCall.{ChoiceCall}
-use Rattle.ledger_model.specs.declared.step.Seen.{Seen}
+use Rattle.ledger_model.specs.declared.step.ChildResult.{ChildResult}
 use Rattle.lang_eval.specs.declared.binding.Binding.{Binding}
 use Rattle.lang_eval.specs.declared.eval_fault.EvalFault.{EvalFault}
 use Rattle.lang_eval.specs.declared.eval_fault.EvalFault.TheVariants.{Overflow, Assert as AssertFault, Ensure, NoSignatory, TooLarge}
@@ -76,7 +76,7 @@ abbrev mutual
 
 abbrev mutual
   -- so do a statement's expressions, where its test is a truth value, its contract an id, and its template or choice there
-  pub RunsWithoutDefault : StmtForm → Packages → Names → List Seen → Type 0
+  pub RunsWithoutDefault : StmtForm → Packages → Names → List ChildResult → Type 0
   RunsWithoutDefault (Bind x e) packages names seen = TakesNoDefault e names
   RunsWithoutDefault (Assert e) packages names seen = TakesNoDefault e names × Gives e names BoolKind
   RunsWithoutDefault (Create x t fields) packages names seen = ((template : TemplateForm) × (template_in t packages ≡ Some template)) × TakeNoDefault fields
@@ -91,21 +91,21 @@ abbrev mutual
       × (val e names ≡ Ok (BoolValue false) → RunWithoutDefault second packages names seen)
 
   -- and so do those of the statements that are reached
-  pub RunWithoutDefault : StmtForms → Packages → Names → List Seen → Type 0
+  pub RunWithoutDefault : StmtForms → Packages → Names → List ChildResult → Type 0
   RunWithoutDefault NoStmts packages names seen = Unit {0}
   RunWithoutDefault (MoreStmts s ss) packages names seen =
       RunsWithoutDefault s packages names seen
-      × ((after : Names) (left : List Seen) → ran s packages names seen ≡ Went after left → RunWithoutDefault ss packages after left)
+      × ((after : Names) (left : List ChildResult) → ran s packages names seen ≡ Went after left → RunWithoutDefault ss packages after left)
 
 -- a body and, where it is reached, its result
-abbrev pub BodyTakesNoDefault : TemplateForm → ChoiceForm → Packages → ChoiceCall → List Seen → Type 0
+abbrev pub BodyTakesNoDefault : TemplateForm → ChoiceForm → Packages → ChoiceCall → List ChildResult → Type 0
 BodyTakesNoDefault t c packages call seen =
     RunWithoutDefault c.body packages (names_of t c call) seen
-    × ((after : Names) (left : List Seen) → ran_all c.body packages (names_of t c call) seen ≡ Went after left → TakesNoDefault c.result after)
+    × ((after : Names) (left : List ChildResult) → ran_all c.body packages (names_of t c call) seen ≡ Went after left → TakesNoDefault c.result after)
 
 abbrev mutual
   -- an assertion of the statement is reached, and is evaluated to false
-  pub IsRefuted : StmtForm → Packages → Names → List Seen → Type 0
+  pub IsRefuted : StmtForm → Packages → Names → List ChildResult → Type 0
   IsRefuted (Assert e) packages names seen = val e names ≡ Ok (BoolValue false)
   IsRefuted (When e first second) packages names seen =
       ((val e names ≡ Ok (BoolValue true)) × AreRefuted first packages names seen)
@@ -113,8 +113,8 @@ abbrev mutual
   IsRefuted s packages names seen = ⊥
 
   -- one of the statements
-  pub AreRefuted : StmtForms → Packages → Names → List Seen → Type 0
+  pub AreRefuted : StmtForms → Packages → Names → List ChildResult → Type 0
   AreRefuted NoStmts packages names seen = ⊥
   AreRefuted (MoreStmts s ss) packages names seen =
       IsRefuted s packages names seen
-      ⊎ ((after : Names) × (left : List Seen) × (ran s packages names seen ≡ Went after left) × AreRefuted ss packages after left)
+      ⊎ ((after : Names) × (left : List ChildResult) × (ran s packages names seen ≡ Went after left) × AreRefuted ss packages after left)

@@ -17,7 +17,7 @@ ghost use Rattle.lang_check.specs.Asked.{IsAsked, AreAnswers, IsEvaluable, IsCal
 ghost use Rattle.lang_check.specs.Defaults.{IsOverLimit, IsOfBodies, IsOfContracts, TakesNoDefault, BodyTakesNoDefault, AreRefuted};
 ghost use Rattle.ledger_terms.specs.Packages.{TemplateForm, ChoiceForm};
 ghost use Rattle.ledger_model.specs.declared.step.ChoiceCall.{ChoiceCall};
-ghost use Rattle.ledger_model.specs.declared.step.Seen.{Seen};
+ghost use Rattle.ledger_model.specs.declared.step.ChildResult.{ChildResult};
 ghost use Rattle.ledger_model.specs.declared.step.Step.{Step};
 ghost use Rattle.lang_eval.specs.Found.{Packages, template_in, choice_in};
 ghost use Rattle.lang_eval.specs.Builtin.{note_form};
@@ -41,7 +41,7 @@ pub fn values_have_their_kinds()
 /// steps before it: its body asks only for templates and choices that are there, with fields and arguments of their kinds,
 /// and its result has the choice's kind.
 pub fn bodies_ask_for_what_is_there()
-    ensures { (packages : Packages) (call : ChoiceCall) (c : ChoiceForm) (seen : List Seen) (step : Step)
+    ensures { (packages : Packages) (call : ChoiceCall) (c : ChoiceForm) (seen : List ChildResult) (step : Step)
         → AreChecked packages
         → choice_in call.instance.template call.choice packages ≡ Some c
         → has_kinds packages call.instance ≡ true
@@ -71,14 +71,14 @@ pub fn parties_are_evaluated_to_sets()
 /// The faults of evaluations are those of the language, and never want of memory.
 pub fn evaluations_want_no_memory()
     ensures value { (e : ExprForm) (names : Names) (f : EvalFault) → val e names ≡ Err f → f ≢ EvalMemory }
-    ensures body { (packages : Packages) (call : ChoiceCall) (seen : List Seen) (f : EvalFault) → next packages call seen ≡ Err f → f ≢ EvalMemory }
+    ensures body { (packages : Packages) (call : ChoiceCall) (seen : List ChildResult) (f : EvalFault) → next packages call seen ≡ Err f → f ≢ EvalMemory }
 {}
 
 /// The faults of expressions are numbers and texts beyond their limits. Those of bodies are these and an assertion, and no
 /// fault of a contract.
 pub fn evaluations_fault_at_their_limits()
     ensures value { (e : ExprForm) (names : Names) (f : EvalFault) → val e names ≡ Err f → IsOverLimit f }
-    ensures body { (packages : Packages) (call : ChoiceCall) (seen : List Seen) (f : EvalFault) → next packages call seen ≡ Err f → IsOfBodies f }
+    ensures body { (packages : Packages) (call : ChoiceCall) (seen : List ChildResult) (f : EvalFault) → next packages call seen ≡ Err f → IsOfBodies f }
 {}
 
 /// The definitions of evaluation give something for a wrong kind, for a name that isn't bound and for a template or choice that
@@ -87,7 +87,7 @@ pub fn evaluations_fault_at_their_limits()
 /// evaluated to false.
 pub fn no_default_is_taken()
     ensures expression { (e : ExprForm) (names : Names) (k : Kind) → HasKind e (kinds_in names) k → TakesNoDefault e names }
-    ensures body { (packages : Packages) (call : ChoiceCall) (t : TemplateForm) (c : ChoiceForm) (seen : List Seen)
+    ensures body { (packages : Packages) (call : ChoiceCall) (t : TemplateForm) (c : ChoiceForm) (seen : List ChildResult)
         → AreChecked packages
         → template_in call.instance.template packages ≡ Some t
         → choice_in call.instance.template call.choice packages ≡ Some c
@@ -95,7 +95,7 @@ pub fn no_default_is_taken()
         → have_kinds call.args c.params ≡ true
         → AreAnswers packages call [] seen
         → BodyTakesNoDefault t c packages call seen }
-    ensures assertion { (packages : Packages) (call : ChoiceCall) (t : TemplateForm) (c : ChoiceForm) (seen : List Seen)
+    ensures assertion { (packages : Packages) (call : ChoiceCall) (t : TemplateForm) (c : ChoiceForm) (seen : List ChildResult)
         → AreChecked packages
         → template_in call.instance.template packages ≡ Some t
         → choice_in call.instance.template call.choice packages ≡ Some c

@@ -43,7 +43,7 @@ fn stands_among(names: &[(Text, Kind)], name: &Text) -> bool
     false
 }
 
-fn dotted(alloc: Global, first: &str, name: Name) -> Result<Text, AllocError>
+fn dotted_name(alloc: Global, first: &str, name: Name) -> Result<Text, AllocError>
     ensures { IfOk result (λ t. t ≡ first.now ++ codes "." ++ name) }
 {
     let mut text = Text::of(alloc, first)?;
@@ -118,7 +118,7 @@ impl Scope {
         ensures { OnOk result (self.new ≡ self.old ++ scope_of first.now decls.now) }
     {
         'decls: for decl in decls {
-            let name = dotted(*self.allocator(), first, decl.name)?;
+            let name = dotted_name(*self.allocator(), first, decl.name)?;
             self.bind(name, decl.kind)?;
         }
         Ok(())

@@ -10,8 +10,8 @@ use Rattle.ledger_terms.specs.declared.value.Value.TheVariants.{Unit as UnitValu
 use Rattle.ledger_terms.specs.Syntax.{ExprForm, ExprForms, StmtForm, StmtForms, Bind, Assert, Create, Exercise, Fetch, When, NoStmts, MoreStmts}
 use Rattle.ledger_terms.specs.Packages.{PackageForm, TemplateForm, ChoiceForm}
 use Rattle.ledger_model.specs.declared.step.ChoiceCall.{ChoiceCall}
-use Rattle.ledger_model.specs.declared.step.Seen.{Seen}
-use Rattle.ledger_model.specs.declared.step.Seen.TheVariants.{Created, Returned, Fetched}
+use Rattle.ledger_model.specs.declared.step.ChildResult.{ChildResult}
+use Rattle.ledger_model.specs.declared.step.ChildResult.TheVariants.{Created, Returned, Fetched}
 use Rattle.ledger_model.specs.declared.step.Step.{Step}
 use Rattle.ledger_model.specs.declared.step.Step.TheVariants.{Create as CreateNext, Exercise as ExerciseNext, Fetch as FetchNext, Done}
 use Rattle.lang_eval.specs.declared.binding.Binding.{Binding}
@@ -28,7 +28,7 @@ use Rattle.lang_eval.proofs.NamedValues.{Gives, none, given, gives_then, val_giv
 abbrev bound_parties : Binding → PartyNames
 bound_parties b = parties_in_value b.value
 
-abbrev pub parties_in_all : List Seen → PartyNames
+abbrev pub parties_in_all : List ChildResult → PartyNames
 parties_in_all seen = flat_map parties_in_seen seen
 
 module _ (known : List ℕ → Bool) where
@@ -97,8 +97,8 @@ module _ (known : List ℕ → Bool) where
   asserted_ran true r h = h
   asserted_ran false r h = tt
 
-  taken_ran : (r : Result Step EvalFault) (binds : Seen → Names) (seen : List Seen) → Gives known parties_in_step r
-      → ((s : Seen) → AreKnown known (parties_in_seen s) → Names_known (binds s)) → AreKnown known (parties_in_all seen) → RanKnown (taken r binds seen)
+  taken_ran : (r : Result Step EvalFault) (binds : ChildResult → Names) (seen : List ChildResult) → Gives known parties_in_step r
+      → ((s : ChildResult) → AreKnown known (parties_in_seen s) → Names_known (binds s)) → AreKnown known (parties_in_all seen) → RanKnown (taken r binds seen)
   unfolding RanKnown
   taken_ran r binds [] h k s = h
   taken_ran r binds (x ∷ seen) h k s =
@@ -109,8 +109,8 @@ module _ (known : List ℕ → Bool) where
   closed_ran names (Stopped r) h = h
   closed_ran names (Went more seen) h = (known_take known bound_parties (length names) more h.0, h.1)
 
-  then_ran : (r : Ran) (rest : Names → List Seen → Ran) → RanKnown r
-      → ((n : Names) (l : List Seen) → Names_known n → AreKnown known (parties_in_all l) → RanKnown (rest n l)) → RanKnown (then_on r rest)
+  then_ran : (r : Ran) (rest : Names → List ChildResult → Ran) → RanKnown r
+      → ((n : Names) (l : List ChildResult) → Names_known n → AreKnown known (parties_in_all l) → RanKnown (rest n l)) → RanKnown (then_on r rest)
   unfolding RanKnown
   then_ran (Stopped r) rest h k = h
   then_ran (Went n l) rest h k = k n l h.0 h.1
@@ -119,12 +119,12 @@ module _ (known : List ℕ → Bool) where
   side_ran true r s h k = h
   side_ran false r s h k = k
 
-  value_seen_known : (s : Seen) → AreKnown known (parties_in_seen s) → AreKnown known (parties_in_value (value_seen s))
+  value_seen_known : (s : ChildResult) → AreKnown known (parties_in_seen s) → AreKnown known (parties_in_value (value_seen s))
   value_seen_known (Created id) h = refl
   value_seen_known (Returned v) h = h
   value_seen_known (Fetched i) h = refl
 
-  fields_seen_known : (s : Seen) → AreKnown known (parties_in_seen s) → AreKnown known (parties_in_values (fields_seen s))
+  fields_seen_known : (s : ChildResult) → AreKnown known (parties_in_seen s) → AreKnown known (parties_in_values (fields_seen s))
   fields_seen_known (Created id) h = refl
   fields_seen_known (Returned v) h = refl
   fields_seen_known (Fetched i) h = h
@@ -165,7 +165,7 @@ module _ (known : List ℕ → Bool) where
   mutual
     unfolding RanKnown
 
-    ran_known : (s : StmtForm) (p : Packages) (names : Names) (seen : List Seen) → AreKnown known (parties_in_stmt s) → Names_known names
+    ran_known : (s : StmtForm) (p : Packages) (names : Names) (seen : List ChildResult) → AreKnown known (parties_in_stmt s) → Names_known names
         → AreKnown known (parties_in_all seen) → RanKnown (ran s p names seen)
     ran_known (Bind x e) p names seen h n s =
         value_ran parties_in_value (val e names) (λ v. Went (bound_to x v names) seen) (val_given known e names h n)
@@ -193,7 +193,7 @@ module _ (known : List ℕ → Bool) where
         (all_known first p names seen (known_front known (parties_in_stmts first) (parties_in_stmts second) sides) n s)
         (all_known second p names seen (known_back known (parties_in_stmts first) (parties_in_stmts second) sides) n s)))
 
-    all_known : (ss : StmtForms) (p : Packages) (names : Names) (seen : List Seen) → AreKnown known (parties_in_stmts ss) → Names_known names
+    all_known : (ss : StmtForms) (p : Packages) (names : Names) (seen : List ChildResult) → AreKnown known (parties_in_stmts ss) → Names_known names
         → AreKnown known (parties_in_all seen) → RanKnown (ran_all ss p names seen)
     all_known NoStmts p names seen h n s = (n, s)
     all_known (MoreStmts st ss) p names seen h n s =
@@ -217,7 +217,7 @@ module _ (known : List ℕ → Bool) where
       fields_known (codes "arg") c.params call.args (with_this t.fields call.instance.fields (with_self call.id [])) args
       (fields_known (codes "this") t.fields call.instance.fields (with_self call.id []) own refl)
 
-  body_known : (t : TemplateForm) (c : ChoiceForm) (p : Packages) (call : ChoiceCall) (seen : List Seen) → AreKnown known (parties_in_choice c)
+  body_known : (t : TemplateForm) (c : ChoiceForm) (p : Packages) (call : ChoiceCall) (seen : List ChildResult) → AreKnown known (parties_in_choice c)
       → AreKnown known (parties_in_call call) → AreKnown known (parties_in_all seen)
       → Gives known parties_in_step (ended c (ran_all c.body p (names_of t c call) seen))
   body_known t c p call seen h k s =
@@ -226,7 +226,7 @@ module _ (known : List ℕ → Bool) where
       ended_known c (ran_all c.body p (names_of t c call) seen) (known_back known (parties_in_stmts c.body) (parties_in_expr c.result) inside)
       (all_known c.body p (names_of t c call) seen (known_front known (parties_in_stmts c.body) (parties_in_expr c.result) inside) (names_known t c call k) s)
 
-  next_in_known : (t : Option TemplateForm) (c : Option ChoiceForm) (p : Packages) (call : ChoiceCall) (seen : List Seen)
+  next_in_known : (t : Option TemplateForm) (c : Option ChoiceForm) (p : Packages) (call : ChoiceCall) (seen : List ChildResult)
       → AreKnownIn known parties_in_choice c → AreKnown known (parties_in_call call) → AreKnown known (parties_in_all seen)
       → Gives known parties_in_step (next_in t c p call seen)
   unfolding Gives AreKnownIn
@@ -234,7 +234,7 @@ module _ (known : List ℕ → Bool) where
   next_in_known (Some t) None p call seen h k s = tt
   next_in_known (Some t) (Some c) p call seen h k s = body_known t c p call seen h k s
 
-  pub next_known : (p : Packages) (call : ChoiceCall) (seen : List Seen) → AreKnown known (parties_in_packages p) → AreKnown known (parties_in_call call)
+  pub next_known : (p : Packages) (call : ChoiceCall) (seen : List ChildResult) → AreKnown known (parties_in_packages p) → AreKnown known (parties_in_call call)
       → AreKnown known (parties_in_all seen) → Gives known parties_in_step (next p call seen)
   unfolding next
   next_known p call seen h k s =

@@ -3,7 +3,7 @@ use Rattle.std.proofs.Common.{◌≡◌, ℕ, Bool, true, false, cond, List, [],
 use Rattle.ledger_terms.specs.declared.value.Value.{Value}
 use Rattle.ledger_terms.specs.declared.field_decl.FieldDecl.{FieldDecl}
 use Rattle.ledger_terms.specs.Syntax.{ExprForm, StmtForm, StmtForms, Bind, Assert, Create, Exercise, Fetch, When, NoStmts, MoreStmts}
-use Rattle.ledger_model.specs.declared.step.Seen.{Seen}
+use Rattle.ledger_model.specs.declared.step.ChildResult.{ChildResult}
 use Rattle.ledger_model.specs.declared.step.Step.{Step}
 use Rattle.lang_eval.specs.declared.eval_fault.EvalFault.{EvalFault}
 use Rattle.lang_eval.specs.Names.{Names, bound_to, with_fields}
@@ -35,30 +35,30 @@ grown_take : (names more : Names) → Grown names more → take (length names) m
 unfolding Grown
 grown_take names more g = ap (take (length names)) g.1 ∙ take-append names g.0
 
-went_names : (a c : Names) (b d : List Seen) → Went a b ≡ Went c d → a ≡ c
+went_names : (a c : Names) (b d : List ChildResult) → Went a b ≡ Went c d → a ≡ c
 went_names a c b d h = cc
 
-on_value_went : {A : Type 0} (r : Result A EvalFault) (go : A → Ran) (more : Names) (left : List Seen) → on_value r go ≡ Went more left
+on_value_went : {A : Type 0} (r : Result A EvalFault) (go : A → Ran) (more : Names) (left : List ChildResult) → on_value r go ≡ Went more left
     → (v : A) × (go v ≡ Went more left)
 on_value_went (Ok v) go more left h = (v, h)
 on_value_went (Err e) go more left h = absurd (let other : Stopped (Err e) ≡ Went more left = h in cc)
 
-asserted_went : (b : Bool) (names : Names) (seen : List Seen) (more : Names) (left : List Seen) → asserted b (Went names seen) ≡ Went more left → names ≡ more
+asserted_went : (b : Bool) (names : Names) (seen : List ChildResult) (more : Names) (left : List ChildResult) → asserted b (Went names seen) ≡ Went more left → names ≡ more
 asserted_went true names seen more left h = went_names names more seen left h
 asserted_went false names seen more left h = cc
 
-taken_went : (step : Result Step EvalFault) (binds : Seen → Names) (seen : List Seen) (more : Names) (left : List Seen)
-    → taken step binds seen ≡ Went more left → (s : Seen) × (binds s ≡ more)
+taken_went : (step : Result Step EvalFault) (binds : ChildResult → Names) (seen : List ChildResult) (more : Names) (left : List ChildResult)
+    → taken step binds seen ≡ Went more left → (s : ChildResult) × (binds s ≡ more)
 taken_went step binds [] more left h = absurd (let other : Stopped step ≡ Went more left = h in cc)
 taken_went step binds (s ∷ seen) more left h = (s, went_names (binds s) more seen left h)
 
-closed_went : (names : Names) (r : Ran) (more : Names) (left : List Seen) → closed names r ≡ Went more left
-    → (inside : Names) × (rest : List Seen) × (r ≡ Went inside rest) × (take (length names) inside ≡ more)
+closed_went : (names : Names) (r : Ran) (more : Names) (left : List ChildResult) → closed names r ≡ Went more left
+    → (inside : Names) × (rest : List ChildResult) × (r ≡ Went inside rest) × (take (length names) inside ≡ more)
 closed_went names (Stopped step) more left h = absurd (let other : Stopped step ≡ Went more left = h in cc)
 closed_went names (Went inside rest) more left h = (inside, rest, refl, went_names (take (length names) inside) more rest left h)
 
-then_on_went : (r : Ran) (rest : Names → List Seen → Ran) (more : Names) (left : List Seen) → then_on r rest ≡ Went more left
-    → (between : Names) × (seen : List Seen) × (r ≡ Went between seen) × (rest between seen ≡ Went more left)
+then_on_went : (r : Ran) (rest : Names → List ChildResult → Ran) (more : Names) (left : List ChildResult) → then_on r rest ≡ Went more left
+    → (between : Names) × (seen : List ChildResult) × (r ≡ Went between seen) × (rest between seen ≡ Went more left)
 then_on_went (Stopped step) rest more left h = absurd (let other : Stopped step ≡ Went more left = h in cc)
 then_on_went (Went between seen) rest more left h = (between, seen, refl, h)
 
@@ -68,13 +68,13 @@ fields_grow first (d ∷ ds) [] names = grown_same names names refl
 fields_grow first (d ∷ ds) (v ∷ vs) names =
     grown_trans names _ _ (grown_by names _ _ refl) (fields_grow first ds vs _)
 
-sides : (b : Bool) (x y : Ran) (inside : Names) (rest : List Seen) (names : Names) → cond b x y ≡ Went inside rest
+sides : (b : Bool) (x y : Ran) (inside : Names) (rest : List ChildResult) (names : Names) → cond b x y ≡ Went inside rest
     → (x ≡ Went inside rest → Grown names inside) → (y ≡ Went inside rest → Grown names inside) → Grown names inside
 sides true x y inside rest names h first second = first h
 sides false x y inside rest names h first second = second h
 
 mutual
-  ran_grows : (s : StmtForm) (p : Packages) (names : Names) (seen : List Seen) (more : Names) (left : List Seen) → ran s p names seen ≡ Went more left
+  ran_grows : (s : StmtForm) (p : Packages) (names : Names) (seen : List ChildResult) (more : Names) (left : List ChildResult) → ran s p names seen ≡ Went more left
       → Grown names more
   ran_grows (Bind x e) p names seen more left h =
       let g = on_value_went (val e names) (λ v. Went (bound_to x v names) seen) more left h in
@@ -98,14 +98,14 @@ mutual
       (all_grows second p names seen c.0 c.1) in
       grown_same names more (sym c.3 ∙ grown_take names c.0 inside)
 
-  all_grows : (ss : StmtForms) (p : Packages) (names : Names) (seen : List Seen) (more : Names) (left : List Seen) → ran_all ss p names seen ≡ Went more left
+  all_grows : (ss : StmtForms) (p : Packages) (names : Names) (seen : List ChildResult) (more : Names) (left : List ChildResult) → ran_all ss p names seen ≡ Went more left
       → Grown names more
   all_grows NoStmts p names seen more left h = grown_same names more (sym (went_names names more seen left h))
   all_grows (MoreStmts s ss) p names seen more left h =
       let g = then_on_went (ran s p names seen) (λ names seen. ran_all ss p names seen) more left h in
       grown_trans names g.0 more (ran_grows s p names seen g.0 g.1 g.2) (all_grows ss p g.0 g.1 more left g.3)
 
-pub when_ends : (e : ExprForm) (first second : StmtForms) (p : Packages) (names : Names) (seen : List Seen) (more : Names) (left : List Seen)
+pub when_ends : (e : ExprForm) (first second : StmtForms) (p : Packages) (names : Names) (seen : List ChildResult) (more : Names) (left : List ChildResult)
     → ran (When e first second) p names seen ≡ Went more left → more ≡ names
 when_ends e first second p names seen more left h =
     let g = on_value_went (truth e names) (λ b. closed names (cond b (ran_all first p names seen) (ran_all second p names seen))) more left h in

@@ -7,7 +7,7 @@ use Rattle.ledger_terms.specs.declared.field_decl.FieldDecl.{FieldDecl}
 use Rattle.ledger_terms.specs.ExprForms.{expr_form}
 use Rattle.ledger_terms.specs.StmtForms.{stmt_form, stmt_list_form}
 use Rattle.ledger_terms.proofs.StmtRows.{form_When}
-use Rattle.ledger_model.specs.declared.step.Seen.{Seen}
+use Rattle.ledger_model.specs.declared.step.ChildResult.{ChildResult}
 use Rattle.lang_eval.specs.declared.eval_fault.EvalFault.{EvalFault}
 use Rattle.lang_eval.specs.Names.{Names, with_fields}
 use Rattle.lang_eval.specs.Value.{truth}
@@ -18,7 +18,7 @@ pub with_no_values : (first : List ℕ) (ds : List FieldDecl) (names : Names) �
 with_no_values first [] names = refl
 with_no_values first (d ∷ ds) names = refl
 
-when_is : (s : Stmt) (e : Expr) (first second : List Stmt) (p : Packages) (names : Names) (seen : List Seen) (b c : Bool) → s ≡ WhenStmt e first second
+when_is : (s : Stmt) (e : Expr) (first second : List Stmt) (p : Packages) (names : Names) (seen : List ChildResult) (b c : Bool) → s ≡ WhenStmt e first second
     → Ok b ≡ truth (expr_form e) names → b ≡ c → ran (stmt_form s) p names seen ≡ closed names
     (cond c (ran_all (stmt_list_form first) p names seen) (ran_all (stmt_list_form second) p names seen))
 when_is s e first second p names seen b c is h same =
@@ -27,12 +27,12 @@ when_is s e first second p names seen b c is h same =
     (cond b (ran_all (stmt_list_form first) p names seen) (ran_all (stmt_list_form second) p names seen)))) (sym h ∙ ap (λ (b : Bool). Ok b) same))
 
 -- A true test runs the first side, and another the second.
-pub when_yes : (r : Ran) (s : Stmt) (e : Expr) (first second : List Stmt) (p : Packages) (names : Names) (seen : List Seen) (b : Bool)
+pub when_yes : (r : Ran) (s : Stmt) (e : Expr) (first second : List Stmt) (p : Packages) (names : Names) (seen : List ChildResult) (b : Bool)
     → r ≡ closed names (ran_all (stmt_list_form first) p names seen) → s ≡ WhenStmt e first second → b ≡ true → Ok b ≡ truth (expr_form e) names
     → r ≡ ran (stmt_form s) p names seen
 when_yes r s e first second p names seen b done is same h = done ∙ sym (when_is s e first second p names seen b true is h same)
 
-pub when_no : (r : Ran) (s : Stmt) (e : Expr) (first second : List Stmt) (p : Packages) (names : Names) (seen : List Seen) (b : Bool)
+pub when_no : (r : Ran) (s : Stmt) (e : Expr) (first second : List Stmt) (p : Packages) (names : Names) (seen : List ChildResult) (b : Bool)
     → r ≡ closed names (ran_all (stmt_list_form second) p names seen) → s ≡ WhenStmt e first second → b ≡ false → Ok b ≡ truth (expr_form e) names
     → r ≡ ran (stmt_form s) p names seen
 when_no r s e first second p names seen b done is same h = done ∙ sym (when_is s e first second p names seen b false is h same)

@@ -45,14 +45,15 @@ one_party name = SetOf (MoreExprs (Var name) NoExprs)
 abbrev pub declared : List ℕ → Kind → FieldDecl
 declared name kind = record { name = name; kind = kind }
 
-abbrev pub note_template : TemplateName
-note_template = record { «package» = codes "Note"; name = codes "Note" }
+abbrev pub note_template_name : TemplateName
+note_template_name = record { «package» = codes "Note"; name = codes "Note" }
 
 -- creates a note of the same owner and reader, and archives it
 abbrev pub flash_body : StmtForms
 flash_body =
-    MoreStmts (Create (codes "x") note_template (MoreExprs (Var (codes "this.owner")) (MoreExprs (Var (codes "this.reader")) (MoreExprs (Literal (TextValue (codes "flash"))) NoExprs))))
-    (MoreStmts (Exercise (codes "y") note_template (Var (codes "x")) archive_name NoExprs) NoStmts)
+    MoreStmts (Create (codes "x") note_template_name (MoreExprs (Var (codes "this.owner"))
+    (MoreExprs (Var (codes "this.reader")) (MoreExprs (Literal (TextValue (codes "flash"))) NoExprs))))
+    (MoreStmts (Exercise (codes "y") note_template_name (Var (codes "x")) archive_name NoExprs) NoStmts)
 
 abbrev pub flash_form : ChoiceForm
 flash_form =

@@ -1,7 +1,8 @@
 -- The kinds of values, and whether values have those that are declared.
 use Rattle.std.specs.Prelude.{Bool, true, false, ◌&&◌, List, [], ◌∷◌, Option, Some, None}
 use Rattle.ledger_terms.specs.declared.kind.Kind.{Kind}
-use Rattle.ledger_terms.specs.declared.kind.Kind.TheVariants.{Unit as UnitKind, Int as IntKind, Bool as BoolKind, Text as TextKind, Party as PartyKind, Contract as ContractKind, Parties as PartiesKind}
+use Rattle.ledger_terms.specs.declared.kind.Kind.TheVariants.{Unit as UnitKind, Int as IntKind, Bool as BoolKind, Text as TextKind}
+use Rattle.ledger_terms.specs.declared.kind.Kind.TheVariants.{Party as PartyKind, Contract as ContractKind, Parties as PartiesKind}
 use Rattle.ledger_terms.specs.contracts.kind.KindPartialEq.TheImpl as kind_eq
 use Rattle.ledger_terms.specs.declared.value.Value.{Value}
 use Rattle.ledger_terms.specs.declared.value.Value.TheVariants.{Unit, Int, Bool as BoolValue, Text, Party, Contract, Parties}

@@ -4,7 +4,7 @@ pub mod Value
 pub mod Operation
 pub mod Found
 pub mod Next
-pub mod Shown
+pub mod RunAnswers
 pub mod Kinds
 pub mod Parts
 pub mod Builtin

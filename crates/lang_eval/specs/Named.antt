@@ -6,12 +6,14 @@ use Rattle.ledger_terms.specs.declared.value.Value.TheVariants.{Party, Parties}
 use Rattle.ledger_terms.specs.declared.instance.Instance.{Instance}
 use Rattle.ledger_terms.specs.declared.action.Action.{Action}
 use Rattle.ledger_terms.specs.declared.action.Action.TheVariants.{Create as CreateAction, Exercise as ExerciseAction, Fetch as FetchAction}
-use Rattle.ledger_terms.specs.Syntax.{ExprForm, ExprForms, Literal, Var, Add, Sub, Mul, Less, LessEq, Equal, Both, Either, Negate, Cond, Cat, SetOf, Union, Has, NoExprs, MoreExprs, StmtForm, StmtForms, Bind, Assert, Create, Exercise, Fetch, When, NoStmts, MoreStmts}
+use Rattle.ledger_terms.specs.Syntax.{ExprForm, ExprForms, Literal, Var, Add, Sub, Mul, Less, LessEq, Equal, Both, Either, Negate, Cond}
+use Rattle.ledger_terms.specs.Syntax.{Cat, SetOf, Union, Has, NoExprs, MoreExprs, StmtForm, StmtForms, Bind, Assert, Create, Exercise}
+use Rattle.ledger_terms.specs.Syntax.{Fetch, When, NoStmts, MoreStmts}
 use Rattle.ledger_terms.specs.Packages.{PackageForm, TemplateForm, ChoiceForm}
 use Rattle.ledger_model.specs.declared.roles.Roles.{Roles}
 use Rattle.ledger_model.specs.declared.step.ChoiceCall.{ChoiceCall}
-use Rattle.ledger_model.specs.declared.step.Seen.{Seen}
-use Rattle.ledger_model.specs.declared.step.Seen.TheVariants.{Created, Returned, Fetched}
+use Rattle.ledger_model.specs.declared.step.ChildResult.{ChildResult}
+use Rattle.ledger_model.specs.declared.step.ChildResult.TheVariants.{Created, Returned, Fetched}
 use Rattle.ledger_model.specs.declared.step.Step.{Step}
 use Rattle.ledger_model.specs.declared.step.Step.TheVariants.{Create as CreateNext, Exercise as ExerciseNext, Fetch as FetchNext, Done}
 use Rattle.lang_eval.specs.declared.binding.Binding.{Binding}
@@ -95,7 +97,7 @@ parties_in_packages packages = flat_map parties_in_package packages
 abbrev pub parties_in_call : ChoiceCall → PartyNames
 parties_in_call call = parties_in_instance call.instance ++ parties_in_values call.args
 
-abbrev pub parties_in_seen : Seen → PartyNames
+abbrev pub parties_in_seen : ChildResult → PartyNames
 parties_in_seen (Created id) = []
 parties_in_seen (Returned v) = parties_in_value v
 parties_in_seen (Fetched i) = parties_in_instance i

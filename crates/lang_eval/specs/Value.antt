@@ -1,10 +1,12 @@
 -- The value of an expression, or its first fault from the left.
-use Rattle.std.specs.Prelude.{ℕ, ◌^◌, Bool, true, false, not, cond, List, [], ◌∷◌, ◌++◌, length, ℤ, pos, negsuc, ◌+ℤ◌, ◌-ℤ◌, ◌*ℤ◌, nat_lt, nat_le, int_lt, int_le, Option, Some, None, Result, Ok, Err}
+use Rattle.std.specs.Prelude.{ℕ, ◌^◌, Bool, true, false, not, cond, List, [], ◌∷◌, ◌++◌, length, ℤ, pos, negsuc, ◌+ℤ◌, ◌-ℤ◌, ◌*ℤ◌, nat_lt}
+use Rattle.std.specs.Prelude.{nat_le, int_lt, int_le, Option, Some, None, Result, Ok, Err}
 use Rattle.ledger_terms.specs.declared.value.Value.{Value}
 use Rattle.ledger_terms.specs.declared.value.Value.TheVariants.{Int, Party, Parties, Text, Bool as BoolValue, Unit as UnitValue}
 use Rattle.ledger_terms.specs.contracts.value.ValuePartialEq.TheImpl as value_eq
 use Rattle.ledger_terms.specs.Parties.{set_of, with_parties, has_party}
-use Rattle.ledger_terms.specs.Syntax.{ExprForm, ExprForms, Literal, Var, Add, Sub, Mul, Less, LessEq, Equal, Both, Either, Negate, Cond, Cat, SetOf, Union, Has, NoExprs, MoreExprs}
+use Rattle.ledger_terms.specs.Syntax.{ExprForm, ExprForms, Literal, Var, Add, Sub, Mul, Less, LessEq, Equal, Both, Either, Negate, Cond}
+use Rattle.ledger_terms.specs.Syntax.{Cat, SetOf, Union, Has, NoExprs, MoreExprs}
 use Rattle.ledger_terms.specs.declared.limits.TheConstants.{MOST_TEXT_BYTES}
 use Rattle.lang_eval.specs.declared.binding.Binding.{Binding}
 use Rattle.lang_eval.specs.declared.eval_fault.EvalFault.{EvalFault}

@@ -5,16 +5,17 @@ ghost use Rattle.ledger_terms.specs.ExprForms.{expr_form, list_form};
 ghost use Rattle.ledger_terms.specs.StmtForms.{stmt_form, stmt_list_form};
 ghost use Rattle.lang_eval.specs.Names.{bound_to, with_fields, with_this};
 ghost use Rattle.lang_eval.specs.Found.{template_in, fields_of};
-ghost use Rattle.lang_eval.specs.Next.{Stopped, Went, on_value, asserted, create_step, exercise_step, fetch_step, ran, ran_all, next, next_of, names_of, closed, id_of, value_seen, fields_seen};
+ghost use Rattle.lang_eval.specs.Next.{Stopped, Went, on_value, asserted, create_step, exercise_step, fetch_step, ran, ran_all, next};
+ghost use Rattle.lang_eval.specs.Next.{next_of, names_of, closed, id_of, value_seen, fields_seen};
 ghost use Rattle.lang_eval.specs.Value.{val, vals, truth};
-ghost use Rattle.lang_eval.specs.Shown.{shown};
+ghost use Rattle.lang_eval.specs.RunAnswers.{shown};
 
 use crate::bindings::Bindings;
 use crate::checked::Checked;
 use crate::eval_fault::EvalFault;
 use crate::evaluate::{eval_expr, eval_list, eval_test};
 use crate::run::Run;
-use ledger_model::{ChoiceCall, Seen, SeenList, Step};
+use ledger_model::{ChildResult, ChildResultList, ChoiceCall, Step};
 use ledger_terms::{
     Choice, Exact, Expr, ExprList, FieldDecl, Hash, Instance, Name, Stmt, StmtList, Template,
     TemplateName, Text, Value,
@@ -57,21 +58,21 @@ pub(crate) fn bind_fields(
     Ok(())
 }
 
-fn seen_value(seen: &Seen) -> Result<Value, AllocError>
+fn seen_value(seen: &ChildResult) -> Result<Value, AllocError>
     ensures { IfOk result (λ v. v ≡ value_seen seen.now) }
 {
     match seen {
-        Seen::Created(id) => Ok(Value::Contract(*id)),
-        Seen::Returned(value) => value.copied(),
-        Seen::Fetched(_) => Ok(Value::Unit),
+        ChildResult::Created(id) => Ok(Value::Contract(*id)),
+        ChildResult::Returned(value) => value.copied(),
+        ChildResult::Fetched(_) => Ok(Value::Unit),
     }
 }
 
-fn seen_fields(seen: &Seen) -> &[Value]
+fn seen_fields(seen: &ChildResult) -> &[Value]
     ensures { result.now ≡ fields_seen seen.now }
 {
     match seen {
-        Seen::Fetched(instance) => instance.fields.as_slice(),
+        ChildResult::Fetched(instance) => instance.fields.as_slice(),
         _ => &[],
     }
 }
@@ -98,7 +99,7 @@ fn run_bind<'s>(
     name: Name,
     value: &Expr,
     names: &mut Bindings,
-    seen: &'s [Seen],
+    seen: &'s [ChildResult],
 ) -> Result<Run<'s>, EvalFault>
     ensures { result ≢ Err EvalFault.Memory
         → shown result names.new ≡ on_value (val (expr_form value.now) names.old) (λ v. Went (bound_to name v names.old) seen.now) }
@@ -108,7 +109,11 @@ fn run_bind<'s>(
     Ok(Run::Went(seen))
 }
 
-fn run_assert<'s>(test: &Expr, names: &Bindings, seen: &'s [Seen]) -> Result<Run<'s>, EvalFault>
+fn run_assert<'s>(
+    test: &Expr,
+    names: &Bindings,
+    seen: &'s [ChildResult],
+) -> Result<Run<'s>, EvalFault>
     ensures { result ≢ Err EvalFault.Memory
         → shown result names.now ≡ on_value (truth (expr_form test.now) names.now) (λ b. asserted b (Went names.now seen.now)) }
 {
@@ -122,8 +127,8 @@ fn run_assert<'s>(test: &Expr, names: &Bindings, seen: &'s [Seen]) -> Result<Run
 /// After a child that gave a value, which is bound.
 fn run_value<'s>(
     name: Name,
-    child: &Seen,
-    rest: &'s [Seen],
+    child: &ChildResult,
+    rest: &'s [ChildResult],
     names: &mut Bindings,
 ) -> Result<Run<'s>, EvalFault>
     ensures { result ≢ Err EvalFault.Memory → shown result names.new ≡ Went (bound_to name (value_seen child.now) names.old) rest.now }
@@ -136,8 +141,8 @@ fn run_value<'s>(
 fn run_fields<'s>(
     name: Name,
     decls: &[FieldDecl],
-    child: &Seen,
-    rest: &'s [Seen],
+    child: &ChildResult,
+    rest: &'s [ChildResult],
     names: &mut Bindings,
 ) -> Result<Run<'s>, EvalFault>
     ensures { result ≢ Err EvalFault.Memory → shown result names.new ≡ Went (with_fields name decls.now (fields_seen child.now) names.old) rest.now }
@@ -193,7 +198,7 @@ fn run_stmt<'s>(
     stmt: &Stmt,
     checked: &Checked,
     names: &mut Bindings,
-    seen: &'s [Seen],
+    seen: &'s [ChildResult],
 ) -> Result<Run<'s>, EvalFault>
     ensures { result ≢ Err EvalFault.Memory → shown result names.new ≡ ran (stmt_form stmt.now) checked.now names.old seen.now }
 {
@@ -243,7 +248,7 @@ fn run_side<'s>(
     stmts: &StmtList,
     checked: &Checked,
     names: &mut Bindings,
-    seen: &'s [Seen],
+    seen: &'s [ChildResult],
 ) -> Result<Run<'s>, EvalFault>
     ensures { result ≢ Err EvalFault.Memory → shown result names.new ≡ closed names.old (ran_all (stmt_list_form stmts.now) checked.now names.old seen.now) }
 {
@@ -262,7 +267,7 @@ fn run_list<'s>(
     stmts: &StmtList,
     checked: &Checked,
     names: &mut Bindings,
-    seen: &'s [Seen],
+    seen: &'s [ChildResult],
 ) -> Result<Run<'s>, EvalFault>
     ensures { result ≢ Err EvalFault.Memory → shown result names.new ≡ ran_all (stmt_list_form stmts.now) checked.now names.old seen.now }
 {
@@ -326,7 +331,7 @@ pub(crate) fn next_by(
     template: &Template,
     choice: &Choice,
     call: &ChoiceCall,
-    so_far: &[Seen],
+    so_far: &[ChildResult],
 ) -> Result<Step, EvalFault>
     ensures { UnlessMemory EvalFault.Memory result (next_of template.now choice.now checked.now call.now so_far.now) }
 {
@@ -348,7 +353,7 @@ pub fn next_step(
     alloc: Global,
     checked: &Checked,
     call: &ChoiceCall,
-    so_far: &SeenList,
+    so_far: &ChildResultList,
 ) -> Result<Step, EvalFault>
     ensures { UnlessMemory EvalFault.Memory result (next checked.now call.now so_far.now) }
 {

@@ -9,7 +9,7 @@ ghost use Rattle.ledger_terms.specs.declared.value.Value.{Value};
 ghost use Rattle.ledger_terms.specs.declared.value.Value.TheVariants.{Unit as UnitValue};
 ghost use Rattle.ledger_terms.specs.declared.action.Action.{Action};
 ghost use Rattle.ledger_model.specs.declared.step.ChoiceCall.{ChoiceCall};
-ghost use Rattle.ledger_model.specs.declared.step.Seen.{Seen};
+ghost use Rattle.ledger_model.specs.declared.step.ChildResult.{ChildResult};
 ghost use Rattle.ledger_model.specs.declared.step.Step.{Step};
 ghost use Rattle.ledger_model.specs.declared.step.Step.TheVariants.{Done};
 ghost use Rattle.ledger_model.specs.Language.{roles_of};
@@ -19,23 +19,26 @@ ghost use Rattle.lang_eval.specs.Found.{Packages};
 ghost use Rattle.lang_eval.specs.Next.{Went, ran, next, next_of, names_of};
 ghost use Rattle.lang_eval.specs.Builtin.{archive_of, checked_packages};
 ghost use Rattle.lang_eval.specs.Parts.{PartyNames, parties_of_contract, parties_of_created, parties_of_choice, observers_of_choice};
-ghost use Rattle.lang_eval.specs.Named.{AreKnown, parties_in_value, parties_in_names, parties_in_expr, parties_in_instance, parties_in_packages, parties_in_call, parties_in_seen, parties_in_step, parties_in_action, parties_in_roles, stakeholder_names, choice_party_names};
+ghost use Rattle.lang_eval.specs.Named.{AreKnown, parties_in_value, parties_in_names, parties_in_expr, parties_in_instance};
+ghost use Rattle.lang_eval.specs.Named.{parties_in_packages, parties_in_call, parties_in_seen, parties_in_step, parties_in_action};
+ghost use Rattle.lang_eval.specs.Named.{parties_in_roles, stakeholder_names, choice_party_names};
 ghost use Rattle.lang_eval.specs.declared.contract_parties.ContractParties.{ContractParties};
 ghost use Rattle.lang_eval.specs.declared.choice_parties.ChoiceParties.{ChoiceParties};
 ghost use Rattle.lang_eval.specs.Language.{language_of, roles_in};
 
 /// A body that asks for nothing ends with its result.
 pub fn empty_bodies_end()
-    ensures any { (t : TemplateForm) (c : ChoiceForm) (packages : Packages) (call : ChoiceCall) (seen : List Seen)
+    ensures any { (t : TemplateForm) (c : ChoiceForm) (packages : Packages) (call : ChoiceCall) (seen : List ChildResult)
         → c.body ≡ NoStmts
         → next_of t c packages call seen ≡ with_value (val c.result (names_of t c call)) (λ v. Ok (Done v)) }
-    ensures archive { (t : TemplateForm) (signatories : ExprForm) (packages : Packages) (call : ChoiceCall) (seen : List Seen)
+    ensures archive { (t : TemplateForm) (signatories : ExprForm) (packages : Packages) (call : ChoiceCall) (seen : List ChildResult)
         → next_of t (archive_of signatories) packages call seen ≡ Ok (Done UnitValue) }
 {}
 
 /// What a `when` binds ends with it.
 pub fn bindings_end()
-    ensures { (e : ExprForm) (first second : StmtForms) (packages : Packages) (names : Names) (seen : List Seen) (more : Names) (left : List Seen)
+    ensures { (e : ExprForm) (first second : StmtForms) (packages : Packages) (names : Names) (seen : List ChildResult) (more : Names)
+        (left : List ChildResult)
         → ran (When e first second) packages names seen ≡ Went more left
         → more ≡ names }
 {}
@@ -55,7 +58,7 @@ pub fn evaluations_name_no_other_parties()
         → AreKnown known (parties_in_names names)
         → val e names ≡ Ok v
         → AreKnown known (parties_in_value v) }
-    ensures step { (known : List ℕ → Bool) (packages : Packages) (call : ChoiceCall) (seen : List Seen) (step : Step)
+    ensures step { (known : List ℕ → Bool) (packages : Packages) (call : ChoiceCall) (seen : List ChildResult) (step : Step)
         → AreKnown known (parties_in_packages packages)
         → AreKnown known (parties_in_call call)
         → AreKnown known (flat_map parties_in_seen seen)

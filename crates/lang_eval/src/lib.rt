@@ -30,8 +30,8 @@ pub use contract_parties::ContractParties;
 pub use eval_fault::EvalFault;
 pub use evaluate::{eval_expr, eval_list, eval_test};
 pub use kinds::{call_has_kinds, has_kinds, have_kinds, kind_of};
-pub use ledger_model::{ChoiceCall, Roles, Seen, SeenList, Step};
-pub use note::{archive_name, note_name, note_package, note_template};
+pub use ledger_model::{ChildResult, ChildResultList, ChoiceCall, Roles, Step};
+pub use note::{archive_name, note_name, note_package, note_template_name};
 pub use parties::{
     is_consuming_call, observers_of_choice, parties_of_choice, parties_of_contract,
     parties_of_created,

@@ -4,7 +4,7 @@ ghost use Rattle.ledger_terms.specs.ExprForms.{expr_form, list_form};
 ghost use Rattle.ledger_terms.specs.StmtForms.{stmt_form, stmt_list_form};
 ghost use Rattle.ledger_terms.specs.Syntax.{Var, NoExprs, MoreExprs, Literal, Create, Exercise};
 ghost use Rattle.ledger_terms.specs.declared.value.Value.TheVariants.{Text as TextValue};
-ghost use Rattle.lang_eval.specs.Builtin.{archive_name, note_form, note_fields, note_template_form, flash_form, flash_body, one_party, note_template};
+ghost use Rattle.lang_eval.specs.Builtin.{archive_name, note_form, note_fields, note_template_form, flash_form, flash_body, one_party, note_template_name};
 
 use crate::forms::{both, field, no_parties, one_party, variable};
 use ledger_terms::{
@@ -28,8 +28,8 @@ pub fn note_name() -> Name
 }
 
 /// The template of notes.
-pub fn note_template() -> TemplateName
-    ensures { result ≡ note_template }
+pub fn note_template_name() -> TemplateName
+    ensures { result ≡ note_template_name }
 {
     TemplateName {
         package: note_name(),
@@ -48,7 +48,7 @@ fn note_fields(alloc: Global) -> Result<FieldDeclList, AllocError>
 }
 
 fn flash_create(alloc: Global) -> Result<Stmt, AllocError>
-    ensures { IfOk result (λ s. stmt_form s ≡ Create (codes "x") note_template
+    ensures { IfOk result (λ s. stmt_form s ≡ Create (codes "x") note_template_name
         (MoreExprs (Var (codes "this.owner")) (MoreExprs (Var (codes "this.reader")) (MoreExprs (Literal (TextValue (codes "flash"))) NoExprs)))) }
 {
     let mut fields = ExprList::new(alloc);
@@ -57,17 +57,17 @@ fn flash_create(alloc: Global) -> Result<Stmt, AllocError>
     fields.push(Expr::Literal(Value::Text(Text::of(alloc, "flash")?)))?;
     Ok(Stmt::Create {
         bind: Name::read("x").unwrap(),
-        template: note_template(),
+        template: note_template_name(),
         fields,
     })
 }
 
 fn flash_archive(alloc: Global) -> Result<Stmt, AllocError>
-    ensures { IfOk result (λ s. stmt_form s ≡ Exercise (codes "y") note_template (Var (codes "x")) archive_name NoExprs) }
+    ensures { IfOk result (λ s. stmt_form s ≡ Exercise (codes "y") note_template_name (Var (codes "x")) archive_name NoExprs) }
 {
     Ok(Stmt::Exercise {
         bind: Name::read("y").unwrap(),
-        template: note_template(),
+        template: note_template_name(),
         contract: variable(alloc, "x")?,
         choice: archive_name(),
         args: ExprList::new(alloc),

@@ -2,7 +2,9 @@
 ghost use Rattle.std.specs.Prelude.{◌≡◌, IfOk};
 ghost use Rattle.ledger_terms.specs.Answers.{UnlessMemory};
 ghost use Rattle.ledger_terms.specs.ExprForms.{expr_form};
-ghost use Rattle.lang_eval.specs.Parts.{parties_of, call_names, contract_parties_of, created_parties_of, choice_parties_of, choice_observers_of, parties_of_contract, parties_of_created, parties_of_choice, observers_of_choice, is_consuming_call};
+ghost use Rattle.lang_eval.specs.Parts.{parties_of, call_names, contract_parties_of, created_parties_of, choice_parties_of};
+ghost use Rattle.lang_eval.specs.Parts.{choice_observers_of, parties_of_contract, parties_of_created, parties_of_choice};
+ghost use Rattle.lang_eval.specs.Parts.{observers_of_choice, is_consuming_call};
 
 use crate::bindings::Bindings;
 use crate::body::{bind_fields, field_names};

@@ -1,8 +1,10 @@
 -- The plain data of an expression.
 use Rattle.std.specs.Prelude.{List, [], ◌∷◌}
-use Rattle.ledger_terms.specs.Syntax.{ExprForm, ExprForms, Literal, Var, Add, Sub, Mul, Less, LessEq, Equal, Both, Either, Negate, Cond, Cat, SetOf, Union, Has, NoExprs, MoreExprs}
+use Rattle.ledger_terms.specs.Syntax.{ExprForm, ExprForms, Literal, Var, Add, Sub, Mul, Less, LessEq, Equal, Both, Either, Negate, Cond}
+use Rattle.ledger_terms.specs.Syntax.{Cat, SetOf, Union, Has, NoExprs, MoreExprs}
 use Rattle.ledger_terms.specs.declared.expr.Expr.{Expr, Row_of-Expr, end_of-Expr, more_of-Expr}
-use Rattle.ledger_terms.specs.declared.expr.Expr.TheVariants.{Literal as LiteralExpr, Var as VarExpr, Add', Sub', Mul', Less', LessEq', Equal', Both', Either', Negate', Cond', Cat', SetOf', Union', Has'}
+use Rattle.ledger_terms.specs.declared.expr.Expr.TheVariants.{Literal as LiteralExpr, Var as VarExpr, Add', Sub', Mul', Less', LessEq'}
+use Rattle.ledger_terms.specs.declared.expr.Expr.TheVariants.{Equal', Both', Either', Negate', Cond', Cat', SetOf', Union', Has'}
 
 abbrev mutual
   pub expr_form : Expr → ExprForm

@@ -3,7 +3,8 @@ use Rattle.std.specs.Prelude.{List, [], ◌∷◌}
 use Rattle.ledger_terms.specs.Syntax.{StmtForm, StmtForms, Bind, Assert, Create, Exercise, Fetch, When, NoStmts, MoreStmts}
 use Rattle.ledger_terms.specs.ExprForms.{expr_form, list_form}
 use Rattle.ledger_terms.specs.declared.stmt.Stmt.{Stmt, Row_of-Stmt, end_of-Stmt, more_of-Stmt}
-use Rattle.ledger_terms.specs.declared.stmt.Stmt.TheVariants.{Bind as BindStmt, Assert as AssertStmt, Create as CreateStmt, Exercise as ExerciseStmt, Fetch as FetchStmt, When'}
+use Rattle.ledger_terms.specs.declared.stmt.Stmt.TheVariants.{Bind as BindStmt, Assert as AssertStmt, Create as CreateStmt}
+use Rattle.ledger_terms.specs.declared.stmt.Stmt.TheVariants.{Exercise as ExerciseStmt, Fetch as FetchStmt, When'}
 
 abbrev mutual
   pub stmt_form : Stmt → StmtForm

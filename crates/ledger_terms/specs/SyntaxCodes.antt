@@ -4,7 +4,9 @@ use Rattle.std.proofs.Common.{◌∙◌, ap}
 use Rattle.std.specs.Coded.{codes, Coded, code_by, coded_list}
 use Rattle.ledger_terms.specs.declared.value.Value.{Value}
 use Rattle.ledger_terms.specs.declared.template_name.TemplateName.{TemplateName}
-use Rattle.ledger_terms.specs.Syntax.{ExprForm, ExprForms, Literal, Var, Add, Sub, Mul, Less, LessEq, Equal, Both, Either, Negate, Cond, Cat, SetOf, Union, Has, NoExprs, MoreExprs, StmtForm, StmtForms, Bind, Assert, Create, Exercise, Fetch, When, NoStmts, MoreStmts}
+use Rattle.ledger_terms.specs.Syntax.{ExprForm, ExprForms, Literal, Var, Add, Sub, Mul, Less, LessEq, Equal, Both, Either, Negate, Cond}
+use Rattle.ledger_terms.specs.Syntax.{Cat, SetOf, Union, Has, NoExprs, MoreExprs, StmtForm, StmtForms, Bind, Assert, Create, Exercise}
+use Rattle.ledger_terms.specs.Syntax.{Fetch, When, NoStmts, MoreStmts}
 
 pub data ExprToken : Type 0 where
   LiteralToken : Value → ExprToken
@@ -108,7 +110,8 @@ mutual
   built-expr (Union a b) after s t = built-expr a _ s t ∙ built-expr b (UnionToken ∷ after) (a ∷ s) t
   built-expr (Has a b) after s t = built-expr a _ s t ∙ built-expr b (HasToken ∷ after) (a ∷ s) t
 
-  pub built-exprs : (es : ExprForms) (after : List ExprToken) (s : List ExprForm) (t : List ExprForms) → built (exprs_tokens es after) s t ≡ built after s (es ∷ t)
+  pub built-exprs : (es : ExprForms) (after : List ExprToken) (s : List ExprForm) (t : List ExprForms)
+      → built (exprs_tokens es after) s t ≡ built after s (es ∷ t)
   built-exprs NoExprs after s t = refl
   built-exprs (MoreExprs e es) after s t = built-expr e _ s t ∙ built-exprs es (MoreExprsToken ∷ after) (e ∷ s) t
 
@@ -118,7 +121,8 @@ first_or_none (es ∷ t) = es
 
 abbrev pub coded_exprs : Coded ExprForms
 coded_exprs =
-    code_by (List ExprToken) (coded_list coded_token) (λ es. exprs_tokens es []) (λ l. first_or_none (built l [] [])) (λ es. ap first_or_none (built-exprs es [] [] []))
+    code_by (List ExprToken) (coded_list coded_token) (λ es. exprs_tokens es []) (λ l. first_or_none (built l [] []))
+    (λ es. ap first_or_none (built-exprs es [] [] []))
 
 abbrev pub first_expr : ExprForms → ExprForm
 first_expr NoExprs = SetOf NoExprs
@@ -167,7 +171,8 @@ built_stmts (MoreStmtsToken ∷ after) (a ∷ s) (more ∷ t) = built_stmts afte
 built_stmts (MoreStmtsToken ∷ after) s t = t
 
 mutual
-  pub built_stmts-stmt : (a : StmtForm) (after : List StmtToken) (s : List StmtForm) (t : List StmtForms) → built_stmts (stmt_tokens a after) s t ≡ built_stmts after (a ∷ s) t
+  pub built_stmts-stmt : (a : StmtForm) (after : List StmtToken) (s : List StmtForm) (t : List StmtForms)
+      → built_stmts (stmt_tokens a after) s t ≡ built_stmts after (a ∷ s) t
   built_stmts-stmt (Bind x e) after s t = refl
   built_stmts-stmt (Assert e) after s t = refl
   built_stmts-stmt (Create x u fields) after s t = refl
@@ -176,7 +181,8 @@ mutual
   built_stmts-stmt (When e first second) after s t =
       built_stmts-stmts first _ s t ∙ built_stmts-stmts second (WhenToken e ∷ after) s (first ∷ t)
 
-  pub built_stmts-stmts : (a : StmtForms) (after : List StmtToken) (s : List StmtForm) (t : List StmtForms) → built_stmts (stmts_tokens a after) s t ≡ built_stmts after s (a ∷ t)
+  pub built_stmts-stmts : (a : StmtForms) (after : List StmtToken) (s : List StmtForm) (t : List StmtForms)
+      → built_stmts (stmts_tokens a after) s t ≡ built_stmts after s (a ∷ t)
   built_stmts-stmts NoStmts after s t = refl
   built_stmts-stmts (MoreStmts a more) after s t =
       built_stmts-stmt a _ s t ∙ built_stmts-stmts more (MoreStmtsToken ∷ after) (a ∷ s) t
@@ -187,4 +193,5 @@ first_stmts (a ∷ t) = a
 
 abbrev pub coded_stmts : Coded StmtForms
 coded_stmts =
-    code_by (List StmtToken) (coded_list coded_stmt_token) (λ a. stmts_tokens a []) (λ l. first_stmts (built_stmts l [] [])) (λ a. ap first_stmts (built_stmts-stmts a [] [] []))
+    code_by (List StmtToken) (coded_list coded_stmt_token) (λ a. stmts_tokens a []) (λ l. first_stmts (built_stmts l [] []))
+    (λ a. ap first_stmts (built_stmts-stmts a [] [] []))

@@ -30,7 +30,16 @@ impl Model for Choice {
 
     ghost coded = { coded_choice };
 
-    ghost view = { λ c. record { name = c.name; consuming = c.consuming; params = c.params; controllers = expr_form c.controllers; observers = expr_form c.observers; returns = c.returns; body = stmt_list_form c.body; result = expr_form c.result } };
+    ghost view = { λ c. record {
+      name = c.name;
+      consuming = c.consuming;
+      params = c.params;
+      controllers = expr_form c.controllers;
+      observers = expr_form c.observers;
+      returns = c.returns;
+      body = stmt_list_form c.body;
+      result = expr_form c.result;
+    } };
 }
 
 /// Choices.

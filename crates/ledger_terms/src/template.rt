@@ -26,7 +26,14 @@ impl Model for Template {
 
     ghost coded = { coded_template };
 
-    ghost view = { λ t. record { name = t.name; fields = t.fields; ensure = expr_form t.ensure; signatories = expr_form t.signatories; observers = expr_form t.observers; choices = t.choices } };
+    ghost view = { λ t. record {
+      name = t.name;
+      fields = t.fields;
+      ensure = expr_form t.ensure;
+      signatories = expr_form t.signatories;
+      observers = expr_form t.observers;
+      choices = t.choices;
+    } };
 }
 
 /// Templates.

@@ -9,11 +9,11 @@ use Rattle.ledger_terms.specs.Syntax.{StmtForm, StmtForms, Create, Exercise, Whe
 use Rattle.ledger_terms.specs.Packages.{PackageForm, TemplateForm, ChoiceForm}
 use Rattle.lang_eval.specs.Builtin.{one_party, declared}
 
-abbrev pub iou_template : TemplateName
-iou_template = record { «package» = codes "Iou"; name = codes "Iou" }
+abbrev pub iou_template_name : TemplateName
+iou_template_name = record { «package» = codes "Iou"; name = codes "Iou" }
 
-abbrev pub loop_template : TemplateName
-loop_template = record { «package» = codes "Iou"; name = codes "Loop" }
+abbrev pub loop_template_name : TemplateName
+loop_template_name = record { «package» = codes "Iou"; name = codes "Loop" }
 
 abbrev pub transfer_name : List ℕ
 transfer_name = codes "Transfer"
@@ -41,7 +41,7 @@ only stmt = MoreStmts stmt NoStmts
 
 -- the debt in place of this one
 abbrev pub new_iou : ExprForm → ExprForm → StmtForm
-new_iou owner amount = Create (codes "x") iou_template (MoreExprs (Var (codes "this.issuer")) (MoreExprs owner (MoreExprs amount NoExprs)))
+new_iou owner amount = Create (codes "x") iou_template_name (MoreExprs (Var (codes "this.issuer")) (MoreExprs owner (MoreExprs amount NoExprs)))
 
 -- to a new owner
 abbrev pub transfer_form : ChoiceForm
@@ -73,7 +73,7 @@ iou_form =
 -- the choice once more, with a number that is less by one
 abbrev pub again : StmtForm
 again =
-    Exercise (codes "y") loop_template (Var (codes "self")) (codes "Down")
+    Exercise (codes "y") loop_template_name (Var (codes "self")) (codes "Down")
     (MoreExprs (Sub (Var (codes "arg.n")) (Literal (IntValue (pos 1)))) NoExprs)
 
 abbrev pub down_body : StmtForms

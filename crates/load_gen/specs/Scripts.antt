@@ -10,12 +10,12 @@ use Rattle.load_gen.specs.Numbers.{participant_at, party_at}
 use Rattle.load_gen.specs.declared.topology.TheConstants.{PARTICIPANTS, RESPONSE_TIMEOUT, REACTION_TIMEOUT, SKEW}
 
 -- all packages
-abbrev pub vetted : List (List ℕ)
-vetted = codes "Note" ∷ codes "Iou" ∷ []
+abbrev pub vetted_packages : List (List ℕ)
+vetted_packages = codes "Note" ∷ codes "Iou" ∷ []
 
 -- the participant at a place, with its one party
 abbrev pub host_at : ℕ → Host
-host_at place = record { name = participant_at place; parties = party_at place ∷ []; vetted = vetted }
+host_at place = record { name = participant_at place; parties = party_at place ∷ []; vetted_packages = vetted_packages }
 
 abbrev pub hosts : List Host
 hosts = map host_at (range_with_len 0 PARTICIPANTS)

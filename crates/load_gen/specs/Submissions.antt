@@ -10,7 +10,7 @@ use Rattle.ledger_terms.specs.declared.contract_ref.ContractRef.TheVariants.{Lab
 use Rattle.ledger_terms.specs.declared.submission.Submission.{Submission}
 use Rattle.ledger_terms.specs.declared.value.Value.TheVariants.{Party, Int}
 use Rattle.ledger_terms.specs.declared.what.What.TheVariants.{Commands}
-use Rattle.load_gen.specs.Iou.{iou_template, transfer_name}
+use Rattle.load_gen.specs.Iou.{iou_template_name, transfer_name}
 use Rattle.load_gen.specs.Numbers.{number, amount_by, numbered, participant_at, party_at}
 use Rattle.load_gen.specs.declared.topology.TheConstants.{PARTICIPANTS}
 
@@ -19,8 +19,8 @@ abbrev pub in_turn : ℕ → ℕ → ℕ
 in_turn i step = (i + step) % PARTICIPANTS
 
 -- one command of the participant at a place, as its party
-abbrev pub submitted : ℕ → List ℕ → Command → Submission
-submitted place name command =
+abbrev pub submission_of : ℕ → List ℕ → Command → Submission
+submission_of place name command =
     record {
       participant = place;
       command = name;
@@ -35,8 +35,8 @@ party_arg place = Plain (Party (party_at place))
 -- the i-th debt, of an amount by a number
 abbrev pub debt_by : ℕ → ℕ → Submission
 debt_by i x =
-    submitted (in_turn i 0) (numbered (codes "c") i)
-    (Create iou_template (party_arg (in_turn i 0) ∷ party_arg (in_turn i 1) ∷ Plain (Int (pos (amount_by x))) ∷ []))
+    submission_of (in_turn i 0) (numbered (codes "c") i)
+    (Create iou_template_name (party_arg (in_turn i 0) ∷ party_arg (in_turn i 1) ∷ Plain (Int (pos (amount_by x))) ∷ []))
 
 -- the contract of the i-th debt
 abbrev pub debt_label : ℕ → ContractRef
@@ -45,7 +45,7 @@ debt_label i = Label (record { participant = participant_at (in_turn i 0); comma
 -- the transfer of the i-th debt
 abbrev pub transfer_of : ℕ → Submission
 transfer_of i =
-    submitted (in_turn i 1) (numbered (codes "t") i) (Exercise iou_template (debt_label i) transfer_name (party_arg (in_turn i 2) ∷ []))
+    submission_of (in_turn i 1) (numbered (codes "t") i) (Exercise iou_template_name (debt_label i) transfer_name (party_arg (in_turn i 2) ∷ []))
 
 -- the debts, the i-th by the number i + 1
 abbrev pub debts : ℕ → ℕ → List Submission

@@ -4,7 +4,8 @@ ghost use Rattle.ledger_terms.specs.ExprForms.{expr_form, list_form};
 ghost use Rattle.ledger_terms.specs.StmtForms.{stmt_form, stmt_list_form};
 ghost use Rattle.ledger_terms.specs.Syntax.{Add, Sub, Literal, Var, MoreExprs, NoExprs, MoreStmts, NoStmts};
 ghost use Rattle.ledger_terms.specs.declared.value.Value.TheVariants.{Int as IntValue};
-ghost use Rattle.load_gen.specs.Iou.{iou_template, loop_template, transfer_name, choice_with, new_iou, transfer_form, grow_form, again, down_form, down_body};
+ghost use Rattle.load_gen.specs.Iou.{iou_template_name, loop_template_name, transfer_name, choice_with, new_iou, transfer_form, grow_form};
+ghost use Rattle.load_gen.specs.Iou.{again, down_form, down_body};
 
 use crate::forms::{both, field, integer, is_positive, no_parties, one_party, variable};
 use ledger_terms::{
@@ -22,8 +23,8 @@ pub(crate) fn iou_name() -> Name
 }
 
 /// The template of debts.
-pub(crate) fn iou_template() -> TemplateName
-    ensures { result ≡ iou_template }
+pub(crate) fn iou_template_name() -> TemplateName
+    ensures { result ≡ iou_template_name }
 {
     TemplateName {
         package: iou_name(),
@@ -32,8 +33,8 @@ pub(crate) fn iou_template() -> TemplateName
 }
 
 /// The template whose choice calls itself.
-fn loop_template() -> TemplateName
-    ensures { result ≡ loop_template }
+fn loop_template_name() -> TemplateName
+    ensures { result ≡ loop_template_name }
 {
     TemplateName {
         package: iou_name(),
@@ -91,7 +92,7 @@ fn new_iou(alloc: Global, owner: &str, amount: Expr) -> Result<Stmt, AllocError>
     fields.push(amount)?;
     Ok(Stmt::Create {
         bind: Name::read("x").unwrap(),
-        template: iou_template(),
+        template: iou_template_name(),
         fields,
     })
 }
@@ -147,7 +148,7 @@ fn again(alloc: Global) -> Result<Stmt, AllocError>
     let (contract, args) = both(variable(alloc, "self"), less_by_one(alloc))?;
     Ok(Stmt::Exercise {
         bind: Name::read("y").unwrap(),
-        template: loop_template(),
+        template: loop_template_name(),
         contract,
         choice: Name::read("Down").unwrap(),
         args,

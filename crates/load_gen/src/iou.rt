@@ -51,7 +51,7 @@ fn iou(alloc: Global) -> Result<Template, AllocError>
     })
 }
 
-fn looping(alloc: Global) -> Result<Template, AllocError>
+fn looping_template(alloc: Global) -> Result<Template, AllocError>
     ensures { IfOk result (λ t. t ≡ loop_form) }
 {
     let (signatories, choice) = both(one_party(alloc, "this.owner"), down(alloc))?;
@@ -75,7 +75,7 @@ pub fn iou_package(alloc: Global) -> Result<Package, AllocError>
 {
     let mut templates = TemplateList::new(alloc);
     templates.push(iou(alloc)?)?;
-    templates.push(looping(alloc)?)?;
+    templates.push(looping_template(alloc)?)?;
     Ok(Package {
         name: iou_name(),
         templates,

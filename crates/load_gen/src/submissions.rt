@@ -1,8 +1,8 @@
 //! What is submitted.
 ghost use Rattle.std.specs.Prelude.{◌≡◌, ◌<◌, ◌+◌, IfOk};
-ghost use Rattle.load_gen.specs.Submissions.{in_turn, submitted, party_arg, debt_by, debt_label, transfer_of, debts, transfers};
+ghost use Rattle.load_gen.specs.Submissions.{in_turn, submission_of, party_arg, debt_by, debt_label, transfer_of, debts, transfers};
 
-use crate::choices::{iou_template, transfer_name};
+use crate::choices::{iou_template_name, transfer_name};
 use crate::names::{numbered, participant_at, party_at};
 use crate::numbers::{amount_by, number_after};
 use crate::topology::PARTICIPANTS;
@@ -20,13 +20,13 @@ fn in_turn(turn: u32, step: u32) -> u8
     ((u64::from(turn) + u64::from(step)) % u64::from(PARTICIPANTS)) as u8
 }
 
-fn submitted(
+fn submission_of(
     alloc: Global,
     place: u8,
     name: Name,
     command: Command,
 ) -> Result<Submission, AllocError>
-    ensures { IfOk result (λ s. s ≡ submitted place name command) }
+    ensures { IfOk result (λ s. s ≡ submission_of place name command) }
 {
     let mut act_as = PartySet::new(alloc);
     act_as.insert(party_at(alloc, place)?)?;
@@ -56,10 +56,10 @@ fn debt_by(alloc: Global, turn: u32, number: u64) -> Result<Submission, AllocErr
     fields.push(party_arg(alloc, in_turn(turn, 1))?)?;
     fields.push(Arg::Plain(Value::Int(amount_by(number) as i64)))?;
     let command = Command::Create {
-        template: iou_template(),
+        template: iou_template_name(),
         fields,
     };
-    submitted(
+    submission_of(
         alloc,
         in_turn(turn, 0),
         numbered(alloc, "c", turn)?,
@@ -86,12 +86,12 @@ fn transfer_of(alloc: Global, turn: u32) -> Result<Submission, AllocError>
     let mut args = ArgList::new(alloc);
     args.push(party_arg(alloc, in_turn(turn, 2))?)?;
     let command = Command::Exercise {
-        template: iou_template(),
+        template: iou_template_name(),
         contract: debt_label(alloc, turn)?,
         choice: transfer_name(),
         args,
     };
-    submitted(
+    submission_of(
         alloc,
         in_turn(turn, 1),
         numbered(alloc, "t", turn)?,

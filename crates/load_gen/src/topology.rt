@@ -1,6 +1,6 @@
 //! The participants.
 ghost use Rattle.std.specs.Prelude.{◌≡◌, codes, ◌∷◌, [], IfOk};
-ghost use Rattle.load_gen.specs.Scripts.{vetted, host_at, hosts, params};
+ghost use Rattle.load_gen.specs.Scripts.{vetted_packages, host_at, hosts, params};
 
 use crate::choices::iou_name;
 use crate::names::{participant_at, party_at};
@@ -18,8 +18,8 @@ pub(crate) const REACTION_TIMEOUT: u64 = 30_000_000;
 
 pub(crate) const SKEW: u64 = 60_000_000;
 
-fn vetted(alloc: Global) -> Result<NameList, AllocError>
-    ensures { IfOk result (λ names. names ≡ vetted) }
+fn vetted_packages(alloc: Global) -> Result<NameList, AllocError>
+    ensures { IfOk result (λ names. names ≡ vetted_packages) }
 {
     let mut names = NameList::new(alloc);
     names.push(note_name())?;
@@ -35,7 +35,7 @@ fn host_at(alloc: Global, place: u8) -> Result<Host, AllocError>
     Ok(Host {
         name: participant_at(alloc, place)?,
         parties,
-        vetted: vetted(alloc)?,
+        vetted_packages: vetted_packages(alloc)?,
     })
 }
 

@@ -20,7 +20,7 @@ use Rattle.proto_model.specs.PlainReading.{plain_reading, root_of}
 use Rattle.node_core.specs.declared.content.Content.{Content as OwnContent}
 use Rattle.node_core.specs.declared.content.Content.TheVariants.{Received as OwnReceived, Told as OwnTold, Nothing as OwnNothing}
 use Rattle.node_core.specs.declared.item.Item.{Item as OwnItem}
-use Rattle.node_core.specs.Seen.{seen, seen_content}
+use Rattle.node_core.specs.ModelItems.{model_items, model_content}
 use Rattle.node_core.specs.Scans.{authentic_at, first_rows_at}
 use Rattle.node_core.proofs.Scans.{any_nowhere, consumes_nothing}
 
@@ -79,12 +79,12 @@ any_at_place c place (x ∷ xs) =
     and_no false b = refl
 
 -- the rows that the request at a place makes are one or none
-few_rows : (items : List OwnItem) (k place : ℕ) → (created_at_place place (authentic_at (seen items) k) ≡ []) ⊎ ((row : ActiveRow) × (created_at_place place (authentic_at (seen items) k) ≡ row ∷ []))
+few_rows : (items : List OwnItem) (k place : ℕ) → (created_at_place place (authentic_at (model_items items) k) ≡ []) ⊎ ((row : ActiveRow) × (created_at_place place (authentic_at (model_items items) k) ≡ row ∷ []))
 few_rows [] k place = inl refl
 few_rows (item ∷ items) (suc k) place = few_rows items k place
 few_rows (item ∷ items) zero place = by_content item.content
   where
-    by_content : (content : OwnContent) → (created_at_place place (filter is_authentic (acts (roots_in (shown_by (seen_content content))))) ≡ []) ⊎ ((row : ActiveRow) × (created_at_place place (filter is_authentic (acts (roots_in (shown_by (seen_content content))))) ≡ row ∷ []))
+    by_content : (content : OwnContent) → (created_at_place place (filter is_authentic (acts (roots_in (shown_by (model_content content))))) ≡ []) ⊎ ((row : ActiveRow) × (created_at_place place (filter is_authentic (acts (roots_in (shown_by (model_content content))))) ≡ row ∷ []))
     by_content (OwnReceived opened) = elim (cases_Bool (is_authentic (root_of opened.form))) [
       | inl yes' ↦ inr (active_row place (root_of opened.form), rw yes' refl)
       | inr no' ↦ inl (rw no' refl)
@@ -100,56 +100,56 @@ module _ (hosts : List Host) (p : ParticipantId) (items : List OwnItem) where
   is_hosted row = is_stakeholder_hosted reading p row.known.instance
 
   abbrev made_at : ℕ → List Act
-  made_at k = if is_approved_in k (moments (seen items)) then authentic_at (seen items) k else []
+  made_at k = if is_approved_in k (moments (model_items items)) then authentic_at (model_items items) k else []
 
   -- the rows with a hosted stakeholder below a place, the first of each contract
   abbrev pub hosted_rows : ℕ → List ActiveRow
-  hosted_rows n = filter is_hosted (first_of_each (created_below reading (seen items) n))
+  hosted_rows n = filter is_hosted (first_of_each (created_below reading (model_items items) n))
 
-  any_below : (c : List ℕ) (n : ℕ) → list_any (λ (r : ActiveRow). bytes_eq c r.known.id) (created_below reading (seen items) n) ≡ list_any (creates c) (authentic_below reading (seen items) n)
+  any_below : (c : List ℕ) (n : ℕ) → list_any (λ (r : ActiveRow). bytes_eq c r.known.id) (created_below reading (model_items items) n) ≡ list_any (creates c) (authentic_below reading (model_items items) n)
   any_below c zero = refl
   any_below c (suc k) =
       let here = any_at_place c k (made_at k) in
       let before = any_below c k in
-      list_any-append (λ (r : ActiveRow). bytes_eq c r.known.id) (created_below reading (seen items) k) (created_at_place k (made_at k))
-      ∙ (rw (before, here) (sym (list_any-append (creates c) (authentic_below reading (seen items) k) (made_at k))))
+      list_any-append (λ (r : ActiveRow). bytes_eq c r.known.id) (created_below reading (model_items items) k) (created_at_place k (made_at k))
+      ∙ (rw (before, here) (sym (list_any-append (creates c) (authentic_below reading (model_items items) k) (made_at k))))
 
   few_made : (k : ℕ) → (created_at_place k (made_at k) ≡ []) ⊎ ((row : ActiveRow) × (created_at_place k (made_at k) ≡ row ∷ []))
-  few_made k = elim (cases_Bool (is_approved_in k (moments (seen items)))) [
+  few_made k = elim (cases_Bool (is_approved_in k (moments (model_items items)))) [
     | inl yes' ↦ rw yes' (few_rows items k k)
     | inr no' ↦ rw no' (inl refl)
   ]
 
   abbrev is_first : ℕ → ActiveRow → Bool
-  is_first k row = is_hosted row && not (list_any (creates row.known.id) (authentic_below reading (seen items) k))
+  is_first k row = is_hosted row && not (list_any (creates row.known.id) (authentic_below reading (model_items items) k))
 
-  kept_last : (k : ℕ) (row : ActiveRow) → filter is_hosted (filter (is_new (created_below reading (seen items) k)) (row ∷ [])) ≡ filter (is_first k) (row ∷ [])
+  kept_last : (k : ℕ) (row : ActiveRow) → filter is_hosted (filter (is_new (created_below reading (model_items items) k)) (row ∷ [])) ≡ filter (is_first k) (row ∷ [])
   kept_last k row =
       rw (any_below row.known.id k)
-      (elim (cases_Bool (list_any (creates row.known.id) (authentic_below reading (seen items) k))) [
+      (elim (cases_Bool (list_any (creates row.known.id) (authentic_below reading (model_items items) k))) [
         | inl old ↦ elim (cases_Bool (is_hosted row)) [ inl yes' ↦ rw (old, yes') refl | inr no' ↦ rw (old, no') refl ]
         | inr new' ↦ elim (cases_Bool (is_hosted row)) [ inl yes' ↦ rw (new', yes') refl | inr no' ↦ rw (new', no') refl ]
       ])
 
-  next_with : (k : ℕ) (made : List ActiveRow) → (made ≡ []) ⊎ ((row : ActiveRow) × (made ≡ row ∷ [])) → filter is_hosted (first_of_each (created_below reading (seen items) k ++ made)) ≡ hosted_rows k ++ filter (is_first k) made
-  next_with k made (inl none) = rw none (ap (λ (rows : List ActiveRow). filter is_hosted (first_of_each rows)) (append-nil (created_below reading (seen items) k)) ∙ sym (append-nil (hosted_rows k)))
+  next_with : (k : ℕ) (made : List ActiveRow) → (made ≡ []) ⊎ ((row : ActiveRow) × (made ≡ row ∷ [])) → filter is_hosted (first_of_each (created_below reading (model_items items) k ++ made)) ≡ hosted_rows k ++ filter (is_first k) made
+  next_with k made (inl none) = rw none (ap (λ (rows : List ActiveRow). filter is_hosted (first_of_each rows)) (append-nil (created_below reading (model_items items) k)) ∙ sym (append-nil (hosted_rows k)))
   next_with k made (inr one) =
       rw one.1
-      (ap (filter is_hosted) (first_push (created_below reading (seen items) k) one.0)
-      ∙ filter-append is_hosted (first_of_each (created_below reading (seen items) k)) (filter (is_new (created_below reading (seen items) k)) (one.0 ∷ []))
+      (ap (filter is_hosted) (first_push (created_below reading (model_items items) k) one.0)
+      ∙ filter-append is_hosted (first_of_each (created_below reading (model_items items) k)) (filter (is_new (created_below reading (model_items items) k)) (one.0 ∷ []))
       ∙ ap (λ (kept : List ActiveRow). hosted_rows k ++ kept) (kept_last k one.0))
 
-  pub next_rows : (k : ℕ) → hosted_rows (k + 1) ≡ hosted_rows k ++ first_rows_at hosts p (seen items) k
+  pub next_rows : (k : ℕ) → hosted_rows (k + 1) ≡ hosted_rows k ++ first_rows_at hosts p (model_items items) k
   next_rows k = rw add-one (next_with k (created_at_place k (made_at k)) (few_made k))
 
-  pub none_consumed : (n : ℕ) → hosted_rows n ≡ node_active reading p (seen items) n
-  none_consumed n = sym (filter_same (is_active_row reading p (authentic_below reading (seen items) n)) is_hosted same (first_of_each (created_below reading (seen items) n)))
+  pub none_consumed : (n : ℕ) → hosted_rows n ≡ node_active reading p (model_items items) n
+  none_consumed n = sym (filter_same (is_active_row reading p (authentic_below reading (model_items items) n)) is_hosted same (first_of_each (created_below reading (model_items items) n)))
     where
       and_true : (b : Bool) → (b && true) ≡ b
       and_true true = refl
       and_true false = refl
 
-      same : (row : ActiveRow) → is_active_row reading p (authentic_below reading (seen items) n) row ≡ is_hosted row
+      same : (row : ActiveRow) → is_active_row reading p (authentic_below reading (model_items items) n) row ≡ is_hosted row
       same row =
-          ap (λ (b : Bool). is_hosted row && not b) (any_nowhere (consumes row.known.id) (λ m. is_approved_in m (moments (seen items))) (authentic_at (seen items)) (consumes_nothing items row.known.id) n)
+          ap (λ (b : Bool). is_hosted row && not b) (any_nowhere (consumes row.known.id) (λ m. is_approved_in m (moments (model_items items))) (authentic_at (model_items items)) (consumes_nothing items row.known.id) n)
           ∙ and_true (is_hosted row)

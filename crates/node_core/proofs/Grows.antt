@@ -11,7 +11,7 @@ use Rattle.ledger_model.specs.Terms.{ParticipantId}
 use Rattle.canton_model.specs.Log.{request_of, request_at}
 use Rattle.ledger_model.specs.Opening.{Shown}
 use Rattle.canton_model.specs.Reading.{Reading, is_recipient}
-use Rattle.canton_model.specs.Inbox.{Content, Told, Nothing, Item, received, told, content_of, item_after, items_after, inbox, shown_by, shown_at}
+use Rattle.canton_model.specs.Inbox.{Content, Told, Nothing, Item, received, verdict_content, content_of, item_after, items_after, inbox, shown_by, shown_at}
 use Rattle.canton_model.proofs.InboxGrows.{items_push}
 use Rattle.node_core.specs.Entries.{content_from, item_from}
 
@@ -24,7 +24,7 @@ module _ (reading : Reading) (p : ParticipantId) where
   some_received None = refl
   some_received (Some shown) = refl
 
-  told_shows_none : (v : Verdict) (o : Option Request) → is_some (shown_by (told reading p v o)) ≡ false
+  told_shows_none : (v : Verdict) (o : Option Request) → is_some (shown_by (verdict_content reading p v o)) ≡ false
   told_shows_none v None = refl
   told_shows_none v (Some q) = elim (cases_Bool (is_recipient reading p q)) [ inl b ↦ rw b refl | inr b ↦ rw b refl ]
 
@@ -39,7 +39,7 @@ module _ (reading : Reading) (p : ParticipantId) where
   received_at before (x ∷ xs) zero = received_here before x.message
   received_at before (x ∷ xs) (suc k) = received_at (before ++ x ∷ []) xs k
 
-  told_same : (v : Verdict) (o : Option Request) → (if is_shown o then Told v else Nothing) ≡ told reading p v o
+  told_same : (v : Verdict) (o : Option Request) → (if is_shown o then Told v else Nothing) ≡ verdict_content reading p v o
   told_same v None = refl
   told_same v (Some q) = refl
 

@@ -17,7 +17,7 @@ use Rattle.proto_model.specs.PlainReading.{plain_reading, root_of}
 use Rattle.node_core.specs.declared.content.Content.{Content as OwnContent}
 use Rattle.node_core.specs.declared.content.Content.TheVariants.{Received as OwnReceived, Told as OwnTold, Nothing as OwnNothing}
 use Rattle.node_core.specs.declared.item.Item.{Item as OwnItem}
-use Rattle.node_core.specs.Seen.{seen, seen_content}
+use Rattle.node_core.specs.ModelItems.{model_items, model_content}
 use Rattle.node_core.specs.Scans.{authentic_at}
 
 any_if : (p : Act → Bool) (keeps : Bool) (xs : List Act) → list_any p (if keeps then xs else []) ≡ (keeps && list_any p xs)
@@ -47,12 +47,12 @@ no_consumer : (c : List ℕ) (id : List ℕ) (instance : Instance) (seed : List 
 no_consumer c id instance seed = elim (cases_Bool (bytes_eq id c)) [ inl on ↦ rw on refl | inr off ↦ rw off refl ]
 
 -- a Create consumes nothing
-pub consumes_nothing : (items : List OwnItem) (c : List ℕ) (m : ℕ) → list_any (consumes c) (authentic_at (seen items) m) ≡ false
+pub consumes_nothing : (items : List OwnItem) (c : List ℕ) (m : ℕ) → list_any (consumes c) (authentic_at (model_items items) m) ≡ false
 consumes_nothing [] c m = refl
 consumes_nothing (item ∷ items) c (suc m) = consumes_nothing items c m
 consumes_nothing (item ∷ items) c zero = by_content item.content
   where
-    by_content : (content : OwnContent) → list_any (consumes c) (filter is_authentic (acts (roots_in (shown_by (seen_content content))))) ≡ false
+    by_content : (content : OwnContent) → list_any (consumes c) (filter is_authentic (acts (roots_in (shown_by (model_content content))))) ≡ false
     by_content (OwnReceived opened) = elim (cases_Bool (is_authentic (root_of opened.form))) [
       | inl yes' ↦ rw (yes', no_consumer c opened.form.id opened.form.instance opened.form.root_seed) refl
       | inr no' ↦ rw no' refl
@@ -60,6 +60,6 @@ consumes_nothing (item ∷ items) c zero = by_content item.content
     by_content (OwnTold verdict) = refl
     by_content OwnNothing = refl
 
-pub nothing_consumes : (items : List OwnItem) (hosts : List Host) (place : ℕ) (c : List ℕ) → list_any (consumes c) (past_in (plain_reading hosts) (seen items) place) ≡ false
+pub nothing_consumes : (items : List OwnItem) (hosts : List Host) (place : ℕ) (c : List ℕ) → list_any (consumes c) (past_in (plain_reading hosts) (model_items items) place) ≡ false
 nothing_consumes items hosts place c =
-    any_nowhere (consumes c) (λ m. is_approved_in m (take place (moments (seen items)))) (authentic_at (seen items)) (consumes_nothing items c) place
+    any_nowhere (consumes c) (λ m. is_approved_in m (take place (moments (model_items items)))) (authentic_at (model_items items)) (consumes_nothing items c) place

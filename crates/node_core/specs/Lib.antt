@@ -1,4 +1,4 @@
-pub mod Seen
+pub mod ModelItems
 pub mod NodeState
 pub mod Entries
 pub mod Places

@@ -26,5 +26,6 @@ changes_at items id place = list_any (λ a. creates id a || consumes id a) (auth
 -- before it creates
 abbrev pub first_rows_at : List Host → ParticipantId → List Item → ℕ → List ActiveRow
 first_rows_at hosts p items place =
-    filter (λ (row : ActiveRow). is_stakeholder_hosted (plain_reading hosts) p row.known.instance && not (list_any (creates row.known.id) (authentic_below (plain_reading hosts) items place)))
+    filter (λ (row : ActiveRow). is_stakeholder_hosted (plain_reading hosts) p row.known.instance
+    && not (list_any (creates row.known.id) (authentic_below (plain_reading hosts) items place)))
     (created_at_place place (if is_approved_in place (moments items) then authentic_at items place else []))

@@ -8,7 +8,7 @@ ghost use Rattle.ledger_model.specs.Status.{is_unknown};
 ghost use Rattle.canton_model.specs.Checks.{is_within, verdict_on_view, verdicts_owed};
 ghost use Rattle.ledger_terms.specs.Vetting.{vets};
 ghost use Rattle.proto_model.specs.PlainReading.{plain_reading, root_of, shown_of_form, view_of_form};
-ghost use Rattle.node_core.specs.Seen.{seen};
+ghost use Rattle.node_core.specs.ModelItems.{model_items};
 ghost use Rattle.node_core.specs.Jobs.{confirms_some_view};
 
 use crate::findings::{Findings, first_reason};
@@ -36,7 +36,7 @@ fn confirms(setup: &Setup, me: ParticipantId, opened: &OpenedForm) -> bool
 
 /// Whether a participant confirms a view of the request at a place.
 pub fn confirms_at(setup: &Setup, me: ParticipantId, items: &[Item], place: u64) -> bool
-    ensures { result ≡ confirms_some_view (plain_reading setup.now.topology.hosts) me (shown_at (seen items.now) place) }
+    ensures { result ≡ confirms_some_view (plain_reading setup.now.topology.hosts) me (shown_at (model_items items.now) place) }
 {
     match opened_at(items, place) {
         Some(opened) => confirms(setup, me, opened),
@@ -73,7 +73,8 @@ fn finds_locked(
     place: u64,
     opened: &OpenedForm,
 ) -> bool
-    ensures { result ≡ (has_hosted_stakeholder (plain_reading setup.now.topology.hosts) me (root_of opened.now.form) && is_locked_in_inbox (plain_reading []) setup.now.topology.params (seen items.now) place opened.now.form.id) }
+    ensures { result ≡ (has_hosted_stakeholder (plain_reading setup.now.topology.hosts) me (root_of opened.now.form)
+        && is_locked_in_inbox (plain_reading []) setup.now.topology.params (model_items items.now) place opened.now.form.id) }
 {
     hosts_stakeholder(setup, me, opened)
         && is_locked(&setup.topology.params, items, place, &opened.form.id)
@@ -87,7 +88,8 @@ fn finds_used(
     place: u64,
     opened: &OpenedForm,
 ) -> bool
-    ensures { result ≡ (has_hosted_stakeholder (plain_reading setup.now.topology.hosts) me (root_of opened.now.form) && not (is_unknown (status_in_inbox (plain_reading []) (seen items.now) place opened.now.form.id))) }
+    ensures { result ≡ (has_hosted_stakeholder (plain_reading setup.now.topology.hosts) me (root_of opened.now.form)
+        && not (is_unknown (status_in_inbox (plain_reading []) (model_items items.now) place opened.now.form.id))) }
 {
     hosts_stakeholder(setup, me, opened) && is_known(status(items, place, &opened.form.id))
 }
@@ -111,7 +113,8 @@ pub fn verdict_on(
     place: u64,
     opened: &OpenedForm,
 ) -> LocalVerdict
-    ensures { result ≡ verdict_on_view (plain_reading setup.now.topology.hosts) setup.now.topology.params me (seen items.now) place (shown_of_form opened.now.form) (view_of_form opened.now.form) }
+    ensures { result ≡ verdict_on_view (plain_reading setup.now.topology.hosts) setup.now.topology.params me (model_items items.now) place
+        (shown_of_form opened.now.form) (view_of_form opened.now.form) }
 {
     let form = &opened.form;
     let vetted = has_vetted(setup, me, form.instance.template.package);
@@ -152,7 +155,8 @@ pub fn verdicts_at(
     items: &[Item],
     place: u64,
 ) -> Result<ViewVerdictList, AllocError>
-    ensures { IfOk result (λ verdicts. verdicts ≡ verdicts_owed (plain_reading setup.now.topology.hosts) setup.now.topology.params me (seen items.now) place) }
+    ensures { IfOk result (λ verdicts. verdicts
+        ≡ verdicts_owed (plain_reading setup.now.topology.hosts) setup.now.topology.params me (model_items items.now) place) }
 {
     match opened_at(items, place) {
         Some(opened) => {

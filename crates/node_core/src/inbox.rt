@@ -3,9 +3,10 @@ ghost use Rattle.std.specs.Prelude.{◌≡◌, ◌+◌, ◌&&◌, ◌||◌, [], 
 ghost use Rattle.std.specs.List.{list_any};
 ghost use Rattle.ledger_model.specs.Terms.{creates, consumes};
 ghost use Rattle.canton_model.specs.Timeline.{decision_on, verdict_on, is_past, is_approval, is_approved_in};
-ghost use Rattle.canton_model.specs.Inbox.{shown_by, shown_at, verdict_in, moments, item_time, is_received, is_decided_in, past_in, pending_in, status_in_inbox, is_locked_in_inbox, authentic_below, clean, last_time};
+ghost use Rattle.canton_model.specs.Inbox.{shown_by, shown_at, verdict_in, moments, item_time, is_received, is_decided_in, past_in};
+ghost use Rattle.canton_model.specs.Inbox.{pending_in, status_in_inbox, is_locked_in_inbox, authentic_below, clean, last_time};
 ghost use Rattle.proto_model.specs.PlainReading.{plain_reading, shown_of_form};
-ghost use Rattle.node_core.specs.Seen.{seen, seen_item, seen_content};
+ghost use Rattle.node_core.specs.ModelItems.{model_items, model_item, model_content};
 ghost use Rattle.node_core.specs.Scans.{creates_at, changes_at};
 
 use crate::content::Content;
@@ -36,7 +37,7 @@ pub fn items_through(items: &[Item], place: u64) -> &[Item]
 }
 
 fn opened_in(content: &Content) -> Option<&OpenedForm>
-    ensures { option_map (λ opened. shown_of_form opened.form) (option_copied result) ≡ shown_by (seen_content content.now) }
+    ensures { option_map (λ opened. shown_of_form opened.form) (option_copied result) ≡ shown_by (model_content content.now) }
 {
     match content {
         Content::Received(opened) => Some(opened),
@@ -47,7 +48,7 @@ fn opened_in(content: &Content) -> Option<&OpenedForm>
 
 /// The request at a place, where it was received.
 pub fn opened_at(items: &[Item], place: u64) -> Option<&OpenedForm>
-    ensures { option_map (λ opened. shown_of_form opened.form) (option_copied result) ≡ shown_at (seen items.now) place }
+    ensures { option_map (λ opened. shown_of_form opened.form) (option_copied result) ≡ shown_at (model_items items.now) place }
 {
     match items.get(place as usize) {
         Some(item) => opened_in(&item.content),
@@ -57,7 +58,7 @@ pub fn opened_at(items: &[Item], place: u64) -> Option<&OpenedForm>
 
 /// The time of the item at a place.
 pub fn time_at(items: &[Item], place: u64) -> u64
-    ensures { result ≡ item_time (slice_get (seen items.now) place) }
+    ensures { result ≡ item_time (slice_get (model_items items.now) place) }
 {
     match items.get(place as usize) {
         Some(item) => item.time,
@@ -66,7 +67,7 @@ pub fn time_at(items: &[Item], place: u64) -> u64
 }
 
 fn decision_in(content: &Content, request: u64) -> Option<&Decision>
-    ensures { option_copied result ≡ decision_on request (verdict_in (seen_content content.now)) }
+    ensures { option_copied result ≡ decision_on request (verdict_in (model_content content.now)) }
 {
     match content {
         Content::Told(verdict) => {
@@ -82,7 +83,7 @@ fn decision_in(content: &Content, request: u64) -> Option<&Decision>
 }
 
 fn decision_among(items: &[Item], request: u64) -> Option<&Decision>
-    ensures { option_copied result ≡ verdict_on request (moments (seen items.now)) }
+    ensures { option_copied result ≡ verdict_on request (moments (model_items items.now)) }
 {
     'items: for item in items {
         if let Some(decision) = decision_in(&item.content, request) {
@@ -99,7 +100,7 @@ fn is_later(time: u64, wait: u64, more: u64, later: u64) -> bool
 }
 
 fn is_later_among(items: &[Item], time: u64, wait: u64, more: u64) -> bool
-    ensures { result ≡ is_past (time + wait + more) (moments (seen items.now)) }
+    ensures { result ≡ is_past (time + wait + more) (moments (model_items items.now)) }
 {
     'items: for item in items {
         if is_later(time, wait, more, item.time) {
@@ -112,7 +113,7 @@ fn is_later_among(items: &[Item], time: u64, wait: u64, more: u64) -> bool
 /// Whether the request at a place is decided at another place.
 #[tactic(auto, using(crate::proofs::SeenFacts::moments_take))]
 pub fn is_decided(params: &Params, items: &[Item], request: u64, place: u64) -> bool
-    ensures { result ≡ is_decided_in params.now (seen items.now) request place }
+    ensures { result ≡ is_decided_in params.now (model_items items.now) request place }
 {
     let time = time_at(items, request);
     decision_among(first_items(items, place), request).is_some()
@@ -126,7 +127,7 @@ pub fn is_decided(params: &Params, items: &[Item], request: u64, place: u64) -> 
 
 /// Whether an Approved verdict on the request at a place stands among the items.
 pub fn is_approved(items: &[Item], request: u64) -> bool
-    ensures { result ≡ is_approved_in request (moments (seen items.now)) }
+    ensures { result ≡ is_approved_in request (moments (model_items items.now)) }
 {
     match decision_among(items, request) {
         Some(Decision::Approved) => true,
@@ -138,8 +139,8 @@ pub fn is_approved(items: &[Item], request: u64) -> bool
 
 // Whether the request at a place authentically creates the contract.
 fn creates_at(items: &[Item], place: u64, id: &Hash) -> bool
-    ensures creates { result ≡ creates_at (seen items.now) id.now place }
-    ensures changes { result ≡ changes_at (seen items.now) id.now place }
+    ensures creates { result ≡ creates_at (model_items items.now) id.now place }
+    ensures changes { result ≡ changes_at (model_items items.now) id.now place }
 {
     match opened_at(items, place) {
         Some(opened) => opened.authentic && opened.form.id == *id,
@@ -150,7 +151,7 @@ fn creates_at(items: &[Item], place: u64, id: &Hash) -> bool
 /// Whether a request below the place that isn't decided there creates or consumes the contract.
 #[tactic(auto, using(crate::proofs::Scans::any_more))]
 pub fn is_locked(params: &Params, items: &[Item], place: u64, id: &Hash) -> bool
-    ensures { result ≡ is_locked_in_inbox (plain_reading []) params.now (seen items.now) place id.now }
+    ensures { result ≡ is_locked_in_inbox (plain_reading []) params.now (model_items items.now) place id.now }
 {
     let mut locked = false;
     'requests: for request in 0..place {
@@ -164,7 +165,7 @@ pub fn is_locked(params: &Params, items: &[Item], place: u64, id: &Hash) -> bool
 // Whether an Approved verdict on the request stands before the place.
 #[tactic(auto, using(crate::proofs::SeenFacts::moments_take))]
 fn was_approved(items: &[Item], request: u64, place: u64) -> bool
-    ensures { result ≡ is_approved_in request (take place (moments (seen items.now))) }
+    ensures { result ≡ is_approved_in request (take place (moments (model_items items.now))) }
 {
     is_approved(first_items(items, place), request)
 }
@@ -172,7 +173,7 @@ fn was_approved(items: &[Item], request: u64, place: u64) -> bool
 // Whether a request with an Approved verdict below the place creates the contract.
 #[tactic(auto, using(crate::proofs::Scans::any_more))]
 fn is_created(items: &[Item], place: u64, id: &Hash) -> bool
-    ensures { result ≡ list_any (creates id.now) (past_in (plain_reading []) (seen items.now) place) }
+    ensures { result ≡ list_any (creates id.now) (past_in (plain_reading []) (model_items items.now) place) }
 {
     let mut created = false;
     'requests: for request in 0..place {
@@ -186,7 +187,7 @@ fn is_created(items: &[Item], place: u64, id: &Hash) -> bool
 /// Whether a request below the place that is approved among all items creates the contract.
 #[tactic(auto, using(crate::proofs::Scans::any_more))]
 pub fn is_created_below(items: &[Item], place: u64, id: &Hash) -> bool
-    ensures { result ≡ list_any (creates id.now) (authentic_below (plain_reading []) (seen items.now) place) }
+    ensures { result ≡ list_any (creates id.now) (authentic_below (plain_reading []) (model_items items.now) place) }
 {
     let mut created = false;
     'requests: for request in 0..place {
@@ -200,7 +201,7 @@ pub fn is_created_below(items: &[Item], place: u64, id: &Hash) -> bool
 /// What is known of a contract at a place. Creates alone are opened, so none is consumed.
 #[tactic(auto, using(crate::proofs::Scans::nothing_consumes))]
 pub fn status(items: &[Item], place: u64, id: &Hash) -> Status
-    ensures { result ≡ status_in_inbox (plain_reading []) (seen items.now) place id.now }
+    ensures { result ≡ status_in_inbox (plain_reading []) (model_items items.now) place id.now }
 {
     if is_created(items, place, id) {
         Status::Active
@@ -210,7 +211,7 @@ pub fn status(items: &[Item], place: u64, id: &Hash) -> Status
 }
 
 fn is_received(content: &Content) -> bool
-    ensures { result ≡ is_received (seen_content content.now) }
+    ensures { result ≡ is_received (model_content content.now) }
 {
     match content {
         Content::Received(_) => true,
@@ -222,7 +223,7 @@ fn is_received(content: &Content) -> bool
 /// The clean place: how many items stand before the first received request that isn't decided over all of them.
 #[tactic(auto, using(crate::proofs::SeenFacts::length_seen))]
 pub fn clean(params: &Params, items: &[Item]) -> u64
-    ensures { result ≡ clean params.now (seen items.now) }
+    ensures { result ≡ clean params.now (model_items items.now) }
 {
     let end = items.len() as u64;
     let mut place = 0;
@@ -238,7 +239,7 @@ pub fn clean(params: &Params, items: &[Item]) -> u64
 /// The time of the last item.
 #[tactic(auto, using(crate::proofs::SeenFacts::last_seen))]
 pub fn last_time(items: &[Item]) -> u64
-    ensures { result ≡ last_time (seen items.now) }
+    ensures { result ≡ last_time (model_items items.now) }
 {
     match items.last() {
         Some(item) => item.time,

@@ -43,9 +43,16 @@ impl<'s> Model for Node<'s> {
 
     ghost coded = { Prim.hlevel (codes, coded_forest) };
 
-    ghost use Rattle.node_core.specs.Seen.{seen};
+    ghost use Rattle.node_core.specs.ModelItems.{model_items};
 
-    ghost view = { λ n. record { hosts = n.setup.now.topology.hosts; params = n.setup.now.topology.params; me = n.me; items = seen n.items.items; claimed = n.claimed.items; outbox = n.outbox.items } };
+    ghost view = { λ n. record {
+      hosts = n.setup.now.topology.hosts;
+      params = n.setup.now.topology.params;
+      me = n.me;
+      items = model_items n.items.items;
+      claimed = n.claimed.items;
+      outbox = n.outbox.items;
+    } };
 }
 
 impl<'s> Node<'s> {
@@ -79,7 +86,8 @@ impl<'s> Node<'s> {
     pub fn read(&mut self, alloc: Global, place: u64, entry: &Entry) -> Result<(), AllocError>
         requires { place ≡ length self.old.items }
         ensures ok { OnOk result (self.new ≡ with_item self.old (item_from (reading_of self.old) self.old.me self.old.items entry.now)) }
-        ensures inbox { OnOk result ((before : List EntryValue) → self.old.items ≡ inbox (reading_of self.old) self.old.me before → self.new.items ≡ inbox (reading_of self.old) self.old.me (before ++ entry.now ∷ [])) }
+        ensures inbox { OnOk result ((before : List EntryValue) → self.old.items ≡ inbox (reading_of self.old) self.old.me before
+            → self.new.items ≡ inbox (reading_of self.old) self.old.me (before ++ entry.now ∷ [])) }
         ensures err { OnErr result (self.new ≡ self.old) }
     {
         let item = item_of(alloc, self.built_in, self.me, self.items.as_slice(), entry)?;

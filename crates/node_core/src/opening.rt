@@ -2,7 +2,7 @@
 ghost use Rattle.std.specs.Prelude.{◌≡◌, IfOk, option_map, option_copied, is_some};
 ghost use Rattle.canton_model.specs.Inbox.{received, shown_at};
 ghost use Rattle.proto_model.specs.PlainReading.{plain_to, shown_of_form, envelope_to};
-ghost use Rattle.node_core.specs.Seen.{seen, seen_content, seen_item};
+ghost use Rattle.node_core.specs.ModelItems.{model_items, model_content, model_item};
 ghost use Rattle.node_core.specs.Entries.{content_from, told_if_received};
 
 use crate::content::Content;
@@ -30,7 +30,7 @@ fn received(
     me: ParticipantId,
     request: &Request,
 ) -> Result<Content, AllocError>
-    ensures { IfOk result (λ content. seen_content content ≡ received (option_map shown_of_form (plain_to me request.now))) }
+    ensures { IfOk result (λ content. model_content content ≡ received (option_map shown_of_form (plain_to me request.now))) }
 {
     let Some(bytes) = envelope_to(me, request.envelopes.as_slice()) else {
         return Ok(Content::Nothing);
@@ -41,8 +41,8 @@ fn received(
     }
 }
 
-fn told(items: &[Item], verdict: &Verdict) -> Result<Content, AllocError>
-    ensures { IfOk result (λ content. seen_content content ≡ told_if_received (seen items.now) verdict.now) }
+fn verdict_content(items: &[Item], verdict: &Verdict) -> Result<Content, AllocError>
+    ensures { IfOk result (λ content. model_content content ≡ told_if_received (model_items items.now) verdict.now) }
 {
     match opened_at(items, verdict.request) {
         Some(_) => Ok(Content::Told(verdict.clone()?)),
@@ -57,11 +57,12 @@ fn content_of(
     items: &[Item],
     message: &Message,
 ) -> Result<Content, AllocError>
-    ensures { IfOk result (λ content. seen_content content ≡ content_from (λ request. option_map shown_of_form (plain_to me request)) (seen items.now) message.now) }
+    ensures { IfOk result (λ content. model_content content
+        ≡ content_from (λ request. option_map shown_of_form (plain_to me request)) (model_items items.now) message.now) }
 {
     match message {
         Message::Request(request) => received(alloc, built_in, me, request),
-        Message::Verdict(verdict) => told(items, verdict),
+        Message::Verdict(verdict) => verdict_content(items, verdict),
         Message::Response(_) => Ok(Content::Nothing),
         Message::Tick => Ok(Content::Nothing),
     }
@@ -75,7 +76,12 @@ pub fn item_of(
     items: &[Item],
     entry: &Entry,
 ) -> Result<Item, AllocError>
-    ensures { IfOk result (λ item. seen_item item ≡ record { time = entry.now.time; content = content_from (λ request. option_map shown_of_form (plain_to me request)) (seen items.now) entry.now.message }) }
+    ensures { IfOk result (λ item. model_item item
+        ≡ record {
+          time = entry.now.time;
+          content = content_from (λ request. option_map shown_of_form (plain_to me request))
+              (model_items items.now) entry.now.message;
+        }) }
 {
     let content = content_of(alloc, built_in, me, items, &entry.message)?;
     Ok(Item {

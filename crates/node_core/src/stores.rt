@@ -3,7 +3,7 @@ ghost use Rattle.std.specs.Prelude.{◌≡◌, ◌++◌, IfOk, OnOk};
 ghost use Rattle.canton_model.specs.Timeline.{is_approved_in};
 ghost use Rattle.canton_model.specs.Inbox.{moments, opened_at, part_if, parts_below, active_row, node_active};
 ghost use Rattle.proto_model.specs.PlainReading.{plain_reading, root_of, roots_of_form};
-ghost use Rattle.node_core.specs.Seen.{seen};
+ghost use Rattle.node_core.specs.ModelItems.{model_items};
 ghost use Rattle.node_core.specs.Scans.{first_rows_at};
 
 use crate::check::hosts_stakeholder;
@@ -28,7 +28,8 @@ fn push_commit(
     place: u64,
     commits: &mut CommitList,
 ) -> Result<(), AllocError>
-    ensures { OnOk result (commits.new ≡ commits.old ++ part_if (is_approved_in place (moments (seen items.now))) place (opened_at (seen items.now) place)) }
+    ensures { OnOk result (commits.new ≡ commits.old
+        ++ part_if (is_approved_in place (moments (model_items items.now))) place (opened_at (model_items items.now) place)) }
 {
     match opened_at(items, place) {
         Some(opened) => {
@@ -44,7 +45,7 @@ fn push_commit(
 
 /// The commits of the approved requests below a place, by the verdicts among the items.
 pub fn commits_below(alloc: Global, items: &[Item], end: u64) -> Result<CommitList, AllocError>
-    ensures { IfOk result (λ commits. commits ≡ parts_below (seen items.now) end) }
+    ensures { IfOk result (λ commits. commits ≡ parts_below (model_items items.now) end) }
 {
     let mut commits = CommitList::new(alloc);
     'places: for place in 0..end {
@@ -74,7 +75,7 @@ fn push_row(
     place: u64,
     rows: &mut ActiveRowList,
 ) -> Result<(), AllocError>
-    ensures { OnOk result (rows.new ≡ rows.old ++ first_rows_at setup.now.topology.hosts me (seen items.now) place) }
+    ensures { OnOk result (rows.new ≡ rows.old ++ first_rows_at setup.now.topology.hosts me (model_items items.now) place) }
 {
     match opened_at(items, place) {
         Some(opened) => {
@@ -102,7 +103,7 @@ pub fn rows_below(
     items: &[Item],
     end: u64,
 ) -> Result<ActiveRowList, AllocError>
-    ensures { IfOk result (λ rows. rows ≡ node_active (plain_reading setup.now.topology.hosts) me (seen items.now) end) }
+    ensures { IfOk result (λ rows. rows ≡ node_active (plain_reading setup.now.topology.hosts) me (model_items items.now) end) }
 {
     let mut rows = ActiveRowList::new(alloc);
     'places: for place in 0..end {

@@ -17,7 +17,7 @@ pub enum SubmitFault {
     /// The participant's command id stands in the log already, at `place`.
     Duplicate { place: u64 },
     /// The log has `spent` of its places reserved, and the request needs `need` more.
-    LogFull { spent: u64, need: u64 },
+    LogFull { reserved: u64, need: u64 },
     /// No memory was found.
     Memory,
 }

@@ -5,13 +5,13 @@ use Rattle.hash_id.specs.Strings.{root_seed_string, child_seed_string}
 use Rattle.ledger_terms.specs.declared.value.Value.TheVariants.{Party, Text}
 use Rattle.ledger_terms.specs.declared.instance.Instance.{Instance}
 use Rattle.canton_model.specs.declared.request.Request.{Request}
-use Rattle.lang_eval.specs.Builtin.{note_template}
+use Rattle.lang_eval.specs.Builtin.{note_template_name}
 use Rattle.proto_model.specs.Plain.{spell_plain}
 use Rattle.interpret.specs.Ids.{contract_id}
 use Rattle.proto_model.specs.declared.plain_form.PlainForm.{PlainForm}
 
 abbrev pub note_of : (party text : List ℕ) → Instance
-note_of party text = record { template = note_template; fields = Party party ∷ Party party ∷ Text text ∷ [] }
+note_of party text = record { template = note_template_name; fields = Party party ∷ Party party ∷ Text text ∷ [] }
 
 -- the seed of a command's transaction, and that of its one root
 unfoldable pub seed_of : (participant command : List ℕ) → List ℕ

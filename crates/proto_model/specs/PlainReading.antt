@@ -1,5 +1,6 @@
 -- How the definitions of the ledger model read requests whose envelopes have the plain form.
-use Rattle.std.specs.Prelude.{ℕ, zero, suc, Bool, false, List, [], ◌∷◌, Option, Some, None, not, ◌&&◌, option_map, option_and_then, nat_eq, slice_get, if◌then◌else◌}
+use Rattle.std.specs.Prelude.{ℕ, zero, suc, Bool, false, List, [], ◌∷◌, Option, Some, None, not, ◌&&◌, option_map, option_and_then, nat_eq}
+use Rattle.std.specs.Prelude.{slice_get, if◌then◌else◌}
 use Rattle.std.specs.List.{list_any}
 use Rattle.std.specs.Str.{bytes_eq}
 use Rattle.ledger_terms.specs.Hosting.{confirms_at, hosts_at, lists_party}

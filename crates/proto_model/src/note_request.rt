@@ -7,7 +7,7 @@ use crate::plain_form::{PlainForm, encode_plain};
 use canton_model::{Envelope, EnvelopeList, Request};
 use hash_id::{child_seed, root_seed};
 use interpret::contract_id;
-use lang_eval::note_template;
+use lang_eval::note_template_name;
 use ledger_terms::{
     Bytes, Hash, Instance, Name, ParticipantId, ParticipantIdList, PartySet, Text, Value, ValueList,
 };
@@ -22,7 +22,7 @@ fn note_of(alloc: Global, party: Name, text: &str) -> Result<Instance, AllocErro
     fields.push(Value::Party(party))?;
     fields.push(Value::Text(Text::of(alloc, text)?))?;
     Ok(Instance {
-        template: note_template(),
+        template: note_template_name(),
         fields,
     })
 }

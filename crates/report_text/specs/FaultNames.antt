@@ -3,7 +3,8 @@ use Rattle.std.specs.Prelude.{ℕ, List, [], codes}
 use Rattle.lang_eval.specs.declared.eval_fault.EvalFault.{EvalFault}
 use Rattle.lang_eval.specs.declared.eval_fault.EvalFault.TheVariants.{Overflow, Assert, Ensure, NoSignatory, TooLarge, Memory as EvalMemory}
 use Rattle.interpret.specs.declared.command_fault.CommandFault.{CommandFault}
-use Rattle.interpret.specs.declared.command_fault.CommandFault.TheVariants.{UnknownTemplate, UnknownChoice, BadArgs, ContractUnknown, Eval, TooDeep, TooMany, Unauthorised, TooBig, Memory as CommandMemory}
+use Rattle.interpret.specs.declared.command_fault.CommandFault.TheVariants.{UnknownTemplate, UnknownChoice, BadArgs, ContractUnknown, Eval}
+use Rattle.interpret.specs.declared.command_fault.CommandFault.TheVariants.{TooDeep, TooMany, Unauthorised, TooBig, Memory as CommandMemory}
 use Rattle.view_split.specs.declared.split_fault.SplitFault.{SplitFault}
 use Rattle.view_split.specs.declared.split_fault.SplitFault.TheVariants.{NoRoles, Memory as SplitMemory}
 

@@ -16,7 +16,7 @@ fault_text (NotHosted party) = codes "NotHosted " ++ party
 fault_text (Command fault) = command_fault_name fault
 fault_text (Split fault) = split_fault_name fault
 fault_text (Duplicate place) = codes "Duplicate " ++ decimal place
-fault_text (LogFull spent need) = codes "LogFull " ++ decimal spent ++ codes " " ++ decimal need
+fault_text (LogFull reserved need) = codes "LogFull " ++ decimal reserved ++ codes " " ++ decimal need
 fault_text Memory = []
 
 abbrev pub answer_text : SubmitResult → List ℕ

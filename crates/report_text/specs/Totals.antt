@@ -65,7 +65,8 @@ amounts_onto total (row ∷ rows) = amounts_onto (total +ℤ amount_of row.known
 -- a participant's active contracts, their number and the sum of their amounts
 abbrev pub active_total_line : Host × NodeView → List ℕ
 active_total_line (host, view) =
-    codes "active " ++ host.name ++ codes " " ++ decimal (length view.active) ++ codes " amount " ++ signed_decimal (amounts_onto (pos 0) view.active) ++ codes "\n"
+    codes "active " ++ host.name ++ codes " " ++ decimal (length view.active) ++ codes " amount " ++ signed_decimal (amounts_onto (pos 0) view.active)
+    ++ codes "\n"
 
 -- the lines that count requests by how they ended
 abbrev pub count_lines : List Outcome → List ℕ

@@ -1,7 +1,8 @@
 //! The lines of a log's entries.
 ghost use Rattle.std.specs.Prelude.{◌≡◌, ◌++◌, OnOk, string_bytes, nat_eq};
 ghost use Rattle.std.specs.List.{flat_map};
-ghost use Rattle.report_text.specs.Entries.{host_text, hosts_text, is_addressed, is_recipient, recipients_text, path_text, view_text, decision_text, message_text, entry_line, entry_lines};
+ghost use Rattle.report_text.specs.Entries.{host_text, hosts_text, is_addressed, is_recipient, recipients_text, path_text, view_text};
+ghost use Rattle.report_text.specs.Entries.{decision_text, message_text, entry_line, entry_lines};
 
 use crate::values::put_number;
 use canton_model::{

@@ -26,9 +26,9 @@ fn put_fault(out: &mut String, fault: &SubmitFault) -> Result<(), AllocError>
             out.push_str("Duplicate ")?;
             put_number(out, *place)
         }
-        SubmitFault::LogFull { spent, need } => {
+        SubmitFault::LogFull { reserved, need } => {
             out.push_str("LogFull ")?;
-            put_number(out, *spent)?;
+            put_number(out, *reserved)?;
             out.push_str(" ")?;
             put_number(out, *need)
         }
@@ -58,7 +58,8 @@ fn put_result(
     submission: &Submission,
     answer: &SubmitResult,
 ) -> Result<(), AllocError>
-    ensures { OnOk result (string_bytes out.new ≡ string_bytes out.old ++ result_line hosts.now (record { round = round; submission = submission.now }, answer.now)) }
+    ensures { OnOk result (string_bytes out.new ≡ string_bytes out.old
+        ++ result_line hosts.now (record { round = round; submission = submission.now }, answer.now)) }
 {
     out.push_str("result ")?;
     put_number(out, round)?;

@@ -1,7 +1,8 @@
 //! The summary of a run.
 ghost use Rattle.std.specs.Prelude.{◌≡◌, ◌++◌, ℤ, pos, OnOk, IfOk, string_bytes, count_by, decimal, codes};
 ghost use Rattle.std.specs.List.{flat_map, zip};
-ghost use Rattle.report_text.specs.Totals.{kind_at, kinds_from, is_same, count_line, count_lines, is_refused, is_iou, third_number, amount_of, amounts_onto, active_total_line, summary_of};
+ghost use Rattle.report_text.specs.Totals.{kind_at, kinds_from, is_same, count_line, count_lines, is_refused, is_iou, third_number};
+ghost use Rattle.report_text.specs.Totals.{amount_of, amounts_onto, active_total_line, summary_of};
 
 use crate::outcomes::{has_passed, is_request, verdict_in};
 use crate::values::put_number;

@@ -13,7 +13,7 @@ use Rattle.ledger_model.specs.Views.{View, confirmers_of, views}
 use Rattle.view_split.specs.declared.split_view.SplitView.{SplitView}
 use Rattle.view_split.specs.Split.{split}
 use Rattle.view_split.specs.Numbered.{seen_as}
-use Rattle.view_split.specs.Seen.{placed_numbered}
+use Rattle.view_split.specs.SeenViews.{placed_numbered}
 use Rattle.view_split.proofs.Fitting.{preorder-map}
 use Rattle.view_split.proofs.Shown.{their_places, seen_as_views}
 use Rattle.view_split.proofs.Sight.{without_paths}

@@ -13,7 +13,7 @@ use Rattle.ledger_terms.specs.declared.value.Value.{Value}
 use Rattle.ledger_terms.specs.declared.value.Value.TheVariants.{Unit as UnitValue}
 use Rattle.ledger_model.specs.Authority.{authorisers_below}
 use Rattle.ledger_model.specs.Language.{roles_of}
-use Rattle.ledger_model.specs.declared.step.Seen.{Seen}
+use Rattle.ledger_model.specs.declared.step.ChildResult.{ChildResult}
 use Rattle.lang_eval.specs.Found.{Packages}
 use Rattle.lang_eval.specs.Parts.{PartyNames}
 use Rattle.wire_form.specs.InRange.{IsHash}
@@ -76,7 +76,7 @@ pub seed_is : (seed : Hash) (index : ℕ) → IsHash (child_seed seed index)
 unfolding child_seed
 seed_is seed index = length-sha256 (child_seed_string seed index)
 
-wanted_seeded : (packages : Packages) (known : List Known) (left : ℕ) (source : Source) (result : Value) (by : PartyNames) (seen : List Seen)
+wanted_seeded : (packages : Packages) (known : List Known) (left : ℕ) (source : Source) (result : Value) (by : PartyNames) (seen : List ChildResult)
     (seed : Hash) (path : List ℕ) (index : ℕ) (progress : Progress) (f : Actions)
     → Wanted packages known left source result by seen seed path index progress f → AreSeeded f
 wanted_seeded packages known left source result by seen seed path index progress NoRoots w = tt

@@ -29,7 +29,7 @@ use Rattle.view_split.specs.Holed.{inner}
 use Rattle.view_split.specs.declared.split_view.SplitView.{SplitView}
 use Rattle.view_split.specs.Split.{confirmers_in, view_at, split}
 use Rattle.view_split.specs.Numbered.{seen_as, with_cores}
-use Rattle.view_split.specs.Seen.{is_sight, seen_views, placed_numbered, opened_as}
+use Rattle.view_split.specs.SeenViews.{is_sight, seen_views, placed_numbered, opened_as}
 use Rattle.sealed_form.specs.Rules.{KeepsRules}
 use Rattle.view_split.proofs.Sight.{seen_are_views, without_paths, seen_put_back}
 use Rattle.view_split.proofs.Shown.{seen_as_views, their_places, opened_are, seen_paths_are}
@@ -268,7 +268,7 @@ module _ (reading : Reading) (participants : List ParticipantId) (request : Requ
         is_whole = keeps.is_whole;
         has_roles = keeps.has_roles;
         opens = λ p. ap roots_in (keeps.shown p) ∙ opens_projection language (reading.hosts p) (sends p) t;
-        guarded = keeps.confirmed;
+        confirmed = keeps.confirmed;
         viewed = λ p shown i a is e signs. viewed_shown language (reading.hosts p) (sends p) t (reading.confirms p) shown i a (by_rules p shown is) e signs;
         numbered = λ p shown view i a is h c. numbered_shown language (reading.hosts p) (sends p) t shown view i a (by_rules p shown is) h c;
         tells = tells;

@@ -17,7 +17,7 @@ use Rattle.view_split.proofs.Confirming.{from_map}
 use Rattle.blind_tree.specs.Blind.{Visibility, informees_alone, sees_root, shown_to, tree_with, views_shown}
 use Rattle.blind_tree.specs.Limits.{HaveSets, KeepLimits}
 use Rattle.blind_tree.specs.Recipients.{recipients_of}
-use Rattle.blind_tree.specs.Seen.{AreViews}
+use Rattle.blind_tree.specs.ShownViews.{AreViews}
 use Rattle.blind_tree.specs.Spelling.{spell_tree}
 use Rattle.blind_tree.proofs.KeptLaws.{unshown, unnamed}
 use Rattle.sealed_form.specs.SealedForm.{CanBeSealed, IsSealedForm, Whole, envelope_for, request_of, roles_by, views_by}

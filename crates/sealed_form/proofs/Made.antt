@@ -19,7 +19,7 @@ use Rattle.lang_eval.specs.Found.{Packages}
 use Rattle.interpret.specs.Language.{the_language}
 use Rattle.view_split.specs.declared.split_view.SplitView.{SplitView}
 use Rattle.view_split.specs.Split.{split, split_below, assembled}
-use Rattle.view_split.specs.Seen.{is_sight}
+use Rattle.view_split.specs.SeenViews.{is_sight}
 use Rattle.view_split.specs.declared.opened_tree.OpenedTree.{OpenedTree}
 use Rattle.view_split.proofs.Assembled.{assembled_split}
 use Rattle.view_split.proofs.Holes.{filled}

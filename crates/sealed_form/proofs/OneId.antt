@@ -35,8 +35,8 @@ use Rattle.view_split.specs.Holed.{Holed, NoMore, Inner, Hole, inner, fill, afte
 use Rattle.view_split.specs.declared.split_view.SplitView.{SplitView}
 use Rattle.view_split.specs.Split.{assembled}
 use Rattle.view_split.proofs.Assembled.{assembled_split}
-use Rattle.blind_tree.specs.Digests.{tree_strings}
-use Rattle.blind_tree.specs.Seen.{AreChildren, AreViews}
+use Rattle.blind_tree.specs.TreeHashes.{tree_strings}
+use Rattle.blind_tree.specs.ShownViews.{AreChildren, AreViews}
 use Rattle.sealed_form.specs.Collisions.{AreSealed, Collides, hashed, id_string, message_strings, request_strings, request_trees, whole_acts}
 use Rattle.sealed_form.specs.SealedForm.{Whole, roles_by, views_by, whole_of}
 use Rattle.sealed_form.specs.SealedReading.{sealed_reading}

@@ -12,16 +12,16 @@ use Rattle.ledger_model.specs.Opening.{is_root_path, opened_of, opened_views_of,
 use Rattle.lang_eval.specs.Found.{Packages}
 use Rattle.interpret.specs.Language.{the_language}
 use Rattle.view_split.specs.declared.split_view.SplitView.{SplitView}
-use Rattle.view_split.specs.Seen.{seen_views}
+use Rattle.view_split.specs.SeenViews.{seen_views}
 use Rattle.view_split.specs.Placed.{shown_by, tops}
 use Rattle.view_split.specs.declared.opened_tree.OpenedTree.{OpenedTree}
 use Rattle.view_split.proofs.Holes.{filled}
 use Rattle.view_split.proofs.Tops.{shown_is_by_rules}
-use Rattle.blind_tree.specs.Digests.{Hashing}
+use Rattle.blind_tree.specs.TreeHashes.{Hashing}
 use Rattle.blind_tree.specs.Blind.{Salts, Visibility, salts_of, sees_root, shown_to, transaction_of, tree_with}
 use Rattle.blind_tree.specs.Opening.{tree_opened}
 use Rattle.blind_tree.specs.Recipients.{is_recipient, recipients_of}
-use Rattle.blind_tree.specs.Seen.{contents_shown}
+use Rattle.blind_tree.specs.ShownViews.{contents_shown}
 use Rattle.blind_tree.specs.Spelling.{spell_tree}
 use Rattle.blind_tree.specs.declared.tree.Tree.{Tree}
 use Rattle.blind_tree.proofs.Blinded.{seen_is_shown}

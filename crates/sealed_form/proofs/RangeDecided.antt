@@ -27,7 +27,7 @@ use Rattle.view_split.specs.declared.split_view.SplitView.{SplitView}
 use Rattle.view_split.specs.declared.views.Views.{Views}
 use Rattle.blind_tree.specs.Cores.{levels}
 use Rattle.blind_tree.specs.LeafBytes.{common_bytes, core_bytes, roles_bytes}
-use Rattle.blind_tree.specs.Seen.{AreChildren, AreInRange, AreSmall, AreViews, IsCore, IsSmall, IsView}
+use Rattle.blind_tree.specs.ShownViews.{AreChildren, AreInRange, AreSmall, AreViews, IsCore, IsSmall, IsView}
 use Rattle.sealed_form.specs.RangeTests.{are_children, are_in_range, are_small, are_values, are_views, is_action, is_core, is_hash, is_in_range, is_input, is_instance, is_party_set, is_rising, is_short_text, is_small, is_view}
 use Rattle.sealed_form.proofs.Deciding.{at_most, below, both_decide, equal, five_decide, four_decide, itself, three_decide}
 

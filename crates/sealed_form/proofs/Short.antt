@@ -16,9 +16,9 @@ use Rattle.wire_form.specs.InRange.{IsHash, IsPartySet}
 use Rattle.view_split.specs.declared.split_view.SplitView.{SplitView}
 use Rattle.view_split.specs.Split.{view_at, split_below, split}
 use Rattle.blind_tree.specs.Vertices.{count}
-use Rattle.blind_tree.specs.Digests.{Hashing}
+use Rattle.blind_tree.specs.TreeHashes.{Hashing}
 use Rattle.blind_tree.specs.LeafBytes.{common_bytes, roles_bytes, core_bytes}
-use Rattle.blind_tree.specs.Blind.{Salts, Visibility, is_hidden, leaf_of, leaf_with, roles_digest, salt_of, core_digest, view_digests, views_shown}
+use Rattle.blind_tree.specs.Blind.{Salts, Visibility, is_hidden, leaf_of, leaf_with, roles_digest, salt_of, core_digest, hashes_of_views, views_shown}
 use Rattle.blind_tree.specs.Blind.{shows_core, shows_roles, tree_with, vertices_shown}
 use Rattle.blind_tree.specs.Limits.{acts_length, HaveSets}
 use Rattle.blind_tree.specs.Spelling.{spell_each, spell_leaf, spell_tree}
@@ -121,12 +121,12 @@ module _ (sha : Hashing) (long : (s : List ℕ) → length (sha s) ≡ 32) where
       let after = spell_each (vertices_shown sha others) in
       elim (cases_Bool (is_hidden marked.0)) [
         | inl hidden ↦
-            let hash = sha (view_hash_string (roles_digest sha view) (core_digest sha view) (view_digests sha (views_shown subviews))) in
+            let hash = sha (view_hash_string (roles_digest sha view) (core_digest sha view) (hashes_of_views sha (views_shown subviews))) in
             rw hidden
             (omega (
               arith,
               o,
-              long (view_hash_string (roles_digest sha view) (core_digest sha view) (view_digests sha (views_shown subviews))),
+              long (view_hash_string (roles_digest sha view) (core_digest sha view) (hashes_of_views sha (views_shown subviews))),
               length-append (0 ∷ hash) after,
             ))
         | inr inner ↦

@@ -34,7 +34,7 @@ use Rattle.view_split.specs.Split.{split}
 use Rattle.view_split.specs.declared.views.Views.{Views}
 use Rattle.blind_tree.specs.LeafBytes.{AreSpellable}
 use Rattle.blind_tree.specs.Limits.{HaveSets, KeepLimits}
-use Rattle.blind_tree.specs.Seen.{AreInRange, AreViews}
+use Rattle.blind_tree.specs.ShownViews.{AreInRange, AreViews}
 use Rattle.blind_tree.proofs.LimitLaws.{split_is_small, split_is_spellable}
 use Rattle.blind_tree.proofs.SetLimits.{set_fits, split_sets, subset_within}
 use Rattle.sealed_form.specs.SealedForm.{CanBeSealed, roles_by, split_as}

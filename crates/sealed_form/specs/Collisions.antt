@@ -15,7 +15,7 @@ use Rattle.canton_model.specs.declared.message.Message.TheVariants.{Request as R
 use Rattle.lang_eval.specs.Found.{Packages}
 use Rattle.interpret.specs.Ids.{salt_of}
 use Rattle.blind_tree.specs.Agreement.{Clash}
-use Rattle.blind_tree.specs.Digests.{tree_strings}
+use Rattle.blind_tree.specs.TreeHashes.{tree_strings}
 use Rattle.blind_tree.specs.declared.tree.Tree.{Tree}
 use Rattle.sealed_form.specs.SealedForm.{IsSealedForm, Whole, bytes_of, trees_in, whole_of}
 

@@ -31,7 +31,7 @@ use Rattle.blind_tree.specs.Opening.{tree_opened, views_read}
 use Rattle.blind_tree.specs.Overlay.{laid}
 use Rattle.blind_tree.specs.Reading.{read_all, tree_at}
 use Rattle.blind_tree.specs.Recipients.{recipients_of}
-use Rattle.blind_tree.specs.Seen.{AreInRange, IsSmall}
+use Rattle.blind_tree.specs.ShownViews.{AreInRange, IsSmall}
 use Rattle.blind_tree.specs.Spelling.{spell_tree}
 use Rattle.blind_tree.specs.declared.leaf.Leaf.{Leaf}
 use Rattle.blind_tree.specs.declared.leaf.Leaf.TheVariants.{Blind, Plain}

@@ -42,7 +42,7 @@ ghost use Rattle.lang_eval.specs.Language.{has_roles, roles_in};
 ghost use Rattle.view_split.specs.Faults.{views_of_tx};
 ghost use Rattle.view_split.specs.declared.views.Views.{Views};
 ghost use Rattle.blind_tree.specs.Limits.{KeepLimits};
-ghost use Rattle.blind_tree.specs.Seen.{contents_shown};
+ghost use Rattle.blind_tree.specs.ShownViews.{contents_shown};
 ghost use Rattle.sealed_form.specs.Collisions.{AreSealed, Collides};
 ghost use Rattle.sealed_form.specs.SealedForm.{CanBeSealed, IsSealedForm, Whole, confirming_by, request_of, roles_by, tree_for, views_by, whole_of};
 ghost use Rattle.sealed_form.specs.SealedTest.{is_sealed_form};

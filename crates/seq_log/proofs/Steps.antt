@@ -8,7 +8,7 @@ use Rattle.world_model.specs.Messages.{Entry, Message, RequestMessage, ResponseM
 use Rattle.world_model.specs.Machine.{Machine}
 use Rattle.world_model.specs.Fits.{MayStand}
 use Rattle.world_model.specs.Locks.{SequencerBehind}
-use Rattle.world_model.specs.Sequencing.{append_fault, entry_after, first_from, is_same, last_time, spent, need_of}
+use Rattle.world_model.specs.Sequencing.{append_fault, entry_after, first_from, is_same, last_time, reserved, need_of}
 use Rattle.world_model.proofs.Appended.{no_fault, appended_keeps, appended_within}
 use Rattle.log_row.specs.LogPrefix.{LogPrefix, extended}
 use Rattle.seq_log.specs.Faults.{fault_in, if_full, next_time}
@@ -42,10 +42,10 @@ not_full capacity before need h =
     ]
 
 -- and there is room for it
-pub has_room : (capacity : ℕ) (params : Params) (list : List Entry) (message : Message) → spent list ≤ capacity
-    → fault_in capacity params list message ≡ None → spent list + need_of message ≤ capacity
+pub has_room : (capacity : ℕ) (params : Params) (list : List Entry) (message : Message) → reserved list ≤ capacity
+    → fault_in capacity params list message ≡ None → reserved list + need_of message ≤ capacity
 has_room capacity params list (RequestMessage q) le none =
-    not_full capacity (spent list) (2 + length q.confirming) (no_fault (first_from (is_same (RequestMessage q)) 0 list) _ none).1
+    not_full capacity (reserved list) (2 + length q.confirming) (no_fault (first_from (is_same (RequestMessage q)) 0 list) _ none).1
 has_room capacity params list (ResponseMessage r) le none = omega arith
 has_room capacity params list (VerdictMessage v) le none = omega arith
 has_room capacity params list Tick le none = omega arith

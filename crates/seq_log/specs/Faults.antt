@@ -18,11 +18,11 @@ next_time now (RequestMessage request) last = last + 1
 next_time now (ResponseMessage response) last = last + 1
 next_time now (VerdictMessage verdict) last = last + 1
 
-abbrev pub if_full : (capacity spent need : ℕ) → Option s.AppendFault
-if_full capacity spent need = if nat_lt capacity (spent + need) then Some (s.LogFull spent need) else None
+abbrev pub if_full : (capacity reserved need : ℕ) → Option s.AppendFault
+if_full capacity reserved need = if nat_lt capacity (reserved + need) then Some (s.LogFull reserved need) else None
 
 abbrev pub other_fault : (capacity : ℕ) → Params → List Entry → Message → Option s.AppendFault
-other_fault capacity params list (RequestMessage request) = if_full capacity (s.spent list) (2 + length request.confirming)
+other_fault capacity params list (RequestMessage request) = if_full capacity (s.reserved list) (2 + length request.confirming)
 other_fault capacity params list (ResponseMessage response) = s.if_late params list response.request
 other_fault capacity params list (VerdictMessage verdict) = s.if_late params list verdict.request
 other_fault capacity params list Tick = None

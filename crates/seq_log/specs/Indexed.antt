@@ -11,5 +11,5 @@ use Rattle.seq_log.specs.declared.log_index.LogIndex.{LogIndex}
 -- the index is that of the list
 pub record IsIndexOf (index : LogIndex) (list : List Entry) : Type 0 where
   pub leads : Leads list (λ (k : Key). get key_eq index.places k)
-  pub spent : index.spent ≡ s.spent list
+  pub reserved : index.reserved ≡ s.reserved list
   pub last : index.last ≡ s.last_time list

@@ -26,7 +26,7 @@ pub record IsFor (m : Machine) (s : Sequenced) : Type 0 where
 -- the fault in the words of the world model; want of memory is none there
 abbrev pub cause_of : AppendFault → Option s.AppendFault
 cause_of (Already place) = Some (s.Already place)
-cause_of (LogFull spent need) = Some (s.LogFull spent need)
+cause_of (LogFull reserved need) = Some (s.LogFull reserved need)
 cause_of (TooLate decision time) = Some (s.TooLate decision time)
 cause_of Memory = None
 

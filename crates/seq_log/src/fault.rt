@@ -6,7 +6,7 @@ use canton_model::Message;
 #[derive(Clone, Copy)]
 pub enum AppendFault {
     Already { place: u64 },
-    LogFull { spent: u64, need: u64 },
+    LogFull { reserved: u64, need: u64 },
     TooLate { decision: u64, time: u64 },
     Memory,
 }

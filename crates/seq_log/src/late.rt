@@ -43,12 +43,12 @@ pub fn if_late(
 }
 
 /// Whether a request would spend more than the capacity.
-pub fn if_full(capacity: u64, spent: u64, need: u64) -> Option<AppendFault>
-    requires { spent ≤ capacity }
-    ensures { if_full capacity spent need ≡ fault_if result }
+pub fn if_full(capacity: u64, reserved: u64, need: u64) -> Option<AppendFault>
+    requires { reserved ≤ capacity }
+    ensures { if_full capacity reserved need ≡ fault_if result }
 {
-    if need > capacity - spent {
-        Some(AppendFault::LogFull { spent, need })
+    if need > capacity - reserved {
+        Some(AppendFault::LogFull { reserved, need })
     } else {
         None
     }

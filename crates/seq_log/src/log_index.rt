@@ -26,7 +26,7 @@ pub struct LogIndex {
     pub params: Params,
     pub capacity: u64,
     pub places: IndexMap<Key, u64>,
-    pub spent: u64,
+    pub reserved: u64,
     pub last: u64,
 }
 
@@ -54,13 +54,13 @@ pub fn need_of(message: &Message) -> u64
 impl LogIndex {
     // Why the message isn't appended, where it doesn't stand in the log.
     fn other_fault(&self, slips: &Vec<Slip<'_>>, message: &Message) -> Option<AppendFault>
-        requires spent { self.now.spent ≤ self.now.capacity }
+        requires reserved { self.now.reserved ≤ self.now.capacity }
         requires last { self.now.last + 1 < 2 ^ 64 }
         ensures { (t : LogPrefix) → Holds t slips.now.items → IsIndexOf self.now t.list
             → other_fault self.now.capacity self.now.params t.list message.now ≡ fault_if result }
     {
         match message {
-            Message::Request(_) => if_full(self.capacity, self.spent, need_of(message)),
+            Message::Request(_) => if_full(self.capacity, self.reserved, need_of(message)),
             Message::Response(response) => {
                 if_late(slips, &self.params, self.last, response.request)
             }
@@ -71,7 +71,7 @@ impl LogIndex {
 
     /// Why the message isn't appended, by the first cause.
     pub fn fault(&self, slips: &Vec<Slip<'_>>, message: &Message) -> Option<AppendFault>
-        requires spent { self.now.spent ≤ self.now.capacity }
+        requires reserved { self.now.reserved ≤ self.now.capacity }
         requires last { self.now.last + 1 < 2 ^ 64 }
         ensures { (t : LogPrefix) → Holds t slips.now.items → IsIndexOf self.now t.list
             → fault_in self.now.capacity self.now.params t.list message.now ≡ fault_if result }
@@ -86,7 +86,7 @@ impl LogIndex {
     pub fn reserve(&mut self) -> Result<(), AllocError>
         ensures kept { (list : List Entry) → IsIndexOf self.old list → IsIndexOf self.new list }
         ensures made { (self.new.params ≡ self.old.params) × (self.new.capacity ≡ self.old.capacity) }
-        ensures numbers { (self.new.spent ≡ self.old.spent) × (self.new.last ≡ self.old.last) }
+        ensures numbers { (self.new.reserved ≡ self.old.reserved) × (self.new.last ≡ self.old.last) }
         ensures room { OnOk result (0 < spare self.new.places) }
     {
         self.places.reserve(1)?;
@@ -96,14 +96,14 @@ impl LogIndex {
     /// Notes one more entry, in the room that is there.
     pub fn note(&mut self, key: Option<Key>, place: u64, need: u64, time: u64)
         requires room { 0 < spare self.old.places }
-        requires within { self.old.spent + need ≤ self.old.capacity }
+        requires within { self.old.reserved + need ≤ self.old.capacity }
         ensures kept { (list : List Entry) (e : Entry) → IsIndexOf self.old list → length list ≡ place → key ≡ key_of e.message
             → need ≡ s.need_of e.message → time ≡ e.time → s.first_from (s.is_same e.message) 0 list ≡ None → IsIndexOf self.new (list ++ e ∷ []) }
         ensures made { (self.new.params ≡ self.old.params) × (self.new.capacity ≡ self.old.capacity) }
-        ensures numbers { (self.new.spent ≡ self.old.spent + need) × (self.new.last ≡ time) }
+        ensures numbers { (self.new.reserved ≡ self.old.reserved + need) × (self.new.last ≡ time) }
     {
         put_place(&mut self.places, key, place);
-        self.spent += need;
+        self.reserved += need;
         self.last = time;
     }
 }

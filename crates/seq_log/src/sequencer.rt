@@ -42,7 +42,7 @@ impl<'r> Model for Sequencer<'r> {
 
     ghost view = { λ s. record { row = s.pen.row; list = s.pen.list; capacity = s.index.capacity; params = s.index.params } };
 
-    ghost invariant = { λ s. Holds s.pen s.slips.items × IsIndexOf s.index s.pen.list × (s.index.spent ≤ s.index.capacity)
+    ghost invariant = { λ s. Holds s.pen s.slips.items × IsIndexOf s.index s.pen.list × (s.index.reserved ≤ s.index.capacity)
         × (s.index.last ≤ 10 ^ 16 + length s.pen.list) };
 }
 
@@ -51,7 +51,7 @@ fn make_room(slips: &mut Vec<Slip<'_>>, index: &mut LogIndex) -> Result<(), Allo
     ensures slips { slips.new.items ≡ slips.old.items }
     ensures kept { (list : List Entry) → IsIndexOf index.old list → IsIndexOf index.new list }
     ensures made { (index.new.params ≡ index.old.params) × (index.new.capacity ≡ index.old.capacity) }
-    ensures numbers { (index.new.spent ≡ index.old.spent) × (index.new.last ≡ index.old.last) }
+    ensures numbers { (index.new.reserved ≡ index.old.reserved) × (index.new.last ≡ index.old.last) }
     ensures room { OnOk result ((vec_len slips.new < vec_capacity slips.new) × (0 < spare index.new.places)) }
 {
     slips.reserve(1)?;
@@ -77,7 +77,7 @@ impl<'r> Sequencer<'r> {
                 params,
                 capacity,
                 places: IndexMap::new(alloc),
-                spent: 0,
+                reserved: 0,
                 last: 0,
             },
         })

@@ -8,7 +8,7 @@ use Rattle.world_model.specs.Messages.{Entry}
 use Rattle.ledger_model.proofs.Lists.{in_append_cases, in_append_left, in_append_right, in_from_Contains}
 use Rattle.canton_model.specs.Genuine.{IsReading}
 use Rattle.world_model.specs.Machine.{Machine, GenuineLog, IsMachine}
-use Rattle.world_model.specs.Sequencing.{spent}
+use Rattle.world_model.specs.Sequencing.{reserved}
 use Rattle.world_model.specs.Settled.{left}
 use Rattle.world_model.specs.Rounds.{Round, SubmitResult, Sent, Results, Why, AnswerHolds, SentHolds, ResultsHold, RoundHolds, RoundAnswers}
 use Rattle.world_model.specs.Rounds.{RoundsHold, RunHolds, begun}
@@ -22,7 +22,7 @@ use Rattle.threads_model.proofs.RoundShared.{SentBelow, AllSent, begun_begins, b
 
 -- genuine, and within the capacity
 abbrev pub Good : Machine → List Entry → Type 0
-Good m log = GenuineLog m log × (spent log ≤ m.capacity)
+Good m log = GenuineLog m log × (reserved log ≤ m.capacity)
 
 module _ {F : Type 0} (m : Machine) (why : Why F) where
   sent_in_part : (now : ℕ) (round : Round) (all : List Entry) (start end : ℕ) (earlier results : Results F)

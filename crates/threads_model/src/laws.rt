@@ -11,7 +11,7 @@ ghost use Rattle.world_model.specs.Messages.{Entry, Message, RequestMessage, Res
 ghost use Rattle.canton_model.specs.Genuine.{IsReading};
 ghost use Rattle.world_model.specs.Machine.{Machine, GenuineLog, IsMachine};
 ghost use Rattle.world_model.specs.Places.{has_place};
-ghost use Rattle.world_model.specs.Sequencing.{Already, LogFull as Full, TooLate, append_fault, entry_after, last_time, sequenced, spent};
+ghost use Rattle.world_model.specs.Sequencing.{Already, LogFull as Full, TooLate, append_fault, entry_after, last_time, sequenced, reserved};
 ghost use Rattle.world_model.specs.Fits.{MayStand, IsOwed, IsDecision};
 ghost use Rattle.world_model.specs.World.{World};
 ghost use Rattle.world_model.specs.Lawful.{Lawful};
@@ -151,7 +151,7 @@ pub fn clients_join<F>()
         → Merging round.submits answers queues out []
         → ((what : Submission) → Contains round.submits what → what.participant < m.hosts)
         → GenuineLog m log
-        → spent log ≤ m.capacity
+        → reserved log ≤ m.capacity
         → IsPrefix first log
         → ((p : ParticipantId) → p < m.hosts → ClientHas m why now round.paused first log (answers p))
         → inputs log ≡ inputs first + sum_below (λ p. tickets (answers p)) m.hosts
@@ -216,17 +216,17 @@ pub fn one_thread_is_shared<F>()
     ensures part { (m : Machine) (why : Why F) (now : ℕ) (round : Round) (results : Results F) (before after : List Entry)
         → IsMachine m
         → GenuineLog m before
-        → spent before ≤ m.capacity
+        → reserved before ≤ m.capacity
         → PlainPart m why now round results before after
         → SharedPart m why now round results before after }
     ensures rounds { (m : Machine) (why : Why F) (now : ℕ) (before : List Entry) (rounds : List (RoundAnswers F)) (after : List Entry)
         → IsMachine m
         → GenuineLog m before
-        → spent before ≤ m.capacity
+        → reserved before ≤ m.capacity
         → PlainRounds m why now before rounds after
         → SharedRounds m why now before rounds after }
     ensures good { (m : Machine) (why : Why F) (now : ℕ) (round : Round) (results : Results F) (before after : List Entry)
         → IsReading m.reading
         → SharedPart m why now round results before after
-        → GenuineLog m after × (spent after ≤ m.capacity) }
+        → GenuineLog m after × (reserved after ≤ m.capacity) }
 {}

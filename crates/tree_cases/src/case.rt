@@ -1,7 +1,7 @@
 //! Cases.
 use crate::lines::{path_text, put_line};
 use crate::submissions::put_submission;
-use consist::inconsistent;
+use consist::find_inconsistent;
 use fixtures::{fault_text, know_created};
 use ledger_model::{Commit, CommitList};
 use ledger_terms::{ActionNodeList, KnownList};
@@ -61,7 +61,7 @@ fn put_commit(ledger: &mut CommitList, roots: ActionNodeList) -> Result<(), Allo
 
 /// Puts at the end whether a ledger is consistent, or the first action that breaks it.
 fn put_ledger(alloc: Global, ledger: &CommitList, out: &mut String) -> Result<(), AllocError> {
-    match inconsistent(alloc, ledger)? {
+    match find_inconsistent(alloc, ledger)? {
         Some(found) => {
             let commit = format!(in alloc; "{}", found.commit)?;
             let path = path_text(alloc, &found.path)?;

@@ -2,7 +2,7 @@
 use crate::lines::{path_text, put_line, yes};
 use crate::roles_given::{all_have_roles, children_have_roles, has_roles};
 use authorise::{authorised, children_authorised};
-use consist::unordered;
+use consist::find_unordered;
 use interpret::{encoded_bytes, reexecute};
 use lang_eval::Checked;
 use ledger_terms::{ActionNode, ActionNodeList, Tx};
@@ -41,7 +41,7 @@ fn conform(alloc: Global, checked: &Checked, roots: &ActionNodeList) -> Result<b
 
 /// Puts at the end whether no action follows the end of its contract, or the path of the first that does.
 fn put_order(alloc: Global, roots: &ActionNodeList, out: &mut String) -> Result<(), AllocError> {
-    match unordered(alloc, roots)? {
+    match find_unordered(alloc, roots)? {
         Some(path) => {
             let path = path_text(alloc, &path)?;
             put_line(out, &["ordered no", path.as_str()])

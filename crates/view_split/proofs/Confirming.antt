@@ -17,7 +17,7 @@ use Rattle.ledger_model.proofs.Sets.{in_set_of, front_of_set}
 use Rattle.view_split.specs.declared.split_view.SplitView.{SplitView}
 use Rattle.view_split.specs.Split.{split}
 use Rattle.view_split.specs.Numbered.{seen_as}
-use Rattle.view_split.specs.Seen.{ConfirmsView, is_sight, seen_views, placed_numbered}
+use Rattle.view_split.specs.SeenViews.{ConfirmsView, is_sight, seen_views, placed_numbered}
 use Rattle.view_split.proofs.Sight.{any_subset, without_paths}
 use Rattle.view_split.proofs.Once.{at_numbered}
 use Rattle.view_split.proofs.Shown.{seen_as_views, their_places}

@@ -14,7 +14,7 @@ use Rattle.view_split.specs.declared.split_view.SplitView.{SplitView}
 use Rattle.view_split.specs.Split.{assembled}
 use Rattle.view_split.specs.Filled.{AreFilled}
 use Rattle.view_split.specs.Numbered.{map_forest, held_in, core_in, with_cores}
-use Rattle.view_split.specs.Seen.{placed_numbered, put_back, without_numbers}
+use Rattle.view_split.specs.SeenViews.{placed_numbered, put_back, without_numbers}
 use Rattle.view_split.proofs.Cores.{plain, plain_numbered}
 use Rattle.view_split.proofs.Sight.{map_join}
 use Rattle.view_split.proofs.Subtrees.{trees_join}

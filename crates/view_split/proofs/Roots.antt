@@ -16,7 +16,7 @@ use Rattle.view_split.specs.Holed.{Holed}
 use Rattle.view_split.specs.declared.split_view.SplitView.{SplitView}
 use Rattle.view_split.specs.Split.{view_at, split_below, split}
 use Rattle.view_split.specs.Numbered.{map_forest, core_in, held_in, with_cores}
-use Rattle.view_split.specs.Seen.{is_sight}
+use Rattle.view_split.specs.SeenViews.{is_sight}
 use Rattle.view_split.proofs.Sight.{is_told, map_project, without_paths, same_below}
 use Rattle.view_split.proofs.TreesKept.{below_next, below_join, number-join}
 

@@ -16,7 +16,7 @@ use Rattle.ledger_model.proofs.Projected.{preorder_join}
 use Rattle.view_split.specs.declared.split_view.SplitView.{SplitView}
 use Rattle.view_split.specs.Split.{split, assembled}
 use Rattle.view_split.specs.Numbered.{map_forest, with_cores, numbered, seen_as}
-use Rattle.view_split.specs.Seen.{is_sight, seen_views, put_back, placed_numbered, opened_as, opened_views}
+use Rattle.view_split.specs.SeenViews.{is_sight, seen_views, put_back, placed_numbered, opened_as, opened_views}
 use Rattle.view_split.proofs.Assembled.{assembled_split}
 use Rattle.view_split.proofs.Sight.{seen_are_views}
 use Rattle.view_split.proofs.Cores.{numbered_are, plain_numbered}

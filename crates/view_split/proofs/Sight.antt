@@ -16,7 +16,7 @@ use Rattle.ledger_model.proofs.Lists.{In, in_any, from_any}
 use Rattle.view_split.specs.declared.split_view.SplitView.{SplitView}
 use Rattle.view_split.specs.Split.{view_at, split_below, split, assembled}
 use Rattle.view_split.specs.Numbered.{map_forest}
-use Rattle.view_split.specs.Seen.{is_sight, seen_views, put_back}
+use Rattle.view_split.specs.SeenViews.{is_sight, seen_views, put_back}
 use Rattle.view_split.proofs.Assembled.{assembled-join, refilled}
 use Rattle.view_split.proofs.Joins.{split-join}
 

@@ -10,7 +10,7 @@ use Rattle.ledger_model.specs.Opening.{Transaction, seen_paths, opened_of, opene
 use Rattle.view_split.specs.declared.split_view.SplitView.{SplitView}
 use Rattle.view_split.specs.Split.{split}
 use Rattle.view_split.specs.Numbered.{map_forest}
-use Rattle.view_split.specs.Seen.{is_sight, seen_views, put_back, opened_views}
+use Rattle.view_split.specs.SeenViews.{is_sight, seen_views, put_back, opened_views}
 use Rattle.view_split.specs.Placed.{view_with, tops, placed_forest, shown_by}
 use Rattle.view_split.specs.declared.placed_view.PlacedView.{PlacedView}
 use Rattle.view_split.specs.declared.opened_tree.OpenedTree.{OpenedTree}

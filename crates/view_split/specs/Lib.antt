@@ -5,7 +5,7 @@ pub mod ViewTrees
 pub mod Split
 pub mod Filled
 pub mod Numbered
-pub mod Seen
+pub mod SeenViews
 pub mod Placed
 pub mod Faults
 pub mod Walked

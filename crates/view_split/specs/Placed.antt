@@ -5,7 +5,7 @@ use Rattle.ledger_model.specs.Terms.{Path}
 use Rattle.ledger_model.specs.Opening.{Shown}
 use Rattle.view_split.specs.declared.split_view.SplitView.{SplitView}
 use Rattle.view_split.specs.Numbered.{map_forest}
-use Rattle.view_split.specs.Seen.{put_back, opened_views}
+use Rattle.view_split.specs.SeenViews.{put_back, opened_views}
 use Rattle.view_split.specs.ViewTrees.{View}
 use Rattle.view_split.specs.declared.placed_view.PlacedView.{PlacedView}
 use Rattle.view_split.specs.declared.opened_tree.OpenedTree.{OpenedTree}

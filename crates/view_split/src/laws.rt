@@ -20,7 +20,7 @@ ghost use Rattle.view_split.specs.declared.split_view.SplitView.{SplitView};
 ghost use Rattle.view_split.specs.Split.{split, assembled};
 ghost use Rattle.view_split.specs.Filled.{AreFilled};
 ghost use Rattle.view_split.specs.Numbered.{map_forest, numbered, seen_as};
-ghost use Rattle.view_split.specs.Seen.{ConfirmsView, opened_views, placed_numbered, put_back, seen_views, without_numbers};
+ghost use Rattle.view_split.specs.SeenViews.{ConfirmsView, opened_views, placed_numbered, put_back, seen_views, without_numbers};
 ghost use Rattle.view_split.specs.Holed.{Holed, children_with, fill};
 
 /// Views put back are the transaction, and each root view is its root's tree.

@@ -44,5 +44,6 @@ spell_instance i = spell_name i.template.package ++ spell_name i.template.name +
 abbrev pub spell_action : Action → List ℕ
 spell_action (Create id instance) = 1 ∷ (id ++ spell_instance instance)
 spell_action (Exercise id salt instance choice args actors consuming result) =
-    2 ∷ (id ++ salt ++ spell_instance instance ++ spell_name choice ++ spell_values args ++ spell_parties actors ++ spell_truth consuming ++ spell_value result)
+    2 ∷ (id ++ salt ++ spell_instance instance ++ spell_name choice ++ spell_values args ++ spell_parties actors ++ spell_truth consuming
+    ++ spell_value result)
 spell_action (Fetch id salt instance actors) = 3 ∷ (id ++ salt ++ spell_instance instance ++ spell_parties actors)

@@ -12,7 +12,7 @@ use Rattle.canton_model.specs.Mediation.{is_response_of}
 use Rattle.canton_model.specs.Ledger.{FitsIfVerdict}
 use Rattle.canton_model.specs.Genuine.{is_request_of, FitsIfRequest, FitsIfResponse}
 use Rattle.world_model.specs.Machine.{Machine, GenuineLog}
-use Rattle.world_model.specs.Sequencing.{last_time, time_after, entry_after, is_verdict_on, is_same, first_from, spent, AppendFault, if_full, if_late, if_already}
+use Rattle.world_model.specs.Sequencing.{last_time, time_after, entry_after, is_verdict_on, is_same, first_from, reserved, AppendFault, if_full, if_late, if_already}
 use Rattle.world_model.specs.Sequencing.{append_fault, unless_refused, sequenced}
 use Rattle.world_model.specs.Fits.{MayStand}
 use Rattle.canton_model.proofs.LongerLogs.{genuine_push}
@@ -118,38 +118,38 @@ sequenced_more m now log message = by_fault (append_fault m log message)
     by_fault (Some f) = ([], sym (append-nil log))
 
 -- the capacity
-pub spent_more : (xs ys : List Entry) → spent (xs ++ ys) ≡ spent xs + spent ys
-spent_more [] ys = omega arith
-spent_more (x ∷ xs) ys = let r = spent_more xs ys in omega arith
+pub reserved_more : (xs ys : List Entry) → reserved (xs ++ ys) ≡ reserved xs + reserved ys
+reserved_more [] ys = omega arith
+reserved_more (x ∷ xs) ys = let r = reserved_more xs ys in omega arith
 
-not_full : (m : Machine) (log : List Entry) (need : ℕ) → if_full m log need ≡ None → spent log + need ≤ m.capacity
+not_full : (m : Machine) (log : List Entry) (need : ℕ) → if_full m log need ≡ None → reserved log + need ≤ m.capacity
 not_full m log need h =
-    elim (cases_Bool (nat_lt m.capacity (spent log + need))) [
+    elim (cases_Bool (nat_lt m.capacity (reserved log + need))) [
       | inl b ↦ let no = rw b at h in absurd (none-some _ (sym no))
       | inr b ↦ ltb-false _ _ b
     ]
 
-pub appended_within : (m : Machine) (now : ℕ) (log : List Entry) (message : Message) → spent log ≤ m.capacity → append_fault m log message ≡ None
-    → spent (log ++ entry_after now log message ∷ []) ≤ m.capacity
+pub appended_within : (m : Machine) (now : ℕ) (log : List Entry) (message : Message) → reserved log ≤ m.capacity → append_fault m log message ≡ None
+    → reserved (log ++ entry_after now log message ∷ []) ≤ m.capacity
 appended_within m now log (RequestMessage q) le none =
     let parts = no_fault (first_from (is_same (RequestMessage q)) 0 log) _ none in
     let room = not_full m log (2 + length q.confirming) parts.1 in
-    let sum = spent_more log (entry_after now log (RequestMessage q) ∷ []) in
-    let one : spent (entry_after now log (RequestMessage q) ∷ []) ≡ 2 + length q.confirming + 0 = refl in omega arith
+    let sum = reserved_more log (entry_after now log (RequestMessage q) ∷ []) in
+    let one : reserved (entry_after now log (RequestMessage q) ∷ []) ≡ 2 + length q.confirming + 0 = refl in omega arith
 appended_within m now log (ResponseMessage r) le none =
-    let sum = spent_more log (entry_after now log (ResponseMessage r) ∷ []) in
-    let one : spent (entry_after now log (ResponseMessage r) ∷ []) ≡ 0 = refl in omega arith
+    let sum = reserved_more log (entry_after now log (ResponseMessage r) ∷ []) in
+    let one : reserved (entry_after now log (ResponseMessage r) ∷ []) ≡ 0 = refl in omega arith
 appended_within m now log (VerdictMessage v) le none =
-    let sum = spent_more log (entry_after now log (VerdictMessage v) ∷ []) in
-    let one : spent (entry_after now log (VerdictMessage v) ∷ []) ≡ 0 = refl in omega arith
+    let sum = reserved_more log (entry_after now log (VerdictMessage v) ∷ []) in
+    let one : reserved (entry_after now log (VerdictMessage v) ∷ []) ≡ 0 = refl in omega arith
 appended_within m now log Tick le none =
-    let sum = spent_more log (entry_after now log Tick ∷ []) in
-    let one : spent (entry_after now log Tick ∷ []) ≡ 0 = refl in omega arith
+    let sum = reserved_more log (entry_after now log Tick ∷ []) in
+    let one : reserved (entry_after now log Tick ∷ []) ≡ 0 = refl in omega arith
 
-pub sequenced_within : (m : Machine) (now : ℕ) (log : List Entry) (message : Message) → spent log ≤ m.capacity
-    → spent (sequenced m now log message) ≤ m.capacity
+pub sequenced_within : (m : Machine) (now : ℕ) (log : List Entry) (message : Message) → reserved log ≤ m.capacity
+    → reserved (sequenced m now log message) ≤ m.capacity
 sequenced_within m now log message le = by_fault (append_fault m log message) refl
   where
-    by_fault : (o : Option AppendFault) → append_fault m log message ≡ o → spent (unless_refused o log (log ++ entry_after now log message ∷ [])) ≤ m.capacity
+    by_fault : (o : Option AppendFault) → append_fault m log message ≡ o → reserved (unless_refused o log (log ++ entry_after now log message ∷ [])) ≤ m.capacity
     by_fault None e = appended_within m now log message le e
     by_fault (Some f) e = le

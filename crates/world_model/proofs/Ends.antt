@@ -12,7 +12,7 @@ use Rattle.ledger_model.proofs.Lists.{In, in_append_cases}
 use Rattle.canton_model.specs.Genuine.{IsReading}
 use Rattle.canton_model.proofs.Fits.{sealed_of}
 use Rattle.world_model.specs.Machine.{Machine, GenuineLog}
-use Rattle.world_model.specs.Sequencing.{spent, entry_after, is_same, first_from, AppendFault, append_fault, unless_refused, sequenced}
+use Rattle.world_model.specs.Sequencing.{reserved, entry_after, is_same, first_from, AppendFault, append_fault, unless_refused, sequenced}
 use Rattle.world_model.specs.Fits.{MayStand}
 use Rattle.world_model.specs.Places.{has_place}
 use Rattle.world_model.specs.Settled.{is_due, is_asked_in, message_if, owed_response, due_at, due_below, due, verdict_to, due_verdicts_below}
@@ -204,22 +204,22 @@ module _ (m : Machine) (now : ℕ) where
   passes_genuine is paused held (suc n) log g = passes_genuine is paused held n _ (pass_genuine is paused held log g)
 
   -- within the capacity
-  pub each_within : (log : List Entry) (messages : List Message) → spent log ≤ m.capacity → spent (append_each m now log messages) ≤ m.capacity
+  pub each_within : (log : List Entry) (messages : List Message) → reserved log ≤ m.capacity → reserved (append_each m now log messages) ≤ m.capacity
   each_within log [] le = le
   each_within log (x ∷ rest) le = each_within (sequenced m now log x) rest (sequenced_within m now log x le)
 
-  replies_within : (paused : List ParticipantId) (log : List Entry) (n : ℕ) → spent log ≤ m.capacity → spent (replies_below m now paused log n) ≤ m.capacity
+  replies_within : (paused : List ParticipantId) (log : List Entry) (n : ℕ) → reserved log ≤ m.capacity → reserved (replies_below m now paused log n) ≤ m.capacity
   replies_within paused log zero le = le
   replies_within paused log (suc n) le =
       let h = replies_within paused log n le in
       elim (cases_Bool (has_place paused n))
       [ inl b ↦ rw b h | inr b ↦ rw b (each_within (replies_below m now paused log n) (due m (replies_below m now paused log n) n) h) ]
 
-  unless_within : (held : Bool) (log : List Entry) → spent log ≤ m.capacity → spent (verdicts_unless m now held log) ≤ m.capacity
+  unless_within : (held : Bool) (log : List Entry) → reserved log ≤ m.capacity → reserved (verdicts_unless m now held log) ≤ m.capacity
   unless_within true log le = le
   unless_within false log le = each_within log (due_verdicts m log) le
 
-  pub passes_within : (paused : List ParticipantId) (held : Bool) (n : ℕ) (log : List Entry) → spent log ≤ m.capacity
-      → spent (passes m now paused held n log) ≤ m.capacity
+  pub passes_within : (paused : List ParticipantId) (held : Bool) (n : ℕ) (log : List Entry) → reserved log ≤ m.capacity
+      → reserved (passes m now paused held n log) ≤ m.capacity
   passes_within paused held zero log le = le
   passes_within paused held (suc n) log le = passes_within paused held n _ (unless_within held _ (replies_within paused log m.hosts le))

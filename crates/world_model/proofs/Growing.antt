@@ -10,7 +10,7 @@ use Rattle.canton_model.specs.Inbox.{Item, inbox}
 use Rattle.canton_model.specs.Genuine.{is_request_of}
 use Rattle.canton_model.proofs.Decided.{verdict_on_append}
 use Rattle.world_model.specs.Machine.{Machine}
-use Rattle.world_model.specs.Sequencing.{spent}
+use Rattle.world_model.specs.Sequencing.{reserved}
 use Rattle.world_model.specs.Rounds.{Round, SubmitFault, Paused, Unwanted, Duplicate, LogFull, SubmitResult, Sent, Refused, Results, Why, read_of}
 use Rattle.world_model.specs.Rounds.{read_at, wanted_at, AnswerHolds, RefusalHolds, ResultHolds}
 use Rattle.world_model.proofs.Grown.{request_grown, request_within}
@@ -69,7 +69,7 @@ module _ {F : Type 0} (m : Machine) (why : Why F) (now : ℕ) (round : Round) (l
           some = h.some;
           at_least = h.at_least;
           at_most = omega arith;
-          amount_is = h.amount_is ∙ ap spent (sym (front h.some h.at_most));
+          amount_is = h.amount_is ∙ ap reserved (sym (front h.some h.at_most));
           full = h.full;
           fresh = ap (list_any (λ (x : Entry). is_request_of (h.request).sender (h.request).command x.message)) (front h.some h.at_most) ∙ h.fresh;
         }

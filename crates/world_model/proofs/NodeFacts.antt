@@ -9,7 +9,7 @@ use Rattle.canton_model.specs.Log.{Params, request_of, request_in, request_at}
 use Rattle.world_model.specs.Messages.{Entry, Message, RequestMessage, ResponseMessage, VerdictMessage, Tick, Request, Verdict}
 use Rattle.ledger_model.specs.Opening.{Shown}
 use Rattle.canton_model.specs.Reading.{Reading, is_recipient}
-use Rattle.canton_model.specs.Inbox.{Item, told, content_of, shown_by, shown_in, shown_at, item_after, items_after, inbox}
+use Rattle.canton_model.specs.Inbox.{Item, verdict_content, content_of, shown_by, shown_in, shown_at, item_after, items_after, inbox}
 use Rattle.canton_model.specs.Checks.{is_confirmed_by, verdicts_owed}
 use Rattle.canton_model.specs.Ledger.{read_by}
 use Rattle.canton_model.specs.Genuine.{IsReading, IsSealed}
@@ -49,7 +49,7 @@ inbox_append reading p before (x ∷ xs) ys =
     (append_assoc before (x ∷ []) xs)
 
 -- what is shown at a place is what is shown of the request there
-told_shows : (reading : Reading) (p : ParticipantId) (v : Verdict) (o : Option Request) → shown_by (told reading p v o) ≡ None
+told_shows : (reading : Reading) (p : ParticipantId) (v : Verdict) (o : Option Request) → shown_by (verdict_content reading p v o) ≡ None
 told_shows reading p v None = refl
 told_shows reading p v (Some q) = elim (cases_Bool (is_recipient reading p q)) [ inl b ↦ rw b refl | inr b ↦ rw b refl ]
 

@@ -17,7 +17,7 @@ use Rattle.canton_model.specs.Genuine.{is_request_of}
 use Rattle.ledger_model.proofs.Lists.{In, in_from_Contains, contains_from_In, in_append_cases, in_append_left, in_append_right}
 use Rattle.world_model.specs.Machine.{Machine}
 use Rattle.world_model.specs.Places.{has_place}
-use Rattle.world_model.specs.Sequencing.{AppendFault, Already, LogFull as Full, TooLate, first_from, if_already, if_full, append_fault, entry_after, spent}
+use Rattle.world_model.specs.Sequencing.{AppendFault, Already, LogFull as Full, TooLate, first_from, if_already, if_full, append_fault, entry_after, reserved}
 use Rattle.world_model.specs.Rounds.{Round, SubmitFault, Paused, Unwanted, Duplicate, LogFull, SubmitResult, Sent, Refused, Results, Why, read_at}
 use Rattle.world_model.specs.Rounds.{wanted_at, ReadHolds, FullHolds, DuplicateHolds, RefusalHolds, ResultHolds, ResultsHold}
 use Rattle.world_model.specs.Plain.{HandedIn, AnswersWanted, IsPausedAnswer, IsAwakeAnswer, Submitted}
@@ -115,13 +115,13 @@ module _ {F : Type 0} (m : Machine) (why : Why F) (now : ℕ) (round : Round) (a
         → append_fault m log (RequestMessage q) ≡ Some (Already place) → DuplicateHolds m now all earlier what place (length log)
     duplicate q place l w e = by_first (first_from (is_request_of q.sender q.command) 0 log) refl
       where
-        by_full : (b : Bool) → (if b then Some (Full (spent log) (2 + length q.confirming)) else None) ≡ Some (Already place) → ⊥
+        by_full : (b : Bool) → (if b then Some (Full (reserved log) (2 + length q.confirming)) else None) ≡ Some (Already place) → ⊥
         by_full true h = cc
         by_full false h = cc
 
         by_first : (o : Option ℕ) → first_from (is_request_of q.sender q.command) 0 log ≡ o → DuplicateHolds m now all earlier what place (length log)
         by_first None h =
-            absurd (by_full (nat_lt m.capacity (spent log + (2 + length q.confirming)))
+            absurd (by_full (nat_lt m.capacity (reserved log + (2 + length q.confirming)))
             (sym (ap (λ (o : Option ℕ). or_else (if_already o) (if_full m log (2 + length q.confirming))) h) ∙ e))
         by_first (Some i) h =
             let same : Some (Already i) ≡ Some (Already place) =
@@ -146,10 +146,10 @@ module _ {F : Type 0} (m : Machine) (why : Why F) (now : ℕ) (round : Round) (a
         → append_fault m log (RequestMessage q) ≡ Some (Full amount need) → FullHolds m now all (length all) what amount need (length log)
     full q amount need l w e = by_first (first_from (is_request_of q.sender q.command) 0 log) refl
       where
-        by_full : (b : Bool) → nat_lt m.capacity (spent log + (2 + length q.confirming)) ≡ b
-            → (if b then Some (Full (spent log) (2 + length q.confirming)) else None) ≡ Some (Full amount need)
-            → (spent log ≡ amount) × (2 + length q.confirming ≡ need) × (m.capacity < spent log + (2 + length q.confirming))
-        by_full true b h = (cc, cc, ltb-true m.capacity (spent log + (2 + length q.confirming)) b)
+        by_full : (b : Bool) → nat_lt m.capacity (reserved log + (2 + length q.confirming)) ≡ b
+            → (if b then Some (Full (reserved log) (2 + length q.confirming)) else None) ≡ Some (Full amount need)
+            → (reserved log ≡ amount) × (2 + length q.confirming ≡ need) × (m.capacity < reserved log + (2 + length q.confirming))
+        by_full true b h = (cc, cc, ltb-true m.capacity (reserved log + (2 + length q.confirming)) b)
         by_full false b h = cc
 
         by_first : (o : Option ℕ) → first_from (is_request_of q.sender q.command) 0 log ≡ o → FullHolds m now all (length all) what amount need (length log)
@@ -157,7 +157,7 @@ module _ {F : Type 0} (m : Machine) (why : Why F) (now : ℕ) (round : Round) (a
             let same : Some (Already i) ≡ Some (Full amount need) =
             sym (ap (λ (o : Option ℕ). or_else (if_already o) (if_full m log (2 + length q.confirming))) h) ∙ e in cc
         by_first None h =
-            let f = by_full (nat_lt m.capacity (spent log + (2 + length q.confirming))) refl
+            let f = by_full (nat_lt m.capacity (reserved log + (2 + length q.confirming))) refl
             (sym (ap (λ (o : Option ℕ). or_else (if_already o) (if_full m log (2 + length q.confirming))) h) ∙ e) in
             let long = length-append log l.0 in
             let total = ap length l.1 in
@@ -168,7 +168,7 @@ module _ {F : Type 0} (m : Machine) (why : Why F) (now : ℕ) (round : Round) (a
               some = length log;
               at_least = le_refl (length log);
               at_most = omega arith;
-              amount_is = sym f.0 ∙ ap spent (sym (front log l));
+              amount_is = sym f.0 ∙ ap reserved (sym (front log l));
               full = let a = f.0 in let n = f.1 in let c = f.2 in omega arith;
               fresh = ap (list_any (λ (x : Entry). is_request_of q.sender q.command x.message)) (front log l)
                   ∙ none_such (is_request_of q.sender q.command) 0 log h;
@@ -245,9 +245,9 @@ module _ {F : Type 0} (m : Machine) (why : Why F) (now : ℕ) (round : Round) (a
         → AnswersWanted m (why what (read_at m log what (length log)) now) now log o result next → Handled log earlier what result next
     awake_handled result next l None w h =
         let l' : Longer log all = subst (λ (xs : List Entry). Longer xs all) h.1 l in
-        let told : why what (read_at m all what (length log)) now ≡ why what (read_at m log what (length log)) now =
+        let verdict_content : why what (read_at m all what (length log)) now ≡ why what (read_at m log what (length log)) now =
         ap (λ (items : List Item). why what items now) (read_there log what l') in
-        stopped (Unwanted (why what (read_at m log what (length log)) now)) result next l (wanted_there log what l' ∙ w, told) h.0 h.1
+        stopped (Unwanted (why what (read_at m log what (length log)) now)) result next l (wanted_there log what l' ∙ w, verdict_content) h.0 h.1
     awake_handled result next l (Some q) w h = handed q result next l w (append_fault m log (RequestMessage q)) refl h
 
   paused_handled : (log : List Entry) (earlier : Results F) (what : Submission) (result : SubmitResult F) (next : List Entry)

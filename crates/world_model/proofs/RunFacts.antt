@@ -11,7 +11,7 @@ use Rattle.canton_model.specs.Log.{request_at}
 use Rattle.world_model.specs.Messages.{Entry, RequestMessage, Tick, Request}
 use Rattle.ledger_model.proofs.Lists.{In, in_append_cases, in_append_left, in_append_right, in_from_Contains}
 use Rattle.world_model.specs.Machine.{Machine, GenuineLog, IsMachine}
-use Rattle.world_model.specs.Sequencing.{AppendFault, Already, LogFull as Full, TooLate, spent, append_fault, sequenced}
+use Rattle.world_model.specs.Sequencing.{AppendFault, Already, LogFull as Full, TooLate, reserved, append_fault, sequenced}
 use Rattle.world_model.specs.Settled.{left}
 use Rattle.world_model.specs.Rounds.{Round, SubmitResult, Sent, Results, Why, AnswerHolds, SentHolds, ResultsHold, RoundHolds, RoundAnswers}
 use Rattle.world_model.specs.Rounds.{RoundsHold, RunHolds, begun, read_at, wanted_at}
@@ -39,7 +39,7 @@ front_of a b l = ap (take (length a)) l.1 ∙ take-append_seam a l.0
 
 -- genuine, and within the capacity
 abbrev Good : Machine → List Entry → Type 0
-Good m log = GenuineLog m log × (spent log ≤ m.capacity)
+Good m log = GenuineLog m log × (reserved log ≤ m.capacity)
 
 begun_good : (m : Machine) (now : ℕ) (round : Round) (log : List Entry) → Good m log → Good m (begun m now round log)
 begun_good m now round log g =

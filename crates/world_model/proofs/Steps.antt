@@ -18,7 +18,7 @@ use Rattle.canton_model.specs.Inbox.{Item, shown_in, item_after, inbox}
 use Rattle.ledger_model.proofs.Lists.{In, in_append_cases, in_from_Contains, contains_from_In, from_filter, in_any, from_any}
 use Rattle.canton_model.proofs.InboxGrows.{items_push}
 use Rattle.world_model.specs.Machine.{Machine, GenuineLog, IsMachine, confirms_some_view}
-use Rattle.world_model.specs.Sequencing.{sequenced, spent}
+use Rattle.world_model.specs.Sequencing.{sequenced, reserved}
 use Rattle.world_model.specs.Places.{first_from, has_place, without_place}
 use Rattle.world_model.specs.Fits.{IsOwed, IsDecision, MayStand}
 use Rattle.world_model.specs.Node.{NodeState, owes_at, response_at, is_claimable, next_claim, claim, finish, validate, is_to, waiting_to}
@@ -95,7 +95,7 @@ module _ (m : Machine) where
       let long = length-append log more in
       (h.0, let le = h.1 in omega arith, subst (λ (xs : List Entry). NodeHas m p xs node) (sym (take_grown log more h.0 h.1)) h.2)
 
-  pub lawful_grown : (w : World) (more : List Entry) (now : ℕ) → Lawful m w → GenuineLog m (w.log ++ more) → spent (w.log ++ more) ≤ m.capacity
+  pub lawful_grown : (w : World) (more : List Entry) (now : ℕ) → Lawful m w → GenuineLog m (w.log ++ more) → reserved (w.log ++ more) ≤ m.capacity
       → Lawful m (record { log = w.log ++ more; now = now; mediator = w.mediator; nodes = w.nodes })
   lawful_grown w more now h g le =
       record {
@@ -115,7 +115,7 @@ module _ (m : Machine) where
       let g = sequenced_keeps m now w.log message h.genuine may in
       subst (λ (log : List Entry). Lawful m (record { log = log; now = now; mediator = w.mediator; nodes = w.nodes })) (sym more.1)
       (lawful_grown w more.0 now h (subst (GenuineLog m) more.1 g)
-      (subst (λ (log : List Entry). spent log ≤ m.capacity) more.1 (sequenced_within m now w.log message h.within_capacity)))
+      (subst (λ (log : List Entry). reserved log ≤ m.capacity) more.1 (sequenced_within m now w.log message h.within_capacity)))
 
   pub lawful_with_node : (w : World) (p : ParticipantId) (node : NodeState) → Lawful m w → NodeAt w.log p node → Lawful m (with_node w p node)
   lawful_with_node w p node h n =

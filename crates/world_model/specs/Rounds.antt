@@ -10,7 +10,7 @@ use Rattle.canton_model.specs.Inbox.{Item, inbox}
 use Rattle.canton_model.specs.Genuine.{is_request_of}
 use Rattle.world_model.specs.Machine.{Machine, GenuineLog}
 use Rattle.world_model.specs.Places.{has_place}
-use Rattle.world_model.specs.Sequencing.{sequenced, spent}
+use Rattle.world_model.specs.Sequencing.{sequenced, reserved}
 use Rattle.world_model.specs.Settled.{Settled}
 
 pub record Round : Type 0 where
@@ -24,7 +24,7 @@ pub data SubmitFault (F : Type 0) : Type 0 where
   Paused : SubmitFault F
   Unwanted : F → SubmitFault F
   Duplicate : (place : ℕ) → SubmitFault F
-  LogFull : (spent need : ℕ) → SubmitFault F
+  LogFull : (reserved need : ℕ) → SubmitFault F
 
 pub data SubmitResult (F : Type 0) : Type 0 where
   Sent : (place read_to : ℕ) → SubmitResult F
@@ -78,7 +78,7 @@ pub record FullHolds (m : Machine) (now : ℕ) (log : List Entry) (end : ℕ) (w
   pub some : ℕ  -- the entries over which the needs were summed
   pub at_least : read_to ≤ some
   pub at_most : some ≤ end
-  pub amount_is : amount ≡ spent (take some log)
+  pub amount_is : amount ≡ reserved (take some log)
   pub full : m.capacity < amount + need
   pub fresh : list_any (λ (entry : Entry). is_request_of request.sender request.command entry.message) (take some log) ≡ false
 
@@ -154,5 +154,5 @@ RoundsHold m why now log start earlier (x ∷ rest) =
 
 pub record RunHolds {F : Type 0} (m : Machine) (why : Why F) (log : List Entry) (rounds : List (RoundAnswers F)) : Type 0 where
   pub genuine : GenuineLog m log
-  pub within_capacity : spent log ≤ m.capacity
+  pub within_capacity : reserved log ≤ m.capacity
   pub cut : RoundsHold m why 0 log 0 [] rounds

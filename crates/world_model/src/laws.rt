@@ -13,7 +13,7 @@ ghost use Rattle.canton_model.specs.Genuine.{Genuine, IsReading};
 ghost use Rattle.canton_model.specs.Example as model;
 ghost use Rattle.world_model.specs.Machine.{Machine, GenuineLog, IsMachine};
 ghost use Rattle.world_model.specs.Places.{has_place};
-ghost use Rattle.world_model.specs.Sequencing.{last_time, sequenced, spent};
+ghost use Rattle.world_model.specs.Sequencing.{last_time, sequenced, reserved};
 ghost use Rattle.world_model.specs.Fits.{IsOwed, IsDecision};
 ghost use Rattle.world_model.specs.Node.{NodeState, claim, finish, next_claim, outbox_head, owed_at, owes_at, put_back, read_entry, response_at};
 ghost use Rattle.world_model.specs.Node.{sent, validate, with_flag};
@@ -44,7 +44,8 @@ pub fn always_genuine()
 
 /// A message that is handed in keeps the log within its capacity.
 pub fn capacity_stays()
-    ensures { (m : Machine) (now : ℕ) (log : List Entry) (message : Message) → spent log ≤ m.capacity → spent (sequenced m now log message) ≤ m.capacity }
+    ensures { (m : Machine) (now : ℕ) (log : List Entry) (message : Message) → reserved log ≤ m.capacity
+        → reserved (sequenced m now log message) ≤ m.capacity }
 {}
 
 /// What a thread holds between two locks lands in any longer log, and every beginning of a genuine log is one.
@@ -87,8 +88,8 @@ pub fn passes_settle()
         → GenuineLog m log
         → GenuineLog m (passes m now paused held n log) }
     ensures capacity { (m : Machine) (now : ℕ) (paused : List ParticipantId) (held : Bool) (n : ℕ) (log : List Entry)
-        → spent log ≤ m.capacity
-        → spent (passes m now paused held n log) ≤ m.capacity }
+        → reserved log ≤ m.capacity
+        → reserved (passes m now paused held n log) ≤ m.capacity }
 {}
 
 /// A ready participant's turn leaves the log that its due messages leave.

@@ -1,7 +1,7 @@
 use Rattle.std.proofs.Common.{◌≡◌, ◌+◌, ◌*◌, drop}
 use Rattle.blind_tree.specs.Vertices.{AreNarrow}
 use Rattle.blind_tree.specs.VertexLists.{vertices_of, one_vertex, vertex_count}
-use Rattle.blind_tree.specs.Told.{roles_after}
+use Rattle.blind_tree.specs.RolesAfter.{roles_after}
 use Rattle.blind_tree.proofs.informees.+tell.Given as goal
 
 abbrev pub decreases-tell_view : goal.decreases-tell_view

@@ -1,7 +1,7 @@
 use Rattle.std.proofs.Common.{◌↔◌, ◌+◌, ◌*◌, [], ◌∷◌, drop}
 use Rattle.view_split.specs.CoreLists.{children_of, core_weight}
 use Rattle.blind_tree.specs.Cores.{AreSpellableChildren}
-use Rattle.blind_tree.specs.Seen.{AreChildren}
+use Rattle.blind_tree.specs.ShownViews.{AreChildren}
 use Rattle.blind_tree.proofs.Fitting.{AllChildren}
 use Rattle.blind_tree.proofs.Ranged.{ChildrenInRange}
 use Rattle.blind_tree.proofs.spellable.+cores.Given as goal

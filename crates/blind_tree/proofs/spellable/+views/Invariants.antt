@@ -1,7 +1,7 @@
 use Rattle.std.proofs.Common.{◌↔◌, ◌+◌, ◌*◌, drop}
 use Rattle.ledger_terms.specs.Grown.{tree_of, node_count}
 use Rattle.blind_tree.specs.LeafBytes.{AreSpellableViews}
-use Rattle.blind_tree.specs.Seen.{AreViews}
+use Rattle.blind_tree.specs.ShownViews.{AreViews}
 use Rattle.blind_tree.proofs.Fitting.{AllViews}
 use Rattle.blind_tree.proofs.Ranged.{ViewsInRange}
 use Rattle.blind_tree.proofs.spellable.+views.Given as goal

@@ -1,7 +1,7 @@
 use Rattle.std.proofs.Common.{◌≡◌, drop}
 use Rattle.ledger_terms.specs.Forest.{join}
 use Rattle.view_split.specs.Placed.{placed_forest}
-use Rattle.view_split.specs.Seen.{put_back}
+use Rattle.view_split.specs.SeenViews.{put_back}
 use Rattle.confirm_reply.proofs.opened.roots_of.Given as goal
 
 abbrev pub invariant-loop-placed : goal.invariant-loop-placed

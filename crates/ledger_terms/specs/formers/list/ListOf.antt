@@ -49,7 +49,8 @@ kept_in Item items = record { items = items }
 abbrev the_fields : Former {0}
 the_fields = via (vector.the_former this Global) Inside vector_in kept_in (λ Item kept. refl) (λ Item items. refl)
 
-pub the_places : (R S : RattleType) (change : R.Denot → S.Denot) → Alike R S change → Alike (Seen.the_row R) (Seen.the_row S) ((the_former this).map R.Denot S.Denot change)
+pub the_places : (R S : RattleType) (change : R.Denot → S.Denot) → Alike R S change
+    → Alike (Seen.the_row R) (Seen.the_row S) ((the_former this).map R.Denot S.Denot change)
 the_places R S change alike =
     let vectors = vector.the_places global.the_row ghosts R S change alike in
     let fields = struct_places (Kept.the_type R) (Kept.the_type S) (vector.mapped change, tt) _ (λ kept. refl) refl (laid _ _ _ vectors, tt) in
@@ -57,5 +58,6 @@ the_places R S change alike =
     R.Denot S.Denot change (Seen.the_row R).coded (Seen.the_row S).coded (invariant R.Denot) (invariant S.Denot)
     (λ kept p q. refl) (λ kept p q. refl) (λ kept holds. tt) (λ kept holds. tt) (over (Kept.the_row R)) (over (Kept.the_row S)) fields
 
-pub the_codes_placed : (R S : RattleType) (change : R.Denot → S.Denot) → Recodes R S change → Recodes (Seen.the_row R) (Seen.the_row S) ((the_former this).map R.Denot S.Denot change)
+pub the_codes_placed : (R S : RattleType) (change : R.Denot → S.Denot) → Recodes R S change
+    → Recodes (Seen.the_row R) (Seen.the_row S) ((the_former this).map R.Denot S.Denot change)
 the_codes_placed R S change recodes items = sym (code_map R.coded.code S.coded.code change (λ item. sym (recodes item)) items)

@@ -4,11 +4,11 @@ use Rattle.ledger_model.specs.Terms.{creates}
 use Rattle.canton_model.specs.Evidence.{gather}
 use Rattle.canton_model.specs.Timeline.{is_approved_in}
 use Rattle.canton_model.specs.Inbox.{moments}
-use Rattle.node_core.specs.Seen.{seen}
+use Rattle.node_core.specs.ModelItems.{model_items}
 use Rattle.node_core.specs.Scans.{authentic_at}
 use Rattle.node_core.proofs.inbox.is_created.Given as goal
 
 abbrev pub invariant-requests : goal.invariant-requests
 invariant-requests l =
     l.created
-    ≡ list_any (creates l.id) (gather (λ m. is_approved_in m (take l.place (moments (seen l.items)))) (authentic_at (seen l.items)) l.request)
+    ≡ list_any (creates l.id) (gather (λ m. is_approved_in m (take l.place (moments (model_items l.items)))) (authentic_at (model_items l.items)) l.request)

@@ -4,11 +4,11 @@ use Rattle.std.specs.List.{list_any}
 use Rattle.ledger_model.specs.Terms.{creates, consumes}
 use Rattle.canton_model.specs.Evidence.{gather}
 use Rattle.canton_model.specs.Inbox.{is_decided_in}
-use Rattle.node_core.specs.Seen.{seen}
+use Rattle.node_core.specs.ModelItems.{model_items}
 use Rattle.node_core.specs.Scans.{authentic_at}
 use Rattle.node_core.proofs.inbox.is_locked.Given as goal
 
 abbrev pub invariant-requests : goal.invariant-requests
 invariant-requests l =
     l.locked
-    ≡ list_any (λ a. creates l.id a || consumes l.id a) (gather (λ m. not (is_decided_in l.params (seen l.items) m l.place)) (authentic_at (seen l.items)) l.request)
+    ≡ list_any (λ a. creates l.id a || consumes l.id a) (gather (λ m. not (is_decided_in l.params (model_items l.items) m l.place)) (authentic_at (model_items l.items)) l.request)

@@ -1,7 +1,7 @@
 use Rattle.std.proofs.Common.{◌≡◌}
 use Rattle.canton_model.specs.Inbox.{parts_below}
-use Rattle.node_core.specs.Seen.{seen}
+use Rattle.node_core.specs.ModelItems.{model_items}
 use Rattle.node_core.proofs.stores.commits_below.Given as goal
 
 abbrev pub invariant-places : goal.invariant-places
-invariant-places l = l.commits ≡ parts_below (seen l.items) l.place
+invariant-places l = l.commits ≡ parts_below (model_items l.items) l.place

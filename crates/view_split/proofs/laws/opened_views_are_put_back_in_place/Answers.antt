@@ -1,6 +1,6 @@
 use Rattle.ledger_model.specs.Forest.{trees_of}
 use Rattle.ledger_model.proofs.Lists.{in_from_Contains}
-use Rattle.view_split.specs.Seen.{placed_numbered}
+use Rattle.view_split.specs.SeenViews.{placed_numbered}
 use Rattle.view_split.proofs.InPlace.{put_back_in_place}
 use Rattle.view_split.proofs.laws.opened_views_are_put_back_in_place.Goals as goal
 

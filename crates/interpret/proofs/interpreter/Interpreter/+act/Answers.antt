@@ -1,6 +1,6 @@
 use Rattle.std.proofs.Common.{◌++◌, ◌∷◌, [], ◌≡◌, ◌≢◌, ◌<◌, ◌-◌, ◌+◌, Ok, Err, sym, ap, ◌∙◌, arith}
 use Rattle.ledger_terms.specs.declared.action.Action.{Action}
-use Rattle.ledger_model.specs.declared.step.Seen.{Seen}
+use Rattle.ledger_model.specs.declared.step.ChildResult.{ChildResult}
 use Rattle.interpret.specs.Act.{most_children, body_source}
 use Rattle.interpret.specs.declared.command_fault.CommandFault.TheVariants.{TooDeep, TooMany, Memory}
 use Rattle.interpret.proofs.Steps.{most_is, act_none, act_many, act_less, follow_none, follow_fault, follow_value, follow_refused, follow_child, act_at, end_shown, child_shown}
@@ -48,7 +48,7 @@ follow-loop-index-preserved g t c =
     sym (follow_child (body_source c.args.self.now.checked.now c.args.call.now c.args.place.now.path) _ _ _ _ _ _ _ _ _ _ _ _ _ _ _ _ _ room
     (child_shown _ _ _ c.in-Ok-Child.field-0-is (c.in-Ok-Child.ensures (λ m. cc))) c.in_ok-below.ensures.path c.in_ok-below.ensures.seed
     (act_at _ _ _ _ _ _ _ _ _ _ c.in_ok-below.ensures.left (c.in-Ok.ensures (λ m. cc)))
-    (c.in_ok-push.ensures.ok ∙ ap (λ (s : Seen). c.loop-index.seen ++ s ∷ []) c.in_ok-what_is_seen.ensures) c.in_ok-push-2.ensures.ok)
+    (c.in_ok-push.ensures.ok ∙ ap (λ (s : ChildResult). c.loop-index.seen ++ s ∷ []) c.in_ok-result_of_child.ensures) c.in_ok-push-2.ensures.ok)
     ∙ c.loop-index.invariant
 
 pub follow-returns : goal.follow-returns
@@ -62,7 +62,7 @@ exercise-returns-in-Err-follow g t c =
     λ h. let fresh : c.in-Err-follow.fault ≢ Memory = λ m. h (ap Err m) in
     sym (exercise_refused c.args.self.now.checked.now _ c.args.progress.now c.args.place.now.path c.args.place.now.seed c.args.by.now c.args.salt c.args.call
     c.in-Ok.actors c.in_ok-below.below _ _ _ _ (c.in-Ok.ensures (λ m. cc)) c.are_authorised.ensures c.if-not-are_authorised.false
-    c.is_consuming_call-consuming.ensures c.in_ok-spend.ensures c.in_ok-below.ensures c.new-children.ensures
+    c.is_consuming_call-consuming.ensures c.in_ok-consume.ensures c.in_ok-below.ensures c.new-children.ensures
     c.in-Err-follow.fault (c.in-Err-follow.ensures (λ m. fresh cc)))
 
 pub exercise-returns : goal.exercise-returns
@@ -71,5 +71,5 @@ exercise-returns g t c =
     c.exercise_action-action.ensures
     ∙ sym (exercise_done c.args.self.now.checked.now _ c.args.progress.now c.args.place.now.path c.args.place.now.seed c.args.by.now c.args.salt c.args.call
     c.in-Ok.actors c.in_ok-below.below _ _ _ _ (c.in-Ok.ensures (λ m. cc)) c.are_authorised.ensures c.if-not-are_authorised.false
-    c.is_consuming_call-consuming.ensures c.in_ok-spend.ensures c.in_ok-below.ensures c.new-children.ensures
+    c.is_consuming_call-consuming.ensures c.in_ok-consume.ensures c.in_ok-below.ensures c.new-children.ensures
     (record { children = c.follow.new.children; result = c.in-Ok-follow.value; progress = c.follow.new.progress }) (c.in-Ok-follow.ensures (λ m. cc)))

@@ -1,6 +1,6 @@
 use Rattle.std.proofs.Common.{◌≡◌, ◌++◌, ◌∷◌, [], arith, ◌∙◌}
 use Rattle.std.proofs.lemmas.Grind.{common_steps}
-use Rattle.node_core.specs.Seen.{seen}
+use Rattle.node_core.specs.ModelItems.{model_items}
 use Rattle.node_core.specs.NodeState.{reading_of}
 use Rattle.node_core.specs.Entries.{item_from}
 use Rattle.node_core.proofs.Grows.{inbox_reads}
@@ -8,5 +8,5 @@ use Rattle.node_core.proofs.node.Node.read.Goals as goal
 
 pub returns-clause-inbox : goal.returns-clause-inbox
 returns-clause-inbox c = λ before is.
-    let grown : seen c.push.new.self.items ≡ c.args.self.now.items ++ item_from (reading_of c.args.self.now) c.args.self.now.me c.args.self.now.items c.args.entry.now ∷ [] = grind (arith, common_steps) in
+    let grown : model_items c.push.new.self.items ≡ c.args.self.now.items ++ item_from (reading_of c.args.self.now) c.args.self.now.me c.args.self.now.items c.args.entry.now ∷ [] = grind (arith, common_steps) in
     grown ∙ inbox_reads (reading_of c.args.self.now) c.args.self.now.me c.args.self.now.items before c.args.entry.now is

@@ -6,6 +6,6 @@ pub returns-clause-kept : goal.returns-clause-kept
 returns-clause-kept c = λ list e kept long key need time none.
     record {
       leads = c.put_place.ensures list e kept.leads long key none;
-      spent = let more = spent_more list e in omega (arith, kept.spent, need, more);
+      reserved = let more = spent_more list e in omega (arith, kept.reserved, need, more);
       last = time ∙ sym (last_more list e);
     }

@@ -27,7 +27,7 @@ invariant_of-self-in-Ok c =
     let kept =
     c.note.ensures.kept pen.list entry (c.make_room.ensures.kept pen.list inv.1)
     (sym c.len-place.ensures) c.key_of-key.ensures c.need_of-need.ensures refl (is_new index.capacity index.params pen.list message none) in
-    let room = has_room index.capacity index.params pen.list message (omega (arith, inv.2, (inv.1).spent)) none in
+    let room = has_room index.capacity index.params pen.list message (omega (arith, inv.2, (inv.1).reserved)) none in
     let time = time_within c.args.now message index.last (length pen.list) c.requires inv.3 in
     let numbers = c.note.ensures.numbers in
     let before = c.make_room.ensures.numbers in
@@ -37,7 +37,7 @@ invariant_of-self-in-Ok c =
     let now = ap (next_time c.args.now message) before.1 in (
       holds_after pen c.publish.new.self slips c.push_reserved.new.self.items entry inv.0 e.0 items,
       subst (λ (l : List Entry). IsIndexOf c.note.new.self l) (sym list) kept,
-      omega (arith, numbers.0, before.0, (inv.1).spent, need, room, same),
+      omega (arith, numbers.0, before.0, (inv.1).reserved, need, room, same),
       omega (arith, numbers.1, c.next_time-time.ensures, now, time, long, length-append pen.list (entry ∷ [])),
     )
 

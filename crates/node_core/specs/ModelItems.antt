@@ -6,13 +6,13 @@ use Rattle.node_core.specs.declared.content.Content.{Content as OwnContent}
 use Rattle.node_core.specs.declared.content.Content.TheVariants.{Received as OwnReceived, Told as OwnTold, Nothing as OwnNothing}
 use Rattle.node_core.specs.declared.item.Item.{Item as OwnItem}
 
-abbrev pub seen_content : OwnContent → Content
-seen_content (OwnReceived opened) = Received (shown_of_form opened.form)
-seen_content (OwnTold verdict) = Told verdict
-seen_content OwnNothing = Nothing
+abbrev pub model_content : OwnContent → Content
+model_content (OwnReceived opened) = Received (shown_of_form opened.form)
+model_content (OwnTold verdict) = Told verdict
+model_content OwnNothing = Nothing
 
-abbrev pub seen_item : OwnItem → Item
-seen_item item = record { time = item.time; content = seen_content item.content }
+abbrev pub model_item : OwnItem → Item
+model_item item = record { time = item.time; content = model_content item.content }
 
-abbrev pub seen : List OwnItem → List Item
-seen items = map seen_item items
+abbrev pub model_items : List OwnItem → List Item
+model_items items = map model_item items

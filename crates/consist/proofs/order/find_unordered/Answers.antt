@@ -8,7 +8,7 @@ use Rattle.consist.specs.Placed.{placed}
 use Rattle.consist.specs.Rules.{IsUnordered}
 use Rattle.consist.proofs.Firsts.{some_first, none_first, none_of_acts, none_of_placed}
 use Rattle.consist.proofs.Places.{acts_of_placed}
-use Rattle.consist.proofs.order.unordered.Goals as goal
+use Rattle.consist.proofs.order.find_unordered.Goals as goal
 
 none_is : (roots : Actions) (found : Option (List ℕ)) → first_found shows_unordered [] (placed roots) ≡ found → (found ≡ None) ↔ NoneShows IsUnordered (preorder roots)
 none_is roots found h =

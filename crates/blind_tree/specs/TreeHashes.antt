@@ -10,22 +10,22 @@ abbrev pub Hashing : Type 0
 Hashing = List ℕ → List ℕ
 
 -- of a leaf of a kind
-abbrev pub leaf_digest : Hashing → ℕ → Leaf → List ℕ
-leaf_digest sha kind (Blind hash) = hash
-leaf_digest sha kind (Plain salt bytes) = sha (leaf_hash_string kind salt bytes)
+abbrev pub hash_of_leaf : Hashing → ℕ → Leaf → List ℕ
+hash_of_leaf sha kind (Blind hash) = hash
+hash_of_leaf sha kind (Plain salt bytes) = sha (leaf_hash_string kind salt bytes)
 
 -- of vertices side by side
-abbrev pub digests : Hashing → Vertices → List (List ℕ)
-digests sha NoVertices = []
-digests sha (BlindVertex hash others) = hash ∷ digests sha others
-digests sha (InnerVertex informees contents subviews others) =
-    sha (view_hash_string (leaf_digest sha 3 informees) (leaf_digest sha 4 contents) (digests sha subviews)) ∷ digests sha others
+abbrev pub hashes_of_vertices : Hashing → Vertices → List (List ℕ)
+hashes_of_vertices sha NoVertices = []
+hashes_of_vertices sha (BlindVertex hash others) = hash ∷ hashes_of_vertices sha others
+hashes_of_vertices sha (InnerVertex informees contents subviews others) =
+    sha (view_hash_string (hash_of_leaf sha 3 informees) (hash_of_leaf sha 4 contents) (hashes_of_vertices sha subviews)) ∷ hashes_of_vertices sha others
 
 abbrev pub root_string : Hashing → Tree → List ℕ
-root_string sha tree = tree_hash_string (leaf_digest sha 1 tree.common) (leaf_digest sha 2 tree.requesters) (digests sha tree.views)
+root_string sha tree = tree_hash_string (hash_of_leaf sha 1 tree.common) (hash_of_leaf sha 2 tree.requesters) (hashes_of_vertices sha tree.views)
 
-abbrev pub root_digest : Hashing → Tree → List ℕ
-root_digest sha tree = sha (root_string sha tree)
+abbrev pub hash_of_root : Hashing → Tree → List ℕ
+hash_of_root sha tree = sha (root_string sha tree)
 
 -- the strings that hashing a tree hashes
 abbrev pub leaf_strings : ℕ → Leaf → List (List ℕ)
@@ -36,7 +36,7 @@ abbrev pub vertex_strings : Hashing → Vertices → List (List ℕ)
 vertex_strings sha NoVertices = []
 vertex_strings sha (BlindVertex hash others) = vertex_strings sha others
 vertex_strings sha (InnerVertex informees contents subviews others) =
-    view_hash_string (leaf_digest sha 3 informees) (leaf_digest sha 4 contents) (digests sha subviews)
+    view_hash_string (hash_of_leaf sha 3 informees) (hash_of_leaf sha 4 contents) (hashes_of_vertices sha subviews)
     ∷ (leaf_strings 3 informees ++ (leaf_strings 4 contents ++ (vertex_strings sha subviews ++ vertex_strings sha others)))
 
 abbrev pub tree_strings : Hashing → Tree → List (List ℕ)

@@ -14,7 +14,7 @@ use Rattle.view_split.specs.declared.views.Views.{Views}
 use Rattle.blind_tree.specs.Vertices.{Vertices, NoVertices, BlindVertex, InnerVertex}
 use Rattle.blind_tree.specs.Cores.{levels}
 use Rattle.blind_tree.specs.LeafBytes.{common_bytes, core_bytes, roles_bytes}
-use Rattle.view_split.specs.Seen.{is_sight}
+use Rattle.view_split.specs.SeenViews.{is_sight}
 use Rattle.blind_tree.specs.Opening.{view_roles}
 use Rattle.blind_tree.specs.declared.leaf.Leaf.{Leaf}
 use Rattle.blind_tree.specs.declared.leaf.Leaf.TheVariants.{Blind, Plain}
