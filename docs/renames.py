@@ -48,7 +48,7 @@ WORDS = [
     ('seen', 'model_items', 'node_core'),
     ('seen_item', 'model_item', 'node_core'),
     ('seen_content', 'model_content', 'node_core'),
-    ('Part', 'Commit', 'canton_model consist'),
+    ('Part', 'CommitRoots', 'canton_model consist'),
     ('unordered', 'find_unordered', 'consist tree_cases'),
     ('inconsistent', 'find_inconsistent', 'consist tree_cases'),
     ('joined', 'with_signatories', 'authorise'),

@@ -13,7 +13,7 @@ use Rattle.ledger_model.specs.Opening.{Transaction, Shown, roots_in}
 use Rattle.canton_model.specs.Reading.{Reading, is_recipient}
 use Rattle.canton_model.specs.Evidence.{commit_if, gather, past_at, pending_at}
 use Rattle.canton_model.specs.Ledger.{opened_to, requests_of, Timely, commit_of, read_by, whole_at, commits_below}
-use Rattle.canton_model.specs.Inbox.{past_in, pending_in, Item, received, verdict_content, content_of, item_after, verdict_in, moments, shown_by, shown_in, shown_at, item_time, opened_at, is_decided_in, is_received, clean_from, clean, IsClean, part_if, parts_below, node_log, is_informed, project_whole, OpensProjection, project_ledger}
+use Rattle.canton_model.specs.Inbox.{past_in, pending_in, Item, received, verdict_content, content_of, item_after, verdict_in, moments, shown_by, shown_in, shown_at, item_time, opened_at, is_decided_in, is_received, clean_from, clean, IsClean, CommitRoots, part_if, parts_below, node_log, is_informed, project_whole, OpensProjection, project_ledger}
 use Rattle.canton_model.proofs.Decided.{verdict_stays}
 
 -- what is received shows what was shown
@@ -187,7 +187,7 @@ commit_of_nothing false = refl
 project_append : (keeps : Act → Bool) (xs ys : List Commit) → project_ledger keeps (xs ++ ys) ≡ project_ledger keeps xs ++ project_ledger keeps ys
 project_append keeps [] ys = refl
 project_append keeps (x ∷ xs) ys =
-    ap (λ (zs : List Commit). part_if true x.place (project keeps x.roots) ++ zs) (project_append keeps xs ys)
+    ap (λ (zs : List CommitRoots). part_if true x.place (project keeps x.roots) ++ zs) (project_append keeps xs ys)
     ∙ sym (append_assoc (part_if true x.place (project keeps x.roots)) (project_ledger keeps xs) (project_ledger keeps ys))
 
 part_projected : (reading : Reading) (p : ParticipantId) (b : Bool) (k : ℕ) (w : Option Transaction) → part_if b k (project_whole reading p w) ≡ project_ledger (is_informed reading p) (commit_if b (commit_of k w))

@@ -13,6 +13,7 @@ use Rattle.canton_model.specs.Timeline.{Moment, Outcome, is_decided_at, is_appro
 use Rattle.ledger_model.specs.Opening.{Transaction, Shown, roots_in}
 use Rattle.canton_model.specs.Reading.{Reading, is_recipient}
 use Rattle.ledger_model.specs.Language.{informees_of}
+pub use Rattle.ledger_model.specs.declared.commit.Commit.{Commit as CommitRoots}
 
 -- a request of which the participant is a recipient, as it is shown; a verdict on such a request; or nothing
 pub data Content : Type 0 where
@@ -130,13 +131,13 @@ clean_from params items k (item ∷ rest) =
 abbrev pub clean : Params → List Item → ℕ
 clean params items = clean_from params items 0 items
 
-abbrev pub part_if : Bool → ℕ → Forest Act → List Commit
+abbrev pub part_if : Bool → ℕ → Forest Act → List CommitRoots
 part_if false place roots = []
 part_if true place NoRoots = []
 part_if true place (Root act consequences others) = record { place = place; roots = Root act consequences others } ∷ []
 
 -- the approved requests below a place, as opened, without those of which nothing is
-abbrev pub parts_below : List Item → ℕ → List Commit
+abbrev pub parts_below : List Item → ℕ → List CommitRoots
 parts_below items zero = []
 parts_below items (suc k) = parts_below items k ++ part_if (is_approved_in k (moments items)) k (opened_at items k)
 
@@ -151,7 +152,7 @@ abbrev pub clean_time : Params → List Item → ℕ
 clean_time params items = last_time (take (clean params items) items)
 
 -- a participant's log
-abbrev pub node_log : Params → List Item → List Commit
+abbrev pub node_log : Params → List Item → List CommitRoots
 node_log params items = parts_below items (clean params items)
 
 -- the contract that a Create makes at a place
@@ -220,6 +221,6 @@ pub record OpensProjection (reading : Reading) (p : ParticipantId) (log : List E
       → roots_in (reading.shown p request) ≡ project_whole reading p (reading.whole request)
 
 -- the projected commits, without the empty ones
-abbrev pub project_ledger : (Act → Bool) → List Commit → List Commit
+abbrev pub project_ledger : (Act → Bool) → List Commit → List CommitRoots
 project_ledger keeps [] = []
 project_ledger keeps (commit ∷ rest) = part_if true commit.place (project keeps commit.roots) ++ project_ledger keeps rest

@@ -7,6 +7,7 @@ use Rattle.ledger_terms.specs.declared.act.Act.{Act}
 use Rattle.ledger_terms.specs.Trees.{Actions}
 use Rattle.ledger_terms.specs.Forest.{NoRoots, Root, preorder, paths_from}
 use Rattle.ledger_model.specs.Forest.{Commit, ledger_acts}
+use Rattle.ledger_model.specs.declared.commit.Commit.{Commit as CommitRoots}
 use Rattle.consist.specs.declared.ledger_place.LedgerPlace.{LedgerPlace}
 use Rattle.consist.specs.First.{acts_in, first_found}
 use Rattle.consist.specs.Placed.{kept_path, placed, placed_in_part, placed_in, acts_of_parts, part_of}
@@ -68,10 +69,10 @@ module _ {P Q : Type 0} (f : P → Q) where
 abbrev in_commit : ℕ → List ℕ → LedgerPlace
 in_commit place path = record { commit = place; path = path }
 
-acts_of_part : (part : Commit) → acts_in (placed_in_part part) ≡ preorder part.roots
+acts_of_part : (part : CommitRoots) → acts_in (placed_in_part part) ≡ preorder part.roots
 acts_of_part part = acts_in-renamed (in_commit part.place) (placed part.roots) ∙ acts_of_placed part.roots
 
-pub acts_of_placed_in : (parts : List Commit) → acts_in (placed_in parts) ≡ acts_of_parts parts
+pub acts_of_placed_in : (parts : List CommitRoots) → acts_in (placed_in parts) ≡ acts_of_parts parts
 acts_of_placed_in [] = refl
 acts_of_placed_in (part ∷ parts) =
     acts_in-append (placed_in_part part) (placed_in parts)
@@ -81,11 +82,11 @@ pub acts_without_requesters : (ledger : List Commit) → acts_of_parts (map part
 acts_without_requesters [] = refl
 acts_without_requesters (commit ∷ ledger) = ap (λ (acts : List Act). preorder commit.roots ++ acts) (acts_without_requesters ledger)
 
-pub next_part : (parts : List Commit) (i : ℕ) (part : Commit) → i < length parts → part ≡ get_or parts i part → placed_in (drop i parts) ≡ placed_in_part part ++ placed_in (drop (i + 1) parts)
+pub next_part : (parts : List CommitRoots) (i : ℕ) (part : CommitRoots) → i < length parts → part ≡ get_or parts i part → placed_in (drop i parts) ≡ placed_in_part part ++ placed_in (drop (i + 1) parts)
 next_part parts i part h is = rw (drop_more parts i part h, ← is) refl
 
 -- The next commit is walked.
-module _ (test : List Act → Act → Bool) (e met : List Act) (start left : List ℕ) (stopped : Bool) (parts : List Commit) (i : ℕ) (part : Commit) (within : i < length parts) (is : part ≡ get_or parts i part) (begins : start ≡ []) (walked : IsWalked test e start (placed_from start 0 part.roots) stopped met left) where
+module _ (test : List Act → Act → Bool) (e met : List Act) (start left : List ℕ) (stopped : Bool) (parts : List CommitRoots) (i : ℕ) (part : CommitRoots) (within : i < length parts) (is : part ≡ get_or parts i part) (begins : start ≡ []) (walked : IsWalked test e start (placed_from start 0 part.roots) stopped met left) where
   same_places : placed_from start 0 part.roots ≡ placed part.roots
   same_places = ap (λ (path : List ℕ). placed_from path 0 part.roots) begins ∙ sym (placed_is part.roots)
 

@@ -4,6 +4,7 @@ use Rattle.ledger_terms.specs.declared.act.Act.{Act}
 use Rattle.ledger_terms.specs.Trees.{Actions}
 use Rattle.ledger_terms.specs.Forest.{preorder, paths_from}
 use Rattle.ledger_model.specs.Forest.{Commit}
+use Rattle.ledger_model.specs.declared.commit.Commit.{Commit as CommitRoots}
 use Rattle.consist.specs.declared.ledger_place.LedgerPlace.{LedgerPlace}
 
 -- a path as it is kept, 16 bits of each step
@@ -15,17 +16,17 @@ abbrev pub placed : Actions → List (List ℕ × Act)
 placed roots = map (λ (x : List ℕ × Act). (kept_path x.0, x.1)) (preorder (paths_from [] 0 roots))
 
 -- the actions of a commit, each with its place in the ledger
-abbrev pub placed_in_part : Commit → List (LedgerPlace × Act)
+abbrev pub placed_in_part : CommitRoots → List (LedgerPlace × Act)
 placed_in_part part = map (λ (x : List ℕ × Act). (record { commit = part.place; path = x.0 }, x.1)) (placed part.roots)
 
 -- the actions of a ledger, in commit order and then pre-order, each with its place
-abbrev pub placed_in : List Commit → List (LedgerPlace × Act)
+abbrev pub placed_in : List CommitRoots → List (LedgerPlace × Act)
 placed_in parts = flat_map placed_in_part parts
 
 -- the actions alone
-abbrev pub acts_of_parts : List Commit → List Act
-acts_of_parts parts = flat_map (λ (part : Commit). preorder part.roots) parts
+abbrev pub acts_of_parts : List CommitRoots → List Act
+acts_of_parts parts = flat_map (λ (part : CommitRoots). preorder part.roots) parts
 
 -- a commit without its requesters
-abbrev pub part_of : Commit → Commit
+abbrev pub part_of : Commit → CommitRoots
 part_of commit = record { place = commit.place; roots = commit.roots }

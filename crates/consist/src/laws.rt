@@ -3,6 +3,7 @@ ghost use Rattle.std.specs.Prelude.{◌≡◌, ◌↔◌, ◌++◌, ◌∷◌, [
 ghost use Rattle.ledger_terms.specs.declared.act.Act.{Act};
 ghost use Rattle.ledger_terms.specs.Trees.{Actions};
 ghost use Rattle.ledger_model.specs.Forest.{Commit, acts, ledger_acts};
+ghost use Rattle.ledger_model.specs.declared.commit.Commit.{Commit as CommitRoots};
 ghost use Rattle.ledger_model.specs.Consistency.{Consistent};
 ghost use Rattle.consist.specs.Breaks.{Breaks};
 ghost use Rattle.consist.specs.First.{NoneShows, acts_in};
@@ -27,6 +28,6 @@ pub fn consistent_transactions_are_ordered()
 /// The placed actions are the actions, and those of a ledger's commits without their requesters are the ledger's.
 pub fn places_leave_actions()
     ensures transaction { (roots : Actions) → acts_in (placed roots) ≡ acts roots }
-    ensures parts { (parts : List Commit) → acts_in (placed_in parts) ≡ acts_of_parts parts }
+    ensures parts { (parts : List CommitRoots) → acts_in (placed_in parts) ≡ acts_of_parts parts }
     ensures ledger { (ledger : List Commit) → acts_of_parts (map part_of ledger) ≡ ledger_acts ledger }
 {}

@@ -1,7 +1,7 @@
 use Rattle.std.proofs.Common.{◌≡◌, ◌↔◌, List, [], Option, None}
 use Rattle.std.proofs.lemmas.Result.{IfOk-weaker}
 use Rattle.ledger_model.specs.Consistency.{Consistent}
-use Rattle.ledger_model.specs.declared.commit.Commit.{Commit}
+use Rattle.ledger_model.specs.declared.commit.Commit.{Commit as CommitRoots}
 use Rattle.consist.specs.declared.ledger_place.LedgerPlace.{LedgerPlace}
 use Rattle.consist.specs.Breaks.{breaks, Breaks}
 use Rattle.consist.specs.First.{first_found, acts_in}
@@ -11,7 +11,7 @@ use Rattle.consist.proofs.Firsts.{some_first, none_first, none_of_acts, none_of_
 use Rattle.consist.proofs.Places.{acts_of_placed_in}
 use Rattle.consist.proofs.ledger.find_inconsistent.Goals as goal
 
-none_is : (parts : List Commit) (found : Option LedgerPlace) → first_found breaks [] (placed_in parts) ≡ found → (found ≡ None) ↔ Consistent (acts_of_parts parts)
+none_is : (parts : List CommitRoots) (found : Option LedgerPlace) → first_found breaks [] (placed_in parts) ≡ found → (found ≡ None) ↔ Consistent (acts_of_parts parts)
 none_is parts found h =
     let all = acts_of_placed_in parts in
     let none = none_first breaks Breaks breaks_decides (placed_in parts) found h in (
