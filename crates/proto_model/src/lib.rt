@@ -4,16 +4,24 @@
 pub mod built_in;
 pub mod laws;
 pub mod note_request;
+mod opened_for;
 pub mod opened_form;
+mod participants;
 pub mod plain_form;
+mod requested_views;
+mod seal;
 pub mod setup;
 
+pub use blind_tree::{OpenedTree, RolesTree};
 pub use built_in::BuiltIn;
 pub use canton_model::{
     Decision, Entry, EntryList, Envelope, EnvelopeList, LocalVerdict, Message, Outcome, Reason,
     Request, Response, Verdict, ViewVerdict, ViewVerdictList,
 };
 pub use ledger_model::Status;
+pub use opened_for::{envelope_of, opened_for, opened_in};
 pub use opened_form::{OpenedForm, open_envelope, root_node};
 pub use plain_form::{PlainForm, decode_plain, encode_plain};
+pub use requested_views::requested_views;
+pub use seal::seal;
 pub use setup::Setup;
