@@ -1,5 +1,5 @@
 -- The request that is made of views is the request of their transaction.
-use Rattle.std.proofs.Common.{◌≡◌, ℕ, suc, ◌+◌, ◌<◌, ◌≤◌, Bool, true, List, [], ◌∷◌, ◌++◌, map, filter, length, get_or, drop, Option, Some, None, refl, sym, ap, ◌∙◌, subst, arith}
+use Rattle.std.proofs.Common.{◌≡◌, ℕ, zero, suc, ◌+◌, ◌<◌, ◌≤◌, Bool, true, List, [], ◌∷◌, ◌++◌, map, filter, length, get_or, drop, Option, Some, None, refl, sym, ap, ◌∙◌, append_assoc, arith}
 use Rattle.std.specs.Prelude.{Ok, slice_get, nat_eq}
 use Rattle.std.specs.List.{zip, range_with_len}
 use Rattle.std.proofs.lemmas.List.{drop_more}
@@ -42,14 +42,17 @@ use Rattle.proto_model.specs.Made.{envelope_with, envelopes_with, request_by, re
 -- ---- lists
 
 -- one participant more
+index_more : (a n : ℕ) → range_with_len a (suc n) ≡ range_with_len a n ++ (a + n) ∷ []
+index_more a zero = let same : a ≡ a + 0 = omega arith in ap (λ (k : ℕ). k ∷ []) same
+index_more a (suc n) =
+    let moved : (a + 1) + n ≡ a + suc n = omega arith in
+    ap (λ (ks : List ℕ). a ∷ ks) (index_more (a + 1) n ∙ ap (λ (k : ℕ). range_with_len (a + 1) n ++ k ∷ []) moved)
+
 pub one_index_more : (n : ℕ) → range_with_len 0 (n + 1) ≡ range_with_len 0 n ++ n ∷ []
-one_index_more n = from 0 n
-  where
-    from : (a n : ℕ) → range_with_len a (n + 1) ≡ range_with_len a n ++ (a + n) ∷ []
-    from a 0 = ap (λ (k : ℕ). k ∷ []) (omega arith)
-    from a (suc n) =
-        let moved : (a + 1) + n ≡ a + suc n = omega arith in
-        ap (λ (ks : List ℕ). a ∷ ks) (from (a + 1) n ∙ ap (λ (k : ℕ). range_with_len (a + 1) n ++ k ∷ []) moved)
+one_index_more n =
+    let next : n + 1 ≡ suc n = omega arith in
+    let last : 0 + n ≡ n = omega arith in
+    ap (range_with_len 0) next ∙ (index_more 0 n ∙ ap (λ (k : ℕ). range_with_len 0 n ++ k ∷ []) last)
 
 -- the next envelope goes from what is left to what is made
 pub next_envelope : (ps : List ℕ) (trees : List Tree) (i p : ℕ) (tree : Tree) (es whole : List Envelope) → i < length ps → i < length trees
