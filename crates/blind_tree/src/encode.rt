@@ -34,7 +34,7 @@ fn encode_leaf(leaf: &Leaf, out: &mut Bytes) -> Result<(), AllocError>
         Leaf::Plain { salt, bytes } => {
             out.push(1)?;
             encode_hash(salt, out)?;
-            encode_u32(bytes.len() as u32, out)?;
+            encode_u32((bytes.len() % 4_294_967_296) as u32, out)?;
             out.extend(bytes.as_slice())
         }
     }
@@ -46,7 +46,7 @@ fn encode_leaf(leaf: &Leaf, out: &mut Bytes) -> Result<(), AllocError>
 fn encode_vertices(vertices: &VertexList, out: &mut Bytes) -> Result<(), AllocError>
     ensures { OnOk result (out.new ≡ out.old ++ spell_vertices vertices.now) }
 {
-    out.extend(&(vertices.len() as u16).to_be_bytes())?;
+    out.extend(&((vertices.len() % 65536) as u16).to_be_bytes())?;
     for vertex in vertices.as_slice() {
         encode_vertex(vertex, out)?;
     }

@@ -20,7 +20,7 @@ pub(crate) fn participants(
 {
     let mut all = ParticipantIdList::new(alloc);
     for at in 0..topology.hosts.len() {
-        all.push(ParticipantId(at as u8))?;
+        all.push(ParticipantId((at % 256) as u8))?;
     }
     Ok(all)
 }
