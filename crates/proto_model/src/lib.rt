@@ -3,13 +3,13 @@
 
 pub mod built_in;
 pub mod laws;
+mod mediator_tree;
 pub mod note_request;
-mod opened_for;
 pub mod opened_form;
+mod opening;
 mod participants;
 pub mod plain_form;
-mod requested_views;
-mod seal;
+mod sealing;
 pub mod setup;
 
 pub use blind_tree::{OpenedTree, RolesTree};
@@ -19,9 +19,9 @@ pub use canton_model::{
     Request, Response, Verdict, ViewVerdict, ViewVerdictList,
 };
 pub use ledger_model::Status;
-pub use opened_for::{envelope_of, opened_for, opened_in};
+pub use mediator_tree::requested_views;
 pub use opened_form::{OpenedForm, open_envelope, root_node};
+pub use opening::{envelope_of, opened_for, opened_in};
 pub use plain_form::{PlainForm, decode_plain, encode_plain};
-pub use requested_views::requested_views;
-pub use seal::seal;
+pub use sealing::seal;
 pub use setup::Setup;

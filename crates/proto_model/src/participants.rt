@@ -12,7 +12,7 @@ use std::alloc::{AllocError, Global};
 use view_split::ViewList;
 
 /// All participants, in order. An index has one byte.
-pub(crate) fn participants(
+pub(crate) fn all_participants(
     alloc: Global,
     topology: &Topology,
 ) -> Result<ParticipantIdList, AllocError>

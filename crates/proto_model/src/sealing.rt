@@ -9,7 +9,7 @@ ghost use Rattle.blind_tree.specs.LeafBytes.{AreSpellable};
 ghost use Rattle.sealed_form.specs.Within.{participants_of};
 ghost use Rattle.proto_model.specs.Made.{envelopes_with, request_by, request_of_tx, trees_for};
 
-use crate::participants::{confirming, participants, recipients};
+use crate::participants::{all_participants, confirming, recipients};
 use blind_tree::{Recipient, RecipientList, Tree, TreeList, blind_all, encode_tree};
 use canton_model::{Envelope, EnvelopeList, Request};
 use ledger_terms::{Name, ParticipantId, ParticipantIdList, Topology};
@@ -52,7 +52,7 @@ fn seal_as(
     ensures { IfOk result (λ request. length topology.now.hosts ≤ 256
         → request ≡ request_by topology.now (participants_of topology.now) sender name command views.now) }
 {
-    let all = participants(alloc, topology)?;
+    let all = all_participants(alloc, topology)?;
     let confirming = confirming(alloc, topology, &all, &views.roots)?;
     let reached = recipients(alloc, topology, &all, &views.roots, sender)?;
     let trees = trees_for(alloc, topology, name, views, &reached)?;
