@@ -1,5 +1,5 @@
 -- The request that is made of views is the request of their transaction.
-use Rattle.std.proofs.Common.{◌≡◌, ℕ, zero, suc, ◌+◌, ◌<◌, ◌≤◌, Bool, true, List, [], ◌∷◌, ◌++◌, map, filter, length, get_or, drop, Option, Some, None, refl, sym, ap, ◌∙◌, append_assoc, arith}
+use Rattle.std.proofs.Common.{◌≡◌, ℕ, zero, suc, ◌+◌, ◌<◌, ◌≤◌, Bool, true, false, List, [], ◌∷◌, ◌++◌, map, filter, length, get_or, drop, Option, Some, None, refl, sym, ap, ◌∙◌, append_assoc, arith}
 use Rattle.std.specs.Prelude.{Ok, slice_get, nat_eq}
 use Rattle.std.specs.List.{zip, range_with_len}
 use Rattle.std.proofs.lemmas.List.{drop_more}
@@ -26,8 +26,10 @@ use Rattle.view_split.specs.Split.{split}
 use Rattle.view_split.specs.declared.split_view.SplitView.{SplitView}
 use Rattle.view_split.specs.declared.views.Views.{Views}
 use Rattle.blind_tree.specs.Blind.{blind_for, has_name, is_host_named, salts_of}
+use Rattle.blind_tree.specs.InRange.{AreVertices, IsTree}
 use Rattle.blind_tree.specs.Recipients.{is_recipient}
 use Rattle.blind_tree.specs.Spelling.{spell_tree}
+use Rattle.blind_tree.specs.Vertices.{Vertices, NoVertices, BlindVertex, InnerVertex, AreNarrow, IsNarrow}
 use Rattle.blind_tree.specs.declared.recipient.Recipient.{Recipient}
 use Rattle.blind_tree.specs.declared.recipient.Recipient.TheVariants.{Mediator, Participant}
 use Rattle.blind_tree.specs.declared.tree.Tree.{Tree}
@@ -53,6 +55,17 @@ one_index_more n =
     let next : n + 1 ≡ suc n = omega arith in
     let last : 0 + n ≡ n = omega arith in
     ap (range_with_len 0) next ∙ (index_more 0 n ∙ ap (λ (k : ℕ). range_with_len 0 n ++ k ∷ []) last)
+
+-- The next item goes from what is left to what was kept, where it passes; else it is left out.
+module _ (test : ℕ → Bool) (xs : List ℕ) (i x : ℕ) (done whole : List ℕ) (within : i < length xs) (is : x ≡ get_or xs i x) where
+  here : drop i xs ≡ x ∷ drop (i + 1) xs
+  here = drop_more xs i x within ∙ ap (λ (y : ℕ). y ∷ drop (i + 1) xs) (sym is)
+
+  pub kept_next : test x ≡ true → done ++ filter test (drop i xs) ≡ whole → (done ++ x ∷ []) ++ filter test (drop (i + 1) xs) ≡ whole
+  kept_next passes sofar = append_assoc done (x ∷ []) (filter test (drop (i + 1) xs)) ∙ (rw (here, passes) at sofar)
+
+  pub left_next : test x ≡ false → done ++ filter test (drop i xs) ≡ whole → done ++ filter test (drop (i + 1) xs) ≡ whole
+  left_next fails sofar = rw (here, fails) at sofar
 
 -- the next envelope goes from what is left to what is made
 pub next_envelope : (ps : List ℕ) (trees : List Tree) (i p : ℕ) (tree : Tree) (es whole : List Envelope) → i < length ps → i < length trees
@@ -82,6 +95,16 @@ module _ (f : Recipient → Tree) where
   pub envelopes_are : (ps : List ℕ) → envelopes_with ps (map f (to_all ps)) ≡ map (λ (p : ℕ). record { to = p; bytes = spell_tree (f (Participant p)) }) ps
   envelopes_are [] = refl
   envelopes_are (p ∷ ps) = ap (λ (es : List Envelope). record { to = p; bytes = spell_tree (f (Participant p)) } ∷ es) (envelopes_are ps)
+
+-- ---- trees that were read
+
+narrow_vertices : (v : Vertices) → AreVertices v → AreNarrow v
+narrow_vertices NoVertices h = tt
+narrow_vertices (BlindVertex hash others) h = narrow_vertices others h.1
+narrow_vertices (InnerVertex informees contents subviews others) h = (omega (arith, h.2), narrow_vertices subviews h.3, narrow_vertices others h.4)
+
+pub narrow : (tree : Tree) → IsTree tree → IsNarrow tree.views
+narrow tree h = (omega (arith, h.few), narrow_vertices tree.views h.vertices)
 
 -- ---- the sender's name
 
