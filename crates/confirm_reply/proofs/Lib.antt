@@ -5,7 +5,7 @@ mod Placed
 mod Trying
 mod ShownAt
 mod Verdicts
-mod AtPlace
+pub mod AtPlace
 mod CoreSteps
 mod FindSteps
 mod Gathering
