@@ -13,3 +13,4 @@ mod NumberSteps
 mod Checked
 mod Checkable
 mod FactsAt
+mod Sure

@@ -7,4 +7,4 @@ pub mod Nodes
 pub mod Located
 pub mod Tried
 pub mod Fit
-pub mod Checkable
+pub mod Sure

@@ -1,9 +1,10 @@
 //! Whether views can be checked.
-ghost use Rattle.std.specs.Prelude.{◌≡◌, true, All, IfOk, IsSome, Some};
+ghost use Rattle.std.specs.Prelude.{◌≡◌, true, IfOk, IsSome, Some};
+ghost use Rattle.std.specs.List.{AllByRecursion};
 ghost use Rattle.ledger_terms.specs.declared.act.Act.{Act};
 ghost use Rattle.ledger_model.specs.Opening.{OpenedView};
 ghost use Rattle.view_split.specs.Placed.{shown_by};
-ghost use Rattle.confirm_reply.specs.Checkable.{IsSure};
+ghost use Rattle.confirm_reply.specs.Sure.{IsSure};
 ghost use Rattle.confirm_reply.specs.Nodes.{acts_of};
 ghost use Rattle.confirm_reply.specs.Opened.{CanBeChecked, view_at};
 
@@ -30,7 +31,7 @@ fn is_sure(alloc: Global, checked: &Checked, action: &Action) -> Result<bool, Al
 }
 
 fn are_sure(alloc: Global, checked: &Checked, nodes: &[&ActionNode]) -> Result<bool, AllocError>
-    ensures { IfOk result (λ sure. sure ≡ true → All (λ (act : Act). IsSure checked.now act.action) (acts_of nodes.now)) }
+    ensures { IfOk result (λ sure. sure ≡ true → AllByRecursion (λ (act : Act). IsSure checked.now act.action) (acts_of nodes.now)) }
 {
     for node in nodes {
         if !is_sure(alloc, checked, &node.root.action)? {
@@ -55,8 +56,11 @@ pub fn can_check(
     let roots = roots_of(alloc, &tree.views)?;
     let nodes = nodes_of(alloc, &roots)?;
     let trees = numbered(alloc, &roots, 0)?;
-    match core_at(alloc, &tree.views, trees.as_slice(), view)? {
-        Some(core) if core.len() <= MOST_CORE_ACTIONS => are_sure(alloc, checked, nodes.as_slice()),
-        _ => Ok(false),
+    let Some(core) = core_at(alloc, &tree.views, trees.as_slice(), view)? else {
+        return Ok(false);
+    };
+    if core.len() > MOST_CORE_ACTIONS {
+        return Ok(false);
     }
+    are_sure(alloc, checked, nodes.as_slice())
 }
