@@ -1,0 +1,114 @@
+//! What a submission wants, and its request.
+ghost use Rattle.std.specs.Prelude.{◌≡◌, ◌≢◌, ◌<◌, ℕ, List, true, None, Some, length, find, not, IfOk, IfErr, MatchResult, slice_get};
+ghost use Rattle.ledger_terms.specs.Answers.{Follows};
+ghost use Rattle.ledger_terms.specs.Topologies.{IsValid};
+ghost use Rattle.canton_model.specs.Inbox.{Item};
+ghost use Rattle.sealed_form.specs.SealedTest.{is_sealed_form};
+ghost use Rattle.sealed_form.specs.SealedForm.{whole_of};
+ghost use Rattle.prepare_request.specs.Machine.{Offered, prepare_over};
+ghost use Rattle.prepare_request.specs.Prepared.{actions_for, actions_of, first_unhosted, name_at, prepared, seed_for, time_or, tx_for};
+ghost use Rattle.prepare_request.specs.Within.{IsWithin};
+
+use crate::seal::seal;
+use crate::submit_fault::SubmitFault;
+use canton_model::Request;
+use confirm_reply::Setup;
+use hash_id::root_seed;
+use interpret::{CommandFault, fill, interpret};
+use ledger_terms::{
+    ActionNodeList, Hash, KnownContracts, Name, ParticipantId, PartySet, Submission, Topology, Tx,
+    What,
+};
+use sealed_form::is_sealable;
+use std::alloc::Global;
+use view_split::split;
+
+/// The first of the parties that the participant doesn't host.
+fn first_unhosted(topology: &Topology, me: ParticipantId, act_as: &PartySet) -> Option<Name>
+    ensures { result ≡ first_unhosted topology.now me act_as.now }
+{
+    for party in act_as.as_slice() {
+        if !topology.hosts(me, *party) {
+            return Some(*party);
+        }
+    }
+    None
+}
+
+/// The seed of the submission's transaction, where its participant has this name.
+fn seed_for(name: Name, what: &Submission) -> Hash
+    ensures { (topology : Topology) (me : ℕ) → name_at topology me ≡ name → result ≡ seed_for topology me what.now }
+{
+    match &what.what {
+        What::Prepared {
+            seed_of: Some(other),
+            ..
+        } => root_seed(other.participant, other.command),
+        _ => root_seed(name, what.command),
+    }
+}
+
+/// The root actions that the submission wants.
+fn actions_of<K: KnownContracts>(
+    alloc: Global,
+    setup: &Setup,
+    known: &K,
+    seed: &Hash,
+    what: &Submission,
+) -> Result<ActionNodeList, CommandFault>
+    ensures { Follows CommandFault.Memory result (actions_of setup.now.checked.now (K.rows known.now) seed.now what.now.act_as what.now.what) }
+{
+    match &what.what {
+        What::Commands(commands) => interpret(
+            alloc,
+            &setup.checked,
+            known,
+            seed,
+            &what.act_as,
+            commands,
+        ),
+        What::Prepared { roots, .. } => fill(alloc, known, seed, roots),
+    }
+}
+
+/// The transaction that a submission of the participant `me` asks for, as a request in the sealed form: its commands are
+/// interpreted, or its prepared tree is filled, over the contracts that are known. `now` is the ledger time of a submission
+/// that has none.
+pub fn prepare<K: KnownContracts>(
+    alloc: Global,
+    setup: &Setup,
+    me: ParticipantId,
+    known: &K,
+    what: &Submission,
+    now: u64,
+) -> Result<Request, SubmitFault>
+    requires valid { IsValid setup.now.topology }
+    requires within { IsWithin setup.now.topology setup.now.checked me (K.rows known.now) what.now }
+    ensures exact { Follows SubmitFault.Memory result (prepared setup.now.topology setup.now.checked me (K.rows known.now) what.now now) }
+    ensures sealed { IfOk result (λ request. is_sealed_form setup.now.topology setup.now.checked request ≡ true) }
+    ensures sender { IfOk result (λ request. request.sender ≡ me) }
+    ensures command { IfOk result (λ request. request.command ≡ what.now.command) }
+    ensures machine { (offered : Offered) (items : List Item) → what.now.participant ≡ me → offered me items ≡ K.rows known.now
+        → MatchResult result (λ request. prepare_over setup.now.topology setup.now.checked offered what.now items now ≡ Some request)
+        (λ fault. fault ≢ SubmitFault.Memory → prepare_over setup.now.topology setup.now.checked offered what.now items now ≡ None) }
+{
+    if let Some(party) = first_unhosted(&setup.topology, me, &what.act_as) {
+        return Err(SubmitFault::NotHosted { party });
+    }
+    let host = match setup.topology.host(me) {
+        Some(host) => host,
+        None => return Err(SubmitFault::Memory),
+    };
+    let seed = seed_for(host.name, what);
+    let roots = actions_of(alloc, setup, known, &seed, what)?;
+    let tx = Tx {
+        act_as: what.act_as.clone()?,
+        ledger_time: what.ledger_time.unwrap_or(now),
+        seed,
+        roots,
+    };
+    let views = split(alloc, &setup.checked, &tx)?;
+    // the prover learns from this call that the formats have room
+    let _sealable = is_sealable(&views);
+    Ok(seal(alloc, &setup.topology, me, what.command, &views)?)
+}
