@@ -1,0 +1,4 @@
+mod Offered
+mod Wants
+mod Sealing
+mod Machines

@@ -1,5 +1,5 @@
 -- The contracts of a store that have a hosted stakeholder, by ids that tell which ones do.
-use Rattle.std.specs.Prelude.{◌≡◌, ℕ, Bool, List, Some, All, filter}
+use Rattle.std.specs.Prelude.{◌≡◌, ℕ, Bool, List, Some, Contains, filter}
 use Rattle.std.specs.List.{list_any}
 use Rattle.std.specs.Str.{bytes_eq}
 use Rattle.ledger_terms.specs.declared.active_row.ActiveRow.{ActiveRow}
@@ -29,4 +29,5 @@ hosted_rows ids rows = filter (has_hosted_id ids) (knowns (active_rows rows))
 -- the ids tell of each active contract whether it has a stakeholder that the participant hosts
 abbrev pub TellHosted : Reading → ParticipantId → List Hash → List StoreRow → Type 0
 TellHosted reading p ids rows =
-    All (λ (row : StoreRow). (a : ActiveRow) → active row ≡ Some a → is_among ids row.known.id ≡ is_stakeholder_hosted reading p row.known.instance) rows
+    (row : StoreRow) (a : ActiveRow) → Contains rows row → active row ≡ Some a
+    → is_among ids a.known.id ≡ is_stakeholder_hosted reading p a.known.instance

@@ -1,6 +1,7 @@
 -- The request that a submission wants, or why it wants none.
 use Rattle.std.specs.Prelude.{ℕ, not, List, [], Option, Some, None, find, slice_get, Result, Ok, Err}
 use Rattle.sha2.specs.Sha256.{sha256}
+use Rattle.ledger_terms.specs.Answers.{◌>>=◌}
 use Rattle.ledger_terms.specs.Hosting.{hosts_at}
 use Rattle.ledger_terms.specs.Trees.{Actions}
 use Rattle.ledger_terms.specs.declared.host.Host.{Host}
@@ -90,26 +91,21 @@ request_for topology packages me command tx = request_with topology packages me 
 abbrev pub first_unhosted : Topology → (me : ℕ) → PartyNames → Option (List ℕ)
 first_unhosted topology me act_as = find (λ party. not (hosts_at topology.hosts me party)) act_as
 
--- the fault of commands or of a split as one of the submission; want of memory is always Memory
-abbrev pub of_command : CommandFault → SubmitFault
-of_command CommandMemory = Memory
-of_command fault = Command fault
-
-abbrev pub of_split : SplitFault → SubmitFault
-of_split (NoRoles path) = Split (NoRoles path)
-of_split SplitMemory = Memory
-
 abbrev pub unless_unhosted : Option (List ℕ) → Result Request SubmitFault → Result Request SubmitFault
 unless_unhosted None answer = answer
 unless_unhosted (Some party) answer = Err (NotHosted party)
 
-abbrev pub where_wanted : Result Actions CommandFault → (Actions → Result Request SubmitFault) → Result Request SubmitFault
-where_wanted (Ok roots) go = go roots
-where_wanted (Err fault) go = Err (of_command fault)
+abbrev pub tx_where_wanted : Topology → (me : ℕ) → Submission → (now : ℕ) → Result Actions CommandFault → Result Tx SubmitFault
+tx_where_wanted topology me what now (Ok roots) = Ok (tx_for topology me what now roots)
+tx_where_wanted topology me what now (Err fault) = Err (Command fault)
+
+-- the transaction that the submission wants
+abbrev pub wanted_tx : Topology → Packages → (me : ℕ) → List Known → Submission → (now : ℕ) → Result Tx SubmitFault
+wanted_tx topology packages me known what now = tx_where_wanted topology me what now (actions_for topology packages me known what)
 
 abbrev pub where_split : Result Views SplitFault → Request → Result Request SubmitFault
 where_split (Ok views) request = Ok request
-where_split (Err fault) request = Err (of_split fault)
+where_split (Err fault) request = Err (Split fault)
 
 abbrev pub sealed_if_split : Topology → Packages → (me : ℕ) (command : List ℕ) → Tx → Result Request SubmitFault
 sealed_if_split topology packages me command tx = where_split (views_of_tx packages tx) (request_for topology packages me command tx)
@@ -119,5 +115,15 @@ sealed_if_split topology packages me command tx = where_split (views_of_tx packa
 abbrev pub prepared : Topology → Packages → (me : ℕ) → List Known → Submission → (now : ℕ) → Result Request SubmitFault
 prepared topology packages me known what now =
     unless_unhosted (first_unhosted topology me what.act_as)
-    (where_wanted (actions_for topology packages me known what)
-    (λ roots. sealed_if_split topology packages me what.command (tx_for topology me what now roots)))
+    (wanted_tx topology packages me known what now >>= sealed_if_split topology packages me what.command)
+
+-- ---- faults of the calls below
+
+-- want of memory is always Memory itself
+abbrev pub of_command : CommandFault → SubmitFault
+of_command CommandMemory = Memory
+of_command fault = Command fault
+
+abbrev pub of_split : SplitFault → SubmitFault
+of_split (NoRoles path) = Split (NoRoles path)
+of_split SplitMemory = Memory

@@ -64,7 +64,7 @@ impl HostedIds {
     /// Puts an id among them. Takes no memory.
     pub fn insert(&mut self, id: Hash)
         requires { 0 < self.old.spare }
-        ensures among { (c : List ℕ) → is_among self.new.ids c ≡ (bytes_eq c id || is_among self.old.ids c) }
+        ensures among { (c : List ℕ) → is_among self.new.ids c ≡ (bytes_eq id c || is_among self.old.ids c) }
         ensures spare { self.old.spare ≤ self.new.spare + 1 }
     {
         let _ = self.ids.insert(id, ()).unwrap();

@@ -4,13 +4,13 @@
 mod hosted_contracts;
 mod hosted_ids;
 pub mod laws;
-mod prepare;
+mod preparing;
 mod seal;
 mod stakeholders;
 mod submit_fault;
 
 pub use hosted_contracts::HostedContracts;
 pub use hosted_ids::HostedIds;
-pub use prepare::prepare;
+pub use preparing::prepare;
 pub use stakeholders::has_hosted_stakeholder;
 pub use submit_fault::SubmitFault;

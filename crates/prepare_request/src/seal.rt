@@ -24,10 +24,10 @@ pub fn seal(
     views: &Views,
 ) -> Result<Request, AllocError>
     requires spellable { AreSpellable views.now }
-    requires host { sender < length topology.now.hosts }
+    requires sender { sender < length topology.now.hosts }
     ensures { IfOk result (λ request. (packages : Packages) (tx : Tx) (name : List ℕ) → IsValid topology.now
-        → is_host_named topology.now.hosts sender name ≡ true
         → views_of_tx packages tx ≡ Ok views.now
+        → is_host_named topology.now.hosts sender name ≡ true
         → request ≡ request_of topology.now packages sender name command (salts_of sha256 tx.seed) (whole_with_seed name tx).transaction) }
 {
     Err(AllocError)

@@ -6,7 +6,7 @@ ghost use Rattle.canton_model.specs.Inbox.{Item};
 ghost use Rattle.sealed_form.specs.SealedTest.{is_sealed_form};
 ghost use Rattle.sealed_form.specs.SealedForm.{whole_of};
 ghost use Rattle.prepare_request.specs.Machine.{Offered, prepare_over};
-ghost use Rattle.prepare_request.specs.Prepared.{actions_for, actions_of, first_unhosted, name_at, prepared, seed_for, time_or, tx_for};
+ghost use Rattle.prepare_request.specs.Prepared.{actions_of, first_unhosted, name_at, prepared, seed_for, time_or, wanted_tx};
 ghost use Rattle.prepare_request.specs.Within.{IsWithin};
 
 use crate::seal::seal;
@@ -35,16 +35,35 @@ fn first_unhosted(topology: &Topology, me: ParticipantId, act_as: &PartySet) -> 
     None
 }
 
-/// The seed of the submission's transaction, where its participant has this name.
-fn seed_for(name: Name, what: &Submission) -> Hash
-    ensures { (topology : Topology) (me : ℕ) → name_at topology me ≡ name → result ≡ seed_for topology me what.now }
+fn time_or(time: Option<u64>, now: u64) -> u64
+    ensures { result ≡ time_or time now }
+{
+    match time {
+        Some(time) => time,
+        None => now,
+    }
+}
+
+/// The participant's name.
+fn name_at(topology: &Topology, me: ParticipantId) -> Name
+    requires { me < length topology.now.hosts }
+    ensures { result ≡ name_at topology.now me }
+{
+    topology.hosts.as_slice()[me.0 as usize].name
+}
+
+/// The seed of the transaction that the submission asks for.
+#[tactic(auto, unfolding(interpret::specs::Ids::root_seed))]
+fn seed_for(topology: &Topology, me: ParticipantId, what: &Submission) -> Hash
+    requires { me < length topology.now.hosts }
+    ensures { result ≡ seed_for topology.now me what.now }
 {
     match &what.what {
         What::Prepared {
             seed_of: Some(other),
             ..
         } => root_seed(other.participant, other.command),
-        _ => root_seed(name, what.command),
+        _ => root_seed(name_at(topology, me), what.command),
     }
 }
 
@@ -56,7 +75,7 @@ fn actions_of<K: KnownContracts>(
     seed: &Hash,
     what: &Submission,
 ) -> Result<ActionNodeList, CommandFault>
-    ensures { Follows CommandFault.Memory result (actions_of setup.now.checked.now (K.rows known.now) seed.now what.now.act_as what.now.what) }
+    ensures { Follows CommandFault.Memory result (actions_of setup.now.checked (K.rows known.now) seed.now what.now.act_as what.now.what) }
 {
     match &what.what {
         What::Commands(commands) => interpret(
@@ -69,6 +88,28 @@ fn actions_of<K: KnownContracts>(
         ),
         What::Prepared { roots, .. } => fill(alloc, known, seed, roots),
     }
+}
+
+/// The transaction that the submission wants.
+fn wanted_tx<K: KnownContracts>(
+    alloc: Global,
+    setup: &Setup,
+    me: ParticipantId,
+    known: &K,
+    what: &Submission,
+    now: u64,
+) -> Result<Tx, SubmitFault>
+    requires { me < length setup.now.topology.hosts }
+    ensures { Follows SubmitFault.Memory result (wanted_tx setup.now.topology setup.now.checked me (K.rows known.now) what.now now) }
+{
+    let seed = seed_for(&setup.topology, me, what);
+    let roots = actions_of(alloc, setup, known, &seed, what)?;
+    Ok(Tx {
+        act_as: what.act_as.clone()?,
+        ledger_time: time_or(what.ledger_time, now),
+        seed,
+        roots,
+    })
 }
 
 /// The transaction that a submission of the participant `me` asks for, as a request in the sealed form: its commands are
@@ -95,18 +136,7 @@ pub fn prepare<K: KnownContracts>(
     if let Some(party) = first_unhosted(&setup.topology, me, &what.act_as) {
         return Err(SubmitFault::NotHosted { party });
     }
-    let host = match setup.topology.host(me) {
-        Some(host) => host,
-        None => return Err(SubmitFault::Memory),
-    };
-    let seed = seed_for(host.name, what);
-    let roots = actions_of(alloc, setup, known, &seed, what)?;
-    let tx = Tx {
-        act_as: what.act_as.clone()?,
-        ledger_time: what.ledger_time.unwrap_or(now),
-        seed,
-        roots,
-    };
+    let tx = wanted_tx(alloc, setup, me, known, what, now)?;
     let views = split(alloc, &setup.checked, &tx)?;
     // the prover learns from this call that the formats have room
     let _sealable = is_sealable(&views);
