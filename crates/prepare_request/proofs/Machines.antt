@@ -6,7 +6,7 @@ use Rattle.std.proofs.lemmas.Bool.{lt-ltb}
 use Rattle.ledger_terms.specs.declared.known.Known.{Known}
 use Rattle.ledger_terms.specs.declared.submission.Submission.{Submission}
 use Rattle.ledger_terms.specs.declared.topology.Topology.{Topology}
-use Rattle.canton_model.specs.Inbox.{Item}
+use Rattle.canton_model.specs.Inbox.{Item, inbox}
 use Rattle.canton_model.specs.declared.request.Request.{Request}
 use Rattle.world_model.specs.Machine.{IsMachine, IsRequestFor}
 use Rattle.lang_eval.specs.Found.{Packages}
@@ -46,7 +46,7 @@ module _ (topology : Topology) (packages : Packages) where
       record {
         is_reading = lawful topology packages;
         prepares = λ what log now request genuine e.
-            (let items = _ in
+            (let items = inbox (sealed_reading topology packages) what.participant log in
             let k = kept (prepared topology packages what.participant (offered what.participant items) what now) request
             (allowed (is_within topology packages what) _ request e) in
             let s = steps topology packages what.participant (offered what.participant items) what now request k.is in

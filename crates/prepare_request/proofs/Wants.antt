@@ -18,7 +18,7 @@ use Rattle.ledger_model.specs.Forest.{acts}
 use Rattle.ledger_model.proofs.Lists.{In, contains_from_In, in_from_Contains, in_map}
 use Rattle.canton_model.specs.declared.request.Request.{Request}
 use Rattle.lang_eval.specs.Found.{Packages}
-use Rattle.lang_eval.specs.Language.{has_roles}
+use Rattle.lang_eval.specs.Language.{has_roles, roles_in}
 use Rattle.lang_eval.specs.Parts.{PartyNames}
 use Rattle.interpret.specs.Ids.{Hash}
 use Rattle.interpret.specs.declared.command_fault.CommandFault.{CommandFault}
@@ -26,13 +26,14 @@ use Rattle.interpret.proofs.Wholes.{given_is_wanted, wanted_is_given}
 use Rattle.interpret.proofs.DraftLaw as drafts
 use Rattle.interpret.proofs.Ends as commands
 use Rattle.view_split.specs.Faults.{first_roleless, is_roleless, kept_path, unless_fault, views_of_tx}
+use Rattle.view_split.specs.Split.{split}
 use Rattle.view_split.specs.declared.split_fault.SplitFault.{SplitFault}
 use Rattle.view_split.specs.declared.views.Views.{Views}
 use Rattle.view_split.proofs.Fitting.{preorder-map}
 use Rattle.view_split.proofs.Sight.{without_paths}
 use Rattle.sealed_form.proofs.Given.{each_has_roles}
 use Rattle.prepare_request.specs.Causes.{AreWantedBy, HasCause, HostsRequesters, IsRequestOf, StopsBy}
-use Rattle.prepare_request.specs.Prepared.{actions_for, actions_of, first_unhosted, prepared, request_for, seed_for, sealed_if_split}
+use Rattle.prepare_request.specs.Prepared.{actions_for, actions_of, first_unhosted, prepared, request_for, seed_for, sealed_if_split, time_or}
 use Rattle.prepare_request.specs.Prepared.{tx_for, tx_where_wanted, unless_unhosted, wanted_tx, where_split}
 use Rattle.prepare_request.specs.declared.submit_fault.SubmitFault.{SubmitFault}
 use Rattle.prepare_request.specs.declared.submit_fault.SubmitFault.TheVariants.{Paused, NotHosted, Command, Split, Duplicate, LogFull, Memory}
@@ -82,9 +83,6 @@ none_unhosted topology me what h =
 abbrev Placed : Type 0
 Placed = List ℕ × Act
 
-abbrev no_views : SplitFault → Result Views SplitFault
-no_views fault = Err fault
-
 -- where each action has roles the transaction is split
 split_given : (packages : Packages) (tx : Tx) → ((a : Act) → Contains (acts tx.roots) a → has_roles packages a.action ≡ true)
     → first_roleless packages tx.roots ≡ None
@@ -116,6 +114,10 @@ module _ (topology : Topology) (packages : Packages) (me : ℕ) (known : List Kn
 
   abbrev answer : Option (List ℕ) → Result Actions CommandFault → Result Request SubmitFault
   answer unhosted actions = unless_unhosted unhosted (tx_where_wanted topology me what now actions >>= sealed_if_split topology packages me what.command)
+
+  abbrev views_made : Actions → Views
+  views_made roots =
+      record { act_as = what.act_as; ledger_time = time_or what.ledger_time now; seed = seed; roots = split (roles_in packages) roots }
 
   -- what there is before a request
   pub record Steps (request : Request) : Type 0 where
@@ -161,7 +163,7 @@ module _ (topology : Topology) (packages : Packages) (me : ℕ) (known : List Kn
   wanted request h =
       ap (λ o. answer o (actions_for topology packages me known what)) (none_unhosted topology me what h.hosted)
       ∙ (ap (answer None) (wanted_given packages known seed what.act_as what.what h.roots h.wanted)
-      ∙ (ap (λ o. where_split (unless_fault o _) (request_for topology packages me what.command (tx h.roots)))
+      ∙ (ap (λ (o : Option (List ℕ)). where_split (unless_fault o (views_made h.roots)) (request_for topology packages me what.command (tx h.roots)))
       (split_given packages (tx h.roots) h.has_roles)
       ∙ ap sent (sym h.request_is)))
 
