@@ -2,3 +2,4 @@ mod Offered
 mod Wants
 mod Sealing
 mod Machines
+mod Prepares

@@ -1,23 +1,20 @@
 -- What is prepared makes a machine.
 use Rattle.std.proofs.Common.{◌≡◌, ℕ, Bool, true, false, ◌&&◌, if◌then◌else◌, length, List, Option, Some, None, Result, Ok, Err, refl, sym, ap, ◌∙◌}
 use Rattle.std.specs.Prelude.{nat_lt}
-use Rattle.std.specs.List.{list_all}
 use Rattle.std.proofs.lemmas.Bool.{lt-ltb}
 use Rattle.ledger_terms.specs.declared.known.Known.{Known}
 use Rattle.ledger_terms.specs.declared.submission.Submission.{Submission}
 use Rattle.ledger_terms.specs.declared.topology.Topology.{Topology}
 use Rattle.canton_model.specs.Inbox.{Item, inbox}
 use Rattle.canton_model.specs.declared.request.Request.{Request}
-use Rattle.world_model.specs.Machine.{IsMachine, IsRequestFor}
+use Rattle.world_model.specs.Machine.{IsMachine}
 use Rattle.lang_eval.specs.Found.{Packages}
-use Rattle.lang_eval.specs.Named.{parties_in_packages}
 use Rattle.sealed_form.specs.SealedReading.{sealed_reading}
 use Rattle.sealed_form.specs.SealedTest.{is_sealed_form}
-use Rattle.sealed_form.specs.Within.{is_hosted}
 use Rattle.sealed_form.proofs.Sealed.{lawful}
 use Rattle.prepare_request.specs.Machine.{Offered, if_sealed, is_within, machine_over, prepare_over}
 use Rattle.prepare_request.specs.Prepared.{prepared}
-use Rattle.prepare_request.specs.Within.{IsWithin, parties_in_what}
+use Rattle.prepare_request.specs.Within.{IsWithin}
 use Rattle.prepare_request.specs.declared.submit_fault.SubmitFault.{SubmitFault}
 use Rattle.prepare_request.proofs.Wants.{steps}
 

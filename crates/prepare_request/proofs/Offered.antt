@@ -1,9 +1,8 @@
 -- What a participant offers, found without a scan, and what it is over an inbox.
-use Rattle.std.proofs.Common.{◌≡◌, ◌==◌, ℕ, Bool, true, false, cond, ◌&&◌, if◌then◌else◌, List, [], ◌∷◌, map, filter, find, inl, inr, Option, Some, None, Contains, refl, sym, ap, ◌∙◌}
+use Rattle.std.proofs.Common.{◌≡◌, ℕ, Bool, true, false, cond, ◌&&◌, if◌then◌else◌, List, [], ◌∷◌, filter, find, inl, inr, Option, Some, None, refl, sym, ap, ◌∙◌}
 use Rattle.std.specs.Prelude.{nat_le, is_some, ◌||◌}
 use Rattle.indexmap.specs.IndexMap.{IndexMap, get, keys}
 use Rattle.std.specs.Str.{bytes_eq}
-use Rattle.std.specs.Cmp.Lexicographic.{pointwise}
 use Rattle.ledger_terms.specs.declared.active_row.ActiveRow.{ActiveRow}
 use Rattle.ledger_terms.specs.declared.known.Known.{Known}
 use Rattle.ledger_model.specs.Terms.{Hash, ParticipantId}

@@ -1,9 +1,8 @@
 -- What is prepared within a topology can be sealed.
-use Rattle.std.proofs.Common.{◌≡◌, ℕ, zero, suc, ◌<◌, true, List, [], ◌∷◌, length, None, Some, Ok, Contains, refl, sym, ap, ◌∙◌, subst, arith}
+use Rattle.std.proofs.Common.{◌≡◌, ℕ, zero, suc, ◌<◌, true, List, [], ◌∷◌, length, Some, refl, arith}
 use Rattle.std.specs.Prelude.{slice_get}
 use Rattle.std.proofs.lemmas.Slice.Eq.{bytes_eq-Decides}
 use Rattle.ledger_terms.specs.Drafts.{Drafts}
-use Rattle.ledger_terms.specs.Topologies.{IsValid}
 use Rattle.ledger_terms.specs.Trees.{Actions}
 use Rattle.ledger_terms.specs.declared.command.Command.{Command}
 use Rattle.ledger_terms.specs.declared.host.Host.{Host}
@@ -15,18 +14,16 @@ use Rattle.ledger_terms.specs.declared.what.What.{What}
 use Rattle.ledger_terms.specs.declared.what.What.TheVariants.{Commands, Prepared}
 use Rattle.lang_eval.specs.Found.{Packages}
 use Rattle.lang_eval.specs.HandedIn.{parties_in_commands, parties_in_drafts}
-use Rattle.lang_eval.specs.Named.{AreKnown}
 use Rattle.lang_eval.specs.Parts.{PartyNames}
 use Rattle.interpret.specs.FilledTree.{IsFilled}
 use Rattle.interpret.specs.Ids.{Hash}
 use Rattle.interpret.specs.Wanted.{IsWanted}
 use Rattle.interpret.proofs.Rules.{keeps_rules}
-use Rattle.blind_tree.specs.Blind.{has_name, is_host_named}
+use Rattle.blind_tree.specs.Blind.{is_host_named}
 use Rattle.blind_tree.specs.Limits.{KeepLimits}
 use Rattle.sealed_form.specs.SealedForm.{CanBeSealed, IsSealedForm, whole_of}
 use Rattle.sealed_form.specs.SealedTest.{is_sealed_form}
 use Rattle.sealed_form.specs.Submission.{IsSubmittedWithin}
-use Rattle.sealed_form.specs.Within.{is_hosted}
 use Rattle.sealed_form.proofs.Decided.{form_decides}
 use Rattle.sealed_form.proofs.FromDrafts.{filled_keeps_limits}
 use Rattle.sealed_form.proofs.FromRules.{keeps_limits, wanted_is_seeded}

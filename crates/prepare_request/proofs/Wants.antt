@@ -1,7 +1,7 @@
 -- What is prepared, and why nothing is.
-use Rattle.std.proofs.Common.{◌≡◌, ℕ, Bool, true, false, cond, not, List, [], ◌∷◌, map, find, filter, Option, Some, None, Result, Ok, Err, Contains, refl, sym, ap, ◌∙◌, subst, inl, inr}
+use Rattle.std.proofs.Common.{◌≡◌, ℕ, Bool, true, not, List, [], ◌∷◌, map, find, Option, Some, None, Result, Ok, Err, Contains, refl, sym, ap, ◌∙◌, subst, inl, inr}
 use Rattle.std.specs.Prelude.{option_map}
-use Rattle.std.proofs.lemmas.Bool.{cases_Bool, not-false}
+use Rattle.std.proofs.lemmas.Bool.{cases_Bool}
 use Rattle.std.proofs.lemmas.Option.{none-some}
 use Rattle.ledger_terms.specs.Answers.{◌>>=◌}
 use Rattle.ledger_terms.specs.Forest.{Forest, paths_from, preorder}
@@ -34,9 +34,9 @@ use Rattle.view_split.proofs.Sight.{without_paths}
 use Rattle.sealed_form.proofs.Given.{each_has_roles}
 use Rattle.prepare_request.specs.Causes.{AreWantedBy, HasCause, HostsRequesters, IsRequestOf, StopsBy}
 use Rattle.prepare_request.specs.Prepared.{actions_for, actions_of, first_unhosted, prepared, request_for, seed_for, sealed_if_split, time_or}
-use Rattle.prepare_request.specs.Prepared.{tx_for, tx_where_wanted, unless_unhosted, wanted_tx, where_split}
+use Rattle.prepare_request.specs.Prepared.{tx_for, tx_where_wanted, unless_unhosted, where_split}
 use Rattle.prepare_request.specs.declared.submit_fault.SubmitFault.{SubmitFault}
-use Rattle.prepare_request.specs.declared.submit_fault.SubmitFault.TheVariants.{Paused, NotHosted, Command, Split, Duplicate, LogFull, Memory}
+use Rattle.prepare_request.specs.declared.submit_fault.SubmitFault.TheVariants.{NotHosted, Command, Split}
 
 -- ---- the actions
 
@@ -102,7 +102,7 @@ split_given packages tx h = ap (option_map (λ (p : Placed). kept_path p.0)) non
 
 -- ---- the request
 
-abbrev sent : Request → Result Request SubmitFault
+abbrev pub sent : Request → Result Request SubmitFault
 sent request = Ok request
 
 module _ (topology : Topology) (packages : Packages) (me : ℕ) (known : List Known) (what : Submission) (now : ℕ) where
@@ -180,9 +180,10 @@ module _ (topology : Topology) (packages : Packages) (me : ℕ) (known : List Kn
       by_views roots (Ok views) u a s h = absurd cc
       by_views roots (Err f) u a s h =
           let is : Split f ≡ fault = cc in
-          subst Cause is
-          (all_hosted topology me what u,
-          record { roots = roots; wanted = given_wanted packages known seed what.act_as what.what roots a; no_roles = s })
+          subst Cause is (
+            all_hosted topology me what u,
+            record { roots = roots; wanted = given_wanted packages known seed what.act_as what.what roots a; no_roles = s },
+          )
 
       by_actions : (r : Result Actions CommandFault) → first_unhosted topology me what.act_as ≡ None → actions_for topology packages me known what ≡ r
           → answer None r ≡ Err fault → Cause fault

@@ -1,5 +1,5 @@
 -- What a prepared request is of, and why a submission is refused.
-use Rattle.std.specs.Prelude.{◌≡◌, ℕ, true, List, None, Some, Err, Contains}
+use Rattle.std.specs.Prelude.{◌≡◌, ℕ, true, List, Some, Err, Contains}
 use Rattle.ledger_terms.specs.Hosting.{hosts_at}
 use Rattle.ledger_terms.specs.Trees.{Actions}
 use Rattle.ledger_terms.specs.declared.act.Act.{Act}

@@ -1,6 +1,5 @@
 -- The request that a submission wants, or why it wants none.
 use Rattle.std.specs.Prelude.{ℕ, not, List, [], Option, Some, None, find, slice_get, Result, Ok, Err}
-use Rattle.sha2.specs.Sha256.{sha256}
 use Rattle.ledger_terms.specs.Answers.{◌>>=◌}
 use Rattle.ledger_terms.specs.Hosting.{hosts_at}
 use Rattle.ledger_terms.specs.Trees.{Actions}
@@ -24,7 +23,6 @@ use Rattle.view_split.specs.Faults.{views_of_tx}
 use Rattle.view_split.specs.declared.split_fault.SplitFault.{SplitFault}
 use Rattle.view_split.specs.declared.split_fault.SplitFault.TheVariants.{NoRoles, Memory as SplitMemory}
 use Rattle.view_split.specs.declared.views.Views.{Views}
-use Rattle.blind_tree.specs.Blind.{salts_of}
 use Rattle.sealed_form.specs.SealedForm.{Whole, request_of}
 use Rattle.sealed_form.specs.Submission.{whole_with_seed}
 use Rattle.prepare_request.specs.declared.submit_fault.SubmitFault.{SubmitFault}

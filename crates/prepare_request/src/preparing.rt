@@ -27,11 +27,12 @@ use view_split::split;
 fn first_unhosted(topology: &Topology, me: ParticipantId, act_as: &PartySet) -> Option<Name>
     ensures { result ≡ first_unhosted topology.now me act_as.now }
 {
-    act_as
-        .as_slice()
-        .iter()
-        .find(|party| !topology.hosts(me, **party))
-        .copied()
+    for party in act_as.as_slice() {
+        if !topology.hosts(me, *party) {
+            return Some(*party);
+        }
+    }
+    None
 }
 
 fn time_or(time: Option<u64>, now: u64) -> u64
