@@ -8,3 +8,4 @@ pub mod NoteForms
 pub mod OneCreate
 pub mod OneRequest
 pub mod NoteRun
+pub mod Making

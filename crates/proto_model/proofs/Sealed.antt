@@ -74,8 +74,8 @@ module _ (hosts : List Host) (request : Request) (form : PlainForm) (party : Lis
       by_test true = refl
       by_test false = refl
 
-  confirmed : is_confirmed_by (plain_reading hosts) request.sender (view_of_form form) ≡ true
-  confirmed = rw r.signs sender_confirms
+  view_confirmed : is_confirmed_by (plain_reading hosts) request.sender (view_of_form form) ≡ true
+  view_confirmed = rw r.signs sender_confirms
 
   one_act : (a : Act) → Contains (acts (roots_of_form form)) a → root_of form ≡ a
   one_act a h = by_case (in_from_Contains (root_of form ∷ []) a h)
@@ -91,7 +91,7 @@ module _ (hosts : List Host) (request : Request) (form : PlainForm) (party : Lis
   confirmed a h = (request.sender, subst (λ (x : Act). list_any (confirms_at hosts request.sender) (built_in_language.signatories (instance_of x.action)) ≡ true) (one_act a h) signs)
 
   viewed_here : (i : ℕ) (a : Act) → slice_get (root_of form ∷ []) i ≡ Some a → (view : OpenedView) × Contains (view_of_form form ∷ []) view × Contains view.core (i, a) × (is_confirmed_by (plain_reading hosts) request.sender view ≡ true)
-  viewed_here zero a e = (view_of_form form, (0, omega arith, refl), (0, omega arith, ap (λ (x : Act). (0, x)) (same_Some _ a e)), confirmed)
+  viewed_here zero a e = (view_of_form form, (0, omega arith, refl), (0, omega arith, ap (λ (x : Act). (0, x)) (same_Some _ a e)), view_confirmed)
   viewed_here (suc i) a e = absurd (none-some a e)
 
   same_place : (p q : ℕ) → nat_eq p q ≡ true → q ≡ p
@@ -141,7 +141,7 @@ module _ (hosts : List Host) (request : Request) (form : PlainForm) (party : Lis
         is_shown = ap (option_map shown_of_form) to_sender;
         view = view_of_form form;
         is_opened = (0, omega arith, refl);
-        is_confirmed = confirmed;
+        is_confirmed = view_confirmed;
       }
 
   answers : (p : ℕ) → Contains request.confirming p → Answers (plain_reading hosts) request p
@@ -159,7 +159,7 @@ module _ (hosts : List Host) (request : Request) (form : PlainForm) (party : Lis
         is_shown = ap (option_map shown_of_form) to_sender;
         view = view_of_form form;
         is_opened = (0, omega arith, refl);
-        is_confirmed = confirmed;
+        is_confirmed = view_confirmed;
         number = 0;
         in_core = (0, omega arith, refl);
         below = refl;
