@@ -3,3 +3,4 @@ mod Wants
 mod Sealing
 mod Machines
 mod Prepares
+mod PlainFaults

@@ -12,7 +12,7 @@ use Rattle.lang_eval.specs.Found.{Packages}
 use Rattle.sealed_form.specs.SealedReading.{sealed_reading}
 use Rattle.sealed_form.specs.SealedTest.{is_sealed_form}
 use Rattle.sealed_form.proofs.Sealed.{lawful}
-use Rattle.prepare_request.specs.Machine.{Offered, if_sealed, is_within, machine_over, prepare_over}
+use Rattle.prepare_request.specs.Machine.{Offered, if_sealed, is_within, fault_in, machine_over, prepare_over, why_over}
 use Rattle.prepare_request.specs.Prepared.{prepared}
 use Rattle.prepare_request.specs.Within.{IsWithin}
 use Rattle.prepare_request.specs.declared.submit_fault.SubmitFault.{SubmitFault}
@@ -77,6 +77,12 @@ module _ (topology : Topology) (packages : Packages) where
         → prepare_over topology packages offered what items now ≡ Some request
     gives request e sealed =
         asked ∙ (ap (if_sealed topology packages) e ∙ ap (λ b. if b then Some request else None) sealed)
+
+    pub says : (fault : SubmitFault) → prepared topology packages me known what now ≡ Err fault
+        → why_over topology packages offered what items now ≡ fault
+    says fault e =
+        ap (λ p. fault_in (prepared topology packages p (offered p items) what now)) own
+        ∙ (ap (λ k. fault_in (prepared topology packages me k what now)) offers ∙ ap fault_in e)
 
     pub gives_none : (fault : SubmitFault) → prepared topology packages me known what now ≡ Err fault
         → prepare_over topology packages offered what items now ≡ None

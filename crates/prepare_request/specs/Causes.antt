@@ -15,11 +15,13 @@ use Rattle.lang_eval.specs.Language.{has_roles}
 use Rattle.lang_eval.specs.Parts.{PartyNames}
 use Rattle.interpret.specs.FilledTree.{FillStops, IsFilled}
 use Rattle.interpret.specs.Ids.{Hash}
+use Rattle.interpret.specs.Plain.{IsPlain}
 use Rattle.interpret.specs.Stops.{StopsWith}
 use Rattle.interpret.specs.Wanted.{IsWanted}
 use Rattle.interpret.specs.declared.command_fault.CommandFault.{CommandFault}
 use Rattle.view_split.specs.Faults.{views_of_tx}
 use Rattle.view_split.specs.declared.split_fault.SplitFault.{SplitFault}
+use Rattle.view_split.specs.declared.split_fault.SplitFault.TheVariants.{NoRoles, Memory as SplitMemory}
 use Rattle.prepare_request.specs.Prepared.{first_unhosted, request_for, seed_for, tx_for}
 use Rattle.prepare_request.specs.declared.submit_fault.SubmitFault.{SubmitFault}
 use Rattle.prepare_request.specs.declared.submit_fault.SubmitFault.TheVariants.{Paused, NotHosted, Command, Split, Duplicate, LogFull, Memory}
@@ -68,3 +70,14 @@ HasCause topology packages me known what now Paused = ⊥
 HasCause topology packages me known what now (Duplicate place) = ⊥
 HasCause topology packages me known what now (LogFull reserved need) = ⊥
 HasCause topology packages me known what now Memory = ⊥
+
+-- want of memory is a fault of its own, and stands inside no other
+abbrev pub HoldsNoMemory : SubmitFault → Type 0
+HoldsNoMemory (Command fault) = IsPlain fault
+HoldsNoMemory (Split (NoRoles path)) = Unit {0}
+HoldsNoMemory (Split SplitMemory) = ⊥
+HoldsNoMemory (NotHosted party) = Unit {0}
+HoldsNoMemory Paused = Unit {0}
+HoldsNoMemory (Duplicate place) = Unit {0}
+HoldsNoMemory (LogFull reserved need) = Unit {0}
+HoldsNoMemory Memory = Unit {0}

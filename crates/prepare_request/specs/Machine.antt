@@ -16,6 +16,7 @@ use Rattle.sealed_form.specs.Within.{is_hosted}
 use Rattle.prepare_request.specs.Prepared.{prepared}
 use Rattle.prepare_request.specs.Within.{parties_in_what}
 use Rattle.prepare_request.specs.declared.submit_fault.SubmitFault.{SubmitFault}
+use Rattle.prepare_request.specs.declared.submit_fault.SubmitFault.TheVariants.{Memory}
 
 -- the contracts that a participant offers, by what it has read
 abbrev pub Offered : Type 0
@@ -39,6 +40,15 @@ prepare_over topology packages offered what items now =
     if is_within topology packages what
     then if_sealed topology packages (prepared topology packages what.participant (offered what.participant items) what now)
     else None
+
+-- why it wants none
+abbrev pub fault_in : Result Request SubmitFault → SubmitFault
+fault_in (Ok request) = Memory
+fault_in (Err fault) = fault
+
+abbrev pub why_over : Topology → Packages → Offered → Submission → List Item → (now : ℕ) → SubmitFault
+why_over topology packages offered what items now =
+    fault_in (prepared topology packages what.participant (offered what.participant items) what now)
 
 -- the machine of a synchroniser with this topology, these packages and so much room in its log
 abbrev pub machine_over : Topology → Packages → (capacity : ℕ) → Offered → Machine

@@ -5,7 +5,6 @@ mod hosted_contracts;
 mod hosted_ids;
 pub mod laws;
 mod preparing;
-mod seal;
 mod stakeholders;
 mod submit_fault;
 

@@ -5,11 +5,12 @@ ghost use Rattle.ledger_terms.specs.Topologies.{IsValid};
 ghost use Rattle.canton_model.specs.Inbox.{Item};
 ghost use Rattle.sealed_form.specs.SealedTest.{is_sealed_form};
 ghost use Rattle.sealed_form.specs.SealedForm.{whole_of};
-ghost use Rattle.prepare_request.specs.Machine.{Offered, prepare_over};
+ghost use Rattle.interpret.specs.Plain.{IsPlain};
+ghost use Rattle.prepare_request.specs.Causes.{HoldsNoMemory};
+ghost use Rattle.prepare_request.specs.Machine.{Offered, prepare_over, why_over};
 ghost use Rattle.prepare_request.specs.Prepared.{actions_of, first_unhosted, name_at, prepared, seed_for, time_or, wanted_tx};
 ghost use Rattle.prepare_request.specs.Within.{IsWithin};
 
-use crate::seal::seal;
 use crate::submit_fault::SubmitFault;
 use canton_model::Request;
 use confirm_reply::Setup;
@@ -19,6 +20,7 @@ use ledger_terms::{
     ActionNodeList, Hash, KnownContracts, Name, ParticipantId, PartySet, Submission, Topology, Tx,
     What,
 };
+use proto_model::seal;
 use sealed_form::is_sealable;
 use std::alloc::Global;
 use view_split::split;
@@ -75,7 +77,8 @@ fn actions_of<K: KnownContracts>(
     seed: &Hash,
     what: &Submission,
 ) -> Result<ActionNodeList, CommandFault>
-    ensures { Follows CommandFault.Memory result (actions_of setup.now.checked (K.rows known.now) seed.now what.now.act_as what.now.what) }
+    ensures exact { Follows CommandFault.Memory result (actions_of setup.now.checked (K.rows known.now) seed.now what.now.act_as what.now.what) }
+    ensures plain { IfErr result (λ fault. fault ≢ CommandFault.Memory → IsPlain fault) }
 {
     match &what.what {
         What::Commands(commands) => interpret(
@@ -100,7 +103,8 @@ fn wanted_tx<K: KnownContracts>(
     now: u64,
 ) -> Result<Tx, SubmitFault>
     requires { me < length setup.now.topology.hosts }
-    ensures { Follows SubmitFault.Memory result (wanted_tx setup.now.topology setup.now.checked me (K.rows known.now) what.now now) }
+    ensures exact { Follows SubmitFault.Memory result (wanted_tx setup.now.topology setup.now.checked me (K.rows known.now) what.now now) }
+    ensures plain { IfErr result HoldsNoMemory }
 {
     let seed = seed_for(&setup.topology, me, what);
     let roots = actions_of(alloc, setup, known, &seed, what)?;
@@ -131,7 +135,9 @@ pub fn prepare<K: KnownContracts>(
     ensures command { IfOk result (λ request. request.command ≡ what.now.command) }
     ensures machine { (offered : Offered) (items : List Item) → what.now.participant ≡ me → offered me items ≡ K.rows known.now
         → MatchResult result (λ request. prepare_over setup.now.topology setup.now.checked offered what.now items now ≡ Some request)
-        (λ fault. fault ≢ SubmitFault.Memory → prepare_over setup.now.topology setup.now.checked offered what.now items now ≡ None) }
+        (λ fault. fault ≢ SubmitFault.Memory → (prepare_over setup.now.topology setup.now.checked offered what.now items now ≡ None)
+        × (why_over setup.now.topology setup.now.checked offered what.now items now ≡ fault)) }
+    ensures plain { IfErr result HoldsNoMemory }
 {
     if let Some(party) = first_unhosted(&setup.topology, me, &what.act_as) {
         return Err(SubmitFault::NotHosted { party });
