@@ -1,4 +1,5 @@
 mod Offered
+mod Offers
 mod Wants
 mod Sealing
 mod Machines

@@ -5,16 +5,21 @@ ghost use Rattle.ledger_terms.specs.declared.submission.Submission.{Submission};
 ghost use Rattle.ledger_terms.specs.declared.topology.Topology.{Topology};
 ghost use Rattle.ledger_terms.specs.Trees.{Actions};
 ghost use Rattle.ledger_model.specs.Terms.{Hash, ParticipantId};
-ghost use Rattle.canton_model.specs.Inbox.{Item, node_active};
+ghost use Rattle.canton_model.specs.Genuine.{Genuine};
+ghost use Rattle.canton_model.specs.declared.entry.Entry.{Entry};
+ghost use Rattle.canton_model.specs.Inbox.{Item, inbox, node_active};
 ghost use Rattle.canton_model.specs.Reading.{Reading};
 ghost use Rattle.canton_model.specs.declared.request.Request.{Request};
 ghost use Rattle.world_model.specs.Machine.{IsMachine, IsRequestFor};
 ghost use Rattle.lang_eval.specs.Found.{Packages};
+ghost use Rattle.lang_eval.specs.Named.{AreKnown};
+ghost use Rattle.interpret.specs.NamedParties.{parties_in_contracts};
 ghost use Rattle.contract_store.specs.Active.{knowns};
 ghost use Rattle.contract_store.specs.Below.{placed_below};
 ghost use Rattle.contract_store.specs.Written.{written};
 ghost use Rattle.sealed_form.specs.SealedForm.{CanBeSealed, IsSealedForm, whole_of};
 ghost use Rattle.sealed_form.specs.SealedReading.{sealed_reading};
+ghost use Rattle.sealed_form.specs.Within.{is_hosted};
 ghost use Rattle.prepare_request.specs.Causes.{AreWanted, HasCause, IsRequestOf};
 ghost use Rattle.prepare_request.specs.Hosted.{TellHosted, hosted_rows};
 ghost use Rattle.prepare_request.specs.Machine.{Offered, machine_over};
@@ -62,4 +67,12 @@ pub fn offered_contracts_are_active()
     ensures { (reading : Reading) (p : ParticipantId) (items : List Item) (n : ℕ) (ids : List Hash)
         → TellHosted reading p ids (written (placed_below reading items n) [])
         → hosted_rows ids (written (placed_below reading items n) []) ≡ knowns (node_active reading p items n) }
+{}
+
+/// What a participant offers over its inbox of a genuine log names only parties of the topology.
+pub fn offered_contracts_name_parties_of_the_topology()
+    ensures { (topology : Topology) (packages : Packages) (log : List Entry) (p : ParticipantId) (n : ℕ)
+        → Genuine (sealed_reading topology packages) topology.params log
+        → AreKnown (is_hosted topology)
+        (parties_in_contracts (knowns (node_active (sealed_reading topology packages) p (inbox (sealed_reading topology packages) p log) n))) }
 {}
