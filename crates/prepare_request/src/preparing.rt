@@ -5,6 +5,7 @@ ghost use Rattle.ledger_terms.specs.Topologies.{IsValid};
 ghost use Rattle.canton_model.specs.Inbox.{Item};
 ghost use Rattle.sealed_form.specs.SealedTest.{is_sealed_form};
 ghost use Rattle.sealed_form.specs.SealedForm.{whole_of};
+ghost use Rattle.interpret.specs.Filled.{filling};
 ghost use Rattle.interpret.specs.Plain.{IsPlain};
 ghost use Rattle.prepare_request.specs.Causes.{HoldsNoMemory};
 ghost use Rattle.prepare_request.specs.Machine.{Offered, prepare_over, why_over};
@@ -17,8 +18,8 @@ use confirm_reply::Setup;
 use hash_id::root_seed;
 use interpret::{CommandFault, fill, interpret};
 use ledger_terms::{
-    ActionNodeList, Hash, KnownContracts, Name, ParticipantId, PartySet, Submission, Topology, Tx,
-    What,
+    ActionNodeList, DraftList, Hash, KnownContracts, Name, ParticipantId, PartySet, Submission,
+    Topology, Tx, What,
 };
 use proto_model::seal;
 use sealed_form::is_sealable;
@@ -69,6 +70,19 @@ fn seed_for(topology: &Topology, me: ParticipantId, what: &Submission) -> Hash
     }
 }
 
+/// The actions of a prepared tree.
+fn fill_drafts<K: KnownContracts>(
+    alloc: Global,
+    known: &K,
+    seed: &Hash,
+    drafts: &DraftList,
+) -> Result<ActionNodeList, CommandFault>
+    ensures exact { Follows CommandFault.Memory result (filling (K.rows known.now) seed.now drafts.now) }
+    ensures plain { IfErr result (λ fault. fault ≢ CommandFault.Memory → IsPlain fault) }
+{
+    fill(alloc, known, seed, drafts)
+}
+
 /// The root actions that the submission wants.
 fn actions_of<K: KnownContracts>(
     alloc: Global,
@@ -89,7 +103,7 @@ fn actions_of<K: KnownContracts>(
             &what.act_as,
             commands,
         ),
-        What::Prepared { roots, .. } => fill(alloc, known, seed, roots),
+        What::Prepared { roots, .. } => fill_drafts(alloc, known, seed, roots),
     }
 }
 
