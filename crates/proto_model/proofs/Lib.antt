@@ -9,3 +9,5 @@ pub mod OneCreate
 pub mod OneRequest
 pub mod NoteRun
 pub mod Making
+pub mod SealedMade
+pub mod Told

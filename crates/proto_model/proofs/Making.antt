@@ -1,11 +1,11 @@
 -- The request that is made of views is the request of their transaction.
-use Rattle.std.proofs.Common.{◌≡◌, ℕ, zero, suc, ◌+◌, ◌<◌, ◌≤◌, Bool, true, false, List, [], ◌∷◌, ◌++◌, map, filter, length, get_or, drop, Option, Some, None, refl, sym, ap, ◌∙◌, append_assoc, arith}
-use Rattle.std.specs.Prelude.{Ok, slice_get, nat_eq}
-use Rattle.std.specs.List.{zip, range_with_len}
+use Rattle.std.proofs.Common.{◌≡◌, ℕ, zero, suc, ◌+◌, ◌<◌, Bool, true, false, List, [], ◌∷◌, ◌++◌, map, filter, length, get_or, drop, Option, Some, None, refl, sym, ap, ◌∙◌, append_assoc, arith}
+use Rattle.std.specs.Prelude.{Ok, slice_get}
+use Rattle.std.specs.List.{range_with_len}
 use Rattle.std.proofs.lemmas.List.{drop_more}
 use Rattle.std.proofs.lemmas.Option.{get_or_from_slice_get}
 use Rattle.sha2.specs.Sha256.{sha256}
-use Rattle.ledger_terms.specs.Hosting.{confirms_at, hosts_at}
+use Rattle.ledger_terms.specs.Hosting.{confirms_at}
 use Rattle.ledger_terms.specs.Topologies.{IsValid}
 use Rattle.ledger_terms.specs.declared.action.Action.{Action}
 use Rattle.ledger_terms.specs.declared.host.Host.{Host}
@@ -16,7 +16,6 @@ use Rattle.ledger_terms.proofs.Deciding.{bytes_decide}
 use Rattle.ledger_model.specs.Opening.{Transaction}
 use Rattle.ledger_model.specs.declared.roles.Roles.{Roles}
 use Rattle.canton_model.specs.declared.envelope.Envelope.{Envelope}
-use Rattle.canton_model.specs.declared.request.Request.{Request}
 use Rattle.lang_eval.specs.Found.{Packages}
 use Rattle.lang_eval.specs.Language.{roles_in}
 use Rattle.lang_eval.proofs.Informed.{no_size}

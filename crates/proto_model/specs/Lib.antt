@@ -7,3 +7,4 @@ pub mod NoteForm
 pub mod NoteLog
 pub mod Made
 pub mod RequestedViews
+pub mod SealedRequests

@@ -9,6 +9,7 @@ pub mod opened_form;
 mod opening;
 mod participants;
 pub mod plain_form;
+pub mod sealed_laws;
 mod sealing;
 pub mod setup;
 
