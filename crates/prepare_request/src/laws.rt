@@ -1,5 +1,5 @@
 //! Laws of what submissions want, each the contract of a function with nothing to do.
-ghost use Rattle.std.specs.Prelude.{◌≡◌, ℕ, List, Ok, Err, Some, ◌++◌, []};
+ghost use Rattle.std.specs.Prelude.{◌≡◌, ℕ, List, Ok, Err, Some, []};
 ghost use Rattle.ledger_terms.specs.declared.known.Known.{Known};
 ghost use Rattle.ledger_terms.specs.declared.submission.Submission.{Submission};
 ghost use Rattle.ledger_terms.specs.declared.topology.Topology.{Topology};
@@ -10,7 +10,7 @@ ghost use Rattle.canton_model.specs.declared.entry.Entry.{Entry};
 ghost use Rattle.canton_model.specs.Inbox.{Item, inbox, node_active};
 ghost use Rattle.canton_model.specs.Reading.{Reading};
 ghost use Rattle.canton_model.specs.declared.request.Request.{Request};
-ghost use Rattle.world_model.specs.Machine.{IsMachine, IsRequestFor};
+ghost use Rattle.world_model.specs.Machine.{IsMachine};
 ghost use Rattle.lang_eval.specs.Found.{Packages};
 ghost use Rattle.lang_eval.specs.Named.{AreKnown};
 ghost use Rattle.interpret.specs.NamedParties.{parties_in_contracts};
