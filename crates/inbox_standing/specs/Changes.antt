@@ -1,0 +1,47 @@
+-- What an inbox's requests do to contracts: the changes of those that are approved, and of those that aren't decided.
+use Rattle.std.specs.Prelude.{ℕ, zero, suc, Bool, List, [], ◌∷◌, ◌++◌, Option, Some, None, if◌then◌else◌, ◌&&◌, not, is_some, map, filter, length}
+use Rattle.ledger_terms.specs.declared.act.Act.{Act}
+use Rattle.ledger_model.specs.Forest.{acts}
+use Rattle.canton_model.specs.Log.{Params, Verdict}
+use Rattle.canton_model.specs.Reading.{Reading}
+use Rattle.canton_model.specs.Timeline.{is_approval, verdict_on}
+use Rattle.canton_model.specs.Inbox.{Item, moments, opened_at, verdict_in, is_decided_in}
+use Rattle.contract_store.specs.Below.{at_place}
+use Rattle.contract_store.specs.Written.{Placed}
+
+-- the authentic actions that are opened of the request at a place
+abbrev pub authentic_at : Reading → List Item → ℕ → List Act
+authentic_at reading items m = filter reading.is_authentic (acts (opened_at items m))
+
+-- the same, each with the place
+abbrev pub placed_at : Reading → List Item → ℕ → List Placed
+placed_at reading items m = map (at_place m) (authentic_at reading items m)
+
+-- no verdict on its request stands among these items, and it approves
+abbrev pub approves_first : List Item → Verdict → Bool
+approves_first before verdict = not (is_some (verdict_on verdict.request (moments before))) && is_approval (Some verdict.decision)
+
+-- what is done to contracts where this verdict is read after these items
+abbrev pub changes_of_verdict : Reading → List Item → Option Verdict → List Placed
+changes_of_verdict reading before None = []
+changes_of_verdict reading before (Some verdict) =
+    if approves_first before verdict then placed_at reading before verdict.request else []
+
+abbrev pub changes_after : Reading → (before : List Item) → List Item → List Placed
+changes_after reading before [] = []
+changes_after reading before (item ∷ rest) =
+    changes_of_verdict reading before (verdict_in item.content) ++ changes_after reading (before ++ item ∷ []) rest
+
+-- the authentic opened actions of the approved requests, in the order in which their verdicts were read
+abbrev pub changes_in : Reading → List Item → List Placed
+changes_in reading items = changes_after reading [] items
+
+-- those of the requests below a place that a test keeps, in order of place
+abbrev pub placed_below : (ℕ → Bool) → (ℕ → List Placed) → ℕ → List Placed
+placed_below keeps f zero = []
+placed_below keeps f (suc k) = placed_below keeps f k ++ (if keeps k then f k else [])
+
+-- the authentic opened actions of the requests that aren't decided over the inbox, in order of place
+abbrev pub pending_changes : Reading → Params → List Item → List Placed
+pending_changes reading params items =
+    placed_below (λ m. not (is_decided_in params items m (length items))) (placed_at reading items) (length items)

@@ -1,0 +1,52 @@
+-- What the items of an inbox keep beside what came.
+use Rattle.std.specs.Prelude.{◌≡◌, ◌<◌, ℕ, suc, All, List, Some, map, filter, slice_get, take}
+use Rattle.ledger_terms.specs.declared.act.Act.{Act}
+use Rattle.ledger_terms.specs.declared.topology.Topology.{Topology}
+use Rattle.ledger_model.specs.Forest.{acts}
+use Rattle.ledger_model.specs.Opening.{OpenedView}
+use Rattle.ledger_model.specs.Terms.{Hash, ParticipantId, Path, id_of}
+use Rattle.canton_model.specs.Checks.{is_confirmed_by}
+use Rattle.canton_model.specs.Inbox.{Item}
+use Rattle.canton_model.specs.Reading.{Reading}
+use Rattle.lang_eval.specs.Found.{Packages}
+use Rattle.view_split.specs.Placed.{shown_by}
+use Rattle.view_split.specs.declared.opened_tree.OpenedTree.{OpenedTree}
+use Rattle.sealed_form.specs.SealedForm.{opened_in}
+use Rattle.sealed_form.specs.SealedReading.{sealed_reading}
+use Rattle.confirm_reply.specs.Facts.{IsFactAt}
+use Rattle.confirm_reply.specs.Opened.{CanBeChecked}
+use Rattle.confirm_reply.specs.declared.id_facts.IdFacts.{IdFacts}
+use Rattle.node_inbox.specs.declared.kept_item.KeptItem.{KeptItem}
+use Rattle.node_inbox.specs.declared.kept_item.KeptRequest.{KeptRequest}
+use Rattle.node_inbox.specs.declared.kept_item.KeptContent.{KeptContent}
+use Rattle.node_inbox.specs.declared.kept_item.KeptContent.TheVariants.{Received, Told, Nothing}
+use Rattle.node_inbox.specs.Items.{model_items}
+
+-- the paths of the views that the participant confirms
+abbrev pub confirmed_paths : Reading → ParticipantId → OpenedTree → List Path
+confirmed_paths reading p tree = map (λ (view : OpenedView). view.path) (filter (is_confirmed_by reading p) (shown_by tree).views)
+
+-- the contracts that the opened actions are on
+abbrev pub opened_ids : OpenedTree → List Hash
+opened_ids tree = map (λ (act : Act). id_of act.action) (acts (shown_by tree).roots)
+
+-- A request at place k of an inbox that ends with it: its bytes open a tree whose views can be checked, the paths are those of
+-- the views that the participant confirms, and the facts say of each contract in it what the inbox says.
+pub record IsKept (topology : Topology) (packages : Packages) (me : ParticipantId) (items : List Item) (k : ℕ) (kept : KeptRequest) : Type 0 where
+  pub tree : OpenedTree
+  pub is_opened : opened_in kept.bytes ≡ Some tree
+  pub views : kept.views ≡ confirmed_paths (sealed_reading topology packages) me tree
+  pub checkable : All (CanBeChecked packages (shown_by tree)) (shown_by tree).views
+  pub facts : All (IsFactAt (sealed_reading topology packages) topology.params items k) kept.facts
+  pub all_ids : map (λ (fact : IdFacts). fact.id) kept.facts ≡ opened_ids tree
+
+-- a verdict stands behind its request
+abbrev pub IsKeptContent : Topology → Packages → ParticipantId → List Item → ℕ → KeptContent → Type 0
+IsKeptContent topology packages me items k (Received kept) = IsKept topology packages me items k kept
+IsKeptContent topology packages me items k (Told verdict) = verdict.request < k
+IsKeptContent topology packages me items k Nothing = Unit {0}
+
+-- each as the inbox stood when it was read
+abbrev pub AreKept : Topology → Packages → ParticipantId → List KeptItem → Type 0
+AreKept topology packages me items =
+    (k : ℕ) (item : KeptItem) → slice_get items k ≡ Some item → IsKeptContent topology packages me (take (suc k) (model_items items)) k item.content

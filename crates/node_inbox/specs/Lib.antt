@@ -1,0 +1,5 @@
+pub mod InboxState
+pub mod Entries
+pub mod Items
+pub mod Kept
+pub mod Offered

@@ -1,0 +1,146 @@
+//! An inbox.
+ghost use Rattle.std.specs.Prelude.{◌≡◌, ◌<◌, ◌×◌, ◌^◌, ◌&&◌, [], true, length, is_some, IfOk, OnOk, OnErr};
+ghost use Rattle.canton_model.specs.declared.request.Request.{Request as RequestValue};
+ghost use Rattle.canton_model.specs.Log.{RequestMessage};
+ghost use Rattle.canton_model.specs.Inbox.{clean, clean_time, is_decided_in, last_time, node_active, node_log, shown_at};
+ghost use Rattle.world_model.specs.Node.{owed_at, owes_at};
+ghost use Rattle.contract_store.specs.Written.{holding, written};
+ghost use Rattle.inbox_standing.specs.Changes.{changes_in, pending_changes};
+ghost use Rattle.inbox_standing.specs.Requests.{outcome_received};
+ghost use Rattle.validate_job.specs.Owed.{owed_on_each};
+ghost use Rattle.node_inbox.specs.Entries.{item_from};
+ghost use Rattle.node_inbox.specs.InboxState.{begun, decided_since, params_of, reading_of, with_item};
+
+use crate::kept_item::KeptItem;
+use canton_model::{Entry, Outcome};
+use confirm_reply::Setup;
+use contract_store::Store;
+use inbox_standing::Standing;
+use ledger_model::CommitList;
+use ledger_terms::{ActiveRowList, ParticipantId};
+use std::alloc::{AllocError, Global};
+use std::marker::Model;
+use validate_job::ValidateJob;
+
+/// What a participant has read of the log, item by item, and what it keeps beside that.
+#[derive(Drop)]
+pub struct Inbox<'s> {
+    setup: &'s Setup,
+    me: ParticipantId,
+    items: Vec<KeptItem>,
+    standing: Standing,
+}
+
+impl<'s> Model for Inbox<'s> {
+    ghost use Rattle.node_inbox.specs.InboxState.{InboxState};
+
+    ghost Value = { InboxState };
+
+    ghost use Rattle.ledger_terms.specs.Forest.{coded_forest};
+    ghost use Rattle.ledger_terms.specs.Packages.{coded_package};
+    ghost use Rattle.std.specs.Coded.{codes};
+
+    ghost coded = { Prim.hlevel (codes, coded_forest, coded_package) };
+
+    ghost use Rattle.node_inbox.specs.Items.{model_items};
+
+    ghost view = { λ i. record {
+      topology = i.setup.now.topology;
+      packages = i.setup.now.checked;
+      me = i.me;
+      items = model_items i.items.items;
+    } };
+}
+
+impl<'s> Inbox<'s> {
+    /// An inbox of a participant that has read nothing.
+    pub fn new(alloc: Global, setup: &'s Setup, me: ParticipantId) -> Inbox<'s>
+        ensures { result ≡ begun setup.now.topology setup.now.checked me }
+    {
+    }
+
+    /// How many entries were read.
+    pub fn cursor(&self) -> u64
+        ensures { result ≡ length self.now.items }
+    {
+    }
+
+    /// Reads the next entry of the log. Takes all memory before it changes anything.
+    pub fn read(&mut self, entry: &Entry) -> Result<(), AllocError>
+        requires few { length self.old.items < 2 ^ 63 }
+        requires rises { last_time self.old.items < entry.now.time }
+        requires sealed { (q : RequestValue) → entry.now.message ≡ RequestMessage q → (reading_of self.old).is_sealed q ≡ true }
+        ensures ok { OnOk result (self.new ≡ with_item self.old (item_from (reading_of self.old) self.old.me self.old.items entry.now)) }
+        ensures err { OnErr result (self.new ≡ self.old) }
+    {
+    }
+
+    /// Whether a request was received at a place and is decided at the cursor.
+    pub fn is_decided(&self, place: u64) -> bool
+        ensures { result ≡ (is_some (shown_at self.now.items place)
+            && is_decided_in (params_of self.now) self.now.items place (length self.now.items)) }
+    {
+    }
+
+    /// The first place at which a request was decided, and the cursor where it isn't. Goes through what was read from the request's
+    /// place on.
+    pub fn decided_since(&self, place: u64) -> u64
+        ensures { result ≡ decided_since (params_of self.now) self.now.items place }
+    {
+    }
+
+    /// Whether the participant confirms a view of the request at a place, decided or not.
+    pub fn owes(&self, place: u64) -> bool
+        ensures { result ≡ owes_at (reading_of self.now) self.now.me self.now.items place }
+    {
+    }
+
+    /// The check that the participant owes to the request at a place, by what it had read when it had read that. Opens the
+    /// envelope again.
+    pub fn job(&self, alloc: Global, place: u64) -> Result<ValidateJob<'s>, AllocError>
+        requires { owes_at (reading_of self.now) self.now.me self.now.items place ≡ true }
+        ensures place { IfOk result (λ job. job.given.place ≡ place) }
+        ensures left { IfOk result (λ job. job.left ≡ length job.given.views) }
+        ensures some { IfOk result (λ job. 0 < job.left) }
+        ensures owed { IfOk result (λ job. owed_on_each job.given.input job.given.views
+            ≡ owed_at (reading_of self.now) (params_of self.now) self.now.me self.now.items place) }
+    {
+    }
+
+    /// How many entries stand before the first request received that isn't decided at the cursor.
+    pub fn clean(&self) -> u64
+        ensures { result ≡ clean (params_of self.now) self.now.items }
+    {
+    }
+
+    /// The time of the entry before the clean place, in microseconds, and 0 where there is none.
+    pub fn clean_time(&self) -> u64
+        ensures { result ≡ clean_time (params_of self.now) self.now.items }
+    {
+    }
+
+    /// What became of the request that was received at a place, and none exactly where none was.
+    pub fn outcome(&self, place: u64) -> Option<Outcome>
+        ensures { result ≡ outcome_received (params_of self.now) self.now.items place }
+    {
+    }
+
+    /// The approved requests before the clean place, as they are opened. Opens each again.
+    pub fn applied(&self, alloc: Global) -> Result<CommitList, AllocError>
+        ensures { IfOk result (λ commits. commits ≡ node_log (params_of self.now) self.now.items) }
+    {
+    }
+
+    /// The active contracts with a hosted stakeholder at the clean place, in order of creation. Goes through the approved requests.
+    pub fn active(&self, alloc: Global) -> Result<ActiveRowList, AllocError>
+        ensures { IfOk result (λ rows. rows ≡ node_active (reading_of self.now) self.now.me self.now.items (clean (params_of self.now) self.now.items)) }
+    {
+    }
+
+    /// What the participant knows of contracts at the cursor, with what requests hold that aren't decided there.
+    pub fn store(&self) -> &Store
+        ensures rows { result.now.rows ≡ written (changes_in (reading_of self.now) self.now.items) [] }
+        ensures holds { result.now.holds ≡ holding (pending_changes (reading_of self.now) (params_of self.now) self.now.items) }
+    {
+    }
+}

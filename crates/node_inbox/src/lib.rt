@@ -1,0 +1,10 @@
+//! One participant's inbox, with what is kept beside it: a store of contracts, the requests that it received, and what its checks
+//! will need, so that no question goes through the whole inbox.
+#![tactic(auto)]
+
+mod inbox;
+mod kept_item;
+pub mod laws;
+
+pub use inbox::Inbox;
+pub use kept_item::{KeptContent, KeptItem, KeptRequest};
