@@ -13,10 +13,6 @@ use Rattle.contract_store.specs.Written.{Placed}
 abbrev pub authentic_at : Reading → List Item → ℕ → List Act
 authentic_at reading items m = filter reading.is_authentic (acts (opened_at items m))
 
--- the same, each with the place
-abbrev pub placed_at : Reading → List Item → ℕ → List Placed
-placed_at reading items m = map (at_place m) (authentic_at reading items m)
-
 -- no verdict on its request stands among these items, and it approves
 abbrev pub approves_first : List Item → Verdict → Bool
 approves_first before verdict = not (is_some (verdict_on verdict.request (moments before))) && is_approval (Some verdict.decision)
@@ -25,7 +21,7 @@ approves_first before verdict = not (is_some (verdict_on verdict.request (moment
 abbrev pub changes_of_verdict : Reading → List Item → Option Verdict → List Placed
 changes_of_verdict reading before None = []
 changes_of_verdict reading before (Some verdict) =
-    if approves_first before verdict then placed_at reading before verdict.request else []
+    if approves_first before verdict then map (at_place verdict.request) (authentic_at reading before verdict.request) else []
 
 abbrev pub changes_after : Reading → (before : List Item) → List Item → List Placed
 changes_after reading before [] = []
@@ -36,12 +32,12 @@ changes_after reading before (item ∷ rest) =
 abbrev pub changes_in : Reading → List Item → List Placed
 changes_in reading items = changes_after reading [] items
 
--- those of the requests below a place that a test keeps, in order of place
-abbrev pub placed_below : (ℕ → Bool) → (ℕ → List Placed) → ℕ → List Placed
+-- the actions of the requests below a place that a test keeps, in order of place
+abbrev pub placed_below : (ℕ → Bool) → (ℕ → List Act) → ℕ → List Placed
 placed_below keeps f zero = []
-placed_below keeps f (suc k) = placed_below keeps f k ++ (if keeps k then f k else [])
+placed_below keeps f (suc k) = placed_below keeps f k ++ (if keeps k then map (at_place k) (f k) else [])
 
 -- the authentic opened actions of the requests that aren't decided over the inbox, in order of place
 abbrev pub pending_changes : Reading → Params → List Item → List Placed
 pending_changes reading params items =
-    placed_below (λ m. not (is_decided_in params items m (length items))) (placed_at reading items) (length items)
+    placed_below (λ m. not (is_decided_in params items m (length items))) (authentic_at reading items) (length items)

@@ -9,10 +9,14 @@ use Rattle.request_track.specs.Tracking.{Tracking}
 use Rattle.inbox_standing.specs.Changes.{changes_in, pending_changes}
 use Rattle.inbox_standing.specs.Requests.{pairs_in}
 
+pub record Stands : Type 0 where
+  pub store : Stored
+  pub tracking : Tracking
+
 -- The store has the changes of the approved requests and holds those of the requests that aren't decided, and the tracker has
 -- the requests that were received, with what became of them.
-pub record Follows (reading : Reading) (params : Params) (items : List Item) (store : Stored) (tracking : Tracking) : Type 0 where
-  pub rows : store.rows ≡ written (changes_in reading items) []
-  pub holds : store.holds ≡ holding (pending_changes reading params items)
-  pub pairs : tracking.pairs ≡ pairs_in params items
-  pub cursor : tracking.cursor ≡ length items
+pub record Follows (reading : Reading) (params : Params) (items : List Item) (stands : Stands) : Type 0 where
+  pub rows : (stands.store).rows ≡ written (changes_in reading items) []
+  pub holds : (stands.store).holds ≡ holding (pending_changes reading params items)
+  pub pairs : (stands.tracking).pairs ≡ pairs_in params items
+  pub cursor : (stands.tracking).cursor ≡ length items
