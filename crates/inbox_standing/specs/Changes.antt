@@ -2,7 +2,8 @@
 use Rattle.std.specs.Prelude.{ℕ, zero, suc, Bool, List, [], ◌∷◌, ◌++◌, Option, Some, None, if◌then◌else◌, ◌&&◌, not, is_some, map, filter, length}
 use Rattle.ledger_terms.specs.declared.act.Act.{Act}
 use Rattle.ledger_model.specs.Forest.{acts}
-use Rattle.canton_model.specs.Log.{Params, Verdict}
+use Rattle.canton_model.specs.Log.{Params}
+use Rattle.canton_model.specs.declared.verdict.Verdict.{Verdict}
 use Rattle.canton_model.specs.Reading.{Reading}
 use Rattle.canton_model.specs.Timeline.{is_approval, verdict_on}
 use Rattle.canton_model.specs.Inbox.{Item, moments, opened_at, verdict_in, is_decided_in}

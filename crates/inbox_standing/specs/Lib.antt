@@ -4,3 +4,4 @@ pub mod Standing
 pub mod ChangeLists
 pub mod Steps
 pub mod Room
+pub mod Order
