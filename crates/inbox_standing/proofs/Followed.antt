@@ -19,13 +19,13 @@ use Rattle.request_track.specs.CleanLaw.{is_open_at}
 use Rattle.request_track.specs.Pairs.{Pair, settled, expired, is_undecided, expire_one}
 use Rattle.request_track.specs.declared.tracked.Tracked.{Tracked}
 use Rattle.inbox_standing.specs.ChangeLists.{changes_of, hold_on, id_in, write_changes}
-use Rattle.inbox_standing.specs.Changes.{authentic_at, approves_first, changes_in, placed_below}
+use Rattle.inbox_standing.specs.Changes.{acts_of_verdict, authentic_at, approves_first, changes_in, placed_below}
 use Rattle.inbox_standing.specs.Order.{IsInOrder}
 use Rattle.inbox_standing.specs.Requests.{told_time, decision_after, tracked_of, pairs_from, pairs_in}
 use Rattle.inbox_standing.specs.Standing.{Stands, Follows}
 use Rattle.inbox_standing.specs.Steps.{InStep, HoldsFollow}
 use Rattle.inbox_standing.proofs.Expiry.{released_settled}
-use Rattle.inbox_standing.proofs.Grown.{moments_push, rows_same, rows_written, acts_of_verdict, held_before, holds_same, holds_more, one_longer, get_last}
+use Rattle.inbox_standing.proofs.Grown.{moments_push, rows_same, rows_written, held_before, holds_same, holds_more, one_longer, get_last}
 use Rattle.inbox_standing.proofs.PlacedBelow.{placed_kept_below, open_pushed}
 use Rattle.inbox_standing.proofs.Order.{below_end, no_verdict_yet, not_past_yet}
 use Rattle.inbox_standing.proofs.Outcomes.{past_push, verdict_same, verdict_new, verdict_first, decided_closed}

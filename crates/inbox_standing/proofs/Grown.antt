@@ -18,7 +18,7 @@ use Rattle.contract_store.specs.declared.row.StoreRow.{StoreRow}
 use Rattle.request_track.specs.CleanLaw.{is_open_at, is_open_item}
 use Rattle.request_track.specs.Pairs.{Pair}
 use Rattle.inbox_standing.specs.ChangeLists.{changes_of, hold_on, id_in, write_changes}
-use Rattle.inbox_standing.specs.Changes.{authentic_at, approves_first, changes_of_verdict, changes_after, changes_in, placed_below, pending_changes}
+use Rattle.inbox_standing.specs.Changes.{acts_of_verdict, authentic_at, approves_first, changes_of_verdict, changes_after, changes_in, placed_below, pending_changes}
 use Rattle.inbox_standing.specs.Requests.{pairs_in}
 use Rattle.inbox_standing.proofs.PlacedBelow.{placed_same}
 use Rattle.inbox_standing.proofs.Tracked.{tracks}
@@ -69,10 +69,7 @@ module _ (reading : Reading) where
       e ∙ ap (λ (ps : List Placed). written ps [])
       (sym (changes_push items x ∙ ap (λ (o : Option Verdict). changes_in reading items ++ changes_of_verdict reading items o) none ∙ append-nil (changes_in reading items)))
 
-  abbrev pub acts_of_verdict : List Item → Verdict → List Act
-  acts_of_verdict items v = if approves_first items v then authentic_at reading items v.request else []
-
-  placed_of_verdict : (items : List Item) (v : Verdict) → changes_of_verdict reading items (Some v) ≡ map (at_place v.request) (acts_of_verdict items v)
+  placed_of_verdict : (items : List Item) (v : Verdict) → changes_of_verdict reading items (Some v) ≡ map (at_place v.request) (acts_of_verdict reading items v)
   placed_of_verdict items v = by (approves_first items v)
     where
       by : (b : Bool) → (if b then map (at_place v.request) (authentic_at reading items v.request) else [])
@@ -82,11 +79,11 @@ module _ (reading : Reading) where
 
   pub rows_written : (items : List Item) (x : Item) (v : Verdict) (rows : List StoreRow) → verdict_in x.content ≡ Some v
       → rows ≡ written (changes_in reading items) []
-      → write_changes v.request (changes_of (acts_of_verdict items v)) rows ≡ written (changes_in reading (items ++ x ∷ [])) []
+      → write_changes v.request (changes_of (acts_of_verdict reading items v)) rows ≡ written (changes_in reading (items ++ x ∷ [])) []
   rows_written items x v rows some e =
-      changes_written v.request (acts_of_verdict items v) rows
-      ∙ ap (written (map (at_place v.request) (acts_of_verdict items v))) e
-      ∙ sym (written_append (changes_in reading items) (map (at_place v.request) (acts_of_verdict items v)) [])
+      changes_written v.request (acts_of_verdict reading items v) rows
+      ∙ ap (written (map (at_place v.request) (acts_of_verdict reading items v))) e
+      ∙ sym (written_append (changes_in reading items) (map (at_place v.request) (acts_of_verdict reading items v)) [])
       ∙ ap (λ (ps : List Placed). written (changes_in reading items ++ ps) []) (sym (placed_of_verdict items v))
       ∙ ap (λ (ps : List Placed). written ps [])
       (sym (changes_push items x ∙ ap (λ (o : Option Verdict). changes_in reading items ++ changes_of_verdict reading items o) some))
