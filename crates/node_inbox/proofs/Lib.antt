@@ -1,2 +1,5 @@
 pub mod Grows
 pub mod ActFacts
+pub mod Put
+pub mod PutRequest
+pub mod PutVerdict
