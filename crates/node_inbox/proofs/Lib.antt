@@ -3,3 +3,4 @@ pub mod ActFacts
 pub mod Put
 pub mod PutRequest
 pub mod PutVerdict
+pub mod Seen
