@@ -3,4 +3,5 @@ pub mod ActFacts
 pub mod Put
 pub mod PutRequest
 pub mod PutVerdict
+pub mod Confirming
 pub mod Seen

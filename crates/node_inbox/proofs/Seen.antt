@@ -142,10 +142,10 @@ pub closed_is : (params : Params) (items : List Item) (m : ℕ)
     → is_closed (outcome_received params items m) ≡ (is_some (shown_at items m) && is_decided_in params items m (length items))
 closed_is params items m = by (shown_at items m)
   where
-    n = as_many_moments items
-
     over : is_decided_in params items m (length items) ≡ (is_some (verdict_on m (moments items)) || is_past (decision_time_in params items m) (moments items))
-    over = rw (take_all (length items) (moments items) (omega (arith, n)), take_all (length items + 1) (moments items) (omega (arith, n))) refl
+    over =
+        rw (take_all (length items) (moments items) (omega (arith, as_many_moments items)),
+        take_all (length items + 1) (moments items) (omega (arith, as_many_moments items))) refl
 
     by : (o : Option Shown)
         → is_closed (option_map (λ (s : Shown). kind_of (outcome_of (moments items) m (decision_time_in params items m))) o)
@@ -164,47 +164,6 @@ module _ (topology : Topology) (packages : Packages) (me : ParticipantId) (items
       ap (λ (ps : List Pair). clean_of ps (stands.tracking).cursor) i.follows.pairs
       ∙ ap (clean_of (pairs_in topology.params (model_items items))) i.follows.cursor
       ∙ clean_same topology.params (model_items items) (pairs_in topology.params (model_items items)) (tracks topology.params (model_items items))
-
-  no_paths : (confirms : OpenedView → Bool) (views : List OpenedView) → map (λ (view : OpenedView). view.path) (filter confirms views) ≡ [] → list_any confirms views ≡ false
-  no_paths confirms [] e = refl
-  no_paths confirms (view ∷ views) e = by (confirms view) e (no_paths confirms views)
-    where
-      by : (b : Bool) → map (λ (view : OpenedView). view.path) (if b then view ∷ filter confirms views else filter confirms views) ≡ []
-          → (map (λ (view : OpenedView). view.path) (filter confirms views) ≡ [] → list_any confirms views ≡ false) → (b || list_any confirms views) ≡ false
-      by true e rest = absurd (cc)
-      by false e rest = rest e
-
-  some_path : (confirms : OpenedView → Bool) (views : List OpenedView) → list_any confirms views ≡ false → map (λ (view : OpenedView). view.path) (filter confirms views) ≡ []
-  some_path confirms [] e = refl
-  some_path confirms (view ∷ views) e = by (confirms view) e (some_path confirms views)
-    where
-      by : (b : Bool) → (b || list_any confirms views) ≡ false
-          → (list_any confirms views ≡ false → map (λ (view : OpenedView). view.path) (filter confirms views) ≡ [])
-          → map (λ (view : OpenedView). view.path) (if b then view ∷ filter confirms views else filter confirms views) ≡ []
-      by true e rest = absurd (cc)
-      by false e rest = rest e
-
-  owes_is : (k : ℕ) (r : KeptRequest) (e : kept_at items k ≡ Some r)
-      → owes_at (sealed_reading topology packages) me (model_items items) k
-      ≡ list_any (is_confirmed_by (sealed_reading topology packages) me) (shown_by_tree (found_at topology packages me items i.each k r e).came.tree).views
-  owes_is k r e = ap (λ (o : Option Shown). list_any (is_confirmed_by (sealed_reading topology packages) me) (views_in o)) (shown_tree topology packages me items i.each k r e)
-
-  pub owes_none : (k : ℕ) → kept_at items k ≡ None → owes_at (sealed_reading topology packages) me (model_items items) k ≡ false
-  owes_none k e = ap (λ (o : Option Shown). list_any (is_confirmed_by (sealed_reading topology packages) me) (views_in o)) (none_shown topology packages me items i.each k e)
-
-  pub owes_some : (k : ℕ) (r : KeptRequest) → kept_at items k ≡ Some r → (b : Bool) → ((b ≡ true) → r.views ≡ []) → (r.views ≡ [] → b ≡ true)
-      → owes_at (sealed_reading topology packages) me (model_items items) k ≡ not b
-  owes_some k r e true no yes' =
-      let f = found_at topology packages me items i.each k r e in
-      owes_is k r e ∙ no_paths (is_confirmed_by (sealed_reading topology packages) me) (shown_by_tree f.came.tree).views (sym f.views ∙ no refl)
-  owes_some k r e false no yes' =
-      let f = found_at topology packages me items i.each k r e in
-      owes_is k r e ∙ not_none (list_any (is_confirmed_by (sealed_reading topology packages) me) (shown_by_tree f.came.tree).views)
-      (λ h. absurd (let w = yes' (f.views ∙ some_path (is_confirmed_by (sealed_reading topology packages) me) (shown_by_tree f.came.tree).views h) in cc))
-    where
-      not_none : (b : Bool) → (b ≡ false → ⊥) → b ≡ true
-      not_none true h = refl
-      not_none false h = absurd (h refl)
 
   -- what a verdict on a request that is kept brings
   changes_at : (k : ℕ) (r : KeptRequest) → kept_at items k ≡ Some r
