@@ -4,4 +4,5 @@ pub mod Put
 pub mod PutRequest
 pub mod PutVerdict
 pub mod Confirming
+pub mod Came
 pub mod Seen
