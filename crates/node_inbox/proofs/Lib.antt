@@ -5,4 +5,6 @@ pub mod PutRequest
 pub mod PutVerdict
 pub mod Confirming
 pub mod Came
+pub mod Laid
 pub mod Seen
+pub mod Owes

@@ -17,6 +17,7 @@ use crate::items::{request_at, time_at};
 use crate::kept_item::KeptItem;
 use crate::putting::{put_nothing, put_request, put_verdict};
 use crate::telling::telling;
+use blind_tree::laws::opened_views_are_filled;
 use canton_model::{Entry, Message, Outcome, Request, Verdict};
 use confirm_reply::Setup;
 use contract_store::Store;
@@ -195,6 +196,7 @@ impl<'s> Inbox<'s> {
     pub fn owes(&self, place: u64) -> bool
         ensures { result ≡ owes_at (reading_of self.now) self.now.me self.now.items place }
     {
+        opened_views_are_filled();
         match request_at(self.items.as_slice(), place) {
             Some(kept) => !kept.views.is_empty(),
             None => false,
