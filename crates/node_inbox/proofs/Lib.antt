@@ -8,3 +8,5 @@ pub mod Came
 pub mod Laid
 pub mod Seen
 pub mod Owes
+pub mod SameFacts
+pub mod JobFacts

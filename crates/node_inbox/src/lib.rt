@@ -8,6 +8,7 @@ mod confirmed;
 mod facts;
 mod inbox;
 mod items;
+mod job;
 mod kept_item;
 pub mod laws;
 mod opening;
