@@ -199,7 +199,7 @@ module _ (topology : Topology) (packages : Packages) (me : ParticipantId) (r : K
   abbrev mine : OpenedView → Bool
   mine = is_confirmed_by reading me
 
-  same_tree : input.tree ≡ came.tree
+  pub same_tree : input.tree ≡ came.tree
   same_tree = same_Some input.tree came.tree (sym is.opened ∙ came.is_opened)
 
   sealed : IsSealed reading came.request

@@ -10,3 +10,4 @@ pub mod Seen
 pub mod Owes
 pub mod SameFacts
 pub mod JobFacts
+pub mod JobLaws

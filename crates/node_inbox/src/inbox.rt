@@ -1,9 +1,10 @@
 //! An inbox.
-ghost use Rattle.std.specs.Prelude.{◌≡◌, ◌<◌, ◌^◌, ◌&&◌, [], true, length, is_some, OnOk, OnErr};
+ghost use Rattle.std.specs.Prelude.{◌≡◌, ◌<◌, ◌^◌, ◌&&◌, [], true, length, is_some, IfOk, OnOk, OnErr};
 ghost use Rattle.canton_model.specs.declared.request.Request.{Request as RequestValue};
 ghost use Rattle.canton_model.specs.declared.message.Message.TheVariants.{Request as RequestMessage};
 ghost use Rattle.canton_model.specs.Inbox.{Nothing, clean, clean_time, is_decided_in, last_time, received, shown_at};
-ghost use Rattle.world_model.specs.Node.{owes_at};
+ghost use Rattle.world_model.specs.Node.{owed_at, owes_at};
+ghost use Rattle.validate_job.specs.Owed.{owed_on_each};
 ghost use Rattle.contract_store.specs.Written.{holding, written};
 ghost use Rattle.inbox_standing.specs.Changes.{changes_in, pending_changes};
 ghost use Rattle.inbox_standing.specs.Requests.{outcome_received};
@@ -14,17 +15,20 @@ ghost use Rattle.node_inbox.specs.Reads.{item_with};
 
 use crate::coming::coming;
 use crate::items::{request_at, time_at};
+use crate::job::input_of;
 use crate::kept_item::KeptItem;
 use crate::putting::{put_nothing, put_request, put_verdict};
 use crate::telling::telling;
 use blind_tree::laws::opened_views_are_filled;
 use canton_model::{Entry, Message, Outcome, Request, Verdict};
 use confirm_reply::Setup;
+use confirm_reply::laws::{facts_of_a_place_are_as_at_it, opened_views_can_be_checked};
 use contract_store::Store;
 use inbox_standing::Standing;
-use ledger_terms::ParticipantId;
+use ledger_terms::{Exact, ParticipantId};
 use std::alloc::{AllocError, Global};
 use std::marker::Model;
+use validate_job::ValidateJob;
 
 /// What a participant has read of the log, item by item, and what it keeps beside that.
 #[derive(Drop)]
@@ -201,6 +205,26 @@ impl<'s> Inbox<'s> {
             Some(kept) => !kept.views.is_empty(),
             None => false,
         }
+    }
+
+    /// The check that the participant owes to the request at a place, by what it had read when it had read that. Opens the
+    /// envelope again.
+    pub fn job(&self, alloc: Global, place: u64) -> Result<ValidateJob<'s>, AllocError>
+        requires { owes_at (reading_of self.now) self.now.me self.now.items place ≡ true }
+        ensures place { IfOk result (λ job. job.given.place ≡ place) }
+        ensures left { IfOk result (λ job. job.left ≡ length job.given.views) }
+        ensures some { IfOk result (λ job. 0 < job.left) }
+        ensures owed { IfOk result (λ job. owed_on_each job.given.input job.given.views
+            ≡ owed_at (reading_of self.now) (params_of self.now) self.now.me self.now.items place) }
+    {
+        opened_views_are_filled();
+        opened_views_can_be_checked();
+        facts_of_a_place_are_as_at_it();
+        let kept = request_at(self.items.as_slice(), place).unwrap();
+        let time = time_at(self.items.as_slice(), place);
+        let input = input_of(alloc, self.setup, self.me, kept, time)?;
+        let views = kept.views.copied()?;
+        Ok(ValidateJob::new(input, place, views))
     }
 
     /// What the participant knows of contracts at the cursor, with what requests hold that aren't decided there.

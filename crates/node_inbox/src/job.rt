@@ -32,7 +32,7 @@ fn count_of(alloc: Global, tree: &OpenedTree) -> Result<usize, AllocError>
 {
     let roots = roots_of(alloc, &tree.views)?;
     let found = acts_of(alloc, &roots)?;
-    Ok(found.len())
+    Ok(found.as_slice().len())
 }
 
 /// What the participant checks a request by.

@@ -5,4 +5,4 @@ use Rattle.node_inbox.proofs.job.count_of.Goals as goal
 
 pub returns : goal.returns
 returns c =
-    c.len.ensures ∙ sym (as_many_acts c.in_ok-found.found.items) ∙ ap length (c.in_ok-found.ensures ∙ ap acts c.in_ok-roots.ensures)
+    ap length c.as_slice.ensures.value ∙ sym (as_many_acts c.in_ok-found.found.items) ∙ ap length (c.in_ok-found.ensures ∙ ap acts c.in_ok-roots.ensures)
