@@ -94,7 +94,6 @@ held_all h trees filled =
     let none = none_left (after_holes h trees) (let c = count_after h trees (omega (arith, filled)) in omega (arith, c, filled)) in
     sym (join_none (held_in h (fill h trees))) ∙ (ap (join (held_in h (fill h trees))) (sym none) ∙ held_fill h trees (omega (arith, filled)))
 
-
 abbrev below_in : Forest Act → Forest Act
 below_in NoRoots = NoRoots
 below_in (Root act below others) = below

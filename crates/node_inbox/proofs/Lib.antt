@@ -11,3 +11,4 @@ pub mod Owes
 pub mod SameFacts
 pub mod JobFacts
 pub mod JobLaws
+pub mod Approving

@@ -145,8 +145,10 @@ closed_is params items m = by (shown_at items m)
   where
     over : is_decided_in params items m (length items) ≡ (is_some (verdict_on m (moments items)) || is_past (decision_time_in params items m) (moments items))
     over =
-        rw (take_all (length items) (moments items) (omega (arith, as_many_moments items)),
-        take_all (length items + 1) (moments items) (omega (arith, as_many_moments items))) refl
+        rw (
+          take_all (length items) (moments items) (omega (arith, as_many_moments items)),
+          take_all (length items + 1) (moments items) (omega (arith, as_many_moments items)),
+        ) refl
 
     by : (o : Option Shown)
         → is_closed (option_map (λ (s : Shown). kind_of (outcome_of (moments items) m (decision_time_in params items m))) o)

@@ -2,7 +2,7 @@
 ghost use Rattle.std.specs.Prelude.{◌≡◌, ◌<◌, ◌^◌, ◌&&◌, [], true, length, is_some, IfOk, OnOk, OnErr};
 ghost use Rattle.canton_model.specs.declared.request.Request.{Request as RequestValue};
 ghost use Rattle.canton_model.specs.declared.message.Message.TheVariants.{Request as RequestMessage};
-ghost use Rattle.canton_model.specs.Inbox.{Nothing, clean, clean_time, is_decided_in, last_time, received, shown_at};
+ghost use Rattle.canton_model.specs.Inbox.{Nothing, clean, clean_time, is_decided_in, last_time, node_log, received, shown_at};
 ghost use Rattle.world_model.specs.Node.{owed_at, owes_at};
 ghost use Rattle.validate_job.specs.Owed.{owed_on_each};
 ghost use Rattle.contract_store.specs.Written.{holding, written};
@@ -14,6 +14,7 @@ ghost use Rattle.node_inbox.specs.InboxState.{begun, params_of, reading_of, with
 ghost use Rattle.node_inbox.specs.Reads.{item_with};
 
 use crate::coming::coming;
+use crate::commits::{is_approved, push_commit};
 use crate::items::{request_at, time_at};
 use crate::job::input_of;
 use crate::kept_item::KeptItem;
@@ -25,6 +26,7 @@ use confirm_reply::Setup;
 use confirm_reply::laws::{facts_of_a_place_are_as_at_it, opened_views_can_be_checked};
 use contract_store::Store;
 use inbox_standing::Standing;
+use ledger_model::CommitList;
 use ledger_terms::{Exact, ParticipantId};
 use std::alloc::{AllocError, Global};
 use std::marker::Model;
@@ -194,6 +196,18 @@ impl<'s> Inbox<'s> {
             && is_decided_in (params_of self.now) self.now.items place (length self.now.items)) }
     {
         is_decided(self.outcome(place))
+    }
+
+    /// The approved requests before the clean place, as they are opened. Opens each again.
+    pub fn applied(&self, alloc: Global) -> Result<CommitList, AllocError>
+        ensures { IfOk result (λ commits. commits ≡ node_log (params_of self.now) self.now.items) }
+    {
+        let mut commits = CommitList::new(alloc);
+        'places: for place in 0..self.clean() {
+            let approved = is_approved(self.outcome(place));
+            push_commit(alloc, self.items.as_slice(), approved, place, &mut commits)?;
+        }
+        Ok(commits)
     }
 
     /// Whether the participant confirms a view of the request at a place, decided or not.

@@ -4,6 +4,7 @@
 
 mod actions;
 mod coming;
+mod commits;
 mod confirmed;
 mod facts;
 mod inbox;
