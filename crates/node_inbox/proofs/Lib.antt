@@ -12,3 +12,4 @@ pub mod SameFacts
 pub mod JobFacts
 pub mod JobLaws
 pub mod Approving
+pub mod DecidedFacts

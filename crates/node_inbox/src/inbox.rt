@@ -10,11 +10,12 @@ ghost use Rattle.inbox_standing.specs.Changes.{changes_in, pending_changes};
 ghost use Rattle.inbox_standing.specs.Requests.{outcome_received};
 ghost use Rattle.node_inbox.specs.Decided.{is_closed};
 ghost use Rattle.node_inbox.specs.Entries.{item_from, told_if_received};
-ghost use Rattle.node_inbox.specs.InboxState.{begun, params_of, reading_of, with_item};
+ghost use Rattle.node_inbox.specs.InboxState.{begun, decided_since, params_of, reading_of, with_item};
 ghost use Rattle.node_inbox.specs.Reads.{item_with};
 
 use crate::coming::coming;
 use crate::commits::{is_approved, push_commit};
+use crate::deciding::{decided_since, start_of};
 use crate::items::{request_at, time_at};
 use crate::job::input_of;
 use crate::kept_item::KeptItem;
@@ -196,6 +197,16 @@ impl<'s> Inbox<'s> {
             && is_decided_in (params_of self.now) self.now.items place (length self.now.items)) }
     {
         is_decided(self.outcome(place))
+    }
+
+    /// The first place at which the request at a place was decided, and the cursor where it was at none. Goes through what was read
+    /// from the request's place on.
+    pub fn decided_since(&self, place: u64) -> u64
+        ensures { result ≡ decided_since (params_of self.now) self.now.items place }
+    {
+        let items = self.items.as_slice();
+        let start = start_of(items, place);
+        decided_since(&self.setup.topology.params, items, place, start)
     }
 
     /// The approved requests before the clean place, as they are opened. Opens each again.

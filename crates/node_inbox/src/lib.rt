@@ -6,6 +6,7 @@ mod actions;
 mod coming;
 mod commits;
 mod confirmed;
+mod deciding;
 mod facts;
 mod inbox;
 mod items;
