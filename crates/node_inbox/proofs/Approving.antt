@@ -1,11 +1,10 @@
 -- The commits of approved requests, and when a request was decided first.
-use Rattle.std.proofs.Common.{◌≡◌, ℕ, zero, suc, ◌+◌, ◌-◌, ◌<◌, ◌≤◌, Bool, true, false, List, [], ◌∷◌, ◌++◌, length, Option, Some, None, is_some, add-one, refl, sym, ap, ◌∙◌, arith, append-nil}
-use Rattle.std.specs.Prelude.{if◌then◌else◌, option_map}
-use Rattle.ledger_terms.specs.declared.act.Act.{Act}
+use Rattle.std.proofs.Common.{◌≡◌, ℕ, ◌+◌, Bool, true, false, List, [], ◌∷◌, ◌++◌, Option, Some, None, add-one, refl, sym, ap, ◌∙◌}
+use Rattle.std.specs.Prelude.{option_map}
 use Rattle.ledger_terms.specs.declared.topology.Topology.{Topology}
 use Rattle.ledger_terms.specs.Grown.{forest_of}
 use Rattle.ledger_terms.specs.Trees.{ActionNode, Actions}
-use Rattle.ledger_model.specs.Forest.{Forest, NoRoots, Root}
+use Rattle.ledger_model.specs.Forest.{NoRoots}
 use Rattle.ledger_model.specs.Opening.{Shown, roots_in}
 use Rattle.ledger_model.specs.Terms.{ParticipantId}
 use Rattle.ledger_model.specs.declared.commit.Commit.{Commit}
@@ -13,7 +12,7 @@ use Rattle.canton_model.specs.Log.{Params}
 use Rattle.canton_model.specs.declared.decision.Decision.{Decision}
 use Rattle.canton_model.specs.declared.decision.Decision.TheVariants.{Approved, Rejected, TimedOut}
 use Rattle.canton_model.specs.Timeline.{is_approval, is_approved_in, is_past, kind_of, outcome_from, outcome_of, verdict_on}
-use Rattle.canton_model.specs.Inbox.{Item, decision_time_in, moments, opened_at, part_if, parts_below, shown_at}
+use Rattle.canton_model.specs.Inbox.{Item, decision_time_in, moments, opened_at, part_if, parts_below}
 use Rattle.lang_eval.specs.Found.{Packages}
 use Rattle.view_split.specs.Placed.{shown_by}
 use Rattle.sealed_form.specs.SealedForm.{opened_in}

@@ -1,19 +1,16 @@
 -- When a request was decided first.
 use Rattle.std.proofs.Common.{◌≡◌, ℕ, zero, suc, ◌+◌, ◌-◌, ◌<◌, ◌≤◌, Bool, true, false, List, [], ◌∷◌, ◌++◌, length, take, get_or, Option, Some, None, is_some, refl, sym, ap, ◌∙◌, inl, inr, arith}
-use Rattle.std.specs.Prelude.{if◌then◌else◌, ◌||◌, nat_lt, option_map, slice_get, unwrap_or}
+use Rattle.std.specs.Prelude.{◌||◌, nat_lt, option_map, slice_get, unwrap_or}
 use Rattle.std.proofs.lemmas.Bool.{cases_lt, le-ltb, ne_eqb}
 use Rattle.std.proofs.lemmas.Option.{none-some, same_Some, slice_get-get_or, slice_get_within}
-use Rattle.std.proofs.lemmas.List.{take_all}
-use Rattle.ledger_model.specs.Opening.{Shown}
 use Rattle.canton_model.specs.Log.{Params}
 use Rattle.canton_model.specs.declared.decision.Decision.{Decision}
 use Rattle.canton_model.specs.declared.verdict.Verdict.{Verdict}
 use Rattle.canton_model.specs.Timeline.{Moment, decision_on, is_past, or_else, verdict_on}
-use Rattle.canton_model.specs.Inbox.{Item, decision_time_in, is_decided_in, item_time, moments, shown_at, verdict_in}
+use Rattle.canton_model.specs.Inbox.{Item, decision_time_in, is_decided_in, item_time, moments, verdict_in}
 use Rattle.world_model.specs.Places.{first_from}
 use Rattle.inbox_standing.specs.Order.{AllLater, IsBelow, IsInOrder, Rise, VerdictsBehind}
 use Rattle.inbox_standing.proofs.Outcomes.{past_push, verdict_new, verdict_same}
-use Rattle.inbox_standing.proofs.Tracked.{as_many_moments}
 use Rattle.node_inbox.specs.Deciding.{IsOpenBefore}
 use Rattle.node_inbox.specs.Items.{model_item, model_items}
 use Rattle.node_inbox.specs.Kept.{kept_at, request_in_item}

@@ -1,35 +1,31 @@
 -- What a check of a request that is kept can do, and what it gives.
-use Rattle.std.proofs.Common.{◌≡◌, ℕ, zero, suc, ◌+◌, ◌<◌, ◌≤◌, Bool, true, false, List, [], ◌∷◌, ◌++◌, length, map, filter, take, Option, Some, None, refl, sym, ap, ◌∙◌, subst, inl, inr, arith}
+use Rattle.std.proofs.Common.{◌≡◌, ℕ, zero, suc, ◌+◌, ◌≤◌, Bool, true, false, List, [], ◌∷◌, ◌++◌, length, map, filter, Option, Some, refl, sym, ap, ◌∙◌, subst, inl, inr, arith}
 use Rattle.std.specs.Prelude.{All, Contains, IsSome, find, option_map, slice_get, if◌then◌else◌}
-use Rattle.std.specs.List.{list_any}
 use Rattle.std.specs.Str.{bytes_eq}
-use Rattle.std.specs.Ordering.{is_lt, nat_cmp}
+use Rattle.std.specs.Ordering.{nat_cmp}
 use Rattle.std.specs.declared.cmp.Ordering.TheVariants.{Equal}
 use Rattle.std.specs.Cmp.{nat_cmp_is}
-use Rattle.std.specs.Cmp.Lexicographic.{slice_cmp}
 use Rattle.std.proofs.lemmas.Bool.{cases_Bool}
 use Rattle.std.proofs.lemmas.Slice.Eq.{bytes_eq-Decides}
 use Rattle.std.proofs.lemmas.Option.{same_Some, none-some}
 use Rattle.std.proofs.lemmas.List.{length-append}
-use Rattle.std.proofs.lemmas.List.Elements.{All-cons, All-nil, All-contains}
+use Rattle.std.proofs.lemmas.List.Elements.{All-cons, All-nil}
 use Rattle.ledger_terms.specs.declared.act.Act.{Act}
 use Rattle.ledger_terms.specs.declared.params.Params.{Params}
 use Rattle.ledger_terms.specs.declared.topology.Topology.{Topology}
 use Rattle.ledger_terms.specs.Forest.{Forest, NoRoots, Root, join, number_from, preorder, project, size}
 use Rattle.ledger_terms.specs.Parties.{AllAbove, IsRising, name_below}
 use Rattle.ledger_model.specs.Forest.{acts}
-use Rattle.ledger_model.specs.Opening.{OpenedView, Shown, roots_in, views_in}
+use Rattle.ledger_model.specs.Opening.{OpenedView, roots_in}
 use Rattle.ledger_model.specs.Terms.{Hash, ParticipantId, Path, id_of, instance_of}
-use Rattle.ledger_model.proofs.Lists.{In, contains_from_In, in_append_cases, in_from_Contains, in_map}
+use Rattle.ledger_model.proofs.Lists.{In, contains_from_In, in_append_cases, in_map}
 use Rattle.ledger_model.proofs.Projected.{in_project}
 use Rattle.canton_model.specs.Checks.{is_confirmed_by, verdict_by, verdict_on_view}
 use Rattle.canton_model.specs.Genuine.{IsSealed}
-use Rattle.canton_model.specs.Inbox.{Item, has_hosted_stakeholder, is_informed, is_locked_in_inbox, item_time, shown_at, shown_in, status_in_inbox}
+use Rattle.canton_model.specs.Inbox.{Item, has_hosted_stakeholder, is_informed, item_time}
 use Rattle.canton_model.specs.Reading.{Reading}
-use Rattle.canton_model.specs.declared.request.Request.{Request}
 use Rattle.canton_model.specs.declared.local_verdict.LocalVerdict.{LocalVerdict}
 use Rattle.canton_model.specs.declared.view_verdict.ViewVerdict.{ViewVerdict}
-use Rattle.canton_model.proofs.InboxFacts.{slice_get_take}
 use Rattle.lang_eval.specs.Found.{Packages}
 use Rattle.lang_eval.specs.Language.{has_roles}
 use Rattle.wire_form.specs.Spellable.{IsSpellableInstance}
@@ -39,7 +35,6 @@ use Rattle.view_split.specs.Placed.{placed_forest, shown_by}
 use Rattle.view_split.specs.SeenViews.{opened_as, placed_numbered, put_back}
 use Rattle.view_split.specs.declared.opened_tree.OpenedTree.{OpenedTree}
 use Rattle.view_split.specs.declared.split_view.SplitView.{SplitView}
-use Rattle.sealed_form.specs.SealedForm.{opened_in, opened_to}
 use Rattle.sealed_form.specs.SealedReading.{sealed_reading}
 use Rattle.sealed_form.proofs.Sealed.{lawful}
 use Rattle.confirm_reply.specs.Facts.{AreAsAt, IsFactAt, fact_on, is_known_locked, known_status}
@@ -49,11 +44,8 @@ use Rattle.confirm_reply.specs.Verdict.{verdict_of}
 use Rattle.confirm_reply.specs.declared.check_input.CheckInput.{CheckInput}
 use Rattle.confirm_reply.specs.declared.id_facts.IdFacts.{IdFacts}
 use Rattle.validate_job.specs.Owed.{CanCheck, owed_on, owed_on_each}
-use Rattle.world_model.specs.Node.{owed_at}
-use Rattle.node_inbox.specs.Items.{model_items}
 use Rattle.node_inbox.specs.Jobs.{IsInput}
-use Rattle.node_inbox.specs.Kept.{AreKept, Came, opened_ids}
-use Rattle.node_inbox.specs.declared.kept_item.KeptItem.{KeptItem}
+use Rattle.node_inbox.specs.Kept.{Came, opened_ids}
 use Rattle.node_inbox.specs.declared.kept_item.KeptRequest.{KeptRequest}
 use Rattle.node_inbox.proofs.SameFacts.{same_facts}
 

@@ -1,11 +1,11 @@
 -- The check of a request that is kept.
-use Rattle.std.proofs.Common.{◌≡◌, ℕ, suc, ◌+◌, ◌<◌, ◌≤◌, Bool, true, false, List, [], ◌∷◌, length, map, filter, take, Option, Some, None, refl, sym, ap, ◌∙◌, subst, arith}
+use Rattle.std.proofs.Common.{◌≡◌, ℕ, suc, ◌<◌, true, false, List, [], ◌∷◌, length, map, filter, take, Option, Some, None, refl, sym, ap, ◌∙◌, arith}
 use Rattle.std.specs.Prelude.{All, IsSome, slice_get}
 use Rattle.ledger_terms.specs.declared.topology.Topology.{Topology}
-use Rattle.ledger_model.specs.Opening.{OpenedView, Shown}
+use Rattle.ledger_model.specs.Opening.{OpenedView}
 use Rattle.ledger_model.specs.Terms.{ParticipantId, Path}
 use Rattle.canton_model.specs.Checks.{is_confirmed_by, verdicts_on}
-use Rattle.canton_model.specs.Inbox.{Item, item_time, shown_at, shown_in}
+use Rattle.canton_model.specs.Inbox.{item_time, shown_at, shown_in}
 use Rattle.canton_model.proofs.InboxFacts.{slice_get_take}
 use Rattle.lang_eval.specs.Found.{Packages}
 use Rattle.view_split.specs.Placed.{shown_by}

@@ -1,5 +1,5 @@
 -- Facts as at a place give the verdict at that place.
-use Rattle.std.proofs.Common.{◌≡◌, ℕ, suc, Bool, true, false, List, [], ◌∷◌, take, refl, ap, ◌∙◌, inl, inr}
+use Rattle.std.proofs.Common.{◌≡◌, ℕ, suc, Bool, true, false, List, [], ◌∷◌, take, refl, ap, inl, inr}
 use Rattle.std.specs.Prelude.{◌&&◌, not, if◌then◌else◌}
 use Rattle.std.specs.List.{list_any}
 use Rattle.std.proofs.lemmas.Bool.{cases_Bool}
@@ -11,7 +11,6 @@ use Rattle.ledger_model.specs.declared.status.Status.{Status}
 use Rattle.ledger_model.specs.Terms.{Hash, ParticipantId, id_of, is_create, creates}
 use Rattle.ledger_model.proofs.Lists.{In, contains_from_In}
 use Rattle.canton_model.specs.Checks.{Check, checks, first_place, first_shown, verdict_by}
-use Rattle.canton_model.specs.declared.local_verdict.LocalVerdict.{LocalVerdict}
 use Rattle.canton_model.specs.declared.local_verdict.LocalVerdict.TheVariants.{Reject}
 use Rattle.canton_model.specs.Inbox.{Item, has_hosted_stakeholder, is_locked_in_inbox, status_in_inbox}
 use Rattle.ledger_terms.specs.declared.params.Params.{Params}

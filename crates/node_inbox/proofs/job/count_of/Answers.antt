@@ -1,4 +1,4 @@
-use Rattle.std.proofs.Common.{◌≡◌, length, ap, sym, ◌∙◌}
+use Rattle.std.proofs.Common.{length, ap, sym, ◌∙◌}
 use Rattle.ledger_model.specs.Forest.{acts}
 use Rattle.node_inbox.proofs.ActFacts.{as_many_acts}
 use Rattle.node_inbox.proofs.job.count_of.Goals as goal
