@@ -1,0 +1,15 @@
+pub mod Grows
+pub mod ActFacts
+pub mod Put
+pub mod PutRequest
+pub mod PutVerdict
+pub mod Confirming
+pub mod Came
+pub mod Laid
+pub mod Seen
+pub mod Owes
+pub mod SameFacts
+pub mod JobFacts
+pub mod JobLaws
+pub mod Approving
+pub mod DecidedFacts

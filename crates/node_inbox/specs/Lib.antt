@@ -1,0 +1,12 @@
+pub mod InboxState
+pub mod Entries
+pub mod Items
+pub mod Kept
+pub mod Acts
+pub mod Coming
+pub mod Deciding
+pub mod Commits
+pub mod Jobs
+pub mod Decided
+pub mod Reads
+pub mod Confirmed

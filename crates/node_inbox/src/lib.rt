@@ -1,0 +1,21 @@
+//! One participant's inbox, with what is kept beside it: a store of contracts, the requests that it received, and what its checks
+//! will need, so that no question goes through the whole inbox.
+#![tactic(auto)]
+
+mod actions;
+mod coming;
+mod commits;
+mod confirmed;
+mod deciding;
+mod facts;
+mod inbox;
+mod items;
+mod job;
+mod kept_item;
+pub mod laws;
+mod opening;
+mod putting;
+mod telling;
+
+pub use inbox::Inbox;
+pub use kept_item::{KeptContent, KeptItem, KeptRequest};
