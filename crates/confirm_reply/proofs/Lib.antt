@@ -1,15 +1,16 @@
 mod Stakeholders
 mod Conformance
 mod Located
-mod Placed
+pub mod Placed
 mod Trying
 mod ShownAt
 mod Verdicts
-mod AtPlace
+pub mod AtPlace
 mod CoreSteps
 mod FindSteps
 mod Gathering
 mod NumberSteps
-mod Checked
-mod Checkable
-mod FactsAt
+pub mod Checked
+pub mod Checkable
+pub mod FactsAt
+mod Sure

@@ -1,1 +1,2 @@
 mod OpenedViews
+pub mod OwedAt

@@ -1,0 +1,6 @@
+pub mod CoreLengths
+pub mod OpenedActions
+pub mod Checkable
+pub mod Jobs
+pub mod DecidedSince
+pub mod Approved
