@@ -1,17 +1,17 @@
 -- Requests expire, and hold nothing any more.
-use Rattle.std.proofs.Common.{◌≡◌, ℕ, Bool, true, false, List, None, refl, sym, ap, ◌∙◌}
+use Rattle.std.proofs.Common.{◌≡◌, ℕ, true, false, List, None, refl, sym, ap, ◌∙◌}
 use Rattle.std.specs.Prelude.{nat_eq, ◌&&◌, not}
 use Rattle.ledger_terms.specs.declared.act.Act.{Act}
 use Rattle.canton_model.specs.declared.outcome.Outcome.{Outcome}
 use Rattle.canton_model.specs.declared.outcome.Outcome.TheVariants.{Expired}
 use Rattle.contract_store.specs.Holds.{released}
-use Rattle.contract_store.specs.Written.{Placed, holding, without}
+use Rattle.contract_store.specs.Written.{holding}
 use Rattle.contract_store.specs.declared.hold.Hold.{Hold}
 use Rattle.contract_store.proofs.Following.{released_follows}
 use Rattle.request_track.specs.CleanLaw.{is_open_at}
 use Rattle.request_track.specs.Pairs.{Pair, is_undecided, is_late, settled, expired, first_late}
 use Rattle.inbox_standing.specs.Changes.{placed_below}
-use Rattle.inbox_standing.specs.Steps.{InStep, HoldsFollow, Passing}
+use Rattle.inbox_standing.specs.Steps.{InStep, Passing}
 use Rattle.inbox_standing.proofs.Late.{in_step_settled, open_settled, rest_settled, none_late}
 use Rattle.inbox_standing.proofs.PlacedBelow.{placed_kept, placed_without}
 

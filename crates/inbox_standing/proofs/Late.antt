@@ -1,11 +1,10 @@
 -- Requests in step: the first that is late, and what is left open.
 use Rattle.std.proofs.Common.{◌≡◌, ℕ, suc, ◌<◌, ◌≤◌, Bool, true, false, cond, List, [], ◌∷◌, Option, Some, None, refl, sym, ap, ◌∙◌, inl, inr, arith}
 use Rattle.std.specs.Prelude.{if◌then◌else◌, nat_le, nat_lt, nat_eq, ◌&&◌, ◌||◌, not}
-use Rattle.std.proofs.lemmas.Bool.{eq-eqb, ne_eqb, eqb-true, eqb-false, ltb-true, ltb-false, le-ltb, cases_lt, cases_eq, le-leb, and_parts}
+use Rattle.std.proofs.lemmas.Bool.{eq-eqb, ne_eqb, ltb-false, le-ltb, cases_eq, le-leb}
 use Rattle.std.proofs.lemmas.Option.{none-some, same_Some}
 use Rattle.canton_model.specs.declared.outcome.Outcome.{Outcome}
 use Rattle.canton_model.specs.declared.outcome.Outcome.TheVariants.{Expired}
-use Rattle.request_track.specs.declared.tracked.Tracked.{Tracked}
 use Rattle.request_track.specs.CleanLaw.{is_open_at}
 use Rattle.request_track.specs.Pairs.{Pair, NotBelow, is_undecided, is_open, tracked_at, settled, in_place, undecided_of, is_late, late_tracked}
 use Rattle.request_track.specs.Pairs.{expired, expire_one, late_first, first_late}

@@ -4,3 +4,9 @@ pub mod PlacedBelow
 pub mod Expiry
 pub mod Written
 pub mod Room
+pub mod Tracked
+pub mod Order
+pub mod Outcomes
+pub mod Grown
+pub mod Followed
+pub mod Told

@@ -1,13 +1,17 @@
 -- Actions of the requests below a place.
-use Rattle.std.proofs.Common.{◌≡◌, ℕ, zero, suc, ◌<◌, Bool, true, false, cond, List, [], ◌∷◌, ◌++◌, map, filter, refl, sym, ap, ◌∙◌, inl, inr, arith}
-use Rattle.std.specs.Prelude.{if◌then◌else◌, nat_eq, ◌&&◌, not}
-use Rattle.std.proofs.lemmas.Bool.{eq-eqb, ne_eqb, cases_Bool, cases_eq}
+use Rattle.std.proofs.Common.{◌≡◌, ℕ, zero, suc, ◌<◌, Bool, true, false, List, [], ◌∷◌, ◌++◌, map, refl, ap, ◌∙◌, inl, inr, arith}
+use Rattle.std.specs.Prelude.{if◌then◌else◌, nat_eq, ◌&&◌, ◌||◌, not}
+use Rattle.std.proofs.lemmas.Bool.{eq-eqb, ne_eqb, cases_eq}
+use Rattle.std.proofs.lemmas.List.{map-append}
 use Rattle.std.proofs.lemmas.List.Elements.{filter-append}
 use Rattle.ledger_terms.specs.declared.act.Act.{Act}
 use Rattle.contract_store.specs.Below.{at_place}
-use Rattle.contract_store.specs.Written.{Placed, without}
+use Rattle.canton_model.specs.Evidence.{gather}
+use Rattle.contract_store.specs.Written.{Placed, acts_of, without}
+use Rattle.request_track.specs.CleanLaw.{is_open_at}
+use Rattle.request_track.specs.Pairs.{Pair, is_open}
+use Rattle.request_track.specs.declared.tracked.Tracked.{Tracked}
 use Rattle.inbox_standing.specs.Changes.{placed_below}
-use Rattle.inbox_standing.proofs.Tests.{and_false, and_true}
 
 -- places at which they agree
 pub placed_same : (keeps keeps' : ℕ → Bool) (f f' : ℕ → List Act) (k : ℕ)
@@ -47,3 +51,26 @@ placed_without j keeps f (suc k) =
 -- the same test
 pub placed_kept : (keeps keeps' : ℕ → Bool) (f : ℕ → List Act) (k : ℕ) → ((m : ℕ) → keeps m ≡ keeps' m) → placed_below keeps f k ≡ placed_below keeps' f k
 placed_kept keeps keeps' f k h = placed_same keeps keeps' f f k (λ m lt. ap (λ (b : Bool). if b then map (at_place m) (f m) else []) (h m))
+
+pub placed_kept_below : (keeps keeps' : ℕ → Bool) (f : ℕ → List Act) (k : ℕ) → ((m : ℕ) → m < k → keeps m ≡ keeps' m) → placed_below keeps f k ≡ placed_below keeps' f k
+placed_kept_below keeps keeps' f k h = placed_same keeps keeps' f f k (λ m lt. ap (λ (b : Bool). if b then map (at_place m) (f m) else []) (h m lt))
+
+-- a request that comes at a later place
+pub open_pushed : (ps : List Pair) (n : ℕ) (t : Tracked) (m : ℕ) → m < n → is_open_at (ps ++ (n, t) ∷ []) m ≡ is_open_at ps m
+open_pushed [] n t m lt = rw (ne_eqb n m (λ e. omega (arith, e, lt))) refl
+open_pushed (p ∷ ps) n t m lt = ap (λ (b : Bool). (nat_eq p.0 m && is_open p) || b) (open_pushed ps n t m lt)
+
+pub acts_placed : (k : ℕ) (as' : List Act) → acts_of (map (at_place k) as') ≡ as'
+acts_placed k [] = refl
+acts_placed k (a ∷ as') = ap (λ (bs : List Act). a ∷ bs) (acts_placed k as')
+
+pub acts_below : (keeps : ℕ → Bool) (f : ℕ → List Act) (k : ℕ) → acts_of (placed_below keeps f k) ≡ gather keeps f k
+acts_below keeps f zero = refl
+acts_below keeps f (suc k) =
+    map-append (λ (p : Placed). p.act) (placed_below keeps f k) (if keeps k then map (at_place k) (f k) else [])
+    ∙ ap (λ (bs : List Act). bs ++ acts_of (if keeps k then map (at_place k) (f k) else [])) (acts_below keeps f k)
+    ∙ ap (λ (bs : List Act). gather keeps f k ++ bs) (by (keeps k))
+  where
+    by : (b : Bool) → acts_of (if b then map (at_place k) (f k) else []) ≡ (if b then f k else [])
+    by true = acts_placed k (f k)
+    by false = refl

@@ -1,6 +1,6 @@
 -- Tables of tests.
 use Rattle.std.proofs.Common.{◌≡◌, Bool, true, false, refl}
-use Rattle.std.specs.Prelude.{◌&&◌, ◌||◌, not}
+use Rattle.std.specs.Prelude.{◌&&◌, ◌||◌}
 
 pub and_false : (b : Bool) → (b && false) ≡ false
 and_false true = refl

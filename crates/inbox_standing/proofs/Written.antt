@@ -2,7 +2,7 @@
 use Rattle.std.proofs.Common.{◌≡◌, ℕ, Bool, true, false, List, [], ◌∷◌, ◌++◌, map, filter, refl, ap}
 use Rattle.std.specs.Prelude.{if◌then◌else◌, ◌||◌}
 use Rattle.ledger_terms.specs.declared.act.Act.{Act}
-use Rattle.ledger_model.specs.Terms.{Hash, id_of, is_create, is_consuming}
+use Rattle.ledger_model.specs.Terms.{id_of, is_create, is_consuming}
 use Rattle.contract_store.specs.Below.{at_place}
 use Rattle.contract_store.specs.Rows.{created, consumed}
 use Rattle.contract_store.specs.Written.{Placed, contract_of, is_change, write, written, holding}

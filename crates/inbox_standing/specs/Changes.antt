@@ -24,6 +24,10 @@ changes_of_verdict reading before None = []
 changes_of_verdict reading before (Some verdict) =
     if approves_first before verdict then map (at_place verdict.request) (authentic_at reading before verdict.request) else []
 
+-- what the request of a verdict does, where this verdict is read after these items
+abbrev pub acts_of_verdict : Reading → List Item → Verdict → List Act
+acts_of_verdict reading items verdict = if approves_first items verdict then authentic_at reading items verdict.request else []
+
 abbrev pub changes_after : Reading → (before : List Item) → List Item → List Placed
 changes_after reading before [] = []
 changes_after reading before (item ∷ rest) =

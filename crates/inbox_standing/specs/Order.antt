@@ -1,5 +1,5 @@
 -- Inboxes as they come of a log.
-use Rattle.std.specs.Prelude.{ℕ, ◌<◌, List, [], ◌∷◌, Option, Some, None, length}
+use Rattle.std.specs.Prelude.{ℕ, suc, ◌<◌, List, [], ◌∷◌, Option, Some, None}
 use Rattle.canton_model.specs.declared.verdict.Verdict.{Verdict}
 use Rattle.canton_model.specs.Inbox.{Item, verdict_in}
 
@@ -16,11 +16,12 @@ abbrev pub IsBelow : ℕ → Option Verdict → Type 0
 IsBelow n None = Unit {0}
 IsBelow n (Some verdict) = verdict.request < n
 
-abbrev pub VerdictsBelow : ℕ → List Item → Type 0
-VerdictsBelow n [] = Unit {0}
-VerdictsBelow n (item ∷ items) = IsBelow n (verdict_in item.content) × VerdictsBelow n items
+-- of items the first of which stands at place k each verdict stands behind its request
+abbrev pub VerdictsBehind : ℕ → List Item → Type 0
+VerdictsBehind k [] = Unit {0}
+VerdictsBehind k (item ∷ items) = IsBelow k (verdict_in item.content) × VerdictsBehind (suc k) items
 
--- Times rise, and every verdict is on a request below the end.
+-- Times rise, and every verdict stands behind its request.
 pub record IsInOrder (items : List Item) : Type 0 where
   pub rise : Rise items
-  pub below : VerdictsBelow (length items) items
+  pub behind : VerdictsBehind 0 items

@@ -1,5 +1,5 @@
 -- What a participant tracks of the requests that it received.
-use Rattle.std.specs.Prelude.{ℕ, suc, ◌+◌, ◌-◌, ◌^◌, Bool, List, [], ◌∷◌, Option, option_map, if◌then◌else◌, length, min}
+use Rattle.std.specs.Prelude.{ℕ, suc, ◌+◌, ◌-◌, ◌^◌, List, [], ◌∷◌, Option, option_map, if◌then◌else◌, min}
 use Rattle.ledger_model.specs.Opening.{Shown}
 use Rattle.canton_model.specs.Log.{Params}
 use Rattle.canton_model.specs.Timeline.{Moment, kind_of, outcome_of}

@@ -1,26 +1,29 @@
 //! An inbox.
-ghost use Rattle.std.specs.Prelude.{◌≡◌, ◌<◌, ◌×◌, ◌^◌, ◌&&◌, [], true, length, is_some, IfOk, OnOk, OnErr};
+ghost use Rattle.std.specs.Prelude.{◌≡◌, ◌<◌, ◌^◌, ◌&&◌, [], true, length, is_some, OnOk, OnErr};
 ghost use Rattle.canton_model.specs.declared.request.Request.{Request as RequestValue};
 ghost use Rattle.canton_model.specs.Log.{RequestMessage};
-ghost use Rattle.canton_model.specs.Inbox.{clean, clean_time, is_decided_in, last_time, node_active, node_log, shown_at};
-ghost use Rattle.world_model.specs.Node.{owed_at, owes_at};
+ghost use Rattle.canton_model.specs.Inbox.{Nothing, clean, clean_time, is_decided_in, last_time, received, shown_at};
+ghost use Rattle.world_model.specs.Node.{owes_at};
 ghost use Rattle.contract_store.specs.Written.{holding, written};
 ghost use Rattle.inbox_standing.specs.Changes.{changes_in, pending_changes};
 ghost use Rattle.inbox_standing.specs.Requests.{outcome_received};
-ghost use Rattle.validate_job.specs.Owed.{owed_on_each};
-ghost use Rattle.node_inbox.specs.Entries.{item_from};
-ghost use Rattle.node_inbox.specs.InboxState.{begun, decided_since, params_of, reading_of, with_item};
+ghost use Rattle.node_inbox.specs.Decided.{is_closed};
+ghost use Rattle.node_inbox.specs.Entries.{item_from, told_if_received};
+ghost use Rattle.node_inbox.specs.InboxState.{begun, params_of, reading_of, with_item};
+ghost use Rattle.node_inbox.specs.Reads.{item_with};
 
+use crate::coming::coming;
+use crate::items::{request_at, time_at};
 use crate::kept_item::KeptItem;
-use canton_model::{Entry, Outcome};
+use crate::putting::{put_nothing, put_request, put_verdict};
+use crate::telling::telling;
+use canton_model::{Entry, Message, Outcome, Request, Verdict};
 use confirm_reply::Setup;
 use contract_store::Store;
 use inbox_standing::Standing;
-use ledger_model::CommitList;
-use ledger_terms::{ActiveRowList, ParticipantId};
+use ledger_terms::ParticipantId;
 use std::alloc::{AllocError, Global};
 use std::marker::Model;
-use validate_job::ValidateJob;
 
 /// What a participant has read of the log, item by item, and what it keeps beside that.
 #[derive(Drop)]
@@ -50,6 +53,10 @@ impl<'s> Model for Inbox<'s> {
       me = i.me;
       items = model_items i.items.items;
     } };
+
+    ghost use Rattle.node_inbox.specs.Kept.{IsInbox};
+
+    ghost invariant = { λ i. IsInbox i.setup.now.topology i.setup.now.checked i.me i.items.items i.standing };
 }
 
 impl<'s> Inbox<'s> {
@@ -57,12 +64,82 @@ impl<'s> Inbox<'s> {
     pub fn new(alloc: Global, setup: &'s Setup, me: ParticipantId) -> Inbox<'s>
         ensures { result ≡ begun setup.now.topology setup.now.checked me }
     {
+        Inbox {
+            setup,
+            me,
+            items: Vec::new(alloc),
+            standing: Standing::new(alloc),
+        }
     }
 
     /// How many entries were read.
     pub fn cursor(&self) -> u64
         ensures { result ≡ length self.now.items }
     {
+        self.items.len() as u64
+    }
+
+    fn read_nothing(&mut self, time: u64) -> Result<(), AllocError>
+        requires few { length self.old.items < 2 ^ 63 }
+        requires rises { last_time self.old.items < time }
+        ensures ok { OnOk result (self.new ≡ with_item self.old (item_with time Nothing)) }
+        ensures err { OnErr result (self.new ≡ self.old) }
+    {
+        put_nothing(
+            self.setup,
+            self.me,
+            &mut self.items,
+            &mut self.standing,
+            time,
+        )
+    }
+
+    fn read_request(&mut self, time: u64, request: &Request) -> Result<(), AllocError>
+        requires few { length self.old.items < 2 ^ 63 }
+        requires rises { last_time self.old.items < time }
+        requires sealed { (reading_of self.old).is_sealed request.now ≡ true }
+        ensures ok { OnOk result (self.new ≡ with_item self.old (item_with time (received ((reading_of self.old).shown self.old.me request.now)))) }
+        ensures err { OnErr result (self.new ≡ self.old) }
+    {
+        let alloc = *self.items.allocator();
+        match coming(alloc, self.setup, self.me, request)? {
+            Some(coming) => put_request(
+                self.setup,
+                self.me,
+                &mut self.items,
+                &mut self.standing,
+                time,
+                coming,
+            ),
+            None => self.read_nothing(time),
+        }
+    }
+
+    fn read_verdict(&mut self, time: u64, verdict: &Verdict) -> Result<(), AllocError>
+        requires few { length self.old.items < 2 ^ 63 }
+        requires rises { last_time self.old.items < time }
+        ensures ok { OnOk result (self.new ≡ with_item self.old (item_with time (told_if_received self.old.items verdict.now))) }
+        ensures err { OnErr result (self.new ≡ self.old) }
+    {
+        let alloc = *self.items.allocator();
+        match telling(
+            alloc,
+            self.setup,
+            self.me,
+            self.items.as_slice(),
+            &self.standing,
+            verdict,
+        )? {
+            Some(coming) => put_verdict(
+                self.setup,
+                self.me,
+                &mut self.items,
+                &mut self.standing,
+                time,
+                coming,
+            ),
+            None => self.read_nothing(time),
+        }
     }
 
     /// Reads the next entry of the log. Takes all memory before it changes anything.
@@ -73,6 +150,37 @@ impl<'s> Inbox<'s> {
         ensures ok { OnOk result (self.new ≡ with_item self.old (item_from (reading_of self.old) self.old.me self.old.items entry.now)) }
         ensures err { OnErr result (self.new ≡ self.old) }
     {
+        match &entry.message {
+            Message::Request(request) => self.read_request(entry.time, request),
+            Message::Verdict(verdict) => self.read_verdict(entry.time, verdict),
+            Message::Response(_) => self.read_nothing(entry.time),
+            Message::Tick => self.read_nothing(entry.time),
+        }
+    }
+
+    /// How many entries stand before the first request received that isn't decided at the cursor.
+    pub fn clean(&self) -> u64
+        ensures { result ≡ clean (params_of self.now) self.now.items }
+    {
+        self.standing.clean()
+    }
+
+    /// The time of the entry before the clean place, in microseconds, and 0 where there is none.
+    pub fn clean_time(&self) -> u64
+        ensures { result ≡ clean_time (params_of self.now) self.now.items }
+    {
+        let clean = self.clean();
+        if clean == 0 {
+            return 0;
+        }
+        time_at(self.items.as_slice(), clean - 1)
+    }
+
+    /// What became of the request that was received at a place, and none exactly where none was.
+    pub fn outcome(&self, place: u64) -> Option<Outcome>
+        ensures { result ≡ outcome_received (params_of self.now) self.now.items place }
+    {
+        self.standing.outcome(place)
     }
 
     /// Whether a request was received at a place and is decided at the cursor.
@@ -80,61 +188,17 @@ impl<'s> Inbox<'s> {
         ensures { result ≡ (is_some (shown_at self.now.items place)
             && is_decided_in (params_of self.now) self.now.items place (length self.now.items)) }
     {
-    }
-
-    /// The first place at which a request was decided, and the cursor where it isn't. Goes through what was read from the request's
-    /// place on.
-    pub fn decided_since(&self, place: u64) -> u64
-        ensures { result ≡ decided_since (params_of self.now) self.now.items place }
-    {
+        is_decided(self.outcome(place))
     }
 
     /// Whether the participant confirms a view of the request at a place, decided or not.
     pub fn owes(&self, place: u64) -> bool
         ensures { result ≡ owes_at (reading_of self.now) self.now.me self.now.items place }
     {
-    }
-
-    /// The check that the participant owes to the request at a place, by what it had read when it had read that. Opens the
-    /// envelope again.
-    pub fn job(&self, alloc: Global, place: u64) -> Result<ValidateJob<'s>, AllocError>
-        requires { owes_at (reading_of self.now) self.now.me self.now.items place ≡ true }
-        ensures place { IfOk result (λ job. job.given.place ≡ place) }
-        ensures left { IfOk result (λ job. job.left ≡ length job.given.views) }
-        ensures some { IfOk result (λ job. 0 < job.left) }
-        ensures owed { IfOk result (λ job. owed_on_each job.given.input job.given.views
-            ≡ owed_at (reading_of self.now) (params_of self.now) self.now.me self.now.items place) }
-    {
-    }
-
-    /// How many entries stand before the first request received that isn't decided at the cursor.
-    pub fn clean(&self) -> u64
-        ensures { result ≡ clean (params_of self.now) self.now.items }
-    {
-    }
-
-    /// The time of the entry before the clean place, in microseconds, and 0 where there is none.
-    pub fn clean_time(&self) -> u64
-        ensures { result ≡ clean_time (params_of self.now) self.now.items }
-    {
-    }
-
-    /// What became of the request that was received at a place, and none exactly where none was.
-    pub fn outcome(&self, place: u64) -> Option<Outcome>
-        ensures { result ≡ outcome_received (params_of self.now) self.now.items place }
-    {
-    }
-
-    /// The approved requests before the clean place, as they are opened. Opens each again.
-    pub fn applied(&self, alloc: Global) -> Result<CommitList, AllocError>
-        ensures { IfOk result (λ commits. commits ≡ node_log (params_of self.now) self.now.items) }
-    {
-    }
-
-    /// The active contracts with a hosted stakeholder at the clean place, in order of creation. Goes through the approved requests.
-    pub fn active(&self, alloc: Global) -> Result<ActiveRowList, AllocError>
-        ensures { IfOk result (λ rows. rows ≡ node_active (reading_of self.now) self.now.me self.now.items (clean (params_of self.now) self.now.items)) }
-    {
+        match request_at(self.items.as_slice(), place) {
+            Some(kept) => !kept.views.is_empty(),
+            None => false,
+        }
     }
 
     /// What the participant knows of contracts at the cursor, with what requests hold that aren't decided there.
@@ -142,5 +206,20 @@ impl<'s> Inbox<'s> {
         ensures rows { result.now.rows ≡ written (changes_in (reading_of self.now) self.now.items) [] }
         ensures holds { result.now.holds ≡ holding (pending_changes (reading_of self.now) (params_of self.now) self.now.items) }
     {
+        self.standing.store()
+    }
+}
+
+// Whether an outcome is one of a request that is decided.
+fn is_decided(outcome: Option<Outcome>) -> bool
+    ensures { result ≡ is_closed outcome }
+{
+    match outcome {
+        Some(Outcome::Undecided) => false,
+        Some(Outcome::Approved) => true,
+        Some(Outcome::Rejected) => true,
+        Some(Outcome::TimedOut) => true,
+        Some(Outcome::Expired) => true,
+        None => false,
     }
 }

@@ -2,9 +2,17 @@
 //! will need, so that no question goes through the whole inbox.
 #![tactic(auto)]
 
+mod actions;
+mod coming;
+mod confirmed;
+mod facts;
 mod inbox;
+mod items;
 mod kept_item;
 pub mod laws;
+mod opening;
+mod putting;
+mod telling;
 
 pub use inbox::Inbox;
 pub use kept_item::{KeptContent, KeptItem, KeptRequest};

@@ -1,5 +1,4 @@
-use Rattle.std.proofs.Common.{◌≡◌, suc, length, ap, ◌∙◌}
-use Rattle.canton_model.specs.declared.outcome.Outcome.TheVariants.{Expired}
+use Rattle.std.proofs.Common.{suc, length, ap, ◌∙◌}
 use Rattle.request_track.specs.Pairs.{undecided_of}
 use Rattle.request_track.proofs.Lapses.{one_less}
 use Rattle.inbox_standing.proofs.Expiry.{passing_on}

@@ -1,7 +1,3 @@
-use Rattle.std.proofs.Common.{◌≡◌, ◌+◌, ◌≤◌, true, length, List}
-use Rattle.std.specs.Prelude.{All}
-use Rattle.contract_store.specs.Stored.{is_ready}
-use Rattle.inbox_standing.specs.Room.{HasRoom}
 use Rattle.inbox_standing.proofs.Room.{room_made, both_if}
 use Rattle.inbox_standing.proofs.writing.make_room.Goals as goal
 
