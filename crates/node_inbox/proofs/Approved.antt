@@ -2,12 +2,12 @@
 use Rattle.std.proofs.Common.{◌≡◌, ℕ, Bool, true, false, List, Option, Some, None, refl, sym, ap, ◌∙◌}
 use Rattle.std.specs.Prelude.{if◌then◌else◌, option_map}
 use Rattle.ledger_terms.specs.declared.act.Act.{Act}
-use Rattle.ledger_model.specs.Forest.{Forest, NoRoots, Root}
+use Rattle.ledger_model.specs.Forest.{Forest, NoRoots}
 use Rattle.ledger_model.specs.Opening.{Shown, roots_in}
 use Rattle.canton_model.specs.declared.decision.Decision.{Decision}
 use Rattle.canton_model.specs.declared.decision.Decision.TheVariants.{Approved, Rejected, TimedOut}
 use Rattle.canton_model.specs.declared.outcome.Outcome.{Outcome as OutcomeKind}
-use Rattle.canton_model.specs.Inbox.{Item, CommitRoots, decision_time_in, moments, opened_at, outcome_in, part_if, shown_at}
+use Rattle.canton_model.specs.Inbox.{Item, decision_time_in, moments, opened_at, part_if, shown_at}
 use Rattle.canton_model.specs.Log.{Params}
 use Rattle.canton_model.specs.Timeline.{is_approval, is_approved_in, is_past, kind_of, outcome_from, verdict_on}
 use Rattle.inbox_standing.specs.Requests.{outcome_received}

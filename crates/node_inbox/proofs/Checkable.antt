@@ -1,6 +1,6 @@
 -- What is opened of a sealed request can be checked.
 use Rattle.std.proofs.Common.{◌≡◌, ◌≤◌, ◌*◌, ℕ, Bool, true, false, List, [], ◌∷◌, ◌++◌, length, map, Option, Some, None, refl, sym, ap, subst, ◌∙◌, inl, inr, arith}
-use Rattle.std.specs.Prelude.{All, nat_eq, option_map, option_and_then, if◌then◌else◌, ◌||◌}
+use Rattle.std.specs.Prelude.{All, nat_eq, option_map, option_and_then, if◌then◌else◌}
 use Rattle.std.specs.List.{list_any}
 use Rattle.std.specs.Int.{w16, to_be_bytes}
 use Rattle.std.proofs.lemmas.Bool.{cases_Bool}
@@ -17,7 +17,7 @@ use Rattle.ledger_terms.specs.declared.topology.Topology.{Topology}
 use Rattle.ledger_model.specs.Forest.{acts}
 use Rattle.ledger_model.specs.Language.{informees_of}
 use Rattle.ledger_model.specs.Opening.{OpenedView, Shown, Transaction, opened_of, shown_if, shown_of}
-use Rattle.ledger_model.specs.Terms.{Path, instance_of}
+use Rattle.ledger_model.specs.Terms.{instance_of}
 use Rattle.ledger_model.proofs.Lists.{In, contains_from_In}
 use Rattle.ledger_model.proofs.PathOrder.{told_of}
 use Rattle.ledger_model.proofs.Projected.{in_project}
@@ -27,24 +27,23 @@ use Rattle.lang_eval.specs.Found.{Packages}
 use Rattle.lang_eval.specs.Language.{has_roles}
 use Rattle.interpret.specs.Language.{the_language}
 use Rattle.wire_form.specs.Spellable.{IsSpellableInstance}
-use Rattle.view_split.specs.Placed.{placed_forest, shown_by, tops}
+use Rattle.view_split.specs.Placed.{placed_forest, shown_by}
 use Rattle.view_split.specs.SeenViews.{put_back, seen_views}
 use Rattle.view_split.specs.declared.opened_tree.OpenedTree.{OpenedTree}
 use Rattle.view_split.specs.declared.split_view.SplitView.{SplitView}
-use Rattle.blind_tree.specs.Blind.{shown_to, vertices_shown}
 use Rattle.blind_tree.specs.Opening.{tree_opened}
 use Rattle.blind_tree.specs.Recipients.{is_recipient, recipients_of}
 use Rattle.blind_tree.specs.Spelling.{spell_each, spell_leaf, spell_tree}
 use Rattle.blind_tree.specs.Vertices.{count}
 use Rattle.blind_tree.specs.declared.tree.Tree.{Tree}
-use Rattle.sealed_form.specs.SealedForm.{IsSealedForm, Whole, envelope_to, found, opened_in, opened_to, roles_by, tree_for, views_by}
+use Rattle.sealed_form.specs.SealedForm.{IsSealedForm, envelope_to, found, opened_in, opened_to, tree_for, views_by}
 use Rattle.sealed_form.proofs.Opens.{opens, shown_is, tree_is_opened}
 use Rattle.sealed_form.proofs.Recipients.{are_reached, first_to}
 use Rattle.sealed_form.proofs.Trees.{is_tree, tree_again}
 use Rattle.confirm_reply.specs.Opened.{CanBeChecked}
 use Rattle.confirm_reply.proofs.Checkable.{each_can_be}
 use Rattle.node_inbox.proofs.OpenedActions.{all_spelled}
-use Rattle.node_inbox.proofs.CoreLengths.{Cored, CoresFit, Fit, bare, cores_fit, few_in, placed_bare, seen_fit}
+use Rattle.node_inbox.proofs.CoreLengths.{Fit, bare, cores_fit, few_in, placed_bare, seen_fit}
 
 all_from_each : {X : Type 0} (P : X → Type 0) (xs : List X) → ((x : X) → In x xs → P x) → All P xs
 all_from_each P [] each = All-nil P
@@ -53,8 +52,11 @@ all_from_each P (x ∷ xs) each = All-cons P x xs (each x (inl refl)) (all_from_
 views_within : (tree : Tree) → length (spell_each tree.views) ≤ length (spell_tree tree)
 views_within tree =
     let counted = to_be_bytes w16 (count tree.views) in
-    omega (arith, length-append (spell_leaf tree.common ++ spell_leaf tree.requesters) (counted ++ spell_each tree.views),
-    length-append counted (spell_each tree.views))
+    omega (
+      arith,
+      length-append (spell_leaf tree.common ++ spell_leaf tree.requesters) (counted ++ spell_each tree.views),
+      length-append counted (spell_each tree.views),
+    )
 
 -- ---- envelopes
 

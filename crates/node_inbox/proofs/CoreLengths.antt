@@ -1,6 +1,5 @@
 -- How few actions the views have that a short tree shows: each of them takes 64 bytes of it at least.
-use Rattle.std.proofs.Common.{◌≡◌, ◌≤◌, ◌+◌, ◌*◌, ℕ, suc, Bool, true, false, List, [], ◌∷◌, ◌++◌, length, map, refl, sym, ap, subst, ◌∙◌, inl, inr, arith}
-use Rattle.std.specs.Prelude.{◌||◌}
+use Rattle.std.proofs.Common.{◌≡◌, ◌≤◌, ◌*◌, ℕ, suc, Bool, true, false, List, [], ◌∷◌, ◌++◌, length, map, refl, sym, ap, subst, inl, inr, arith}
 use Rattle.std.specs.Int.{w16, w32, to_be_bytes}
 use Rattle.std.proofs.lemmas.Bool.{cases_Bool}
 use Rattle.std.proofs.lemmas.List.{length-append}
@@ -16,7 +15,7 @@ use Rattle.wire_form.specs.Spelling.{spell_action, spell_instance, spell_name, s
 use Rattle.view_split.specs.Holed.{Holed, NoMore, Inner, Hole, inner, width}
 use Rattle.view_split.specs.Numbered.{core_in, held_in, map_forest, with_cores}
 use Rattle.view_split.specs.Placed.{placed_forest, tops}
-use Rattle.view_split.specs.SeenViews.{is_sight, opened_as, seen_views}
+use Rattle.view_split.specs.SeenViews.{is_sight, opened_as}
 use Rattle.view_split.specs.declared.split_view.SplitView.{SplitView}
 use Rattle.blind_tree.specs.Blind.{has_sight, leaf_of, salt_of, shown_to, vertices_shown}
 use Rattle.blind_tree.specs.Cores.{spell_children, spell_core}
@@ -60,8 +59,18 @@ children_length (Inner act below others) r =
     let counted = to_be_bytes w16 (width below) in
     let inside = spell_children below in
     let after = spell_children others in
-    omega (arith, b, o, a, s, length-append (0 ∷ (first ++ counted ++ inside)) after, length-append (first ++ counted) inside, length-append first counted,
-    length-append act.seed (spell_action act.action), length-append (inner below) (inner others))
+    omega (
+      arith,
+      b,
+      o,
+      a,
+      s,
+      length-append (0 ∷ (first ++ counted ++ inside)) after,
+      length-append (first ++ counted) inside,
+      length-append first counted,
+      length-append act.seed (spell_action act.action),
+      length-append (inner below) (inner others),
+    )
 
 core_length : (first : Act) (below : Holed Act) → IsCore first below → 64 * suc (length (inner below)) ≤ length (spell_core first below)
 core_length act below r =
@@ -155,8 +164,7 @@ module _ (sha : Hashing) (n : ℕ) where
   all_fit hosts (Root view subviews others) r room =
       let counted = to_be_bytes w16 (count (vertices hosts true subviews)) in
       let w = parts_within (head true view) (contents view) counted (bytes hosts true subviews) (bytes hosts true others) in
-      let all = length ((1 ∷ (head true view ++ contents view ++ (counted ++ bytes hosts true subviews))) ++ bytes hosts true others) in
-      (
+      let all = length ((1 ∷ (head true view ++ contents view ++ (counted ++ bytes hosts true subviews))) ++ bytes hosts true others) in (
         core_fits view (r.0).core (no_less (length (contents view)) all n w.contents_within room),
         all_fit hosts subviews r.1 (no_less _ all n w.below_within room),
         all_fit hosts others r.2 (no_less _ all n w.after_within room),

@@ -1,11 +1,11 @@
 -- A walk over items finds where a request was decided first.
-use Rattle.std.proofs.Common.{◌≡◌, ℕ, zero, suc, ◌+◌, ◌≤◌, Bool, true, false, List, [], ◌∷◌, ◌++◌, length, map, take, Option, Some, None, is_some, refl, sym, ap, ◌∙◌, inl, inr, arith, append-nil, append_assoc}
-use Rattle.std.specs.Prelude.{◌||◌, if◌then◌else◌, nat_lt, unwrap_or}
-use Rattle.std.specs.List.{list_any}
+use Rattle.std.proofs.Common.{◌≡◌, ℕ, suc, ◌+◌, ◌≤◌, Bool, true, false, List, [], ◌∷◌, ◌++◌, ◌<◌, drop, get_or, length, take, Option, Some, None, is_some, refl, sym, ap, ◌∙◌, inl, inr, add-one, arith, append-nil, append_assoc}
+use Rattle.std.specs.Prelude.{◌||◌, nat_lt, slice_get, unwrap_or}
 use Rattle.std.proofs.lemmas.Bool.{cases_Bool}
-use Rattle.std.proofs.lemmas.List.{length-append}
+use Rattle.std.proofs.lemmas.List.{drop_more, length-append}
+use Rattle.std.proofs.Math.ListN.{drop_of_length-le}
 use Rattle.std.proofs.lemmas.List.Folds.{list_any-append}
-use Rattle.canton_model.specs.Inbox.{Item, decision_time_in, is_decided_in, moments, verdict_in}
+use Rattle.canton_model.specs.Inbox.{Item, decision_time_in, item_time, moments, verdict_in}
 use Rattle.canton_model.specs.Log.{Params}
 use Rattle.canton_model.specs.Timeline.{Moment, decision_on, is_decided_at, is_past, or_else, verdict_on}
 use Rattle.canton_model.specs.declared.decision.Decision.{Decision}
@@ -13,6 +13,8 @@ use Rattle.canton_model.proofs.Decided.{verdict_on_append}
 use Rattle.world_model.specs.Places.{first_from}
 use Rattle.node_inbox.specs.Decisions.{decided_from}
 use Rattle.node_inbox.specs.InboxState.{decided_since}
+use Rattle.node_inbox.specs.Items.{model_content, model_item, model_items}
+use Rattle.node_inbox.specs.declared.kept_item.KeptItem.{KeptItem}
 
 abbrev moment : Item → Moment
 moment item = record { time = item.time; verdict = verdict_in item.content }
@@ -26,9 +28,12 @@ first_moments : (a b : List Item) → take (length a) (moments (a ++ b)) ≡ mom
 first_moments [] b = refl
 first_moments (x ∷ xs) b = ap (λ (ms : List Moment). moment x ∷ ms) (first_moments xs b)
 
+moments_through : (a : List Item) (x : Item) (b : List Item) → take (suc (length a)) (moments (a ++ x ∷ b)) ≡ moments a ++ moment x ∷ []
+moments_through [] x b = refl
+moments_through (y ∷ ys) x b = ap (λ (ms : List Moment). moment y ∷ ms) (moments_through ys x b)
+
 next_moments : (a : List Item) (x : Item) (b : List Item) → take (length a + 1) (moments (a ++ x ∷ b)) ≡ moments a ++ moment x ∷ []
-next_moments [] x b = refl
-next_moments (y ∷ ys) x b = ap (λ (ms : List Moment). moment y ∷ ms) (next_moments ys x b)
+next_moments a x b = rw add-one (moments_through a x b)
 
 module _ (time m : ℕ) where
   abbrev decided : List Item → ℕ → Bool
@@ -120,3 +125,48 @@ module _ (time m : ℕ) where
 
 pub walked_is : (params : Params) (items : List Item) (m : ℕ) → decided_from (decision_time_in params items m) m 0 items ≡ decided_since params items m
 walked_is params items m = found (decision_time_in params items m) m [] items (record { unheard = refl; in_time = refl })
+
+-- ---- kept items, one after another
+
+at_late : (time m k : ℕ) (x : Item) (rest : List Item) → nat_lt time x.time ≡ true → decided_from time m k (x ∷ rest) ≡ k
+at_late time m k x rest late = rw late refl
+
+at_heard : (time m k : ℕ) (x : Item) (rest : List Item) → nat_lt time x.time ≡ false → is_some (decision_on m (verdict_in x.content)) ≡ true
+    → decided_from time m k (x ∷ rest) ≡ suc k
+at_heard time m k x rest early heard = rw (early, heard) refl
+
+module _ (params : Params) (items : List KeptItem) (m : ℕ) where
+  abbrev decision : ℕ
+  decision = decision_time_in params (model_items items) m
+
+  abbrev Walked : ℕ → ℕ → Type 0
+  Walked k i = decided_from decision m k (model_items (drop i items)) ≡ decided_from decision m 0 (model_items items)
+
+  item_next : (i : ℕ) (item : KeptItem) → i < length items → item ≡ get_or items i item → model_items (drop i items) ≡ model_item item ∷ model_items (drop (i + 1) items)
+  item_next i item h at = ap model_items (drop_more items i item h ∙ ap (λ (x : KeptItem). x ∷ drop (i + 1) items) (sym at))
+
+  told : (time : ℕ) (b : Bool) (later : ℕ) → time ≡ item_time (slice_get (model_items items) m)
+      → b ≡ nat_lt (time + params.response_timeout + params.reaction_timeout) later → nat_lt decision later ≡ b
+  told time b later is_time is =
+      ap (λ (t : ℕ). nat_lt (t + params.response_timeout + params.reaction_timeout) later) (sym is_time) ∙ sym is
+
+  module _ (k i : ℕ) (walked : Walked k i) where
+    ends : (n : ℕ) → decided_from decision m k (model_items (drop i items)) ≡ n → n ≡ decided_since params (model_items items) m
+    ends n here = sym here ∙ (walked ∙ walked_is params (model_items items) m)
+
+    pub late_here : (item : KeptItem) (time : ℕ) → i < length items → item ≡ get_or items i item → time ≡ item_time (slice_get (model_items items) m)
+        → true ≡ nat_lt (time + params.response_timeout + params.reaction_timeout) item.time → k ≡ decided_since params (model_items items) m
+    late_here item time h at is_time late =
+        ends k (ap (decided_from decision m k) (item_next i item h at)
+        ∙ at_late decision m k (model_item item) (model_items (drop (i + 1) items)) (told time true item.time is_time late))
+
+    pub heard_here : (item : KeptItem) (time : ℕ) → i < length items → item ≡ get_or items i item → time ≡ item_time (slice_get (model_items items) m)
+        → false ≡ nat_lt (time + params.response_timeout + params.reaction_timeout) item.time
+        → true ≡ is_some (decision_on m (verdict_in (model_content item.content))) → k + 1 ≡ decided_since params (model_items items) m
+    heard_here item time h at is_time early heard =
+        let one : k + 1 ≡ suc k = omega arith in
+        ends (k + 1) (ap (decided_from decision m k) (item_next i item h at)
+        ∙ (at_heard decision m k (model_item item) (model_items (drop (i + 1) items)) (told time false item.time is_time early) (sym heard) ∙ sym one))
+
+    pub never : length items ≤ i → k ≡ decided_since params (model_items items) m
+    never past = ends k (ap (λ (xs : List KeptItem). decided_from decision m k (model_items xs)) (drop_of_length-le items past))

@@ -1,7 +1,7 @@
 -- A kept request has what its check goes by.
-use Rattle.std.proofs.Common.{◌≡◌, ◌≤◌, ◌<◌, ℕ, suc, Bool, true, false, List, [], ◌∷◌, length, map, filter, take, Option, Some, None, refl, sym, ap, subst, ◌∙◌, inl, inr, arith}
+use Rattle.std.proofs.Common.{◌≡◌, ◌<◌, ℕ, suc, Bool, true, List, [], ◌∷◌, length, map, filter, take, Option, Some, None, refl, sym, ap, subst, ◌∙◌, inl, inr, arith}
 use Rattle.std.specs.Borrow.{Bor}
-use Rattle.std.specs.Prelude.{All, Contains, IsSome, find, option_map, slice_get}
+use Rattle.std.specs.Prelude.{All, Contains, IsSome, option_map, slice_get}
 use Rattle.std.specs.List.{list_any}
 use Rattle.std.specs.Str.{bytes_eq}
 use Rattle.std.proofs.lemmas.Bool.{cases_Bool}
@@ -9,7 +9,6 @@ use Rattle.std.proofs.lemmas.List.Elements.{All-contains}
 use Rattle.std.proofs.lemmas.Option.{none-some, same_Some, slice_get-map}
 use Rattle.std.proofs.lemmas.Slice.Eq.{bytes_eq-Decides}
 use Rattle.ledger_terms.specs.declared.act.Act.{Act}
-use Rattle.ledger_terms.specs.declared.params.Params.{Params}
 use Rattle.ledger_terms.specs.declared.topology.Topology.{Topology}
 use Rattle.ledger_model.specs.Forest.{acts, trees_of}
 use Rattle.ledger_model.specs.Opening.{OpenedView, Shown, views_in}
@@ -27,7 +26,6 @@ use Rattle.sealed_form.specs.SealedForm.{IsSealedForm, opened_in}
 use Rattle.sealed_form.specs.SealedReading.{sealed_reading}
 use Rattle.sealed_form.proofs.Decided.{form_decides}
 use Rattle.confirm_reply.specs.Facts.{AreAsAt, fact_on}
-use Rattle.confirm_reply.specs.LocalReading.{local_reading}
 use Rattle.confirm_reply.specs.Opened.{CanBeChecked}
 use Rattle.confirm_reply.specs.declared.check_input.CheckInput.{CheckInput}
 use Rattle.confirm_reply.specs.declared.id_facts.IdFacts.{IdFacts}
@@ -41,7 +39,7 @@ use Rattle.validate_job.specs.OwedAt.{IsInputAt}
 use Rattle.validate_job.proofs.OwedAt.{can_check_confirmed, owed_is}
 use Rattle.node_inbox.specs.Items.{model_content, model_item, model_items}
 use Rattle.node_inbox.specs.JobInput.{IsInputOf}
-use Rattle.node_inbox.specs.Kept.{AreKept, IsKept, IsKeptContent, confirmed_paths, kept_at, request_in, request_in_item}
+use Rattle.node_inbox.specs.Kept.{AreKept, IsKept, IsKeptContent, kept_at, request_in, request_in_item}
 use Rattle.node_inbox.specs.declared.kept_item.KeptContent.{KeptContent}
 use Rattle.node_inbox.specs.declared.kept_item.KeptContent.TheVariants.{Received, Told, Nothing}
 use Rattle.node_inbox.specs.declared.kept_item.KeptItem.{KeptItem}

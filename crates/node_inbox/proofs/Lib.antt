@@ -4,3 +4,5 @@ pub mod Checkable
 pub mod Jobs
 pub mod DecidedSince
 pub mod Approved
+pub mod ActiveRows
+pub mod TimeBefore

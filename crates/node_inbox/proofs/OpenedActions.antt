@@ -1,5 +1,5 @@
 -- The instance of each action of cores in range can be spelled, where views are put back too.
-use Rattle.std.proofs.Common.{◌≡◌, ℕ, List, []}
+use Rattle.std.proofs.Common.{ℕ}
 use Rattle.std.specs.Prelude.{All, ◌++◌}
 use Rattle.std.proofs.lemmas.List.Elements.{All-append, All-cons, All-nil}
 use Rattle.ledger_terms.specs.declared.act.Act.{Act}

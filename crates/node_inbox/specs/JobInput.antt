@@ -1,7 +1,6 @@
 -- What a kept request is checked by.
 use Rattle.std.specs.Prelude.{◌≡◌, ℕ, Some}
 use Rattle.std.specs.Borrow.{Bor}
-use Rattle.ledger_model.specs.Terms.{ParticipantId}
 use Rattle.sealed_form.specs.SealedForm.{opened_in}
 use Rattle.confirm_reply.specs.declared.check_input.CheckInput.{CheckInput}
 use Rattle.confirm_reply.specs.declared.setup.Setup.{Setup}

@@ -8,3 +8,7 @@ pub mod Decided
 pub mod Reads
 pub mod Confirmed
 pub mod Offered
+pub mod JobInput
+pub mod Approved
+pub mod Decisions
+pub mod Listed

@@ -28,7 +28,6 @@ fn is_verdict_on(content: &KeptContent, place: u64) -> bool
 }
 
 /// The first place at which the request at a place was decided, and the number of items where it was at none.
-#[tactic(auto, using(crate::proofs::DecidedSince::walked_is))]
 pub fn decided_since(params: &Params, items: &[KeptItem], place: u64) -> u64
     ensures { result ≡ decided_since params.now (model_items items.now) place }
 {

@@ -3,16 +3,22 @@
 #![tactic(auto)]
 
 mod actions;
+mod active_rows;
+mod applied;
 mod coming;
 mod confirmed;
+mod decided_since;
 mod facts;
+mod hosting;
 mod inbox;
 mod items;
+mod job;
 mod kept_item;
 pub mod laws;
 mod opening;
 mod putting;
 mod telling;
+mod time_before;
 
 pub use inbox::Inbox;
 pub use kept_item::{KeptContent, KeptItem, KeptRequest};
