@@ -1,7 +1,8 @@
 -- A walk over items finds where a request was decided first.
-use Rattle.std.proofs.Common.{◌≡◌, ℕ, suc, ◌+◌, ◌≤◌, Bool, true, false, List, [], ◌∷◌, ◌++◌, ◌<◌, drop, get_or, length, take, Option, Some, None, is_some, refl, sym, ap, ◌∙◌, inl, inr, add-one, arith, append-nil, append_assoc}
-use Rattle.std.specs.Prelude.{◌||◌, nat_lt, slice_get, unwrap_or}
-use Rattle.std.proofs.lemmas.Bool.{cases_Bool}
+use Rattle.std.proofs.Common.{◌≡◌, ℕ, zero, suc, ◌+◌, ◌≤◌, Bool, true, false, List, [], ◌∷◌, ◌++◌, ◌<◌, drop, get_or, length, take, Option, Some, None, is_some, refl, sym, ap, ◌∙◌, inl, inr, add-one, arith, append-nil, append_assoc}
+use Rattle.std.specs.Prelude.{◌||◌, nat_eq, nat_lt, slice_get, unwrap_or}
+use Rattle.std.proofs.lemmas.Bool.{cases_Bool, le-ltb}
+use Rattle.std.proofs.lemmas.Bool.Decides.{Decides-eqb, leb_tells}
 use Rattle.std.proofs.lemmas.List.{drop_more, length-append}
 use Rattle.std.proofs.Math.ListN.{drop_of_length-le}
 use Rattle.std.proofs.lemmas.List.Folds.{list_any-append}
@@ -9,12 +10,15 @@ use Rattle.canton_model.specs.Inbox.{Item, decision_time_in, item_time, moments,
 use Rattle.canton_model.specs.Log.{Params}
 use Rattle.canton_model.specs.Timeline.{Moment, decision_on, is_decided_at, is_past, or_else, verdict_on}
 use Rattle.canton_model.specs.declared.decision.Decision.{Decision}
+use Rattle.canton_model.specs.declared.verdict.Verdict.{Verdict}
 use Rattle.canton_model.proofs.Decided.{verdict_on_append}
 use Rattle.world_model.specs.Places.{first_from}
-use Rattle.node_inbox.specs.Decisions.{decided_from}
+use Rattle.inbox_standing.specs.Order.{AllLater, IsBelow, IsInOrder, Rise, VerdictsBehind}
+use Rattle.node_inbox.specs.Decisions.{decided_from, start_of}
 use Rattle.node_inbox.specs.InboxState.{decided_since}
 use Rattle.node_inbox.specs.Items.{model_content, model_item, model_items}
 use Rattle.node_inbox.specs.declared.kept_item.KeptItem.{KeptItem}
+use Rattle.node_inbox.proofs.TimeBefore.{as_many}
 
 abbrev moment : Item → Moment
 moment item = record { time = item.time; verdict = verdict_in item.content }
@@ -126,6 +130,61 @@ module _ (time m : ℕ) where
 pub walked_is : (params : Params) (items : List Item) (m : ℕ) → decided_from (decision_time_in params items m) m 0 items ≡ decided_since params items m
 walked_is params items m = found (decision_time_in params items m) m [] items (record { unheard = refl; in_time = refl })
 
+-- ---- items in front of the request
+
+all_later : (time : ℕ) (items : List Item) (n : ℕ) → AllLater time items → n < length items → time < item_time (slice_get items n)
+all_later time [] n later h = absurd (omega (arith, h))
+all_later time (x ∷ rest) zero later h = later.0
+all_later time (x ∷ rest) (suc n) later h = all_later time rest n later.1 (omega (arith, h))
+
+unheard_before : (m k : ℕ) (v : Option Verdict) → IsBelow k v → k ≤ m → is_some (decision_on m v) ≡ false
+unheard_before m k None below h = refl
+unheard_before m k (Some verdict) below h =
+    elim (cases_Bool (nat_eq verdict.request m)) [
+      | inl same ↦ let is : verdict.request ≡ m = (Decides-eqb verdict.request m).0 same in absurd (omega (arith, is, below, h))
+      | inr other ↦ rw other refl
+    ]
+
+quiet : (time m : ℕ) (items : List Item) (k n : ℕ) → Rise items → VerdictsBehind k items → n < length items → item_time (slice_get items n) ≤ time → m ≡ k + n
+    → decided_from time m k items ≡ decided_from time m m (drop n items)
+quiet time m [] k n rise behind h le is = absurd (omega (arith, h))
+quiet time m (x ∷ rest) k zero rise behind h le is =
+    let same : k ≡ m = omega (arith, is) in
+    ap (λ (j : ℕ). decided_from time m j (x ∷ rest)) same
+quiet time m (x ∷ rest) k (suc n) rise behind h le is =
+    let later = all_later x.time rest n rise.0 (omega (arith, h)) in
+    let early : nat_lt time x.time ≡ false = le-ltb time x.time (omega (arith, later, le)) in
+    let silent = unheard_before m k (verdict_in x.content) behind.0 (omega (arith, is)) in
+    rw (early, silent) (quiet time m rest (suc k) n rise.1 behind.1 (omega (arith, h)) le (omega (arith, is)))
+
+dropped : (n : ℕ) (items : List KeptItem) → model_items (drop n items) ≡ drop n (model_items items)
+dropped zero items = refl
+dropped (suc n) [] = refl
+dropped (suc n) (x ∷ items) = dropped n items
+
+-- the walk can begin at the request's place
+pub walked_from : (params : Params) (items : List KeptItem) (m time start : ℕ) → IsInOrder (model_items items) → time ≡ item_time (slice_get (model_items items) m)
+    → start ≡ start_of (length items) m
+    → decided_from (time + params.response_timeout + params.reaction_timeout) m start (model_items (drop start items)) ≡ decided_since params (model_items items) m
+walked_from params items m time start order is_time is_start =
+    ap (λ (t : ℕ). decided_from (t + params.response_timeout + params.reaction_timeout) m start (model_items (drop start items))) is_time
+    ∙ (ap (λ (n : ℕ). decided_from (decision_time_in params (model_items items) m) m n (model_items (drop n items))) is_start
+    ∙ (from_start ∙ walked_is params (model_items items) m))
+  where
+    from_start : decided_from (decision_time_in params (model_items items) m) m (start_of (length items) m) (model_items (drop (start_of (length items) m) items))
+        ≡ decided_from (decision_time_in params (model_items items) m) m 0 (model_items items)
+    from_start =
+        let many = as_many items in
+        let decision = decision_time_in params (model_items items) m in
+        elim (leb_tells (suc m) (length items)) [
+          | inl within ↦
+              let below = within.1 in
+              rw within.0
+              (ap (decided_from decision m m) (dropped m items)
+              ∙ sym (quiet decision m (model_items items) 0 m order.rise order.behind (omega (arith, below, many)) (omega arith) (omega arith)))
+          | inr beyond ↦ rw beyond.0 refl
+        ]
+
 -- ---- kept items, one after another
 
 at_late : (time m k : ℕ) (x : Item) (rest : List Item) → nat_lt time x.time ≡ true → decided_from time m k (x ∷ rest) ≡ k
@@ -135,38 +194,25 @@ at_heard : (time m k : ℕ) (x : Item) (rest : List Item) → nat_lt time x.time
     → decided_from time m k (x ∷ rest) ≡ suc k
 at_heard time m k x rest early heard = rw (early, heard) refl
 
-module _ (params : Params) (items : List KeptItem) (m : ℕ) where
-  abbrev decision : ℕ
-  decision = decision_time_in params (model_items items) m
+item_next : (items : List KeptItem) (i : ℕ) (item : KeptItem) → i < length items → item ≡ get_or items i item
+    → model_items (drop i items) ≡ model_item item ∷ model_items (drop (i + 1) items)
+item_next items i item h at = ap model_items (drop_more items i item h ∙ ap (λ (x : KeptItem). x ∷ drop (i + 1) items) (sym at))
 
-  abbrev Walked : ℕ → ℕ → Type 0
-  Walked k i = decided_from decision m k (model_items (drop i items)) ≡ decided_from decision m 0 (model_items items)
+module _ (decision m : ℕ) (items : List KeptItem) (k i total : ℕ) (walked : decided_from decision m k (model_items (drop i items)) ≡ total) where
+  pub late_here : (item : KeptItem) → i < length items → item ≡ get_or items i item → true ≡ nat_lt decision item.time → k ≡ total
+  late_here item h at late =
+      sym (ap (decided_from decision m k) (item_next items i item h at)
+      ∙ at_late decision m k (model_item item) (model_items (drop (i + 1) items)) (sym late))
+      ∙ walked
 
-  item_next : (i : ℕ) (item : KeptItem) → i < length items → item ≡ get_or items i item → model_items (drop i items) ≡ model_item item ∷ model_items (drop (i + 1) items)
-  item_next i item h at = ap model_items (drop_more items i item h ∙ ap (λ (x : KeptItem). x ∷ drop (i + 1) items) (sym at))
+  pub heard_here : (item : KeptItem) → i < length items → item ≡ get_or items i item → false ≡ nat_lt decision item.time
+      → true ≡ is_some (decision_on m (verdict_in (model_content item.content))) → k + 1 ≡ total
+  heard_here item h at early heard =
+      let one : k + 1 ≡ suc k = omega arith in
+      one
+      ∙ (sym (ap (decided_from decision m k) (item_next items i item h at)
+      ∙ at_heard decision m k (model_item item) (model_items (drop (i + 1) items)) (sym early) (sym heard))
+      ∙ walked)
 
-  told : (time : ℕ) (b : Bool) (later : ℕ) → time ≡ item_time (slice_get (model_items items) m)
-      → b ≡ nat_lt (time + params.response_timeout + params.reaction_timeout) later → nat_lt decision later ≡ b
-  told time b later is_time is =
-      ap (λ (t : ℕ). nat_lt (t + params.response_timeout + params.reaction_timeout) later) (sym is_time) ∙ sym is
-
-  module _ (k i : ℕ) (walked : Walked k i) where
-    ends : (n : ℕ) → decided_from decision m k (model_items (drop i items)) ≡ n → n ≡ decided_since params (model_items items) m
-    ends n here = sym here ∙ (walked ∙ walked_is params (model_items items) m)
-
-    pub late_here : (item : KeptItem) (time : ℕ) → i < length items → item ≡ get_or items i item → time ≡ item_time (slice_get (model_items items) m)
-        → true ≡ nat_lt (time + params.response_timeout + params.reaction_timeout) item.time → k ≡ decided_since params (model_items items) m
-    late_here item time h at is_time late =
-        ends k (ap (decided_from decision m k) (item_next i item h at)
-        ∙ at_late decision m k (model_item item) (model_items (drop (i + 1) items)) (told time true item.time is_time late))
-
-    pub heard_here : (item : KeptItem) (time : ℕ) → i < length items → item ≡ get_or items i item → time ≡ item_time (slice_get (model_items items) m)
-        → false ≡ nat_lt (time + params.response_timeout + params.reaction_timeout) item.time
-        → true ≡ is_some (decision_on m (verdict_in (model_content item.content))) → k + 1 ≡ decided_since params (model_items items) m
-    heard_here item time h at is_time early heard =
-        let one : k + 1 ≡ suc k = omega arith in
-        ends (k + 1) (ap (decided_from decision m k) (item_next i item h at)
-        ∙ (at_heard decision m k (model_item item) (model_items (drop (i + 1) items)) (told time false item.time is_time early) (sym heard) ∙ sym one))
-
-    pub never : length items ≤ i → k ≡ decided_since params (model_items items) m
-    never past = ends k (ap (λ (xs : List KeptItem). decided_from decision m k (model_items xs)) (drop_of_length-le items past))
+  pub never : length items ≤ i → k ≡ total
+  never past = sym (ap (λ (xs : List KeptItem). decided_from decision m k (model_items xs)) (drop_of_length-le items past)) ∙ walked

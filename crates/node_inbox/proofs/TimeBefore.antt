@@ -17,7 +17,7 @@ of_items items (suc n) some h =
     let one : suc n - 1 ≡ n = omega arith in
     ap (λ (k : ℕ). item_time (slice_get items k)) one ∙ sym (last_of items n h)
 
-as_many : (items : List KeptItem) → length (model_items items) ≡ length items
+pub as_many : (items : List KeptItem) → length (model_items items) ≡ length items
 as_many [] = refl
 as_many (item ∷ items) = ap suc (as_many items)
 

@@ -11,3 +11,7 @@ decided_from time m k (item ∷ rest) =
     if nat_lt time item.time
     then k
     else if is_some (decision_on m (verdict_in item.content)) then suc k else decided_from time m (suc k) rest
+
+-- No item in front of the request's place decides it, where there is one at that place.
+abbrev pub start_of : (count place : ℕ) → ℕ
+start_of count place = if nat_lt place count then place else 0

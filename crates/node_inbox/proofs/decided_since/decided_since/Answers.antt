@@ -1,15 +1,13 @@
-use Rattle.node_inbox.proofs.DecidedSince.{heard_here, late_here, never}
+use Rattle.std.proofs.Common.{List, ◌+◌, ap, ◌∙◌}
+use Rattle.node_inbox.specs.Decisions.{decided_from}
+use Rattle.node_inbox.specs.Items.{model_items}
+use Rattle.node_inbox.specs.declared.kept_item.KeptItem.{KeptItem}
+use Rattle.node_inbox.proofs.DecidedSince.{walked_from}
 use Rattle.node_inbox.proofs.decided_since.decided_since.Goals as goal
 
-pub returns-then-is_later : goal.returns-then-is_later
-returns-then-is_later c =
-    late_here c.args.params.now c.args.items.now c.args.place c.items.k c.items.item-index c.items.invariant.rest c.item-item.result c.time_at-time.result
-    c.items-test.true c.item-item.is c.time_at-time.ensures c.if-is_later.ensures
-
-pub returns-then-is_verdict_on : goal.returns-then-is_verdict_on
-returns-then-is_verdict_on c =
-    heard_here c.args.params.now c.args.items.now c.args.place c.items.k c.items.item-index c.items.invariant.rest c.item-item.result c.time_at-time.result
-    c.items-test.true c.item-item.is c.time_at-time.ensures c.if-is_later.ensures c.if-is_verdict_on.ensures
-
 pub returns : goal.returns
-returns c = never c.args.params.now c.args.items.now c.args.place c.items.k c.items.item-index c.items.invariant.rest c.items-test.false
+returns c =
+    c.decided_among.ensures
+    ∙ (ap (λ (rest : List KeptItem). decided_from (c.time_at.result + c.args.params.now.response_timeout + c.args.params.now.reaction_timeout) c.args.place
+    c.start_of-start.result (model_items rest)) c.items_from-rest.ensures
+    ∙ walked_from c.args.params.now c.args.items.now c.args.place c.time_at.result c.start_of-start.result c.requires c.time_at.ensures c.start_of-start.ensures.start)
