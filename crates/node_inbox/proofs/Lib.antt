@@ -1,3 +1,11 @@
+pub mod Grows
+pub mod ActFacts
+pub mod Put
+pub mod PutRequest
+pub mod PutVerdict
+pub mod Confirming
+pub mod Came
+pub mod Seen
 pub mod CoreLengths
 pub mod OpenedActions
 pub mod Checkable

@@ -14,7 +14,6 @@ use Rattle.interpret.specs.Ids.{is_authentic}
 use Rattle.view_split.specs.Placed.{shown_by}
 use Rattle.view_split.specs.declared.opened_tree.OpenedTree.{OpenedTree}
 use Rattle.sealed_form.specs.SealedForm.{opened_in}
-use Rattle.sealed_form.specs.SealedReading.{sealed_reading}
 use Rattle.confirm_reply.specs.declared.id_facts.IdFacts.{IdFacts}
 use Rattle.inbox_standing.specs.ChangeLists.{changes_of, id_in}
 use Rattle.inbox_standing.specs.Changes.{acts_of_verdict}
@@ -32,7 +31,7 @@ pub record AreParts (tree : OpenedTree) (facts : List IdFacts) (ids : List Hash)
 -- a request that comes
 pub record IsComing (topology : Topology) (packages : Packages) (me : ParticipantId) (coming : ComingRequest) : Type 0 where
   pub came : Came topology packages me (coming.kept).bytes
-  pub views : (coming.kept).views ≡ confirmed_paths (sealed_reading topology packages) me came.tree
+  pub views : (coming.kept).views ≡ confirmed_paths topology me came.tree
   pub parts : AreParts came.tree (coming.kept).facts coming.ids
 
 -- the outcome by a verdict, where it is the first on its request

@@ -1,14 +1,13 @@
 -- What the items of an inbox keep beside what came.
-use Rattle.std.specs.Prelude.{◌≡◌, ℕ, suc, true, All, List, Option, Some, None, map, filter, slice_get, take}
+use Rattle.std.specs.Prelude.{◌≡◌, ℕ, suc, true, All, List, Option, Some, None, map, slice_get, take}
 use Rattle.ledger_terms.specs.declared.act.Act.{Act}
 use Rattle.ledger_terms.specs.declared.topology.Topology.{Topology}
 use Rattle.ledger_model.specs.Forest.{acts}
-use Rattle.ledger_model.specs.Opening.{OpenedView}
 use Rattle.ledger_model.specs.Terms.{Hash, ParticipantId, Path, id_of}
-use Rattle.canton_model.specs.Checks.{is_confirmed_by}
 use Rattle.canton_model.specs.Inbox.{Item}
 use Rattle.canton_model.specs.declared.request.Request.{Request}
-use Rattle.canton_model.specs.Reading.{Reading}
+use Rattle.ledger_terms.specs.Hosting.{confirms_at}
+use Rattle.node_inbox.specs.Confirmed.{confirmed_placed}
 use Rattle.lang_eval.specs.Found.{Packages}
 use Rattle.view_split.specs.Placed.{shown_by}
 use Rattle.view_split.specs.declared.opened_tree.OpenedTree.{OpenedTree}
@@ -25,8 +24,8 @@ use Rattle.node_inbox.specs.declared.kept_item.KeptContent.TheVariants.{Received
 use Rattle.node_inbox.specs.Items.{model_items}
 
 -- the paths of the views that the participant confirms
-abbrev pub confirmed_paths : Reading → ParticipantId → OpenedTree → List Path
-confirmed_paths reading p tree = map (λ (view : OpenedView). view.path) (filter (is_confirmed_by reading p) (shown_by tree).views)
+abbrev pub confirmed_paths : Topology → ParticipantId → OpenedTree → List Path
+confirmed_paths topology p tree = confirmed_placed (confirms_at topology.hosts p) tree.views
 
 -- the contracts that the opened actions are on
 abbrev pub opened_ids : OpenedTree → List Hash
@@ -44,7 +43,7 @@ pub record Came (topology : Topology) (packages : Packages) (me : ParticipantId)
 -- participant confirms, and the facts say of each contract in it what the inbox says.
 pub record IsKept (topology : Topology) (packages : Packages) (me : ParticipantId) (items : List Item) (k : ℕ) (kept : KeptRequest) : Type 0 where
   pub came : Came topology packages me kept.bytes
-  pub views : kept.views ≡ confirmed_paths (sealed_reading topology packages) me came.tree
+  pub views : kept.views ≡ confirmed_paths topology me came.tree
   pub facts : All (IsFactAt (sealed_reading topology packages) topology.params items k) kept.facts
   pub all_ids : map (λ (fact : IdFacts). fact.id) kept.facts ≡ opened_ids came.tree
 

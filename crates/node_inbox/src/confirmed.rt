@@ -5,9 +5,7 @@ ghost use Rattle.ledger_terms.specs.Hosting.{confirms_at};
 ghost use Rattle.ledger_terms.specs.Roots.{trees_count};
 ghost use Rattle.blind_tree.specs.LeafBytes.{AreSpellableViews};
 ghost use Rattle.blind_tree.specs.ShownViews.{path_if};
-ghost use Rattle.lang_eval.specs.Found.{Packages};
 ghost use Rattle.view_split.specs.declared.placed_view.PlacedView.{PlacedView};
-ghost use Rattle.sealed_form.specs.SealedReading.{sealed_reading};
 ghost use Rattle.node_inbox.specs.Confirmed.{confirmed_in, confirmed_of};
 ghost use Rattle.node_inbox.specs.Kept.{confirmed_paths};
 
@@ -79,7 +77,7 @@ pub fn confirmed(
     tree: &OpenedTree,
 ) -> Result<PathList, AllocError>
     requires { All (λ (placed : PlacedView). AreSpellableViews (tree_of placed.view)) tree.now.views }
-    ensures { IfOk result (λ paths. (packages : Packages) → paths ≡ confirmed_paths (sealed_reading topology.now packages) me tree.now) }
+    ensures { IfOk result (λ paths. paths ≡ confirmed_paths topology.now me tree.now) }
 {
     let mut paths = PathList::new(alloc);
     for placed in tree.views.as_slice() {

@@ -1,7 +1,7 @@
 //! An inbox.
 ghost use Rattle.std.specs.Prelude.{◌≡◌, ◌<◌, ◌^◌, ◌&&◌, [], true, length, is_some, OnOk, OnErr};
 ghost use Rattle.canton_model.specs.declared.request.Request.{Request as RequestValue};
-ghost use Rattle.canton_model.specs.Log.{RequestMessage};
+ghost use Rattle.canton_model.specs.declared.message.Message.TheVariants.{Request as RequestMessage};
 ghost use Rattle.canton_model.specs.Inbox.{Nothing, clean, clean_time, is_decided_in, last_time, received, shown_at};
 ghost use Rattle.world_model.specs.Node.{owes_at};
 ghost use Rattle.contract_store.specs.Written.{holding, written};

@@ -14,6 +14,7 @@ ghost use Rattle.blind_tree.specs.TreeHashes.{hash_of_root};
 ghost use Rattle.sha2.specs.Sha256.{sha256};
 ghost use Rattle.sealed_form.specs.SealedForm.{envelope_to, found, opened_in, tree_in};
 
+use blind_tree::laws::{opened_actions_are_spellable, opened_views_are_spellable};
 use blind_tree::{OpenedTree, Tree, decode_tree, opened, root_of};
 use canton_model::Envelope;
 use ledger_terms::{Bytes, Hash, ParticipantId};
@@ -51,6 +52,8 @@ pub fn opened_of(alloc: Global, tree: &Tree) -> Result<Option<OpenedTree>, Alloc
     ensures spellable { IfOk result (λ o. IfSome o (λ tree. All (λ (act : Act). IsSpellableInstance (instance_of act.action)) (acts (shown_by tree).roots))) }
     ensures views { IfOk result (λ o. IfSome o (λ tree. All (λ (placed : PlacedView). AreSpellableViews (tree_of placed.view)) tree.views)) }
 {
+    opened_actions_are_spellable();
+    opened_views_are_spellable();
     match opened(alloc, tree) {
         Ok(opened) => Ok(Some(opened)),
         Err(WireFault::Memory) => Err(AllocError),

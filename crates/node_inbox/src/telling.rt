@@ -64,6 +64,13 @@ fn is_told(outcome: Option<Outcome>) -> bool
     }
 }
 
+fn copy_of(verdict: &Verdict) -> Result<Verdict, AllocError>
+    ensures { IfOk result (λ copy. copy ≡ verdict.now) }
+{
+    let copy = verdict.clone()?;
+    Ok(copy)
+}
+
 // The changes among the authentic actions that bytes open.
 fn changes_opened(alloc: Global, bytes: &[u8]) -> Result<Vec<Change>, AllocError>
     ensures { IfOk result (λ changes. changes.items ≡ changes_opened bytes.now) }
@@ -106,7 +113,7 @@ pub fn telling(
     let Some(kept) = request_at(items, verdict.request) else {
         return Ok(None);
     };
-    let told = verdict.clone()?;
+    let told = copy_of(verdict)?;
     if is_told(standing.outcome(verdict.request)) {
         return Ok(Some(ComingVerdict {
             verdict: told,
