@@ -81,13 +81,13 @@ shown_some true a b e = same_Some a b e
 shown_some false a b e = absurd (none-some a (sym e))
 
 module _ (topology : Topology) (packages : Packages) (q : Request) (p : ℕ) (sealed : IsSealedForm topology packages q) where
-  abbrev t : Transaction
+  abbrev pub t : Transaction
   t = (sealed.whole).transaction
 
-  abbrev hosts : List ℕ → Bool
+  abbrev pub hosts : List ℕ → Bool
   hosts = hosts_at topology.hosts p
 
-  abbrev views : Forest SplitView
+  abbrev pub views : Forest SplitView
   views = views_by packages t
 
   abbrev tree_of_p : ℕ → Tree
@@ -96,7 +96,7 @@ module _ (topology : Topology) (packages : Packages) (q : Request) (p : ℕ) (se
   abbrev bytes_to : ℕ → List ℕ
   bytes_to r = spell_tree (tree_of_p r)
 
-  abbrev opens_of_p : OpenedTree
+  abbrev pub opens_of_p : OpenedTree
   opens_of_p = opens topology packages q.sender sealed.whole sealed.can_be p
 
   at_p : envelope_to p q.envelopes ≡ (if is_recipient topology.hosts views q.sender p then Some (bytes_to p) else None)
@@ -117,7 +117,7 @@ module _ (topology : Topology) (packages : Packages) (q : Request) (p : ℕ) (se
     short : length (bytes_to p) ≤ MOST_TREE_BYTES
     short = first_is_short p q.envelopes (bytes_to p) has_bytes (λ e i. sealed.short e (contains_from_In q.envelopes e i))
 
-    tree_is : opens_of_p ≡ tree
+    pub tree_is : opens_of_p ≡ tree
     tree_is = same_Some opens_of_p tree (sym bytes_are_opened ∙ (ap (option_and_then opened_in) (sym has_bytes) ∙ is_opened))
 
     -- what is opened is the projection

@@ -35,7 +35,7 @@ use Rattle.confirm_reply.proofs.Checked.{core_in_place}
 use Rattle.confirm_reply.proofs.FactsAt.{as_at}
 use Rattle.confirm_reply.proofs.Placed.{EachIn, StandsIn}
 use Rattle.validate_job.specs.Owed.{CanCheck, owed_on_each}
-use Rattle.validate_job.specs.OwedAt.{IsInputAt}
+use Rattle.validate_job.specs.OwedAt.{IsInputAt, confirmed_paths}
 use Rattle.validate_job.proofs.OwedAt.{can_check_confirmed, owed_is}
 use Rattle.node_inbox.specs.Items.{model_content, model_item, model_items}
 use Rattle.node_inbox.specs.JobInput.{IsInputOf}
@@ -45,6 +45,7 @@ use Rattle.node_inbox.specs.declared.kept_item.KeptContent.TheVariants.{Received
 use Rattle.node_inbox.specs.declared.kept_item.KeptItem.{KeptItem}
 use Rattle.node_inbox.specs.declared.kept_item.KeptRequest.{KeptRequest}
 use Rattle.node_inbox.proofs.Checkable.{can_be_checked, in_path_order}
+use Rattle.node_inbox.proofs.ConfirmedViews.{confirmed_are}
 
 -- ---- facts on contracts
 
@@ -161,12 +162,15 @@ module _ (s : Bor Setup) (me : ℕ) (items : List KeptItem) (k : ℕ) (request :
       ap shown_in item_there
       ∙ (shown_as (found_item.0).content request found_item.2 ∙ ap (option_map shown_of_tree) (is_kept.came).is_opened)
 
+  are_confirmed : request.views ≡ confirmed_paths reading me (shown_of_tree tree)
+  are_confirmed = is_kept.views ∙ confirmed_are topology packages (is_kept.came).request me sealed tree (is_kept.came).is_to
+
   -- the participant owes verdicts, so it confirms some view
   pub some_views : owes_at reading me (model_items items) k ≡ true → 0 < length request.views
   some_views owes =
       let any : list_any (is_confirmed_by reading me) (shown_of_tree tree).views ≡ true =
       ap (λ (o : Option Shown). list_any (is_confirmed_by reading me) (views_in o)) (sym is_shown) ∙ owes in
-      subst (λ (paths : List Path). 0 < length paths) (sym is_kept.views) (some_path (is_confirmed_by reading me) (shown_of_tree tree).views any)
+      subst (λ (paths : List Path). 0 < length paths) (sym are_confirmed) (some_path (is_confirmed_by reading me) (shown_of_tree tree).views any)
 
   module _ (time : ℕ) (is_time : time ≡ item_time (slice_get (model_items items) k)) where
     abbrev made : CheckInput
@@ -203,12 +207,12 @@ module _ (s : Bor Setup) (me : ℕ) (items : List KeptItem) (k : ℕ) (request :
         → owed_on_each input request.views ≡ owed_at reading topology.params me (model_items items) k
     are_owed input of =
         ap (λ (i : CheckInput). owed_on_each i request.views) (sym (made_is input of))
-        ∙ (ap (owed_on_each made) is_kept.views ∙ owed_is reading then_read k made fits)
+        ∙ (ap (owed_on_each made) are_confirmed ∙ owed_is reading then_read k made fits)
 
     pub can_check : (input : CheckInput) → IsInputOf s me time request input → All (CanCheck input) request.views
     can_check input of =
         subst (λ (i : CheckInput). All (CanCheck i) request.views) (made_is input of)
-        (subst (All (CanCheck made)) (sym is_kept.views)
+        (subst (All (CanCheck made)) (sym are_confirmed)
         (can_check_confirmed reading made (λ view there.
         All-contains (CanBeChecked packages (shown_of_tree tree)) (shown_of_tree tree).views view
         (can_be_checked topology packages (is_kept.came).request me sealed tree (is_kept.came).is_to) there)))

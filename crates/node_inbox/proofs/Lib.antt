@@ -9,6 +9,7 @@ pub mod Seen
 pub mod CoreLengths
 pub mod OpenedActions
 pub mod Checkable
+pub mod ConfirmedViews
 pub mod Jobs
 pub mod DecidedSince
 pub mod Approved
