@@ -27,16 +27,19 @@ use Rattle.lang_eval.specs.Found.{Packages}
 use Rattle.lang_eval.specs.Language.{has_roles}
 use Rattle.interpret.specs.Language.{the_language}
 use Rattle.wire_form.specs.Spellable.{IsSpellableInstance}
+use Rattle.view_split.specs.Filled.{AreFilled}
 use Rattle.view_split.specs.Placed.{placed_forest, shown_by}
 use Rattle.view_split.specs.SeenViews.{put_back, seen_views}
 use Rattle.view_split.specs.declared.opened_tree.OpenedTree.{OpenedTree}
 use Rattle.view_split.specs.declared.split_view.SplitView.{SplitView}
+use Rattle.view_split.proofs.Holes.{filled}
+use Rattle.view_split.proofs.Sight.{seen_are_views}
 use Rattle.blind_tree.specs.Opening.{tree_opened}
 use Rattle.blind_tree.specs.Recipients.{is_recipient, recipients_of}
 use Rattle.blind_tree.specs.Spelling.{spell_each, spell_leaf, spell_tree}
 use Rattle.blind_tree.specs.Vertices.{count}
 use Rattle.blind_tree.specs.declared.tree.Tree.{Tree}
-use Rattle.sealed_form.specs.SealedForm.{IsSealedForm, envelope_to, found, opened_in, opened_to, tree_for, views_by}
+use Rattle.sealed_form.specs.SealedForm.{IsSealedForm, envelope_to, found, opened_in, opened_to, roles_by, tree_for, views_by}
 use Rattle.sealed_form.proofs.Opens.{opens, shown_is, tree_is_opened}
 use Rattle.sealed_form.proofs.Recipients.{are_reached, first_to}
 use Rattle.sealed_form.proofs.Trees.{is_tree, tree_again}
@@ -81,13 +84,13 @@ shown_some true a b e = same_Some a b e
 shown_some false a b e = absurd (none-some a (sym e))
 
 module _ (topology : Topology) (packages : Packages) (q : Request) (p : ℕ) (sealed : IsSealedForm topology packages q) where
-  abbrev pub t : Transaction
+  abbrev t : Transaction
   t = (sealed.whole).transaction
 
-  abbrev pub hosts : List ℕ → Bool
+  abbrev hosts : List ℕ → Bool
   hosts = hosts_at topology.hosts p
 
-  abbrev pub views : Forest SplitView
+  abbrev views : Forest SplitView
   views = views_by packages t
 
   abbrev tree_of_p : ℕ → Tree
@@ -96,7 +99,7 @@ module _ (topology : Topology) (packages : Packages) (q : Request) (p : ℕ) (se
   abbrev bytes_to : ℕ → List ℕ
   bytes_to r = spell_tree (tree_of_p r)
 
-  abbrev pub opens_of_p : OpenedTree
+  abbrev opens_of_p : OpenedTree
   opens_of_p = opens topology packages q.sender sealed.whole sealed.can_be p
 
   at_p : envelope_to p q.envelopes ≡ (if is_recipient topology.hosts views q.sender p then Some (bytes_to p) else None)
@@ -117,12 +120,18 @@ module _ (topology : Topology) (packages : Packages) (q : Request) (p : ℕ) (se
     short : length (bytes_to p) ≤ MOST_TREE_BYTES
     short = first_is_short p q.envelopes (bytes_to p) has_bytes (λ e i. sealed.short e (contains_from_In q.envelopes e i))
 
-    pub tree_is : opens_of_p ≡ tree
+    tree_is : opens_of_p ≡ tree
     tree_is = same_Some opens_of_p tree (sym bytes_are_opened ∙ (ap (option_and_then opened_in) (sym has_bytes) ∙ is_opened))
 
     -- what is opened is the projection
     by_rules : Some (shown_by tree) ≡ shown_of (the_language packages) hosts (nat_eq p q.sender) t
     by_rules = ap (option_map shown_by) (sym is_opened) ∙ shown_is topology packages q sealed p
+
+    -- each view that is opened has as many holes as views stand directly below it
+    pub are_filled : AreFilled (bare (placed_forest tree.views))
+    are_filled =
+        subst (λ (u : OpenedTree). AreFilled (bare (placed_forest u.views))) tree_is
+        (subst AreFilled (sym (placed_bare (seen_views hosts views) ∙ seen_are_views (roles_by packages) hosts t.roots)) (filled (roles_by packages) _))
 
     -- the views that are opened stand in order of path
     pub in_path_order : IsRising (map (λ (view : OpenedView). view.path) (shown_by tree).views)

@@ -18,7 +18,6 @@ use Rattle.node_inbox.specs.Decisions.{decided_from, start_of}
 use Rattle.node_inbox.specs.InboxState.{decided_since}
 use Rattle.node_inbox.specs.Items.{model_content, model_item, model_items}
 use Rattle.node_inbox.specs.declared.kept_item.KeptItem.{KeptItem}
-use Rattle.node_inbox.proofs.TimeBefore.{as_many}
 
 abbrev moment : Item → Moment
 moment item = record { time = item.time; verdict = verdict_in item.content }
@@ -156,6 +155,10 @@ quiet time m (x ∷ rest) k (suc n) rise behind h le is =
     let early : nat_lt time x.time ≡ false = le-ltb time x.time (omega (arith, later, le)) in
     let silent = unheard_before m k (verdict_in x.content) behind.0 (omega (arith, is)) in
     rw (early, silent) (quiet time m rest (suc k) n rise.1 behind.1 (omega (arith, h)) le (omega (arith, is)))
+
+as_many : (items : List KeptItem) → length (model_items items) ≡ length items
+as_many [] = refl
+as_many (item ∷ items) = ap suc (as_many items)
 
 dropped : (n : ℕ) (items : List KeptItem) → model_items (drop n items) ≡ drop n (model_items items)
 dropped zero items = refl

@@ -44,8 +44,9 @@ use Rattle.node_inbox.specs.declared.kept_item.KeptContent.{KeptContent}
 use Rattle.node_inbox.specs.declared.kept_item.KeptContent.TheVariants.{Received, Told, Nothing}
 use Rattle.node_inbox.specs.declared.kept_item.KeptItem.{KeptItem}
 use Rattle.node_inbox.specs.declared.kept_item.KeptRequest.{KeptRequest}
-use Rattle.node_inbox.proofs.Checkable.{can_be_checked, in_path_order}
-use Rattle.node_inbox.proofs.ConfirmedViews.{confirmed_are}
+use Rattle.node_inbox.proofs.Checkable.{are_filled, can_be_checked, in_path_order}
+use Rattle.node_inbox.proofs.Laid.{paths_are}
+use Rattle.node_inbox.proofs.Seen.{found_at, shown_tree}
 
 -- ---- facts on contracts
 
@@ -72,38 +73,6 @@ in_roots tree view there a i =
 
 -- ---- the request at a place
 
-kept_in : (topology : Topology) (packages : Packages) (me : ℕ) (items : List Item) (k : ℕ) (content : KeptContent) (request : KeptRequest)
-    → request_in content ≡ Some request → IsKeptContent topology packages me items k content → IsKept topology packages me items k request
-kept_in topology packages me items k (Received kept) request is h = subst (IsKept topology packages me items k) (same_Some kept request is) h
-kept_in topology packages me items k (Told verdict) request is h = absurd (none-some request is)
-kept_in topology packages me items k Nothing request is h = absurd (none-some request is)
-
-item_of : (found : Option KeptItem) (request : KeptRequest) → request_in_item found ≡ Some request
-    → (item : KeptItem) × (found ≡ Some item) × (request_in item.content ≡ Some request)
-item_of (Some item) request is = (item, refl, is)
-item_of None request is = absurd (none-some request is)
-
-received_shown : (shown : Option Shown) → shown_by (received shown) ≡ shown
-received_shown (Some shown) = refl
-received_shown None = refl
-
-shown_as : (content : KeptContent) (request : KeptRequest) → request_in content ≡ Some request
-    → shown_by (model_content content) ≡ option_map shown_of_tree (opened_in request.bytes)
-shown_as (Received kept) request is =
-    received_shown (option_map shown_of_tree (opened_in kept.bytes))
-    ∙ ap (λ (r : KeptRequest). option_map shown_of_tree (opened_in r.bytes)) (same_Some kept request is)
-shown_as (Told verdict) request is = absurd (none-some request is)
-shown_as Nothing request is = absurd (none-some request is)
-
-none_shown : (content : KeptContent) → request_in content ≡ None → shown_by (model_content content) ≡ None
-none_shown (Received kept) is = absurd (none-some kept (sym is))
-none_shown (Told verdict) is = refl
-none_shown Nothing is = refl
-
-none_in_item : (found : Option KeptItem) → request_in_item found ≡ None → shown_in (option_map model_item found) ≡ None
-none_in_item None is = refl
-none_in_item (Some item) is = none_shown item.content is
-
 some_path : (test : OpenedView → Bool) (views : List OpenedView) → list_any test views ≡ true
     → 0 < length (map (λ (view : OpenedView). view.path) (filter test views))
 some_path test [] any = cc
@@ -112,13 +81,6 @@ some_path test (view ∷ views) any =
       | inl passes ↦ rw passes (omega arith)
       | inr fails ↦ rw fails (some_path test views (rw fails at any))
     ]
-
--- who owes verdicts to the request at a place received it
-pub owed_is_kept : (reading : Reading) (me : ℕ) (items : List KeptItem) (k : ℕ) → owes_at reading me (model_items items) k ≡ true → kept_at items k ≡ None → ⊥
-owed_is_kept reading me items k owes none =
-    let dark : shown_at (model_items items) k ≡ None = ap shown_in (slice_get-map model_item items k) ∙ none_in_item (slice_get items k) none in
-    let no : list_any (is_confirmed_by reading me) (views_in None) ≡ true = ap (λ (o : Option Shown). list_any (is_confirmed_by reading me) (views_in o)) (sym dark) ∙ owes in
-    cc
 
 module _ (s : Bor Setup) (me : ℕ) (items : List KeptItem) (k : ℕ) (request : KeptRequest)
     (are : AreKept s.now.topology s.now.checked me items)
@@ -136,11 +98,8 @@ module _ (s : Bor Setup) (me : ℕ) (items : List KeptItem) (k : ℕ) (request :
   abbrev then_read : List Item
   then_read = take (suc k) (model_items items)
 
-  found_item : (item : KeptItem) × (slice_get items k ≡ Some item) × (request_in item.content ≡ Some request)
-  found_item = item_of (slice_get items k) request at
-
   is_kept : IsKept topology packages me then_read k request
-  is_kept = kept_in topology packages me then_read k (found_item.0).content request found_item.2 (are k found_item.0 found_item.1)
+  is_kept = found_at topology packages me items are k request at
 
   pub opens_some : IsSome (opened_in request.bytes)
   opens_some = rw (is_kept.came).is_opened refl
@@ -151,19 +110,15 @@ module _ (s : Bor Setup) (me : ℕ) (items : List KeptItem) (k : ℕ) (request :
   sealed : IsSealedForm topology packages (is_kept.came).request
   sealed = (form_decides topology packages (is_kept.came).request).0 (is_kept.came).is_sealed
 
-  item_there : slice_get (model_items items) k ≡ Some (model_item found_item.0)
-  item_there = slice_get-map model_item items k ∙ ap (option_map model_item) found_item.1
-
   at_end : slice_get then_read k ≡ slice_get (model_items items) k
   at_end = slice_get_take (suc k) (model_items items) k (omega arith)
 
   is_shown : shown_at (model_items items) k ≡ Some (shown_of_tree tree)
-  is_shown =
-      ap shown_in item_there
-      ∙ (shown_as (found_item.0).content request found_item.2 ∙ ap (option_map shown_of_tree) (is_kept.came).is_opened)
+  is_shown = shown_tree topology packages me items are k request at
 
   are_confirmed : request.views ≡ confirmed_paths reading me (shown_of_tree tree)
-  are_confirmed = is_kept.views ∙ confirmed_are topology packages (is_kept.came).request me sealed tree (is_kept.came).is_to
+  are_confirmed = is_kept.views
+      ∙ paths_are reading topology me tree refl (are_filled topology packages (is_kept.came).request me sealed tree (is_kept.came).is_to)
 
   -- the participant owes verdicts, so it confirms some view
   pub some_views : owes_at reading me (model_items items) k ≡ true → 0 < length request.views

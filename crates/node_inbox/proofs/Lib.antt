@@ -5,13 +5,13 @@ pub mod PutRequest
 pub mod PutVerdict
 pub mod Confirming
 pub mod Came
+pub mod Laid
 pub mod Seen
+pub mod Owes
 pub mod CoreLengths
 pub mod OpenedActions
 pub mod Checkable
-pub mod ConfirmedViews
 pub mod Jobs
 pub mod DecidedSince
 pub mod Approved
 pub mod ActiveRows
-pub mod TimeBefore

@@ -16,12 +16,13 @@ use Rattle.canton_model.specs.declared.outcome.Outcome.{Outcome as Kind}
 use Rattle.canton_model.specs.declared.outcome.Outcome.TheVariants as kind
 use Rattle.canton_model.specs.declared.verdict.Verdict.{Verdict}
 use Rattle.canton_model.specs.Timeline.{Decided, is_approval, kind_of, outcome_from, outcome_of, verdict_on, is_past}
-use Rattle.canton_model.specs.Inbox.{Content, Item, clean, decision_time_in, is_decided_in, item_time, last_time, moments, received, shown_at, shown_by, shown_in, verdict_in, Told, Nothing}
+use Rattle.canton_model.specs.Inbox.{Content, Item, clean, clean_time, decision_time_in, is_decided_in, item_time, last_time, moments, received, shown_at, shown_by, shown_in, verdict_in, Told, Nothing}
 use Rattle.lang_eval.specs.Found.{Packages}
 use Rattle.interpret.specs.Ids.{is_authentic}
 use Rattle.request_track.specs.CleanLaw.{Tracks}
 use Rattle.request_track.specs.Pairs.{Pair, clean_of, outcome_at}
 use Rattle.request_track.proofs.CleanSame.{clean_same}
+use Rattle.canton_model.proofs.InboxFacts.{clean_is_clean}
 use Rattle.sealed_form.specs.SealedForm.{opened_in}
 use Rattle.sealed_form.specs.SealedReading.{sealed_reading}
 use Rattle.view_split.specs.Placed.{shown_by as shown_by_tree}
@@ -144,8 +145,10 @@ closed_is params items m = by (shown_at items m)
   where
     over : is_decided_in params items m (length items) ≡ (is_some (verdict_on m (moments items)) || is_past (decision_time_in params items m) (moments items))
     over =
-        rw (take_all (length items) (moments items) (omega (arith, as_many_moments items)),
-        take_all (length items + 1) (moments items) (omega (arith, as_many_moments items))) refl
+        rw (
+          take_all (length items) (moments items) (omega (arith, as_many_moments items)),
+          take_all (length items + 1) (moments items) (omega (arith, as_many_moments items)),
+        ) refl
 
     by : (o : Option Shown)
         → is_closed (option_map (λ (s : Shown). kind_of (outcome_of (moments items) m (decision_time_in params items m))) o)
@@ -223,3 +226,8 @@ time_before (x ∷ y ∷ rest) (suc n) lt = time_before (y ∷ rest) n (omega (a
 pub time_at_clean : (items : List Item) (n : ℕ) → 0 < n → n ≤ length items → last_time (take n items) ≡ item_time (slice_get items (n - 1))
 time_at_clean items zero pos le = absurd (omega arith)
 time_at_clean items (suc n) pos le = let w : suc n - 1 ≡ n = omega arith in rw w (time_before items n (omega (arith, le)))
+
+pub clean_time_is : (params : Params) (items : List Item) (n t : ℕ) → n ≡ clean params items → 0 < n → t ≡ item_time (slice_get items (n - 1)) → t ≡ clean_time params items
+clean_time_is params items n t is pos e =
+    let le : n ≤ length items = (let w = (clean_is_clean params items).within in omega (arith, w, is)) in
+    e ∙ sym (time_at_clean items n pos le) ∙ ap (λ (k : ℕ). last_time (take k items)) is

@@ -1,29 +1,37 @@
 //! An inbox.
-ghost use Rattle.std.specs.Prelude.{◌≡◌, ◌<◌, ◌^◌, ◌&&◌, [], true, length, is_some, OnOk, OnErr};
+ghost use Rattle.std.specs.Prelude.{◌≡◌, ◌<◌, ◌^◌, ◌&&◌, [], true, length, is_some, IfOk, OnOk, OnErr};
 ghost use Rattle.canton_model.specs.declared.request.Request.{Request as RequestValue};
 ghost use Rattle.canton_model.specs.declared.message.Message.TheVariants.{Request as RequestMessage};
-ghost use Rattle.canton_model.specs.Inbox.{Nothing, clean, clean_time, is_decided_in, last_time, received, shown_at};
-ghost use Rattle.world_model.specs.Node.{owes_at};
+ghost use Rattle.canton_model.specs.Inbox.{Nothing, clean, clean_time, is_decided_in, last_time, node_active, node_log, received, shown_at};
+ghost use Rattle.world_model.specs.Node.{owed_at, owes_at};
 ghost use Rattle.contract_store.specs.Written.{holding, written};
 ghost use Rattle.inbox_standing.specs.Changes.{changes_in, pending_changes};
 ghost use Rattle.inbox_standing.specs.Requests.{outcome_received};
+ghost use Rattle.validate_job.specs.Owed.{owed_on_each};
 ghost use Rattle.node_inbox.specs.Decided.{is_closed};
 ghost use Rattle.node_inbox.specs.Entries.{item_from, told_if_received};
-ghost use Rattle.node_inbox.specs.InboxState.{begun, params_of, reading_of, with_item};
+ghost use Rattle.node_inbox.specs.InboxState.{begun, decided_since, params_of, reading_of, with_item};
 ghost use Rattle.node_inbox.specs.Reads.{item_with};
 
+use crate::active_rows::active_rows;
+use crate::applied::applied;
 use crate::coming::coming;
+use crate::decided_since::decided_since;
 use crate::items::{request_at, time_at};
+use crate::job::job;
 use crate::kept_item::KeptItem;
 use crate::putting::{put_nothing, put_request, put_verdict};
 use crate::telling::telling;
+use blind_tree::laws::opened_views_are_filled;
 use canton_model::{Entry, Message, Outcome, Request, Verdict};
 use confirm_reply::Setup;
 use contract_store::Store;
 use inbox_standing::Standing;
-use ledger_terms::ParticipantId;
+use ledger_model::CommitList;
+use ledger_terms::{ActiveRowList, ParticipantId};
 use std::alloc::{AllocError, Global};
 use std::marker::Model;
+use validate_job::ValidateJob;
 
 /// What a participant has read of the log, item by item, and what it keeps beside that.
 #[derive(Drop)]
@@ -195,6 +203,7 @@ impl<'s> Inbox<'s> {
     pub fn owes(&self, place: u64) -> bool
         ensures { result ≡ owes_at (reading_of self.now) self.now.me self.now.items place }
     {
+        opened_views_are_filled();
         match request_at(self.items.as_slice(), place) {
             Some(kept) => !kept.views.is_empty(),
             None => false,
@@ -207,6 +216,54 @@ impl<'s> Inbox<'s> {
         ensures holds { result.now.holds ≡ holding (pending_changes (reading_of self.now) (params_of self.now) self.now.items) }
     {
         self.standing.store()
+    }
+
+    /// The first place at which a request was decided, and the cursor where it isn't. Goes through what was read from the request's
+    /// place on.
+    pub fn decided_since(&self, place: u64) -> u64
+        ensures { result ≡ decided_since (params_of self.now) self.now.items place }
+    {
+        decided_since(&self.setup.topology.params, self.items.as_slice(), place)
+    }
+
+    /// The check that the participant owes to the request at a place, by what it had read when it had read that. Opens the
+    /// envelope again.
+    pub fn job(&self, alloc: Global, place: u64) -> Result<ValidateJob<'s>, AllocError>
+        requires { owes_at (reading_of self.now) self.now.me self.now.items place ≡ true }
+        ensures place { IfOk result (λ job. job.given.place ≡ place) }
+        ensures left { IfOk result (λ job. job.left ≡ length job.given.views) }
+        ensures some { IfOk result (λ job. 0 < job.left) }
+        ensures owed { IfOk result (λ job. owed_on_each job.given.input job.given.views
+            ≡ owed_at (reading_of self.now) (params_of self.now) self.now.me self.now.items place) }
+    {
+        job(alloc, self.setup, self.me, self.items.as_slice(), place)
+    }
+
+    /// The approved requests before the clean place, as they are opened. Opens each again.
+    pub fn applied(&self, alloc: Global) -> Result<CommitList, AllocError>
+        ensures { IfOk result (λ commits. commits ≡ node_log (params_of self.now) self.now.items) }
+    {
+        applied(
+            alloc,
+            self.setup,
+            self.items.as_slice(),
+            &self.standing,
+            self.clean(),
+        )
+    }
+
+    /// The active contracts with a hosted stakeholder at the clean place, in order of creation. Goes through the approved requests.
+    pub fn active(&self, alloc: Global) -> Result<ActiveRowList, AllocError>
+        ensures { IfOk result (λ rows. rows ≡ node_active (reading_of self.now) self.now.me self.now.items (clean (params_of self.now) self.now.items)) }
+    {
+        active_rows(
+            alloc,
+            self.setup,
+            self.me,
+            self.items.as_slice(),
+            &self.standing,
+            self.clean(),
+        )
     }
 }
 

@@ -18,7 +18,6 @@ pub mod laws;
 mod opening;
 mod putting;
 mod telling;
-mod time_before;
 
 pub use inbox::Inbox;
 pub use kept_item::{KeptContent, KeptItem, KeptRequest};
