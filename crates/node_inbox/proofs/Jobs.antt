@@ -98,7 +98,7 @@ module _ (s : Bor Setup) (me : ℕ) (items : List KeptItem) (k : ℕ) (request :
   abbrev then_read : List Item
   then_read = take (suc k) (model_items items)
 
-  is_kept : IsKept topology packages me then_read k request
+  abbrev is_kept : IsKept topology packages me then_read k request
   is_kept = found_at topology packages me items are k request at
 
   pub opens_some : IsSome (opened_in request.bytes)
