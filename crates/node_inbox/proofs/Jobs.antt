@@ -1,12 +1,12 @@
 -- A kept request has what its check goes by.
-use Rattle.std.proofs.Common.{◌≡◌, ◌<◌, ℕ, suc, Bool, true, List, [], ◌∷◌, length, map, filter, take, Option, Some, None, refl, sym, ap, subst, ◌∙◌, inl, inr, arith}
+use Rattle.std.proofs.Common.{◌≡◌, ◌<◌, ℕ, suc, Bool, true, List, [], ◌∷◌, length, map, filter, take, Option, Some, refl, sym, ap, subst, ◌∙◌, inl, inr, arith}
 use Rattle.std.specs.Borrow.{Bor}
-use Rattle.std.specs.Prelude.{All, Contains, IsSome, option_map, slice_get}
+use Rattle.std.specs.Prelude.{All, Contains, IsSome, slice_get}
 use Rattle.std.specs.List.{list_any}
 use Rattle.std.specs.Str.{bytes_eq}
 use Rattle.std.proofs.lemmas.Bool.{cases_Bool}
 use Rattle.std.proofs.lemmas.List.Elements.{All-contains}
-use Rattle.std.proofs.lemmas.Option.{none-some, same_Some, slice_get-map}
+use Rattle.std.proofs.lemmas.Option.{same_Some}
 use Rattle.std.proofs.lemmas.Slice.Eq.{bytes_eq-Decides}
 use Rattle.ledger_terms.specs.declared.act.Act.{Act}
 use Rattle.ledger_terms.specs.declared.topology.Topology.{Topology}
@@ -15,7 +15,7 @@ use Rattle.ledger_model.specs.Opening.{OpenedView, Shown, views_in}
 use Rattle.ledger_model.specs.Terms.{Hash, Path, id_of}
 use Rattle.ledger_model.proofs.Lists.{In, in_from_Contains, in_map}
 use Rattle.canton_model.specs.Checks.{is_confirmed_by}
-use Rattle.canton_model.specs.Inbox.{Item, item_time, received, shown_at, shown_by, shown_in}
+use Rattle.canton_model.specs.Inbox.{Item, item_time, shown_at, shown_in}
 use Rattle.canton_model.specs.Reading.{Reading}
 use Rattle.canton_model.proofs.InboxFacts.{slice_get_take}
 use Rattle.world_model.specs.Node.{owed_at, owes_at}
@@ -37,11 +37,9 @@ use Rattle.confirm_reply.proofs.Placed.{EachIn, StandsIn}
 use Rattle.validate_job.specs.Owed.{CanCheck, owed_on_each}
 use Rattle.validate_job.specs.OwedAt.{IsInputAt, confirmed_paths}
 use Rattle.validate_job.proofs.OwedAt.{can_check_confirmed, owed_is}
-use Rattle.node_inbox.specs.Items.{model_content, model_item, model_items}
+use Rattle.node_inbox.specs.Items.{model_items}
 use Rattle.node_inbox.specs.JobInput.{IsInputOf}
-use Rattle.node_inbox.specs.Kept.{AreKept, IsKept, IsKeptContent, kept_at, request_in, request_in_item}
-use Rattle.node_inbox.specs.declared.kept_item.KeptContent.{KeptContent}
-use Rattle.node_inbox.specs.declared.kept_item.KeptContent.TheVariants.{Received, Told, Nothing}
+use Rattle.node_inbox.specs.Kept.{AreKept, IsKept, kept_at}
 use Rattle.node_inbox.specs.declared.kept_item.KeptItem.{KeptItem}
 use Rattle.node_inbox.specs.declared.kept_item.KeptRequest.{KeptRequest}
 use Rattle.node_inbox.proofs.Checkable.{are_filled, can_be_checked, in_path_order}
