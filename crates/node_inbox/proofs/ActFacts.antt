@@ -130,3 +130,7 @@ pub mapped_more : {X : Type 0} (f : X → X) (ts xs : List X) (i : ℕ) (x y : X
 mapped_more f ts xs i x y lt e found added =
     let next : i + 1 ≡ suc i = omega arith in
     rw (e, next) (mapped_place f xs i x y lt (added ∙ ap f (found ∙ ap (λ l. get_or l i x) e)))
+
+pub as_many_acts : (found : List (Bor Act)) → length (acts_in found) ≡ length found
+as_many_acts [] = refl
+as_many_acts (x ∷ xs) = ap suc (as_many_acts xs)
