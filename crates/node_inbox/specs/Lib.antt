@@ -4,7 +4,6 @@ pub mod Items
 pub mod Kept
 pub mod Acts
 pub mod Coming
-pub mod Jobs
 pub mod Decided
 pub mod Reads
 pub mod Confirmed

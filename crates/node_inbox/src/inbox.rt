@@ -25,7 +25,6 @@ use crate::telling::telling;
 use blind_tree::laws::opened_views_are_filled;
 use canton_model::{Entry, Message, Outcome, Request, Verdict};
 use confirm_reply::Setup;
-use confirm_reply::laws::{facts_of_a_place_are_as_at_it, opened_views_can_be_checked};
 use contract_store::Store;
 use inbox_standing::Standing;
 use ledger_model::CommitList;
@@ -209,26 +208,6 @@ impl<'s> Inbox<'s> {
             Some(kept) => !kept.views.is_empty(),
             None => false,
         }
-    }
-
-    /// The check that the participant owes to the request at a place, by what it had read when it had read that. Opens the
-    /// envelope again.
-    pub fn job(&self, alloc: Global, place: u64) -> Result<ValidateJob<'s>, AllocError>
-        requires { owes_at (reading_of self.now) self.now.me self.now.items place ≡ true }
-        ensures place { IfOk result (λ job. job.given.place ≡ place) }
-        ensures left { IfOk result (λ job. job.left ≡ length job.given.views) }
-        ensures some { IfOk result (λ job. 0 < job.left) }
-        ensures owed { IfOk result (λ job. owed_on_each job.given.input job.given.views
-            ≡ owed_at (reading_of self.now) (params_of self.now) self.now.me self.now.items place) }
-    {
-        opened_views_are_filled();
-        opened_views_can_be_checked();
-        facts_of_a_place_are_as_at_it();
-        let kept = request_at(self.items.as_slice(), place).unwrap();
-        let time = time_at(self.items.as_slice(), place);
-        let input = input_of(alloc, self.setup, self.me, kept, time)?;
-        let views = kept.views.copied()?;
-        Ok(ValidateJob::new(input, place, views))
     }
 
     /// What the participant knows of contracts at the cursor, with what requests hold that aren't decided there.
