@@ -5,7 +5,6 @@ use Rattle.std.specs.List.{list_any}
 use Rattle.std.specs.Int.{w16, to_be_bytes}
 use Rattle.std.proofs.lemmas.Bool.{cases_Bool}
 use Rattle.std.proofs.lemmas.List.{length-append}
-use Rattle.std.proofs.lemmas.List.Elements.{All-cons, All-nil}
 use Rattle.std.proofs.lemmas.Option.{none-some, same_Some}
 use Rattle.sha2.specs.Sha256.{sha256}
 use Rattle.ledger_terms.specs.Forest.{Forest, number_from}
@@ -44,13 +43,9 @@ use Rattle.sealed_form.proofs.Opens.{opens, shown_is, tree_is_opened}
 use Rattle.sealed_form.proofs.Recipients.{are_reached, first_to}
 use Rattle.sealed_form.proofs.Trees.{is_tree, tree_again}
 use Rattle.confirm_reply.specs.Opened.{CanBeChecked}
-use Rattle.confirm_reply.proofs.Checkable.{each_can_be}
+use Rattle.confirm_reply.proofs.Checkable.{all_from_each, each_can_be}
 use Rattle.node_inbox.proofs.OpenedActions.{all_spelled}
 use Rattle.node_inbox.proofs.CoreLengths.{Fit, bare, cores_fit, few_in, placed_bare, seen_fit}
-
-all_from_each : {X : Type 0} (P : X → Type 0) (xs : List X) → ((x : X) → In x xs → P x) → All P xs
-all_from_each P [] each = All-nil P
-all_from_each P (x ∷ xs) each = All-cons P x xs (each x (inl refl)) (all_from_each P xs (λ y i. each y (inr i)))
 
 views_within : (tree : Tree) → length (spell_each tree.views) ≤ length (spell_tree tree)
 views_within tree =

@@ -55,7 +55,7 @@ fn write(scratch: &mut Standing, place: u64, changes: Vec<Change>) -> Result<(),
 }
 
 // A store with the approved requests below a place alone.
-fn written_below(
+fn store_below(
     alloc: Global,
     setup: &Setup,
     items: &[KeptItem],
@@ -112,7 +112,7 @@ fn put_row(store: &Store, at: usize, rows: &mut Vec<ActiveRow>) -> Result<(), Al
 
 // The active contracts of a store, in order of creation.
 #[tactic(auto, using(crate::proofs::ActiveRows::next_listed))]
-fn listed(alloc: Global, store: &Store) -> Result<Vec<ActiveRow>, AllocError>
+fn active_list(alloc: Global, store: &Store) -> Result<Vec<ActiveRow>, AllocError>
     ensures { IfOk result (λ rows. rows.items ≡ active_rows store.now.rows) }
 {
     let mut rows = Vec::new(alloc);
@@ -139,7 +139,7 @@ fn push_if_hosted(
 }
 
 // Those of these contracts with a hosted stakeholder.
-fn hosted(
+fn hosted_rows(
     alloc: Global,
     setup: &Setup,
     me: ParticipantId,
@@ -167,7 +167,7 @@ pub fn active_rows(
     requires { TellsOutcomes setup.now.topology.params (model_items items.now) standing.now }
     ensures { IfOk result (λ rows. rows ≡ node_active (sealed_reading setup.now.topology setup.now.checked) me (model_items items.now) end) }
 {
-    let scratch = written_below(alloc, setup, items, standing, end)?;
-    let rows = listed(alloc, scratch.store())?;
-    hosted(alloc, setup, me, rows)
+    let scratch = store_below(alloc, setup, items, standing, end)?;
+    let rows = active_list(alloc, scratch.store())?;
+    hosted_rows(alloc, setup, me, rows)
 }

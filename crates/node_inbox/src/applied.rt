@@ -44,7 +44,8 @@ fn opened_at(
     place: u64,
 ) -> Result<Option<OpenedTree>, AllocError>
     ensures exact { IfOk result (λ o. roots_in (option_map shown_by o) ≡ opened_at (model_items items.now) place) }
-    ensures spellable { IfOk result (λ o. IfSome o (λ tree. All (λ (act : ActValue). IsSpellableInstance (instance_of act.action)) (acts (shown_by tree).roots))) }
+    ensures spellable { IfOk result (λ o. IfSome o (λ tree.
+        All (λ (act : ActValue). IsSpellableInstance (instance_of act.action)) (acts (shown_by tree).roots))) }
 {
     match request_at(items, place) {
         Some(kept) => open(alloc, kept.bytes.as_slice()),
@@ -62,7 +63,8 @@ pub fn approved_at(
 ) -> Result<Option<OpenedTree>, AllocError>
     requires { TellsOutcomes setup.now.topology.params (model_items items.now) standing.now }
     ensures exact { IfOk result (λ o. roots_in (option_map shown_by o) ≡ approved_at (model_items items.now) place) }
-    ensures spellable { IfOk result (λ o. IfSome o (λ tree. All (λ (act : ActValue). IsSpellableInstance (instance_of act.action)) (acts (shown_by tree).roots))) }
+    ensures spellable { IfOk result (λ o. IfSome o (λ tree.
+        All (λ (act : ActValue). IsSpellableInstance (instance_of act.action)) (acts (shown_by tree).roots))) }
 {
     if is_approved(standing, place) {
         opened_at(alloc, items, place)

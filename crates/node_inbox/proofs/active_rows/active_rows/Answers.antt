@@ -16,4 +16,4 @@ returns c =
     let same : filter (is_offered reading c.args.me) c.in_ok-rows.rows.items ≡ node_active reading c.args.me (model_items c.args.items.now) c.args.end =
     ap (filter (is_offered reading c.args.me)) (c.in_ok-rows.ensures ∙ ap (λ (store : Stored). active_rows store.rows) c.store.ensures)
     ∙ are_active reading c.args.me (model_items c.args.items.now) c.args.end ((c.in_ok-scratch.scratch).store).rows c.in_ok-scratch.ensures in
-    subst (λ (rows : List ActiveRow). IfOk c.hosted.result (λ kept. kept ≡ rows)) same c.hosted.ensures
+    subst (λ (rows : List ActiveRow). IfOk c.hosted_rows.result (λ kept. kept ≡ rows)) same c.hosted_rows.ensures

@@ -4,7 +4,7 @@ use Rattle.inbox_standing.specs.declared.change.Change.{Change}
 use Rattle.sealed_form.specs.SealedReading.{sealed_reading}
 use Rattle.node_inbox.specs.Items.{model_items}
 use Rattle.node_inbox.proofs.ActiveRows.{next_written}
-use Rattle.node_inbox.proofs.active_rows.written_below.Goals as goal
+use Rattle.node_inbox.proofs.active_rows.store_below.Goals as goal
 
 pub places-preserved : goal.places-preserved
 places-preserved c =

@@ -3,7 +3,7 @@ use Rattle.std.specs.Vec.Iter.{into_iter_items}
 use Rattle.sealed_form.specs.SealedReading.{sealed_reading}
 use Rattle.node_inbox.specs.Listed.{is_offered}
 use Rattle.node_inbox.proofs.ActiveRows.{kept_on}
-use Rattle.node_inbox.proofs.active_rows.hosted.Goals as goal
+use Rattle.node_inbox.proofs.active_rows.hosted_rows.Goals as goal
 
 pub loop-row-preserved : goal.loop-row-preserved
 loop-row-preserved c =

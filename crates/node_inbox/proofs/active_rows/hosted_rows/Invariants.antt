@@ -2,7 +2,7 @@ use Rattle.std.proofs.Common.{◌≡◌, ◌++◌, filter}
 use Rattle.std.specs.Vec.Iter.{into_iter_items}
 use Rattle.sealed_form.specs.SealedReading.{sealed_reading}
 use Rattle.node_inbox.specs.Listed.{is_offered}
-use Rattle.node_inbox.proofs.active_rows.hosted.Given as goal
+use Rattle.node_inbox.proofs.active_rows.hosted_rows.Given as goal
 
 abbrev pub invariant-loop-row : goal.invariant-loop-row
 invariant-loop-row l = record {
