@@ -1,5 +1,5 @@
 -- What came in an envelope of a sealed request.
-use Rattle.std.proofs.Common.{◌≡◌, ℕ, true, List, Option, Some, ap, ◌∙◌}
+use Rattle.std.proofs.Common.{◌≡◌, ℕ, true, List, Some, ap, ◌∙◌}
 use Rattle.std.specs.Prelude.{option_and_then}
 use Rattle.ledger_terms.specs.declared.topology.Topology.{Topology}
 use Rattle.ledger_model.specs.Terms.{ParticipantId}
@@ -8,10 +8,10 @@ use Rattle.lang_eval.specs.Found.{Packages}
 use Rattle.blind_tree.specs.Opening.{tree_opened}
 use Rattle.blind_tree.specs.declared.tree.Tree.{Tree}
 use Rattle.view_split.specs.declared.opened_tree.OpenedTree.{OpenedTree}
-use Rattle.sealed_form.specs.SealedForm.{envelope_to, found, opened_in, opened_to, tree_in}
+use Rattle.sealed_form.specs.SealedForm.{envelope_to, found, opened_in, tree_in}
 use Rattle.sealed_form.specs.SealedReading.{sealed_reading}
 use Rattle.node_inbox.specs.Coming.{AreParts, IsComing}
-use Rattle.node_inbox.specs.Kept.{Came, confirmed_paths}
+use Rattle.node_inbox.specs.Kept.{confirmed_paths}
 use Rattle.node_inbox.specs.declared.coming.ComingRequest.{ComingRequest}
 
 pub coming_is : (topology : Topology) (packages : Packages) (me : ParticipantId) (request : Request) (coming : ComingRequest) (envelope : List ℕ) (tree : Tree) (opened : OpenedTree)

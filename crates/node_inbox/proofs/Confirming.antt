@@ -4,10 +4,8 @@ use Rattle.std.specs.Prelude.{All}
 use Rattle.std.proofs.lemmas.List.{drop_more}
 use Rattle.std.proofs.lemmas.List.Elements.{All-head, All-tail}
 use Rattle.std.proofs.Math.ListN.{drop_of_length-le}
-use Rattle.ledger_terms.specs.Forest.{Forest, NoRoots, Root}
 use Rattle.ledger_terms.specs.Grown.{forest_of, tree_of}
 use Rattle.view_split.specs.ViewTrees.{View}
-use Rattle.view_split.specs.declared.split_view.SplitView.{SplitView}
 use Rattle.view_split.specs.declared.placed_view.PlacedView.{PlacedView}
 use Rattle.blind_tree.specs.LeafBytes.{AreSpellableViews}
 use Rattle.node_inbox.specs.Confirmed.{confirmed_in, confirmed_of, confirmed_placed}

@@ -1,6 +1,6 @@
 -- Views that have as many holes as views stand below them are all there once their actions are numbered, and so are the paths of
 -- those that are confirmed.
-use Rattle.std.proofs.Common.{◌≡◌, ℕ, zero, suc, ◌+◌, ◌-◌, ◌<◌, ◌≤◌, Bool, true, false, List, [], ◌∷◌, ◌++◌, map, filter, Option, Some, None, Ok, refl, sym, ap, ◌∙◌, subst, inl, inr, arith, append_assoc}
+use Rattle.std.proofs.Common.{◌≡◌, ℕ, suc, ◌+◌, ◌≤◌, Bool, true, false, List, [], ◌∷◌, ◌++◌, map, filter, Option, Some, None, Ok, refl, sym, ap, ◌∙◌, arith, append_assoc}
 use Rattle.std.specs.Prelude.{option_and_then, Result, Err, if◌then◌else◌}
 use Rattle.std.specs.List.{list_any}
 use Rattle.std.proofs.lemmas.List.{map-append}
@@ -21,11 +21,10 @@ use Rattle.view_split.specs.Holed.{Holed, NoMore, Inner, Hole, after_holes, fill
 use Rattle.view_split.specs.declared.split_view.SplitView.{SplitView}
 use Rattle.view_split.specs.declared.placed_view.PlacedView.{PlacedView}
 use Rattle.view_split.specs.declared.opened_tree.OpenedTree.{OpenedTree}
-use Rattle.view_split.specs.Split.{assembled}
 use Rattle.view_split.specs.Filled.{AreFilled}
-use Rattle.view_split.specs.Numbered.{map_forest, held_in, core_in, with_cores}
+use Rattle.view_split.specs.Numbered.{map_forest, held_in, with_cores}
 use Rattle.view_split.specs.Placed.{placed_forest, shown_by}
-use Rattle.view_split.specs.SeenViews.{opened_as, opened_views, placed_numbered, put_back, without_numbers}
+use Rattle.view_split.specs.SeenViews.{opened_as, placed_numbered, put_back, without_numbers}
 use Rattle.view_split.proofs.Cores.{plain, plain_numbered}
 use Rattle.view_split.proofs.Fitting.{preorder-map}
 use Rattle.view_split.proofs.Sight.{map_join}
@@ -33,7 +32,7 @@ use Rattle.blind_tree.specs.Opening.{tree_opened}
 use Rattle.blind_tree.specs.ShownViews.{path_if}
 use Rattle.blind_tree.specs.declared.tree.Tree.{Tree}
 use Rattle.sealed_form.specs.SealedForm.{found, opened_in, tree_in}
-use Rattle.node_inbox.specs.Confirmed.{confirmed_in, confirmed_of, confirmed_placed}
+use Rattle.node_inbox.specs.Confirmed.{confirmed_in, confirmed_placed}
 use Rattle.node_inbox.specs.Kept.{confirmed_paths}
 
 abbrev Numbered : Type 0

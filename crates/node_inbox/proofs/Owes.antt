@@ -4,7 +4,7 @@ use Rattle.std.specs.Prelude.{◌||◌, not, if◌then◌else◌}
 use Rattle.std.specs.List.{list_any}
 use Rattle.ledger_terms.specs.declared.topology.Topology.{Topology}
 use Rattle.ledger_model.specs.Opening.{OpenedView, Shown, views_in}
-use Rattle.ledger_model.specs.Terms.{ParticipantId, Path}
+use Rattle.ledger_model.specs.Terms.{ParticipantId}
 use Rattle.canton_model.specs.Checks.{is_confirmed_by}
 use Rattle.lang_eval.specs.Found.{Packages}
 use Rattle.blind_tree.specs.Opening.{tree_opened}
@@ -18,7 +18,7 @@ use Rattle.sealed_form.specs.SealedReading.{sealed_reading}
 use Rattle.world_model.specs.Node.{owes_at}
 use Rattle.std.specs.Prelude.{Ok}
 use Rattle.node_inbox.specs.Items.{model_items}
-use Rattle.node_inbox.specs.Kept.{AreKept, IsKept, confirmed_paths, kept_at}
+use Rattle.node_inbox.specs.Kept.{AreKept, IsKept, kept_at}
 use Rattle.node_inbox.specs.declared.kept_item.KeptItem.{KeptItem}
 use Rattle.node_inbox.specs.declared.kept_item.KeptRequest.{KeptRequest}
 use Rattle.node_inbox.proofs.Laid.{paths_are, tree_behind}

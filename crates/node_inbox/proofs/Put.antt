@@ -1,48 +1,28 @@
 -- One item is put behind those that were read.
-use Rattle.std.proofs.Common.{◌≡◌, ℕ, zero, suc, ◌+◌, ◌-◌, ◌^◌, ◌<◌, ◌≤◌, Bool, true, false, List, [], ◌∷◌, ◌++◌, length, map, filter, take, Option, Some, None}
+use Rattle.std.proofs.Common.{◌≡◌, ℕ, zero, suc, ◌+◌, ◌-◌, ◌^◌, ◌<◌, ◌≤◌, List, [], ◌∷◌, ◌++◌, length, take, Some}
 use Rattle.std.proofs.Common.{refl, sym, ap, ◌∙◌, subst, inl, inr, arith}
-use Rattle.std.specs.Prelude.{All, slice_get, is_some, if◌then◌else◌}
-use Rattle.std.proofs.lemmas.Bool.{cases_lt, cases_order}
-use Rattle.std.proofs.lemmas.List.{map-append, take_all, length-append}
-use Rattle.std.proofs.lemmas.List.Elements.{All-cons, All-nil}
+use Rattle.std.specs.Prelude.{slice_get}
+use Rattle.std.proofs.lemmas.Bool.{cases_order}
+use Rattle.std.proofs.lemmas.List.{take_all}
 use Rattle.std.proofs.lemmas.Option.{none-some, same_Some, slice_get_past}
-use Rattle.ledger_terms.specs.declared.act.Act.{Act}
 use Rattle.ledger_terms.specs.declared.topology.Topology.{Topology}
-use Rattle.ledger_model.specs.Forest.{acts}
-use Rattle.ledger_model.specs.Opening.{Shown, roots_in}
-use Rattle.ledger_model.specs.Terms.{Hash, ParticipantId, id_of}
-use Rattle.canton_model.specs.declared.outcome.Outcome.{Outcome as Kind}
-use Rattle.canton_model.specs.declared.outcome.Outcome.TheVariants as kind
-use Rattle.canton_model.specs.declared.verdict.Verdict.{Verdict}
-use Rattle.canton_model.specs.Inbox.{Content, Item, Received, Told, Nothing, is_received, last_time, moments, received, shown_by, verdict_in}
+use Rattle.ledger_model.specs.Terms.{ParticipantId}
+use Rattle.canton_model.specs.Inbox.{Item, Nothing, last_time, verdict_in}
 use Rattle.lang_eval.specs.Found.{Packages}
-use Rattle.contract_store.specs.Holds.{released}
 use Rattle.contract_store.specs.Stored.{Stored}
 use Rattle.request_track.specs.Pairs.{expired}
-use Rattle.sealed_form.specs.SealedForm.{opened_in}
 use Rattle.sealed_form.specs.SealedReading.{sealed_reading}
-use Rattle.view_split.specs.Placed.{shown_by as shown_by_tree}
-use Rattle.confirm_reply.specs.Facts.{IsFactAt}
-use Rattle.confirm_reply.specs.declared.id_facts.IdFacts.{IdFacts}
-use Rattle.inbox_standing.specs.ChangeLists.{changes_of, hold_on, id_in, write_changes}
-use Rattle.inbox_standing.specs.Order.{IsBelow, IsInOrder}
-use Rattle.inbox_standing.specs.Requests.{decision_after, told_time}
+use Rattle.inbox_standing.specs.Order.{IsBelow}
 use Rattle.inbox_standing.specs.Standing.{Follows, Stands}
 use Rattle.inbox_standing.specs.Steps.{HoldsFollow, InStep}
-use Rattle.inbox_standing.proofs.Followed.{Comes, follows_nothing, follows_request, request_comes}
+use Rattle.inbox_standing.proofs.Followed.{follows_nothing}
 use Rattle.inbox_standing.proofs.Order.{in_order_push}
-use Rattle.inbox_standing.proofs.Told.{locked_told, status_told}
-use Rattle.inbox_standing.proofs.Tracked.{in_step, none_at_end}
-use Rattle.node_inbox.specs.Acts.{blank_fact, fact_in}
-use Rattle.node_inbox.specs.Coming.{AreParts, IsComing}
-use Rattle.node_inbox.specs.Items.{model_content, model_item, model_items, shown_in_bytes}
-use Rattle.node_inbox.specs.Kept.{AreKept, Came, IsInbox, IsKept, IsKeptContent, confirmed_paths, opened_ids}
-use Rattle.node_inbox.specs.Reads.{HasRead, IsUnread, item_with, kept_with}
-use Rattle.node_inbox.specs.declared.coming.ComingRequest.{ComingRequest}
-use Rattle.node_inbox.specs.declared.kept_item.KeptContent.{KeptContent}
+use Rattle.inbox_standing.proofs.Tracked.{in_step}
+use Rattle.node_inbox.specs.Items.{model_item, model_items}
+use Rattle.node_inbox.specs.Kept.{AreKept, IsInbox, IsKeptContent}
+use Rattle.node_inbox.specs.Reads.{HasRead, IsUnread, item_with}
 use Rattle.node_inbox.specs.declared.kept_item.KeptContent.TheVariants as kept
 use Rattle.node_inbox.specs.declared.kept_item.KeptItem.{KeptItem}
-use Rattle.node_inbox.specs.declared.kept_item.KeptRequest.{KeptRequest}
 
 -- ---- places
 

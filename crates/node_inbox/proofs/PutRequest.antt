@@ -1,22 +1,20 @@
 -- A request is put behind the items that were read.
-use Rattle.std.proofs.Common.{◌≡◌, ℕ, suc, ◌+◌, ◌-◌, ◌^◌, ◌<◌, ◌≤◌, Bool, true, List, [], ◌∷◌, ◌++◌, length, map, filter, Option, Some, None, refl, sym, ap, ◌∙◌, subst, arith}
+use Rattle.std.proofs.Common.{◌≡◌, ℕ, ◌+◌, ◌-◌, ◌^◌, ◌<◌, ◌≤◌, Bool, true, List, [], ◌∷◌, ◌++◌, length, map, filter, Option, None, refl, sym, ap, ◌∙◌, subst, arith}
 use Rattle.std.specs.Prelude.{All, option_map, if◌then◌else◌}
 use Rattle.std.proofs.lemmas.List.Elements.{All-cons, All-nil}
 use Rattle.ledger_terms.specs.declared.act.Act.{Act}
 use Rattle.ledger_terms.specs.declared.topology.Topology.{Topology}
 use Rattle.ledger_model.specs.Forest.{acts}
-use Rattle.ledger_model.specs.Opening.{Shown, roots_in}
+use Rattle.ledger_model.specs.Opening.{roots_in}
 use Rattle.ledger_model.specs.Terms.{Hash, ParticipantId, id_of}
 use Rattle.canton_model.specs.declared.outcome.Outcome.TheVariants as kind
 use Rattle.canton_model.specs.Inbox.{Content, Item, Received, is_received, last_time, moments, received, shown_by, verdict_in}
 use Rattle.canton_model.specs.Reading.{Reading}
 use Rattle.lang_eval.specs.Found.{Packages}
 use Rattle.contract_store.specs.Stored.{Stored}
-use Rattle.contract_store.specs.declared.hold.Hold.{Hold}
 use Rattle.request_track.specs.Pairs.{Pair, expired, tracked_at}
 use Rattle.request_track.specs.declared.tracked.Tracked.{Tracked}
 use Rattle.interpret.specs.Ids.{is_authentic}
-use Rattle.sealed_form.specs.SealedForm.{opened_in}
 use Rattle.sealed_form.specs.SealedReading.{sealed_reading}
 use Rattle.view_split.specs.Placed.{shown_by as shown_by_tree}
 use Rattle.view_split.specs.declared.opened_tree.OpenedTree.{OpenedTree}
@@ -25,7 +23,7 @@ use Rattle.confirm_reply.specs.declared.id_facts.IdFacts.{IdFacts}
 use Rattle.inbox_standing.specs.ChangeLists.{changes_of, hold_on, id_in}
 use Rattle.inbox_standing.specs.Order.{IsBelow}
 use Rattle.inbox_standing.specs.Requests.{decision_after, pairs_from, pairs_in, told_time, tracked_of}
-use Rattle.inbox_standing.specs.Standing.{Follows, Stands}
+use Rattle.inbox_standing.specs.Standing.{Stands}
 use Rattle.inbox_standing.specs.Steps.{AllAfter, HoldsFollow, InStep}
 use Rattle.inbox_standing.proofs.Followed.{Comes, follows_request, request_comes}
 use Rattle.inbox_standing.proofs.Order.{in_order_push}
@@ -33,13 +31,12 @@ use Rattle.inbox_standing.proofs.Told.{locked_told, status_told}
 use Rattle.inbox_standing.proofs.Tracked.{in_step_from, none_at_end, pairs_push}
 use Rattle.node_inbox.specs.Acts.{blank_fact, fact_in}
 use Rattle.node_inbox.specs.Coming.{IsComing}
-use Rattle.node_inbox.specs.Items.{model_content, model_item, model_items, shown_in_bytes}
-use Rattle.node_inbox.specs.Kept.{IsInbox, IsKept, opened_ids}
+use Rattle.node_inbox.specs.Items.{model_content, model_items, shown_in_bytes}
+use Rattle.node_inbox.specs.Kept.{IsInbox, IsKept}
 use Rattle.node_inbox.specs.Reads.{HasRead, item_with, kept_with}
 use Rattle.node_inbox.specs.declared.coming.ComingRequest.{ComingRequest}
 use Rattle.node_inbox.specs.declared.kept_item.KeptContent.TheVariants as kept
 use Rattle.node_inbox.specs.declared.kept_item.KeptItem.{KeptItem}
-use Rattle.node_inbox.specs.declared.kept_item.KeptRequest.{KeptRequest}
 use Rattle.node_inbox.proofs.Put.{as_many, has_read}
 
 all_mapped : {X Y : Type 0} (P : Y → Type 0) (f : X → Y) (xs : List X) → ((x : X) → P (f x)) → All P (map f xs)

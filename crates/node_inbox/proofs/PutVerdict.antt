@@ -1,6 +1,6 @@
 -- A verdict is put behind the items that were read.
-use Rattle.std.proofs.Common.{◌≡◌, ℕ, suc, ◌+◌, ◌-◌, ◌^◌, ◌<◌, ◌≤◌, Bool, true, false, List, [], ◌∷◌, ◌++◌, length, Option, Some, None, is_some, refl, sym, ap, ◌∙◌, subst, inl, inr, arith}
-use Rattle.std.specs.Prelude.{IfSome, IfNone, Result, Ok, Err, OnErr, if◌then◌else◌, slice_get}
+use Rattle.std.proofs.Common.{◌≡◌, ℕ, ◌+◌, ◌-◌, ◌^◌, ◌<◌, ◌≤◌, true, false, List, [], ◌∷◌, ◌++◌, length, Option, Some, None, is_some, refl, sym, ap, ◌∙◌, subst, inl, inr}
+use Rattle.std.specs.Prelude.{IfSome, IfNone, Result, Ok, Err, OnErr, if◌then◌else◌}
 use Rattle.std.proofs.lemmas.Bool.{cases_lt}
 use Rattle.std.proofs.lemmas.Option.{slice_get_past}
 use Rattle.ledger_terms.specs.declared.topology.Topology.{Topology}
@@ -12,17 +12,14 @@ use Rattle.canton_model.specs.Timeline.{Decided, kind_of, verdict_on}
 use Rattle.canton_model.specs.Inbox.{Item, Told, last_time, moments, shown_at, shown_in}
 use Rattle.canton_model.specs.Reading.{Reading}
 use Rattle.lang_eval.specs.Found.{Packages}
-use Rattle.contract_store.specs.declared.row.StoreRow.{StoreRow}
 use Rattle.request_track.specs.Pairs.{expired}
 use Rattle.sealed_form.specs.SealedReading.{sealed_reading}
-use Rattle.inbox_standing.specs.ChangeLists.{changes_of, write_changes}
-use Rattle.inbox_standing.specs.Changes.{acts_of_verdict}
-use Rattle.inbox_standing.specs.Order.{IsBelow}
+use Rattle.inbox_standing.specs.ChangeLists.{write_changes}
 use Rattle.inbox_standing.specs.Standing.{Follows, Stands}
 use Rattle.inbox_standing.specs.Steps.{HoldsFollow}
 use Rattle.inbox_standing.specs.declared.change.Change.{Change}
 use Rattle.inbox_standing.proofs.Followed.{follows_later, follows_verdict}
-use Rattle.node_inbox.specs.Coming.{IsTelling, first_outcome}
+use Rattle.node_inbox.specs.Coming.{IsTelling}
 use Rattle.node_inbox.specs.Items.{model_items}
 use Rattle.node_inbox.specs.Kept.{IsInbox}
 use Rattle.node_inbox.specs.Reads.{HasRead, IsSettled, item_with}

@@ -1,25 +1,20 @@
 -- What is kept of requests, and what the items say of them.
-use Rattle.std.proofs.Common.{◌≡◌, ℕ, zero, suc, ◌+◌, ◌-◌, ◌<◌, ◌≤◌, Bool, true, false, List, [], ◌∷◌, ◌++◌, length, map, filter, take, Option, Some, None, is_some, refl, sym, ap, ◌∙◌, subst, arith}
-use Rattle.std.specs.Prelude.{slice_get, option_map, if◌then◌else◌, ◌&&◌, ◌||◌, not}
-use Rattle.std.specs.List.{list_any}
+use Rattle.std.proofs.Common.{◌≡◌, ℕ, zero, suc, ◌+◌, ◌-◌, ◌<◌, ◌≤◌, Bool, true, false, List, [], ◌∷◌, length, filter, take, Option, Some, None, is_some, refl, sym, ap, ◌∙◌, subst, arith}
+use Rattle.std.specs.Prelude.{slice_get, option_map, if◌then◌else◌, ◌&&◌, ◌||◌}
 use Rattle.std.proofs.lemmas.List.{take_all}
 use Rattle.std.proofs.lemmas.Option.{none-some, same_Some}
 use Rattle.ledger_terms.specs.declared.topology.Topology.{Topology}
 use Rattle.ledger_model.specs.Forest.{acts}
-use Rattle.ledger_model.specs.Opening.{OpenedView, Shown, roots_in, views_in}
-use Rattle.ledger_model.specs.Terms.{ParticipantId, Path}
+use Rattle.ledger_model.specs.Opening.{Shown, roots_in}
+use Rattle.ledger_model.specs.Terms.{ParticipantId}
 use Rattle.canton_model.specs.Log.{Params}
-use Rattle.canton_model.specs.Checks.{is_confirmed_by}
 use Rattle.canton_model.specs.declared.decision.Decision.{Decision}
 use Rattle.canton_model.specs.declared.decision.Decision.TheVariants.{Approved, Rejected, TimedOut}
-use Rattle.canton_model.specs.declared.outcome.Outcome.{Outcome as Kind}
-use Rattle.canton_model.specs.declared.outcome.Outcome.TheVariants as kind
 use Rattle.canton_model.specs.declared.verdict.Verdict.{Verdict}
 use Rattle.canton_model.specs.Timeline.{Decided, is_approval, kind_of, outcome_from, outcome_of, verdict_on, is_past}
-use Rattle.canton_model.specs.Inbox.{Content, Item, clean, clean_time, decision_time_in, is_decided_in, item_time, last_time, moments, received, shown_at, shown_by, shown_in, verdict_in, Told, Nothing}
+use Rattle.canton_model.specs.Inbox.{Content, Item, clean, clean_time, decision_time_in, is_decided_in, item_time, last_time, moments, received, shown_at, shown_by, shown_in, Told, Nothing}
 use Rattle.lang_eval.specs.Found.{Packages}
 use Rattle.interpret.specs.Ids.{is_authentic}
-use Rattle.request_track.specs.CleanLaw.{Tracks}
 use Rattle.request_track.specs.Pairs.{Pair, clean_of, outcome_at}
 use Rattle.request_track.proofs.CleanSame.{clean_same}
 use Rattle.canton_model.proofs.InboxFacts.{clean_is_clean}
@@ -27,17 +22,15 @@ use Rattle.sealed_form.specs.SealedForm.{opened_in}
 use Rattle.sealed_form.specs.SealedReading.{sealed_reading}
 use Rattle.view_split.specs.Placed.{shown_by as shown_by_tree}
 use Rattle.view_split.specs.declared.opened_tree.OpenedTree.{OpenedTree}
-use Rattle.world_model.specs.Node.{owes_at}
 use Rattle.inbox_standing.specs.ChangeLists.{changes_of}
-use Rattle.inbox_standing.specs.Changes.{acts_of_verdict, authentic_at}
+use Rattle.inbox_standing.specs.Changes.{authentic_at}
 use Rattle.inbox_standing.specs.Requests.{outcome_received, pairs_in}
 use Rattle.inbox_standing.specs.Standing.{Stands}
-use Rattle.inbox_standing.specs.declared.change.Change.{Change}
 use Rattle.inbox_standing.proofs.Tracked.{as_many_moments, outcome_is, tracks}
-use Rattle.node_inbox.specs.Coming.{IsTelling, changes_in_tree, changes_opened, first_outcome, is_told}
+use Rattle.node_inbox.specs.Coming.{IsTelling, changes_in_tree, changes_opened, is_told}
 use Rattle.node_inbox.specs.Decided.{is_closed}
 use Rattle.node_inbox.specs.Items.{model_item, model_items}
-use Rattle.node_inbox.specs.Kept.{AreKept, Came, IsInbox, IsKept, confirmed_paths, kept_at, request_in, request_in_item}
+use Rattle.node_inbox.specs.Kept.{AreKept, IsInbox, IsKept, kept_at, request_in, request_in_item}
 use Rattle.node_inbox.specs.declared.kept_item.KeptContent.{KeptContent}
 use Rattle.node_inbox.specs.declared.kept_item.KeptContent.TheVariants as kept
 use Rattle.node_inbox.specs.declared.kept_item.KeptItem.{KeptItem}

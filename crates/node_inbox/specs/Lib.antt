@@ -7,7 +7,6 @@ pub mod Coming
 pub mod Decided
 pub mod Reads
 pub mod Confirmed
-pub mod Offered
 pub mod JobInput
 pub mod Approved
 pub mod Decisions

@@ -1,9 +1,8 @@
-use Rattle.std.proofs.Common.{◌≡◌, ◌+◌, ◌*◌, ◌<◌, ◌≤◌, length, ◌∙◌, ap, arith}
+use Rattle.std.proofs.Common.{◌≡◌, ◌+◌, ◌*◌, ◌<◌, length, arith}
 use Rattle.ledger_terms.specs.Grown.{node_count}
-use Rattle.ledger_terms.specs.Hosting.{confirms_at}
 use Rattle.ledger_terms.specs.Roots.{trees_count}
 use Rattle.ledger_terms.proofs.Grow.{child_below, trees_count-forest_of}
-use Rattle.node_inbox.proofs.Confirming.{in_step, spellable_after, spellable_at}
+use Rattle.node_inbox.proofs.Confirming.{spellable_at}
 use Rattle.node_inbox.proofs.confirmed.+confirmed.Goals as goal
 
 pub push_below-path_below-requires : goal.push_below-path_below-requires

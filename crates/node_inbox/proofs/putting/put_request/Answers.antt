@@ -1,9 +1,4 @@
-use Rattle.std.proofs.Common.{◌≡◌, ◌++◌, ◌∷◌, [], ◌+◌, ◌≤◌, ◌-◌, ◌^◌, ◌∙◌, ap, arith}
-use Rattle.canton_model.specs.declared.outcome.Outcome.TheVariants.{Undecided}
-use Rattle.request_track.specs.Pairs.{Pair}
-use Rattle.inbox_standing.specs.Requests.{decision_after, told_time}
-use Rattle.inbox_standing.specs.Standing.{Stands}
-use Rattle.node_inbox.specs.Kept.{IsInbox}
+use Rattle.std.proofs.Common.{◌+◌, ◌≤◌, ◌-◌, ◌^◌, ◌∙◌, ap, arith}
 use Rattle.node_inbox.proofs.Put.{unread}
 use Rattle.node_inbox.proofs.PutRequest.{begun_steps, none_yet, read_request}
 use Rattle.node_inbox.proofs.PutVerdict.{on_err}
