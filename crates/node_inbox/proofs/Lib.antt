@@ -8,8 +8,10 @@ pub mod Came
 pub mod Laid
 pub mod Seen
 pub mod Owes
-pub mod SameFacts
-pub mod JobFacts
-pub mod JobLaws
-pub mod Approving
-pub mod DecidedFacts
+pub mod CoreLengths
+pub mod OpenedActions
+pub mod Checkable
+pub mod Jobs
+pub mod DecidedSince
+pub mod Approved
+pub mod ActiveRows

@@ -4,9 +4,10 @@ pub mod Items
 pub mod Kept
 pub mod Acts
 pub mod Coming
-pub mod Deciding
-pub mod Commits
-pub mod Jobs
 pub mod Decided
 pub mod Reads
 pub mod Confirmed
+pub mod JobInput
+pub mod Approved
+pub mod Decisions
+pub mod Listed

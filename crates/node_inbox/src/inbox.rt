@@ -2,33 +2,33 @@
 ghost use Rattle.std.specs.Prelude.{◌≡◌, ◌<◌, ◌^◌, ◌&&◌, [], true, length, is_some, IfOk, OnOk, OnErr};
 ghost use Rattle.canton_model.specs.declared.request.Request.{Request as RequestValue};
 ghost use Rattle.canton_model.specs.declared.message.Message.TheVariants.{Request as RequestMessage};
-ghost use Rattle.canton_model.specs.Inbox.{Nothing, clean, clean_time, is_decided_in, last_time, node_log, received, shown_at};
+ghost use Rattle.canton_model.specs.Inbox.{Nothing, clean, clean_time, is_decided_in, last_time, node_active, node_log, received, shown_at};
 ghost use Rattle.world_model.specs.Node.{owed_at, owes_at};
-ghost use Rattle.validate_job.specs.Owed.{owed_on_each};
 ghost use Rattle.contract_store.specs.Written.{holding, written};
 ghost use Rattle.inbox_standing.specs.Changes.{changes_in, pending_changes};
 ghost use Rattle.inbox_standing.specs.Requests.{outcome_received};
+ghost use Rattle.validate_job.specs.Owed.{owed_on_each};
 ghost use Rattle.node_inbox.specs.Decided.{is_closed};
 ghost use Rattle.node_inbox.specs.Entries.{item_from, told_if_received};
 ghost use Rattle.node_inbox.specs.InboxState.{begun, decided_since, params_of, reading_of, with_item};
 ghost use Rattle.node_inbox.specs.Reads.{item_with};
 
+use crate::active_rows::active_rows;
+use crate::applied::applied;
 use crate::coming::coming;
-use crate::commits::{is_approved, push_commit};
-use crate::deciding::{decided_since, start_of};
+use crate::decided_since::decided_since;
 use crate::items::{request_at, time_at};
-use crate::job::input_of;
+use crate::job::job;
 use crate::kept_item::KeptItem;
 use crate::putting::{put_nothing, put_request, put_verdict};
 use crate::telling::telling;
 use blind_tree::laws::opened_views_are_filled;
 use canton_model::{Entry, Message, Outcome, Request, Verdict};
 use confirm_reply::Setup;
-use confirm_reply::laws::{facts_of_a_place_are_as_at_it, opened_views_can_be_checked};
 use contract_store::Store;
 use inbox_standing::Standing;
 use ledger_model::CommitList;
-use ledger_terms::{Exact, ParticipantId};
+use ledger_terms::{ActiveRowList, ParticipantId};
 use std::alloc::{AllocError, Global};
 use std::marker::Model;
 use validate_job::ValidateJob;
@@ -199,28 +199,6 @@ impl<'s> Inbox<'s> {
         is_decided(self.outcome(place))
     }
 
-    /// The first place at which the request at a place was decided, and the cursor where it was at none. Goes through what was read
-    /// from the request's place on.
-    pub fn decided_since(&self, place: u64) -> u64
-        ensures { result ≡ decided_since (params_of self.now) self.now.items place }
-    {
-        let items = self.items.as_slice();
-        let start = start_of(items, place);
-        decided_since(&self.setup.topology.params, items, place, start)
-    }
-
-    /// The approved requests before the clean place, as they are opened. Opens each again.
-    pub fn applied(&self, alloc: Global) -> Result<CommitList, AllocError>
-        ensures { IfOk result (λ commits. commits ≡ node_log (params_of self.now) self.now.items) }
-    {
-        let mut commits = CommitList::new(alloc);
-        'places: for place in 0..self.clean() {
-            let approved = is_approved(self.outcome(place));
-            push_commit(alloc, self.items.as_slice(), approved, place, &mut commits)?;
-        }
-        Ok(commits)
-    }
-
     /// Whether the participant confirms a view of the request at a place, decided or not.
     pub fn owes(&self, place: u64) -> bool
         ensures { result ≡ owes_at (reading_of self.now) self.now.me self.now.items place }
@@ -230,6 +208,22 @@ impl<'s> Inbox<'s> {
             Some(kept) => !kept.views.is_empty(),
             None => false,
         }
+    }
+
+    /// What the participant knows of contracts at the cursor, with what requests hold that aren't decided there.
+    pub fn store(&self) -> &Store
+        ensures rows { result.now.rows ≡ written (changes_in (reading_of self.now) self.now.items) [] }
+        ensures holds { result.now.holds ≡ holding (pending_changes (reading_of self.now) (params_of self.now) self.now.items) }
+    {
+        self.standing.store()
+    }
+
+    /// The first place at which a request was decided, and the cursor where it isn't. Goes through what was read from the request's
+    /// place on.
+    pub fn decided_since(&self, place: u64) -> u64
+        ensures { result ≡ decided_since (params_of self.now) self.now.items place }
+    {
+        decided_since(&self.setup.topology.params, self.items.as_slice(), place)
     }
 
     /// The check that the participant owes to the request at a place, by what it had read when it had read that. Opens the
@@ -242,22 +236,34 @@ impl<'s> Inbox<'s> {
         ensures owed { IfOk result (λ job. owed_on_each job.given.input job.given.views
             ≡ owed_at (reading_of self.now) (params_of self.now) self.now.me self.now.items place) }
     {
-        opened_views_are_filled();
-        opened_views_can_be_checked();
-        facts_of_a_place_are_as_at_it();
-        let kept = request_at(self.items.as_slice(), place).unwrap();
-        let time = time_at(self.items.as_slice(), place);
-        let input = input_of(alloc, self.setup, self.me, kept, time)?;
-        let views = kept.views.copied()?;
-        Ok(ValidateJob::new(input, place, views))
+        job(alloc, self.setup, self.me, self.items.as_slice(), place)
     }
 
-    /// What the participant knows of contracts at the cursor, with what requests hold that aren't decided there.
-    pub fn store(&self) -> &Store
-        ensures rows { result.now.rows ≡ written (changes_in (reading_of self.now) self.now.items) [] }
-        ensures holds { result.now.holds ≡ holding (pending_changes (reading_of self.now) (params_of self.now) self.now.items) }
+    /// The approved requests before the clean place, as they are opened. Opens each again.
+    pub fn applied(&self, alloc: Global) -> Result<CommitList, AllocError>
+        ensures { IfOk result (λ commits. commits ≡ node_log (params_of self.now) self.now.items) }
     {
-        self.standing.store()
+        applied(
+            alloc,
+            self.setup,
+            self.items.as_slice(),
+            &self.standing,
+            self.clean(),
+        )
+    }
+
+    /// The active contracts with a hosted stakeholder at the clean place, in order of creation. Goes through the approved requests.
+    pub fn active(&self, alloc: Global) -> Result<ActiveRowList, AllocError>
+        ensures { IfOk result (λ rows. rows ≡ node_active (reading_of self.now) self.now.me self.now.items (clean (params_of self.now) self.now.items)) }
+    {
+        active_rows(
+            alloc,
+            self.setup,
+            self.me,
+            self.items.as_slice(),
+            &self.standing,
+            self.clean(),
+        )
     }
 }
 

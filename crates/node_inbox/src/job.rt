@@ -1,22 +1,22 @@
-//! What a check goes by.
-ghost use Rattle.std.specs.Prelude.{◌≡◌, IfOk, IsSome, length};
-ghost use Rattle.ledger_model.specs.Forest.{acts};
-ghost use Rattle.view_split.specs.Placed.{shown_by};
+//! The check that a participant owes to a request.
+ghost use Rattle.std.specs.Prelude.{◌≡◌, ◌<◌, true, IfOk, IsSome, length};
 ghost use Rattle.sealed_form.specs.SealedForm.{opened_in};
-ghost use Rattle.node_inbox.specs.Jobs.{IsInput};
+ghost use Rattle.sealed_form.specs.SealedReading.{sealed_reading};
+ghost use Rattle.world_model.specs.Node.{owed_at, owes_at};
+ghost use Rattle.validate_job.specs.Owed.{owed_on_each};
+ghost use Rattle.node_inbox.specs.Items.{model_items};
+ghost use Rattle.node_inbox.specs.JobInput.{IsInputOf};
+ghost use Rattle.node_inbox.specs.Kept.{AreKept};
 
-use crate::actions::{acts_of, roots_of};
-use crate::kept_item::KeptRequest;
+use crate::items::{request_at, time_at};
+use crate::kept_item::{KeptItem, KeptRequest};
 use crate::opening::open;
-use blind_tree::OpenedTree;
 use confirm_reply::{CheckInput, IdFactsList, Setup};
-use ledger_terms::ParticipantId;
+use ledger_terms::{Exact, ParticipantId};
 use std::alloc::{AllocError, Global};
+use validate_job::ValidateJob;
 
-// A verdict numbers the actions of a core in 16 bits. A sealed request's envelope is too short for more of them.
-const MOST_OPENED: usize = 65536;
-
-fn facts_copied(alloc: Global, facts: &IdFactsList) -> Result<IdFactsList, AllocError>
+fn copy_facts(alloc: Global, facts: &IdFactsList) -> Result<IdFactsList, AllocError>
     ensures { IfOk result (λ copy. copy ≡ facts.now) }
 {
     let mut copy = IdFactsList::new(alloc);
@@ -26,31 +26,21 @@ fn facts_copied(alloc: Global, facts: &IdFactsList) -> Result<IdFactsList, Alloc
     Ok(copy)
 }
 
-// How many actions are opened.
-fn count_of(alloc: Global, tree: &OpenedTree) -> Result<usize, AllocError>
-    ensures { IfOk result (λ count. count ≡ length (acts (shown_by tree.now).roots)) }
-{
-    let roots = roots_of(alloc, &tree.views)?;
-    let found = acts_of(alloc, &roots)?;
-    Ok(found.as_slice().len())
-}
-
-/// What the participant checks a request by.
-pub fn input_of<'s>(
+// What the request is checked by. Opens the envelope again.
+fn input_of<'s>(
     alloc: Global,
     setup: &'s Setup,
     me: ParticipantId,
-    kept: &KeptRequest,
     time: u64,
+    kept: &KeptRequest,
 ) -> Result<CheckInput<'s>, AllocError>
     requires { IsSome (opened_in kept.now.bytes) }
-    ensures { IfOk result (λ input. IsInput setup.now.topology setup.now.checked me kept.now time input) }
+    ensures { IfOk result (λ input. IsInputOf setup.entry me time kept.now input) }
 {
-    let tree = open(alloc, kept.bytes.as_slice())?.unwrap();
-    if count_of(alloc, &tree)? > MOST_OPENED {
-        return Err(AllocError);
-    }
-    let facts = facts_copied(alloc, &kept.facts)?;
+    let Some(tree) = open(alloc, kept.bytes.as_slice())? else {
+        unreachable!()
+    };
+    let facts = copy_facts(alloc, &kept.facts)?;
     Ok(CheckInput {
         setup,
         me,
@@ -58,4 +48,28 @@ pub fn input_of<'s>(
         tree,
         facts,
     })
+}
+
+/// The check that the participant owes to the request at a place, by what it had read when it had read that.
+pub fn job<'s>(
+    alloc: Global,
+    setup: &'s Setup,
+    me: ParticipantId,
+    items: &[KeptItem],
+    place: u64,
+) -> Result<ValidateJob<'s>, AllocError>
+    requires kept { AreKept setup.now.topology setup.now.checked me items.now }
+    requires owes { owes_at (sealed_reading setup.now.topology setup.now.checked) me (model_items items.now) place ≡ true }
+    ensures place { IfOk result (λ job. job.given.place ≡ place) }
+    ensures left { IfOk result (λ job. job.left ≡ length job.given.views) }
+    ensures some { IfOk result (λ job. 0 < job.left) }
+    ensures owed { IfOk result (λ job. owed_on_each job.given.input job.given.views
+        ≡ owed_at (sealed_reading setup.now.topology setup.now.checked) setup.now.topology.params me (model_items items.now) place) }
+{
+    let Some(kept) = request_at(items, place) else {
+        unreachable!()
+    };
+    let input = input_of(alloc, setup, me, time_at(items, place), kept)?;
+    let views = kept.views.copied()?;
+    Ok(ValidateJob::new(input, place, views))
 }

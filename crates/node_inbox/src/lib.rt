@@ -3,11 +3,13 @@
 #![tactic(auto)]
 
 mod actions;
+mod active_rows;
+mod applied;
 mod coming;
-mod commits;
 mod confirmed;
-mod deciding;
+mod decided_since;
 mod facts;
+mod hosting;
 mod inbox;
 mod items;
 mod job;
