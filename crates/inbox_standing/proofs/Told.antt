@@ -30,7 +30,7 @@ use Rattle.contract_store.specs.declared.row.StoreRow.{StoreRow}
 use Rattle.contract_store.proofs.Following.{status_follows, locked_follows}
 use Rattle.request_track.specs.CleanLaw.{is_open_at, is_open_item}
 use Rattle.request_track.specs.Pairs.{Pair}
-use Rattle.inbox_standing.specs.Changes.{authentic_at, changes_of_verdict, changes_after, changes_in, placed_below}
+use Rattle.inbox_standing.specs.Changes.{authentic_at, changes_of_verdict, changes_after, changes_in, placed_below, pending_changes}
 use Rattle.inbox_standing.specs.Order.{IsBelow, IsInOrder, VerdictsBehind}
 use Rattle.inbox_standing.specs.Requests.{pairs_in}
 use Rattle.inbox_standing.proofs.Grown.{authentic_before, moments_push, one_longer}
@@ -269,3 +269,30 @@ module _ (reading : Reading) (items : List Item) (x : Item) where
       (ap (λ (ps : List Pair). is_open_at ps m) e ∙ tracks params (items ++ x ∷ []) m)
       ∙ acts_if_open params (items ++ x ∷ []) m (slice_get (items ++ x ∷ []) m) refl
       ∙ ap (λ (b : Bool). if not b then authentic_at reading (items ++ x ∷ []) m else []) (decided_at_last params m none)))
+
+module _ (reading : Reading) (items : List Item) where
+  all_past : past_in reading items (length items) ≡ gather (λ m. is_approved_in m (moments items)) (authentic_at reading items) (length items)
+  all_past =
+      ap (λ (ms : List Moment). gather (λ m. is_approved_in m ms) (authentic_at reading items) (length items))
+      (take_all (length items) (moments items) (omega (arith, as_many_moments items)))
+
+  -- the status of a contract at the end of an inbox
+  pub status_now : (rows : List StoreRow) (c : Hash) → IsInOrder items → rows ≡ written (changes_in reading items) []
+      → status_in rows c ≡ status_in_inbox reading items (length items) c
+  status_now rows c o e =
+      ap (λ (rs : List StoreRow). status_in rs c) e
+      ∙ status_follows (changes_in reading items) c
+      ∙ ap (λ (b : Bool). if b then Consumed else if list_any (creates c) (acts_of (changes_in reading items)) then Active else Unknown)
+      (any_in reading (consumes c) items o)
+      ∙ ap (λ (b : Bool). if list_any (consumes c) (approved_acts reading (consumes c) items) then Consumed else if b then Active else Unknown)
+      (any_in reading (creates c) items o)
+      ∙ ap (λ (as' : List Act). status_after as' c) (sym all_past)
+
+  -- whether a contract is locked there
+  pub locked_now : (params : Params) (holds : List Hold) (c : Hash) → holds ≡ holding (pending_changes reading params items)
+      → is_held holds c ≡ is_locked_in_inbox reading params items (length items) c
+  locked_now params holds c h =
+      ap (λ (hs : List Hold). is_held hs c) h
+      ∙ locked_follows (pending_changes reading params items) c
+      ∙ ap (λ (as' : List Act). is_locked_by as' c)
+      (acts_below (λ m. not (is_decided_in params items m (length items))) (authentic_at reading items) (length items))

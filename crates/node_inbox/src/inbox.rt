@@ -1,10 +1,13 @@
 //! An inbox.
-ghost use Rattle.std.specs.Prelude.{◌≡◌, ◌<◌, ◌^◌, ◌&&◌, [], true, length, is_some, IfOk, OnOk, OnErr};
+ghost use Rattle.std.specs.Prelude.{◌≡◌, ◌<◌, ◌^◌, ◌&&◌, ℕ, List, [], true, length, is_some, IfOk, OnOk, OnErr};
 ghost use Rattle.canton_model.specs.declared.request.Request.{Request as RequestValue};
 ghost use Rattle.canton_model.specs.declared.message.Message.TheVariants.{Request as RequestMessage};
 ghost use Rattle.canton_model.specs.Inbox.{Nothing, clean, clean_time, is_decided_in, last_time, node_active, node_log, received, shown_at};
 ghost use Rattle.world_model.specs.Node.{owed_at, owes_at};
+ghost use Rattle.contract_store.specs.Rows.{status_in};
+ghost use Rattle.contract_store.specs.Stored.{is_held};
 ghost use Rattle.contract_store.specs.Written.{holding, written};
+ghost use Rattle.canton_model.specs.Inbox.{is_locked_in_inbox, status_in_inbox};
 ghost use Rattle.inbox_standing.specs.Changes.{changes_in, pending_changes};
 ghost use Rattle.inbox_standing.specs.Requests.{outcome_received};
 ghost use Rattle.validate_job.specs.Owed.{owed_on_each};
@@ -214,6 +217,9 @@ impl<'s> Inbox<'s> {
     pub fn store(&self) -> &Store
         ensures rows { result.now.rows ≡ written (changes_in (reading_of self.now) self.now.items) [] }
         ensures holds { result.now.holds ≡ holding (pending_changes (reading_of self.now) (params_of self.now) self.now.items) }
+        ensures status { (c : List ℕ) → status_in result.now.rows c ≡ status_in_inbox (reading_of self.now) self.now.items (length self.now.items) c }
+        ensures locked { (c : List ℕ) → is_held result.now.holds c
+            ≡ is_locked_in_inbox (reading_of self.now) (params_of self.now) self.now.items (length self.now.items) c }
     {
         self.standing.store()
     }
