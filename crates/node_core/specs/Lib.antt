@@ -1,1 +1,4 @@
 pub mod Duties
+pub mod Participant
+pub mod Completion
+pub mod Kept

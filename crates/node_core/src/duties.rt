@@ -58,7 +58,7 @@ fn passed_now<D: Decisions>(
 {
     for at in passed..owed.len() {
         let place = owed[at];
-        if !claimed.contains(&place) && !decisions.is_decided(place) {
+        if !claimed.contains(&place) && !decisions.has_decided(place) {
             return at;
         }
     }

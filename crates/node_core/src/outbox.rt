@@ -33,7 +33,7 @@ fn earlier<'a>(response: Option<&'a Response>, later: Option<&'a Response>) -> O
 fn unless_decided<'a, D: Decisions>(decisions: &D, response: &'a Response) -> Option<&'a Response>
     ensures { option_copied result ≡ unless_decided (D.decided decisions.now) response.now }
 {
-    if decisions.is_decided(response.request) {
+    if decisions.has_decided(response.request) {
         None
     } else {
         Some(response)

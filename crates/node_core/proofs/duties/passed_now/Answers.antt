@@ -5,8 +5,8 @@ use Rattle.node_core.specs.Duties.{is_free}
 use Rattle.node_core.proofs.DutyFacts.{found_at, found_nowhere}
 use Rattle.node_core.proofs.duties.passed_now.Goals as goal
 
-pub returns-then-not-is_decided-clause-first : goal.returns-then-not-is_decided-clause-first
-returns-then-not-is_decided-clause-first g c =
+pub returns-then-not-has_decided-clause-first : goal.returns-then-not-has_decided-clause-first
+returns-then-not-has_decided-clause-first g c =
     let owed = c.args.owed.now in
     let at = c.loop-at.at in
     let free : is_free (g.D.Decisions.decided c.args.decisions.now) c.args.claimed.now.keys (get_or owed at 0) ≡ true = grind (arith, common_steps) in

@@ -1,0 +1,1 @@
+//! Laws of a participant's calls, as the clauses of functions that do nothing.
