@@ -85,3 +85,7 @@ passed_back decided claimed k (j ∷ js) (suc n) (suc m) le below h =
 
 pub below_at : (owed : List ℕ) (k m : ℕ) → AllWithin (λ (j : ℕ). j < k) owed 0 m → (i j : ℕ) → i < m → slice_get owed i ≡ Some j → j < k
 below_at owed k m all i j lt e = subst (λ (x : ℕ). x < k) (get_or_from_slice_get owed i j j e) (all i j (omega arith) lt)
+
+pub false_if_not : (x : Bool) → not x ≡ true → x ≡ false
+false_if_not true h = absurd (both_ways false refl h)
+false_if_not false h = refl

@@ -1,1 +1,6 @@
 pub mod DutyFacts
+pub mod Claims
+pub mod Heads
+pub mod Growth
+pub mod LogEnds
+pub mod Entries

@@ -1,12 +1,11 @@
 -- What a participant's duties are to its inbox.
-use Rattle.std.specs.Prelude.{◌≡◌, ℕ, ◌<◌, true, List, length, All}
+use Rattle.std.specs.Prelude.{◌≡◌, ℕ, true, List, length}
 use Rattle.ledger_model.specs.Terms.{ParticipantId}
 use Rattle.canton_model.specs.Log.{Params}
 use Rattle.canton_model.specs.Reading.{Reading}
 use Rattle.canton_model.specs.Inbox.{Item}
-use Rattle.world_model.specs.Messages.{Response}
 use Rattle.world_model.specs.Places.{has_place}
-use Rattle.world_model.specs.Node.{owes_at}
+use Rattle.world_model.specs.Node.{owes_at, waits_at}
 use Rattle.node_core.specs.Duties.{Kept, IsPassed}
 use Rattle.node_core.specs.Participant.{is_received_decided, places_where}
 
@@ -16,4 +15,4 @@ pub record IsKept (reading : Reading) (params : Params) (p : ParticipantId) (ite
   pub owed : kept.owed ≡ places_where (owes_at reading p items) 0 (length items)
   pub passed : IsPassed (is_received_decided params items) kept
   pub unfinished : (k : ℕ) → has_place kept.unfinished k ≡ true → owes_at reading p items k ≡ true
-  pub outbox : All (λ (response : Response). owes_at reading p items response.request ≡ true) kept.outbox
+  pub outbox : (k : ℕ) → waits_at kept.outbox k ≡ true → owes_at reading p items k ≡ true

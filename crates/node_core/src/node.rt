@@ -120,7 +120,7 @@ impl<'s> Node<'s> {
         ensures inbox { OnOk result (items_of self.new ≡ inbox (reading_of self.old) self.old.me slip.now.list) }
         ensures err { OnErr result (self.new ≡ self.old) }
     {
-        let place = self.inbox.cursor();
+        let place = slip.place();
         self.duties.reserve()?;
         self.inbox.read(slip.entry())?;
         if self.inbox.owes(place) {
