@@ -53,3 +53,8 @@ module _ (reading : Reading) (p : ParticipantId) where
   -- STANDIN of a lemma of node_inbox
   pub same_item : (before : List Entry) (e : Entry) → item_from reading p (inbox reading p before) e ≡ item_after reading p before e
   same_item before e = ap (λ (c : Content). record { time = e.time; content = c }) (same_content before e.message)
+
+  pub inbox_reads : (items : List Item) (before : List Entry) (e : Entry) → items ≡ inbox reading p before → items ++ item_from reading p items e ∷ [] ≡ inbox reading p (before ++ e ∷ [])
+  inbox_reads items before e is =
+      rw is
+      (ap (λ (item : Item). inbox reading p before ++ item ∷ []) (same_item before e) ∙ sym (items_push reading p [] before e))

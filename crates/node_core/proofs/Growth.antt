@@ -47,6 +47,21 @@ past_stays : (time : ℕ) (before after : List Moment) → is_past time before �
 past_stays time before after h =
     list_any-append (λ (m : Moment). nat_lt time m.time) before after ∙ or_left _ _ h
 
+module _ (items : List Item) where
+  shown_within : (k : ℕ) → is_some (shown_at items k) ≡ true → k < length items
+  shown_within k h = by (slice_get items k) refl h
+    where
+      by : (o : Option Item) → slice_get items k ≡ o → is_some (shown_in o) ≡ true → k < length items
+      by None e h = absurd (both_ways false refl h)
+      by (Some x) e h = slice_get_within items k x e
+
+  pub owes_within : (reading : Reading) (p : ParticipantId) (k : ℕ) → owes_at reading p items k ≡ true → k < length items
+  owes_within reading p k h = shown_within k (asked (shown_at items k) h)
+    where
+      asked : (o : Option Shown) → confirms_some_view reading p o ≡ true → is_some o ≡ true
+      asked None h = absurd (both_ways false refl h)
+      asked (Some shown) h = refl
+
 module _ (params : Params) (items : List Item) (item : Item) where
   pub shown_stays : (k : ℕ) → k < length items → shown_at (items ++ item ∷ []) k ≡ shown_at items k
   shown_stays k lt = ap shown_in (slice_get_left items (item ∷ []) k lt)
@@ -77,28 +92,14 @@ module _ (params : Params) (items : List Item) (item : Item) where
             | inr b ↦ or_right _ _ (past_stays (decision_time_in params items k) (moments items) (moments (item ∷ [])) (rw b at h))
           ]
 
-  shown_within : (k : ℕ) → is_some (shown_at items k) ≡ true → k < length items
-  shown_within k h = by (slice_get items k) refl h
-    where
-      by : (o : Option Item) → slice_get items k ≡ o → is_some (shown_in o) ≡ true → k < length items
-      by None e h = absurd (both_ways false refl h)
-      by (Some x) e h = slice_get_within items k x e
-
   pub received_decided_stays : (k : ℕ) → is_received_decided params items k ≡ true → is_received_decided params (items ++ item ∷ []) k ≡ true
   received_decided_stays k h =
       let parts = and_parts (is_some (shown_at items k)) (is_decided_in params items k (length items)) h in
-      let lt = shown_within k parts.0 in
+      let lt = shown_within items k parts.0 in
       and_from _ _ (ap is_some (shown_stays k lt) ∙ parts.0) (decided_stays k lt parts.1)
 
   pub owes_stays : (reading : Reading) (p : ParticipantId) (k : ℕ) → k < length items → owes_at reading p (items ++ item ∷ []) k ≡ owes_at reading p items k
   owes_stays reading p k lt = ap (confirms_some_view reading p) (shown_stays k lt)
-
-  pub owes_within : (reading : Reading) (p : ParticipantId) (k : ℕ) → owes_at reading p items k ≡ true → k < length items
-  owes_within reading p k h = shown_within k (asked (shown_at items k) h)
-    where
-      asked : (o : Option Shown) → confirms_some_view reading p o ≡ true → is_some o ≡ true
-      asked None h = absurd (both_ways false refl h)
-      asked (Some shown) h = refl
 
 -- places
 pub where_same : (f g : ℕ → Bool) (start count : ℕ) → ((k : ℕ) → k < start + count → f k ≡ g k) → places_where f start count ≡ places_where g start count

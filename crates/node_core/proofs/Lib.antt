@@ -4,3 +4,5 @@ pub mod Heads
 pub mod Growth
 pub mod LogEnds
 pub mod Entries
+pub mod KeptSteps
+pub mod ReadSteps

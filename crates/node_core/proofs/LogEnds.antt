@@ -1,6 +1,7 @@
 -- The last entry of a log, to who has read the entries before it.
 use Rattle.std.proofs.Common.{◌≡◌, ℕ, zero, suc, ◌+◌, ◌<◌, ◌≤◌, true, List, [], ◌∷◌, ◌++◌, length, take, Option, Some, None, refl, sym, ap, ◌∙◌, subst, arith}
 use Rattle.std.specs.Prelude.{slice_get}
+use Rattle.std.proofs.lemmas.List.{length-append}
 use Rattle.std.proofs.lemmas.Option.{none-some, same_Some}
 use Rattle.ledger_model.specs.Terms.{ParticipantId}
 use Rattle.canton_model.specs.Log.{Params, FollowsTime, TimesFrom}
@@ -19,13 +20,13 @@ before_last (y ∷ ys) (suc n) x e h = ap (λ zs. y ∷ zs) (before_last ys n x 
 pub front_of : {X : Type 0} (xs : List X) (x : X) (n : ℕ) → length (xs ++ x ∷ []) ≡ n + 1 → take n (xs ++ x ∷ []) ≡ xs
 front_of [] x zero e = refl
 front_of [] x (suc n) e = absurd (omega (arith, e))
-front_of (y ∷ ys) x zero e = absurd (omega (arith, e))
+front_of (y ∷ ys) x zero e = absurd (omega (arith, e, length-append ys (x ∷ [])))
 front_of (y ∷ ys) x (suc n) e = ap (λ zs. y ∷ zs) (front_of ys x n (omega (arith, e)))
 
 pub last_of : {X : Type 0} (xs : List X) (x : X) (n : ℕ) → length (xs ++ x ∷ []) ≡ n + 1 → slice_get (xs ++ x ∷ []) n ≡ Some x
 last_of [] x zero e = refl
 last_of [] x (suc n) e = absurd (omega (arith, e))
-last_of (y ∷ ys) x zero e = absurd (omega (arith, e))
+last_of (y ∷ ys) x zero e = absurd (omega (arith, e, length-append ys (x ∷ [])))
 last_of (y ∷ ys) x (suc n) e = last_of ys x n (omega (arith, e))
 
 later : (m : Message) (before time : ℕ) → FollowsTime m before time → before < time

@@ -1,5 +1,5 @@
 -- What a participant keeps of claims and responses.
-use Rattle.std.specs.Prelude.{◌≡◌, ℕ, Bool, true, false, List, [], ◌∷◌, ◌++◌, Option, Some, None, take, not, nat_le, ◌&&◌, if◌then◌else◌}
+use Rattle.std.specs.Prelude.{◌≡◌, ◌≤◌, ℕ, Bool, true, false, List, [], ◌∷◌, ◌++◌, Option, Some, None, length, take, not, nat_le, ◌&&◌, if◌then◌else◌}
 use Rattle.std.specs.List.{list_any}
 use Rattle.canton_model.specs.declared.response.Response.{Response}
 use Rattle.canton_model.specs.Inbox.{Item}
@@ -76,7 +76,8 @@ is_free decided claimed k = not (decided k) && not (has_place claimed k)
 
 -- what was passed of the owed places isn't free
 abbrev pub IsPassed : (decided : ℕ → Bool) → Kept → Type 0
-IsPassed decided kept = list_any (is_free decided kept.claimed) (take kept.passed kept.owed) ≡ false
+IsPassed decided kept =
+    (kept.passed ≤ length kept.owed) × (list_any (is_free decided kept.claimed) (take kept.passed kept.owed) ≡ false)
 
 -- of two responses, the one to the earlier place, and the first at one place
 abbrev pub earlier : Option Response → Option Response → Option Response

@@ -1,12 +1,13 @@
 -- What contracts see of a participant.
-use Rattle.std.specs.Prelude.{ℕ, suc, zero, Bool, ◌&&◌, List, [], ◌∷◌, Option, Some, None, is_some, length, if◌then◌else◌}
+use Rattle.std.specs.Prelude.{◌≡◌, ◌+◌, ℕ, suc, zero, take, Bool, ◌&&◌, List, [], ◌∷◌, Option, Some, None, is_some, length, if◌then◌else◌}
 use Rattle.ledger_terms.specs.declared.topology.Topology.{Topology}
 use Rattle.ledger_model.specs.Terms.{ParticipantId}
 use Rattle.canton_model.specs.Log.{Params}
 use Rattle.canton_model.specs.Reading.{Reading}
-use Rattle.canton_model.specs.Inbox.{Item, is_decided_in, shown_at}
+use Rattle.canton_model.specs.Genuine.{Genuine}
+use Rattle.canton_model.specs.Inbox.{Item, inbox, is_decided_in, shown_at}
 use Rattle.world_model.specs.Node.{NodeState, new_node, next_claim, outbox_head, owed_at, owes_at, response_at, is_decided_now}
-use Rattle.world_model.specs.Messages.{Response, ViewVerdict}
+use Rattle.world_model.specs.Messages.{Entry, Response, ViewVerdict}
 use Rattle.lang_eval.specs.Found.{Packages}
 use Rattle.sealed_form.specs.SealedReading.{sealed_reading}
 
@@ -32,6 +33,12 @@ begun topology packages me = record { topology = topology; packages = packages; 
 
 abbrev pub with_state : Participant → NodeState → Participant
 with_state p state = record { topology = p.topology; packages = p.packages; me = p.me; state = state }
+
+-- The list is genuine, and all of it was read but its last entry.
+pub record CanRead (p : Participant) (list : List Entry) : Type 0 where
+  pub cursor : length list ≡ length (items_of p) + 1
+  pub genuine : Genuine (reading_of p) (params_of p) list
+  pub before : items_of p ≡ inbox (reading_of p) p.me (take (length (items_of p)) list)
 
 -- it owes verdicts to the request at a place
 abbrev pub owes_there : Participant → ℕ → Bool

@@ -39,7 +39,7 @@ impl Model for Duties {
 
     ghost view = { λ d. record { owed = d.owed.items; room = d.owed.spare; passed = d.passed; claimed = d.claimed.keys; unfinished = d.unfinished.items; outbox = d.outbox.items } };
 
-    ghost invariant = { λ d. IsNonDecreasing d.owed.items × (d.passed ≤ length d.owed.items)
+    ghost invariant = { λ d. IsNonDecreasing d.owed.items
         × (length d.outbox.items + length d.unfinished.items ≤ vec_capacity d.outbox) };
 }
 

@@ -1,6 +1,5 @@
 //! A participant.
-ghost use Rattle.std.specs.Prelude.{◌≡◌, ◌<◌, ◌+◌, ◌++◌, ◌∷◌, [], true, false, List, take, length, is_some, option_map, IfOk, IfErr, IfSome, IfNone, OnOk, OnErr};
-ghost use Rattle.canton_model.specs.Genuine.{Genuine};
+ghost use Rattle.std.specs.Prelude.{◌≡◌, ◌<◌, ◌++◌, ◌∷◌, [], true, false, List, length, is_some, option_map, IfOk, IfErr, IfSome, IfNone, OnOk, OnErr};
 ghost use Rattle.canton_model.specs.Inbox.{clean, clean_time, inbox, node_active, node_log, outcome_in, shown_at};
 ghost use Rattle.world_model.specs.Messages.{Entry};
 ghost use Rattle.world_model.specs.Places.{has_place};
@@ -8,7 +7,7 @@ ghost use Rattle.world_model.specs.Node.{claim, finish, put_back, read_entry, se
 ghost use Rattle.validate_job.specs.Owed.{owed_on_each};
 ghost use Rattle.node_inbox.specs.InboxState.{decided_since};
 ghost use Rattle.node_core.specs.Completion.{completion_of};
-ghost use Rattle.node_core.specs.Participant.{begun, is_decided_there, items_of, next_place, next_response, owed_there, owes_there, params_of};
+ghost use Rattle.node_core.specs.Participant.{CanRead, begun, is_decided_there, items_of, next_place, next_response, owed_there, owes_there, params_of};
 ghost use Rattle.node_core.specs.Participant.{reading_of, response_there, with_state};
 
 use crate::cancelled::Cancelled;
@@ -109,12 +108,9 @@ impl<'s> Node<'s> {
         self.is_paused = paused;
     }
 
-    /// Reads the slip's entry, which stands at the cursor of a genuine log whose entries before it were read. It takes all memory
-    /// before it changes anything.
+    /// Reads the slip's entry, which stands at the cursor. It takes all memory before it changes anything.
     pub fn read(&mut self, slip: &Slip<'_>) -> Result<(), AllocError>
-        requires cursor { length slip.now.list ≡ length (items_of self.old) + 1 }
-        requires genuine { Genuine (reading_of self.old) (params_of self.old) slip.now.list }
-        requires before { items_of self.old ≡ inbox (reading_of self.old) self.old.me (take (length (items_of self.old)) slip.now.list) }
+        requires { CanRead self.old slip.now.list }
         ensures ok { OnOk result ((before : List Entry) (entry : Entry) → slip.now.list ≡ before ++ entry ∷ []
             → self.new ≡ with_state self.old (read_entry (reading_of self.old) self.old.me self.old.state before entry)) }
         ensures inbox { OnOk result (items_of self.new ≡ inbox (reading_of self.old) self.old.me slip.now.list) }

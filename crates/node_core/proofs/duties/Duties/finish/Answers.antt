@@ -13,4 +13,4 @@ invariant_of-self c =
     let fewer = fewer_without response.request c.self.inside.unfinished.items there in
     let more = ap length c.push_reserved.ensures.items in
     let one = length-append c.self.inside.outbox.items (response ∷ []) in
-    (inv.0, inv.1, omega (arith, fewer, inv.2, more, one, ap length c.drop_place.ensures, c.push_reserved.ensures.capacity))
+    (inv.0, omega (arith, fewer, inv.1, more, one, ap length c.drop_place.ensures, c.push_reserved.ensures.capacity))

@@ -13,8 +13,7 @@ invariant_of-self c =
     let responses = shorter (λ (r : Response). not (is_to place r)) c.self.inside.outbox.items in
     let places = shorter (λ (n : ℕ). not (nat_eq n place)) c.self.inside.unfinished.items in (
       inv.0,
-      omega (arith, inv.1, c.min-self-inside.ensures),
-      omega (arith, responses, places, inv.2, ap length c.remove.ensures.items, ap length c.drop_place.ensures, c.remove.ensures.capacity),
+      omega (arith, responses, places, inv.1, ap length c.remove.ensures.items, ap length c.drop_place.ensures, c.remove.ensures.capacity),
     )
 
 pub returns-clause-passed : goal.returns-clause-passed
@@ -25,7 +24,9 @@ returns-clause-passed c =
     let below =
     subst (λ (xs : List ℕ). AllWithin (λ (j : ℕ). j < c.args.place) xs 0 c.places_below.result) c.as_slice.ensures c.places_below.ensures.below in
     λ decided h.
-    rw c.drop_claim.ensures
-    (passed_back decided kept.claimed.keys c.args.place kept.owed.items kept.passed low (omega (arith, is))
-    (λ i j lt e. below_at kept.owed.items c.args.place c.places_below.result below i j (omega (arith, lt, is)) e)
-    (subst (λ (k : Kept). IsPassed decided k) (sym c.self.view_is) h))
+    let before = subst (λ (k : Kept). IsPassed decided k) (sym c.self.view_is) h in (
+      omega (arith, before.0, is),
+      rw c.drop_claim.ensures
+          (passed_back decided kept.claimed.keys c.args.place kept.owed.items kept.passed low (omega (arith, is))
+          (λ i j lt e. below_at kept.owed.items c.args.place c.places_below.result below i j (omega (arith, lt, is)) e) before.1),
+    )

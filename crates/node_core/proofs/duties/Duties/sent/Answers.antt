@@ -8,4 +8,4 @@ pub invariant_of-self : goal.invariant_of-self
 invariant_of-self c =
     let inv = c.self.invariant in
     let fewer = shorter (λ (r : Response). not (is_to c.args.request r)) c.self.inside.outbox.items in
-    (inv.0, inv.1, omega (arith, fewer, inv.2, ap length c.remove.ensures.items, c.remove.ensures.capacity))
+    (inv.0, omega (arith, fewer, inv.1, ap length c.remove.ensures.items, c.remove.ensures.capacity))
