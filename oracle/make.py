@@ -1,16 +1,18 @@
-"""Writes the inputs and the expected outputs of crates/tree_cases, crates/form_cases and crates/run_cases from the
-tables of this folder.
+"""Writes the inputs and the expected outputs of crates/tree_cases, crates/request_cases, crates/form_cases,
+crates/check_cases and crates/run_cases from the tables of this folder.
 
 What a table says of a case by hand is compared with what is computed here, where both are there.
 """
 import json
 import os
 
+import check_cases
 import form_cases
 import language
+import request_cases
 import tree_cases
 from tables import bytes as byte_tables
-from tables import expressions, package_faults, runs, script_faults, transactions
+from tables import checks, expressions, package_faults, requests, runs, script_faults, transactions
 
 CRATES = os.path.join(os.path.dirname(os.path.dirname(os.path.abspath(__file__))), 'crates')
 
@@ -38,6 +40,15 @@ def tree_rows():
         name = 'fault-%d' % at
         lines = list(tree_cases.script_lines(json.loads(text))) if fault is None else ['fault ' + fault]
         yield 'script %s %s' % (name, text), ['script ' + name] + lines
+
+
+def request_rows():
+    for name, script in requests.NAMED:
+        lines = list(request_cases.script_lines(script))
+        for worked in requests.WORKED[name]:
+            if worked not in lines:
+                raise SystemExit('%s has no line %s' % (name, worked))
+        yield 'script %s %s' % (name, compact(script)), ['script ' + name] + lines
 
 
 def check_line(packages):
@@ -72,6 +83,44 @@ def byte_rows():
         yield '%s %s' % (word, digits), [computed]
 
 
+def facts_word(facts):
+    return ','.join('%d.%s%s' % (number, status, '!' if held else '') for number, status, held in facts) or '-'
+
+
+def path_word(paths):
+    return ','.join(map(tree_cases.path_text, paths))
+
+
+def view_rows():
+    for name, script, me, time, path, facts, worked in checks.VIEWS:
+        lines = list(check_cases.view_lines(name, script, me, time, path, facts))
+        agreed(name, lines, ['view %s %s %s' % (name, path_word([path]), worked)])
+        yield 'view %s %d %d %s %s %s' % (name, me, time, path_word([path]), facts_word(facts), compact(script)), lines
+
+
+def job_rows():
+    for word, cases in [('job', checks.JOBS), ('cancel', checks.CANCELLED)]:
+        for name, script, me, place, time, paths, facts, worked in cases:
+            lines = list(check_cases.job_lines(name, script, me, place, time, paths, facts, word == 'cancel'))
+            agreed(name, lines[1:], worked)
+            words = (word, name, me, place, time, path_word(paths), facts_word(facts), compact(script))
+            yield '%s %s %d %d %d %s %s %s' % words, lines
+
+
+def order_rows():
+    for name, script, worked in checks.ORDER_CASES:
+        lines = list(check_cases.order_lines(name, script))
+        agreed(name, worked in lines, True)
+        yield 'order %s %s' % (name, compact(script)), lines
+
+
+def call_rows(word, called, calls):
+    for words, worked in calls:
+        line = called.line(*words.split())
+        agreed(words, line.split(' - ')[1], worked)
+        yield '%s %s' % (word, words), [line]
+
+
 def run_rows():
     for name, words, source, take, put, status, line, text in runs.cases():
         lines = ['run ' + name, 'status %d' % status] + ([] if line is None else [line])
@@ -94,7 +143,12 @@ def write(crate, parts):
 
 def main():
     write('tree_cases', [('Transactions, and scripts with their first fault', tree_rows())])
+    write('request_cases', [('Transactions as requests', request_rows())])
     write('form_cases', [('Terms and trees as bytes', byte_rows()), ('Expressions', expression_rows()), ('Packages', package_rows())])
+    write('check_cases', [
+        ('Views', view_rows()), ('Jobs', job_rows()), ('Orders', order_rows()),
+        ('Trackers', call_rows('tracker', check_cases.Tracker(), checks.TRACKERS)),
+        ('Stores', call_rows('store', check_cases.Store(), checks.STORES))])
     write('run_cases', [('Whole runs', run_rows())])
 
 

@@ -15,12 +15,13 @@ class NoViews(Exception):
 
 
 def split(packages, roots):
-    """The views of a transaction: each with its path, informees, confirmers, core bytes, seed and the views below it."""
+    """The views of a transaction: each with its path, informees, confirmers, core nodes and bytes, seed and the views below it."""
     return [view(packages, node, [at], [at]) for at, node in enumerate(roots)]
 
 
 def view(packages, node, path, action_path):
-    made = {'path': path, 'informees': roles_at(packages, node, action_path)[3], 'confirmers': [], 'below': [], 'seed': node['seed']}
+    made = {'path': path, 'informees': roles_at(packages, node, action_path)[3], 'confirmers': [], 'below': [], 'nodes': [],
+            'seed': node['seed']}
     made['core'] = core(packages, node, made, action_path)
     return made
 
@@ -36,6 +37,7 @@ def core(packages, node, made, action_path):
     """The bytes of a core from a node on; the views that start in it are put below the view."""
     signatories, _, actors, _ = roles_at(packages, node, action_path)
     made['confirmers'] = union(made['confirmers'], signatories, actors)
+    made['nodes'].append(node)
     out = node['seed'] + action_bytes(node['action']) + struct.pack('>H', len(node['children']))
     for at, child in enumerate(node['children']):
         below = action_path + [at]

@@ -183,6 +183,25 @@ BODIES = script(
 TWO_SPENDS = script(*KNOWN, asked("P2", "s1", ["Alice"], transfer()), asked("P2", "s2", ["Alice"], transfer('Bob')))
 
 
+# faults in bodies: a contract that is used after it was consumed, nobody who signs, and an instance that is too large
+USED = {"name": "Used", "templates": [{
+    "name": "Used", "fields": [{"name": "owner", "type": "Party"}], "signatories": ["set", ["var", "this.owner"]],
+    "choices": [
+        {"name": "Gone", "consuming": True, "controllers": ["set", ["var", "this.owner"]],
+         "body": [{"fetch": {"bind": "c", "template": "Used.Used", "contract": ["var", "self"]}}]},
+        {"name": "Twice", "consuming": False, "controllers": ["set", ["var", "this.owner"]],
+         "body": [{"exercise": {"bind": n, "template": "Used.Used", "contract": ["var", "self"], "choice": "Archive", "args": []}}
+                  for n in "xy"]},
+        {"name": "Nobody", "consuming": False, "controllers": ["set", ["var", "this.owner"]],
+         "body": [{"create": {"bind": "n", "template": "K.Open", "fields": [["set"]]}}]},
+        {"name": "Large", "consuming": False, "controllers": ["set", ["var", "this.owner"]],
+         "body": [{"create": {"bind": "n", "template": "K.Texts", "fields": [["var", "this.owner"]] + ['x' * 256] * 4}}]}]}]}
+IN_BODIES = dict(script(
+    asked("P2", "u", ["Alice"], create("Used.Used", party("Alice"))),
+    *[asked("P2", choice.lower(), ["Alice"], exercise("Used.Used", "#P2:u:0", choice)) for choice in ("Gone", "Twice", "Nobody", "Large")]),
+    packages=[IOU, OTHER, USED])
+
+
 # --- prepared trees
 
 def known(label):
@@ -267,8 +286,8 @@ NESTED = script(
 
 NAMED = [
     ('transfer', TRANSFER), ('flash', FLASH), ('refusals', REFUSALS), ('depths', DEPTHS), ('sizes', SIZES), ('bodies', BODIES),
-    ('two-spends', TWO_SPENDS), ('prepared', PREPARED), ('forged', FORGED), ('orders', ORDERS), ('again', AGAIN), ('unmade', UNMADE),
-    ('other-instance', OTHER_INSTANCE), ('nested', NESTED)]
+    ('in-bodies', IN_BODIES), ('two-spends', TWO_SPENDS), ('prepared', PREPARED), ('forged', FORGED), ('orders', ORDERS),
+    ('again', AGAIN), ('unmade', UNMADE), ('other-instance', OTHER_INSTANCE), ('nested', NESTED)]
 
 # what was worked out by hand of these scripts: lines of the expected output
 WORKED = {
@@ -279,8 +298,9 @@ WORKED = {
         'refused Unauthorised 0', 'refused ContractUnknown 0', 'refused ContractUnknown 1', 'refused Overflow 0', 'refused Ensure 0',
         'refused Ensure 0.0', 'refused NoSignatory 0'],
     'depths': ['bytes 2224', 'refused TooDeep ' + '.'.join('0' * 17), 'bytes %d' % (63 * 139 + 95), 'refused TooMany 4'],
-    'sizes': ['refused TooLarge 0'],
-    'bodies': ['refused Assert 0', 'refused Assert 0.0'],
+    'sizes': ['refused TooLarge 0', 'refused TooBig 35232'],
+    'bodies': ['refused Assert 0', 'refused Assert 0.0', '    fetch K.Debt(Alice,7) by Alice'],
+    'in-bodies': ['refused ContractUnknown 0.0', 'refused ContractUnknown 0.1', 'refused NoSignatory 0.0', 'refused TooLarge 0.0'],
     'two-spends': ['ledger inconsistent 5 0'], 'unmade': ['ledger inconsistent 0 0'], 'again': ['ledger inconsistent 4 0'],
     'other-instance': ['ledger inconsistent 4 0'],
     'orders': ['ordered no 1', 'ordered no 0.0']}

@@ -1,12 +1,11 @@
 -- Facts of a place.
-use Rattle.std.proofs.Common.{◌≡◌, ℕ, Bool, true, List, Some, refl, sym, ap, ◌∙◌}
+use Rattle.std.proofs.Common.{◌≡◌, ℕ, true, List, ap, ◌∙◌}
 use Rattle.std.specs.Prelude.{All, Contains, IsSome}
 use Rattle.std.specs.Str.{bytes_eq}
 use Rattle.std.proofs.lemmas.List.Elements.{All-contains}
 use Rattle.std.proofs.lemmas.Slice.Eq.{bytes_eq-Decides}
 use Rattle.ledger_terms.specs.declared.act.Act.{Act}
 use Rattle.ledger_terms.specs.declared.params.Params.{Params}
-use Rattle.ledger_model.specs.declared.status.Status.{Status}
 use Rattle.ledger_model.specs.Terms.{Hash, ParticipantId, id_of}
 use Rattle.ledger_model.proofs.Lists.{contains_from_In}
 use Rattle.canton_model.specs.Inbox.{Item, has_hosted_stakeholder, is_locked_in_inbox, status_in_inbox}

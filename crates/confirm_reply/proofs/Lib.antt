@@ -5,7 +5,7 @@ mod Placed
 mod Trying
 mod ShownAt
 mod Verdicts
-mod AtPlace
+pub mod AtPlace
 mod CoreSteps
 mod FindSteps
 mod Gathering
@@ -13,3 +13,4 @@ mod NumberSteps
 mod Checked
 mod Checkable
 mod FactsAt
+mod Sure

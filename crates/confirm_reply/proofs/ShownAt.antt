@@ -23,7 +23,7 @@ tree_in node = (node.now.root, node.now.below)
 tree_at : (nodes : List (Bor ActionNode)) (n : ℕ) (found : Option (Bor ActionNode)) → found ≡ slice_get nodes n → slice_get (trees_in nodes) n ≡ option_map tree_in found
 tree_at nodes n found at = slice_get-map tree_in nodes n ∙ ap (option_map tree_in) (sym at)
 
-acts_are : (nodes : List (Bor ActionNode)) → acts_in (trees_in nodes) ≡ acts_of nodes
+pub acts_are : (nodes : List (Bor ActionNode)) → acts_in (trees_in nodes) ≡ acts_of nodes
 acts_are [] = refl
 acts_are (node ∷ nodes) = ap (λ (acts : List Act). node.now.root ∷ acts) (acts_are nodes)
 

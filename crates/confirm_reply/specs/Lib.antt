@@ -7,3 +7,4 @@ pub mod Nodes
 pub mod Located
 pub mod Tried
 pub mod Fit
+pub mod Sure

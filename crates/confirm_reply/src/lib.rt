@@ -2,6 +2,7 @@
 #![tactic(auto)]
 
 mod check_input;
+mod condition;
 mod cores;
 mod facts;
 mod hosting;
@@ -18,6 +19,7 @@ mod view_check;
 
 pub use canton_model::{LocalVerdict, Reason, ViewVerdict, ViewVerdictList};
 pub use check_input::CheckInput;
+pub use condition::can_check;
 pub use id_facts::{IdFacts, IdFactsList};
 pub use setup::Setup;
 pub use view_check::check_view;

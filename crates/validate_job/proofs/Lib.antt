@@ -1,1 +1,2 @@
 mod OpenedViews
+mod OwedAt

@@ -1,3 +1,4 @@
 pub mod Job
 pub mod Owed
 pub mod Outcome
+pub mod OwedAt

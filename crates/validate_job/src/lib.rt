@@ -3,6 +3,7 @@
 
 mod finished;
 mod job;
+pub mod laws;
 mod polling;
 
 pub use finished::Finished;

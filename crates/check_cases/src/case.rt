@@ -1,0 +1,88 @@
+//! Cases.
+use crate::jobs::put_job;
+use crate::lines::put_line;
+use crate::orders::put_order;
+use crate::stores::{Change, change_all, put_contract, put_row, put_store};
+use crate::trackers::{advance, begin, outcome_of, put_tracker};
+use crate::verdicts::put_view;
+use crate::words::Words;
+use contract_store::Store;
+use request_track::Tracker;
+use std::alloc::{AllocError, Global};
+use std::io;
+
+/// The tracker and the store that lines call.
+#[derive(Drop)]
+pub(crate) struct Cases {
+    tracker: Tracker,
+    store: Store,
+}
+
+impl Cases {
+    pub(crate) fn new(alloc: Global) -> Cases {
+        Cases {
+            tracker: Tracker::new(alloc),
+            store: Store::new(alloc),
+        }
+    }
+
+    /// The text that answers a line.
+    pub(crate) fn answer(&mut self, rt: &HostRuntime, line: &str) -> io::Result<String> {
+        let alloc = rt.alloc();
+        let mut out = String::new(alloc);
+        let mut words = Words::of(line);
+        match words.next() {
+            "view" => put_view(alloc, words, &mut out)?,
+            "job" => put_job(rt, words, false, &mut out)?,
+            "cancel" => put_job(rt, words, true, &mut out)?,
+            "order" => put_order(alloc, words, &mut out)?,
+            "tracker" => self.tracker_call(alloc, words, line, &mut out)?,
+            "store" => self.store_call(alloc, words, line, &mut out)?,
+            _ => put_line(&mut out, &[line])?,
+        }
+        Ok(out)
+    }
+
+    /// Calls the tracker, and puts at the end what it tells then.
+    fn tracker_call(
+        &mut self,
+        alloc: Global,
+        mut words: Words<'_>,
+        line: &str,
+        out: &mut String,
+    ) -> Result<(), AllocError> {
+        let mut place = 0;
+        match words.next() {
+            "new" => self.tracker = Tracker::new(alloc),
+            "begin" => begin(&mut self.tracker, &mut words)?,
+            "advance" => advance(&mut self.tracker, words.number()),
+            "settle" => {
+                place = words.number();
+                self.tracker.settle(place, outcome_of(words.next()));
+            }
+            "expire" => self.tracker.expire(words.number()),
+            _ => place = words.number(),
+        }
+        put_tracker(alloc, &self.tracker, line, place, out)
+    }
+
+    /// Calls the store, and puts at the end what it tells then.
+    fn store_call(
+        &mut self,
+        alloc: Global,
+        mut words: Words<'_>,
+        line: &str,
+        out: &mut String,
+    ) -> Result<(), AllocError> {
+        match words.next() {
+            "contract" => return put_contract(&self.store, line, words.number(), out),
+            "row" => return put_row(alloc, &self.store, line, &mut words, out),
+            "new" => self.store = Store::new(alloc),
+            "create" => change_all(alloc, &mut self.store, Change::Create, &mut words)?,
+            "consume" => change_all(alloc, &mut self.store, Change::Consume, &mut words)?,
+            "hold" => change_all(alloc, &mut self.store, Change::Hold, &mut words)?,
+            _ => self.store.release(words.number()),
+        }
+        put_store(alloc, &self.store, line, out)
+    }
+}

@@ -1,0 +1,30 @@
+//! Reads cases from standard input, a line each, and writes what a participant's own checks and stores answer: the verdict on a
+//! view and the polls of a job, over a script's last transaction as the participant reads it, which actions of that are out of
+//! order or inactive, and what a tracker and a store tell after each call, which goes on from those before it. A line that begins
+//! otherwise is written again.
+#![tactic(auto)]
+
+mod case;
+mod facts;
+mod inputs;
+mod jobs;
+mod lines;
+mod orders;
+mod stores;
+mod trackers;
+mod verdicts;
+mod words;
+
+use case::Cases;
+use std::io;
+
+fn main(rt: HostRuntime) -> io::Result<()> {
+    let alloc = rt.alloc();
+    let mut cases = Cases::new(alloc);
+    for line in rt.lines(alloc) {
+        let line = line?;
+        let answer = cases.answer(&rt, line.as_str())?;
+        print!(rt; "{answer}")?;
+    }
+    Ok(())
+}

@@ -1,0 +1,230 @@
+"""What crates/check_cases has to write: the verdicts of the local checks over a script's last transaction, the polls of jobs, and
+what plain lists tell after the calls of a tracker and of a store.
+"""
+import ledger
+import trees
+from language import NOTE, Packages
+from tree_cases import path_text, transaction_of, yes
+
+# --- verdicts
+
+def last_sent(script):
+    """The last transaction of a script: its submission, its requesters and its roots, with the contracts that all create."""
+    packages, known, last = Packages(script.get('packages', [])), [], None
+    for round_ in script['rounds']:
+        for submission in round_.get('submits', []):
+            try:
+                _, by, roots = transaction_of(packages, known, submission)
+            except ledger.Refused:
+                continue
+            for _, node in ledger.preorder(roots):
+                if node['action']['kind'] == 'create':
+                    known.append({'id': node['action']['id'], 'salt': node['seed'], 'instance': node['action']['instance']})
+            last = submission, by, roots
+    return packages, known, last
+
+
+class Check:
+    """The local checks of one participant on a script's last transaction, with what it knows of contracts."""
+
+    def __init__(self, script, me, time, facts):
+        self.packages, known, (submission, by, self.roots) = last_sent(script)
+        self.script, self.host, self.time, self.by = script, script['participants'][me], time, by
+        self.ledger_time = submission.get('ledger_time', 0)
+        self.facts = {known[number]['id']: (status, held) for number, status, held in facts}
+        seen = trees.topmost(trees.split(self.packages, self.roots), self.host['parties'])
+        self.views = list(trees.all_views(seen))
+        self.acts = [n for v in seen for _, n in ledger.preorder([v['nodes'][0]])]
+        shown = self.host['name'] == submission['participant'] or any(len(v['path']) == 1 for v in seen)
+        self.requesters = by if shown else None
+
+    def verdict(self, path):
+        view = next(v for v in self.views if v['path'] == path)
+        for reason in REASONS:
+            for at, node in enumerate(view['nodes']):
+                if getattr(self, reason)(view, node):
+                    return '%s %d' % (reason, at)
+        return 'approve'
+
+    def status(self, node):
+        return self.facts.get(node['action']['id'], ('unknown', False))
+
+    def hosted(self, node):
+        return bool(set(ledger.union(*self.packages.stakeholders(node['action']['instance']))) & set(self.host['parties']))
+
+    def earlier(self, node):
+        at = next(k for k, other in enumerate(self.acts) if other is node)
+        return [other for other in self.acts[:at] if other['action']['id'] == node['action']['id']]
+
+    # an action of a view's core shows a reason
+
+    def IdMismatch(self, view, node):
+        action = node['action']
+        salt = node['seed'] if action['kind'] == 'create' else action['salt']
+        return ledger.contract_id(salt, action['instance']) != action['id']
+
+    def NotVetted(self, view, node):
+        every = [NOTE['name']] + [p['name'] for p in self.script.get('packages', [])]
+        return node['action']['instance'][0] not in self.host.get('vetted', every)
+
+    def TimeSkew(self, view, node):
+        return abs(self.ledger_time - self.time) > self.script.get('skew', 60_000_000)
+
+    def Locked(self, view, node):
+        return self.hosted(node) and self.status(node)[1]
+
+    def Inactive(self, view, node):
+        is_made = any(other['action']['kind'] == 'create' for other in self.earlier(node))
+        return self.hosted(node) and node['action']['kind'] != 'create' and self.status(node)[0] != 'active' and not is_made
+
+    def NotFresh(self, view, node):
+        return self.hosted(node) and node['action']['kind'] == 'create' and self.status(node)[0] != 'unknown'
+
+    def Unordered(self, view, node):
+        return self.hosted(node) and is_unordered(self.earlier(node), node)
+
+    def NotConformant(self, view, node):
+        return not ledger.conforms(self.packages, view['nodes'][0])
+
+    def NotAuthorised(self, view, node):
+        action = node['action']
+        signatories, _, actors, _ = ledger.roles(self.packages, action)
+        below = ledger.union(actors, signatories)
+        if not all(is_authorised(self.packages, child['action'], below) for child in node['children']):
+            return True
+        is_asked = len(view['path']) == 1 and node is view['nodes'][0]
+        return is_asked and not (self.requesters is not None and is_authorised(self.packages, action, self.requesters))
+
+
+REASONS = ['IdMismatch', 'NotVetted', 'TimeSkew', 'Locked', 'Inactive', 'NotFresh', 'Unordered', 'NotConformant', 'NotAuthorised']
+
+
+def is_authorised(packages, action, by):
+    """Whether an action is authorised, whatever stands below it."""
+    return ledger.is_authorised(packages, {'action': action, 'children': []}, by)
+
+
+def is_unordered(on_it, node):
+    """Whether an action is out of order, by the earlier ones on its contract."""
+    return any(other['action'].get('consuming') for other in on_it) or (node['action']['kind'] == 'create' and bool(on_it))
+
+
+def view_lines(name, script, me, time, path, facts):
+    yield 'view %s %s %s' % (name, path_text(path), Check(script, me, time, facts).verdict(path))
+
+
+def job_lines(name, script, me, place, time, paths, facts, gives_up):
+    """A job checks one view at each poll, and wakes itself where views remain."""
+    check, left = Check(script, me, time, facts), len(paths)
+    yield 'job %s place %d left %d' % (name, place, left)
+    while left > 1:
+        left -= 1
+        yield 'pending, woken yes place %d left %d' % (place, left)
+        if gives_up:
+            yield 'cancelled %d' % place
+            return
+    yield 'ready place %d' % place
+    for path in paths:
+        yield 'verdict %s %s' % (path_text(path), check.verdict(path))
+
+
+def order_lines(name, script):
+    yield 'order ' + name
+    acts = [node for _, node in ledger.preorder(last_sent(script)[2][2])]
+    for at, node in enumerate(acts):
+        on_it = [other for other in acts[:at] if other['action']['id'] == node['action']['id']]
+        is_create = node['action']['kind'] == 'create'
+        is_made = any(other['action']['kind'] == 'create' for other in on_it)
+        inactive = [not is_create and status != 'active' and not is_made for status in ('unknown', 'active', 'consumed')]
+        yield 'action %d unordered %s inactive %s' % (at, yes(is_unordered(on_it, node)), ' '.join(map(yes, inactive)))
+
+
+# --- stores
+
+class Tracker:
+    """The requests of a participant by their places, each with its decision time and its outcome."""
+
+    def __init__(self):
+        self.requests, self.cursor = {}, 0
+
+    def call(self, word, *rest):
+        place = 0
+        if word == 'new':
+            self.__init__()
+        elif word == 'begin':
+            self.requests.setdefault(int(rest[0]), [int(rest[1]), 'undecided'])
+        elif word == 'advance':
+            self.cursor += int(rest[0])
+        elif word == 'expire':
+            for request in self.requests.values():
+                if request[1] == 'undecided' and request[0] < int(rest[0]):
+                    request[1] = 'expired'
+        else:
+            place = int(rest[0])
+            if word == 'settle' and place in self.requests:
+                self.requests[place][1] = rest[1]
+        return place
+
+    def line(self, *words):
+        place = self.call(*words)
+        clean = min([p for p, r in self.requests.items() if r[1] == 'undecided'] + [self.cursor])
+        outcome = self.requests[place][1] if place in self.requests else 'none'
+        return 'tracker %s - cursor %d clean %d outcome %s' % (' '.join(words), self.cursor, clean, outcome)
+
+
+class Store:
+    """Contracts in the order in which they were met, each with who created and who consumed it, and the holds on them."""
+
+    def __init__(self):
+        self.rows, self.holds, self.released = [], [], 0
+
+    def row(self, number):
+        for row in self.rows:
+            if row['number'] == number:
+                return row
+        self.rows.append({'number': number, 'create': None, 'consume': None})
+        return self.rows[-1]
+
+    def change(self, word, number, place):
+        if word == 'hold':
+            self.holds.append((number, place))
+        else:
+            row = self.row(number)
+            row[word] = place if row[word] is None else min(row[word], place)
+
+    def release(self, place):
+        kept = [hold for hold in self.holds if hold[1] != place]
+        self.released += len(self.holds) - len(kept)
+        self.holds = kept
+        if self.released > len(kept):
+            self.released = 0
+
+    def line(self, *words):
+        word, numbers = words[0], list(map(int, words[1:]))
+        front = 'store %s - ' % ' '.join(words)
+        if word == 'contract':
+            return front + self.contract(*numbers)
+        if word == 'row':
+            return front + self.told(*numbers)
+        if word == 'new':
+            self.__init__()
+        elif word == 'release':
+            self.release(*numbers)
+        else:
+            first, step, count, place = numbers
+            for i in range(count):
+                self.change(word, (first + i * step) % 1000, place)
+        return front + 'rows %d kept %d' % (len(self.rows), len(self.holds) + self.released)
+
+    def contract(self, number):
+        row = next((r for r in self.rows if r['number'] == number), {'create': None, 'consume': None})
+        status = 'consumed' if row['consume'] is not None else 'unknown' if row['create'] is None else 'active'
+        held, found = any(hold[0] == number for hold in self.holds), yes(status == 'active')
+        return '%s held %s found %s %s' % (status, yes(held), found, found)
+
+    def told(self, at, number):
+        if at >= len(self.rows):
+            return 'none'
+        row = self.rows[at]
+        created, consumed = ('never' if row[w] is None else row[w] for w in ('create', 'consume'))
+        return '%s created %s consumed %s' % (yes(row['number'] == number), created, consumed)
