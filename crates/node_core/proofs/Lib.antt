@@ -6,3 +6,4 @@ pub mod LogEnds
 pub mod Entries
 pub mod KeptSteps
 pub mod ReadSteps
+pub mod Alike

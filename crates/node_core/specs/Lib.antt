@@ -2,3 +2,4 @@ pub mod Duties
 pub mod Participant
 pub mod Completion
 pub mod Kept
+pub mod Answers

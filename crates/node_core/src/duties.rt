@@ -37,7 +37,14 @@ impl Model for Duties {
 
     ghost Value = { Kept };
 
-    ghost view = { λ d. record { owed = d.owed.items; room = d.owed.spare; passed = d.passed; claimed = d.claimed.keys; unfinished = d.unfinished.items; outbox = d.outbox.items } };
+    ghost view = { λ d. record {
+      owed = d.owed.items;
+      room = d.owed.spare;
+      passed = d.passed;
+      claimed = d.claimed.keys;
+      unfinished = d.unfinished.items;
+      outbox = d.outbox.items;
+    } };
 
     ghost invariant = { λ d. IsNonDecreasing d.owed.items
         × (length d.outbox.items + length d.unfinished.items ≤ vec_capacity d.outbox) };

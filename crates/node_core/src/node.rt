@@ -209,7 +209,8 @@ impl<'s> Node<'s> {
 
     /// The active contracts with a hosted stakeholder at the clean place, in order of creation.
     pub fn active(&self, alloc: Global) -> Result<ActiveRowList, AllocError>
-        ensures { IfOk result (λ rows. rows ≡ node_active (reading_of self.now) self.now.me (items_of self.now) (clean (params_of self.now) (items_of self.now))) }
+        ensures { IfOk result (λ rows. rows
+            ≡ node_active (reading_of self.now) self.now.me (items_of self.now) (clean (params_of self.now) (items_of self.now))) }
     {
         self.inbox.active(alloc)
     }
