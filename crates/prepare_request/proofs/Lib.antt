@@ -1,0 +1,7 @@
+mod Offered
+mod Offers
+mod Wants
+mod Sealing
+mod Machines
+mod Prepares
+mod PlainFaults
