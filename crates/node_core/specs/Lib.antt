@@ -3,3 +3,4 @@ pub mod Participant
 pub mod Completion
 pub mod Kept
 pub mod Answers
+pub mod Preparing

@@ -13,3 +13,4 @@ mod outbox;
 pub use cancelled::Cancelled;
 pub use completion::Completion;
 pub use node::Node;
+pub use prepare_request::SubmitFault;

@@ -1,25 +1,31 @@
 //! A participant.
-ghost use Rattle.std.specs.Prelude.{◌≡◌, ◌<◌, ◌++◌, ◌∷◌, [], true, false, List, length, is_some, option_map, IfOk, IfErr, IfSome, IfNone, OnOk, OnErr};
+ghost use Rattle.std.specs.Prelude.{◌≡◌, ◌<◌, ◌++◌, ◌∷◌, [], true, false, List, Err, length, is_some, option_map, IfOk, IfErr, IfSome, IfNone, OnOk, OnErr};
+ghost use Rattle.ledger_terms.specs.Answers.{Follows};
+ghost use Rattle.ledger_terms.specs.Topologies.{IsValid};
 ghost use Rattle.canton_model.specs.Inbox.{clean, clean_time, inbox, node_active, node_log, outcome_in, shown_at};
 ghost use Rattle.world_model.specs.Messages.{Entry};
 ghost use Rattle.world_model.specs.Places.{has_place};
 ghost use Rattle.world_model.specs.Node.{claim, finish, put_back, read_entry, sent, with_flag};
 ghost use Rattle.validate_job.specs.Owed.{owed_on_each};
 ghost use Rattle.node_inbox.specs.InboxState.{decided_since};
+ghost use Rattle.prepare_request.specs.Within.{IsWithin};
+ghost use Rattle.prepare_request.specs.declared.submit_fault.SubmitFault.TheVariants as SubmitFault;
 ghost use Rattle.node_core.specs.Completion.{completion_of};
 ghost use Rattle.node_core.specs.Participant.{CanRead, begun, is_decided_there, items_of, next_place, next_response, owed_there, owes_there, params_of};
 ghost use Rattle.node_core.specs.Participant.{reading_of, response_there, with_state};
+ghost use Rattle.node_core.specs.Preparing.{offered_by, prepare_answer};
 
 use crate::cancelled::Cancelled;
 use crate::completion::Completion;
 use crate::copies::{completion_by, copy_response};
 use crate::duties::Duties;
-use canton_model::{Outcome, Response};
+use canton_model::{Outcome, Request, Response};
 use confirm_reply::Setup;
 use ledger_model::CommitList;
-use ledger_terms::{ActiveRowList, ParticipantId};
+use ledger_terms::{ActiveRowList, ParticipantId, Submission};
 use log_row::Slip;
 use node_inbox::Inbox;
+use prepare_request::SubmitFault;
 use std::alloc::{AllocError, Global};
 use std::marker::Model;
 use validate_job::{Finished, ValidateJob};
@@ -28,6 +34,7 @@ use validate_job::{Finished, ValidateJob};
 /// stops submissions alone.
 #[derive(Drop)]
 pub struct Node<'s> {
+    setup: &'s Setup,
     me: ParticipantId,
     inbox: Inbox<'s>,
     duties: Duties,
@@ -58,7 +65,8 @@ impl<'s> Model for Node<'s> {
     ghost use Rattle.node_inbox.specs.InboxState.{params_of, reading_of};
     ghost use Rattle.node_core.specs.Kept.{IsKept};
 
-    ghost invariant = { λ n. (n.me ≡ n.inbox.me) × IsKept (reading_of n.inbox) (params_of n.inbox) n.inbox.me n.inbox.items n.duties };
+    ghost invariant = { λ n. (n.me ≡ n.inbox.me) × IsKept (reading_of n.inbox) (params_of n.inbox) n.inbox.me n.inbox.items n.duties
+        × (n.setup.now.topology ≡ n.inbox.topology) × (n.setup.now.checked ≡ n.inbox.packages) };
 }
 
 impl<'s> Node<'s> {
@@ -67,6 +75,7 @@ impl<'s> Node<'s> {
         ensures { result ≡ begun setup.now.topology setup.now.checked me }
     {
         Node {
+            setup,
             me,
             inbox: Inbox::new(alloc, setup, me),
             duties: Duties::new(alloc),
@@ -198,6 +207,29 @@ impl<'s> Node<'s> {
         ensures { self.new ≡ with_state self.old (sent self.old.state request) }
     {
         self.duties.sent(request);
+    }
+
+    /// The request that a submission of this participant wants over the contracts active at the cursor. `now` is the ledger time of
+    /// a submission that has none.
+    pub fn prepare(
+        &self,
+        alloc: Global,
+        what: &Submission,
+        now: u64,
+    ) -> Result<Request, SubmitFault>
+        requires valid { IsValid self.now.topology }
+        requires within { IsWithin self.now.topology self.now.packages self.now.me (offered_by self.now) what.now }
+        ensures paused { self.now.state.is_paused ≡ true → result ≡ Err SubmitFault.Paused }
+        ensures exact { Follows SubmitFault.Memory result (prepare_answer self.now what.now now) }
+        ensures sealed { IfOk result (λ request. (reading_of self.now).is_sealed request ≡ true) }
+        ensures sender { IfOk result (λ request. request.sender ≡ self.now.me) }
+        ensures command { IfOk result (λ request. request.command ≡ what.now.command) }
+    {
+        if self.is_paused {
+            return Err(SubmitFault::Paused);
+        }
+        let known = self.inbox.known();
+        prepare_request::prepare(alloc, self.setup, self.me, &known, what, now)
     }
 
     /// The approved requests before the clean place, as they are opened to it.

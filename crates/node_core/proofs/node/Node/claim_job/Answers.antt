@@ -56,6 +56,8 @@ invariant_of-self-2 c =
       inv.0,
       subst (λ (k : Kept). IsKept (reading_of inbox) (params_of inbox) inbox.me inbox.items k) (sym c.in_ok-claim.ensures.ok)
           (claim_keeps (reading_of inbox) (params_of inbox) inbox.me inbox.items after moved place owes),
+      inv.2,
+      inv.3,
     )
 
 pub returns-clause-place : goal.returns-clause-place

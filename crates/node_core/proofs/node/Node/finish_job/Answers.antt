@@ -15,4 +15,6 @@ invariant_of-self c =
       inv.0,
       subst (λ (kept : Kept). IsKept (reading_of inbox) (params_of inbox) inbox.me inbox.items kept) (sym c.finish.ensures)
           (response_keeps (reading_of inbox) (params_of inbox) inbox.me inbox.items c.self.inside.duties inv.1 _ ((inv.1).unfinished c.args.done.place there)),
+      inv.2,
+      inv.3,
     )

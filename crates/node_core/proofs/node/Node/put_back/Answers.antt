@@ -15,4 +15,6 @@ invariant_of-self c =
       inv.0,
       subst (λ (kept : Kept). IsKept (reading_of inbox) (params_of inbox) inbox.me inbox.items kept) (sym c.put_back.ensures.state)
           (put_back_keeps (reading_of inbox) (params_of inbox) inbox.me inbox.items c.self.inside.duties inv.1 c.args.place c.put_back.new.self.passed passed),
+      inv.2,
+      inv.3,
     )

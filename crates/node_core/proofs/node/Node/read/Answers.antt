@@ -65,6 +65,8 @@ invariant_of-self-then-owes c =
           (ap (λ (k : Kept). k.claimed) owe ∙ ap (λ (k : Kept). k.claimed) reserve)
           (ap (λ (k : Kept). k.unfinished) owe ∙ ap (λ (k : Kept). k.unfinished) reserve)
           (ap (λ (k : Kept). k.outbox) owe ∙ ap (λ (k : Kept). k.outbox) reserve)),
+      inv.2 ∙ sym (ap (λ (x : InboxState). x.topology) read),
+      inv.3 ∙ sym (ap (λ (x : InboxState). x.packages) read),
     )
 
 pub invariant_of-self-else-owes : goal.invariant_of-self-else-owes
@@ -90,6 +92,8 @@ invariant_of-self-else-owes c =
           (item_keeps (reading_of i) (params_of i) i.me i.items item kept after inv.1 owed
           (ap (λ (k : Kept). k.passed) reserve) (ap (λ (k : Kept). k.claimed) reserve)
           (ap (λ (k : Kept). k.unfinished) reserve) (ap (λ (k : Kept). k.outbox) reserve)),
+      inv.2 ∙ sym (ap (λ (x : InboxState). x.topology) read),
+      inv.3 ∙ sym (ap (λ (x : InboxState). x.packages) read),
     )
 
 pub returns-then-owes-clause-ok : goal.returns-then-owes-clause-ok

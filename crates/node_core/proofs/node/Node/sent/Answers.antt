@@ -12,4 +12,6 @@ invariant_of-self c =
       inv.0,
       subst (λ (kept : Kept). IsKept (reading_of inbox) (params_of inbox) inbox.me inbox.items kept) (sym c.sent.ensures)
           (sent_keeps (reading_of inbox) (params_of inbox) inbox.me inbox.items c.self.inside.duties inv.1 c.args.request),
+      inv.2,
+      inv.3,
     )
