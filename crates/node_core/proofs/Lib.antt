@@ -7,3 +7,4 @@ pub mod Entries
 pub mod KeptSteps
 pub mod ReadSteps
 pub mod Alike
+pub mod Preparing

@@ -1,16 +1,18 @@
 -- What a participant answers, as one value.
-use Rattle.std.specs.Prelude.{◌≡◌, ℕ, Bool, List, [], Option, length}
+use Rattle.std.specs.Prelude.{◌≡◌, ℕ, Bool, List, Option, Result, length}
 use Rattle.ledger_terms.specs.declared.topology.Topology.{Topology}
+use Rattle.ledger_terms.specs.declared.submission.Submission.{Submission}
 use Rattle.ledger_model.specs.Terms.{ActiveRow, ParticipantId}
 use Rattle.ledger_model.specs.declared.commit.Commit.{Commit}
-use Rattle.canton_model.specs.Inbox.{Item, clean, clean_time, node_active, node_log, outcome_in}
+use Rattle.canton_model.specs.Inbox.{clean, clean_time, node_active, node_log, outcome_in}
 use Rattle.canton_model.specs.Timeline.{Outcome}
 use Rattle.canton_model.specs.Reading.{Reading}
 use Rattle.world_model.specs.Machine.{Machine}
-use Rattle.world_model.specs.Messages.{Response, ViewVerdict}
-use Rattle.world_model.specs.Node.{NodeState}
+use Rattle.world_model.specs.Messages.{Request, Response, ViewVerdict}
 use Rattle.lang_eval.specs.Found.{Packages}
 use Rattle.node_inbox.specs.InboxState.{decided_since}
+use Rattle.prepare_request.specs.declared.submit_fault.SubmitFault.{SubmitFault}
+use Rattle.node_core.specs.Preparing.{prepare_answer}
 use Rattle.node_core.specs.Participant.{Participant, is_decided_there, items_of, next_place, next_response, owed_there, owes_there, params_of, reading_of}
 
 pub record Answers : Type 0 where
@@ -27,6 +29,7 @@ pub record Answers : Type 0 where
   pub decided_since : (k : ℕ) → ℕ
   pub next_response : Option Response
   pub outcome : (k : ℕ) → Outcome
+  pub prepare : Submission → (now : ℕ) → Result Request SubmitFault
 
 abbrev pub answers_of : Participant → Answers
 answers_of p =
@@ -44,6 +47,7 @@ answers_of p =
       decided_since = decided_since (params_of p) (items_of p);
       next_response = next_response p;
       outcome = outcome_in (params_of p) (items_of p);
+      prepare = prepare_answer p;
     }
 
 -- Two participants are one, over one setup, with equal inboxes, claims, outboxes and flags.

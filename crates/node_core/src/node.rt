@@ -1,5 +1,5 @@
 //! A participant.
-ghost use Rattle.std.specs.Prelude.{◌≡◌, ◌<◌, ◌++◌, ◌∷◌, [], true, false, List, Err, length, is_some, option_map, IfOk, IfErr, IfSome, IfNone, OnOk, OnErr};
+ghost use Rattle.std.specs.Prelude.{◌≡◌, ◌≢◌, ◌<◌, ◌++◌, ◌∷◌, [], true, false, List, Err, None, Some, length, is_some, option_map, MatchResult, IfOk, IfErr, IfSome, IfNone, OnOk, OnErr};
 ghost use Rattle.ledger_terms.specs.Answers.{Follows};
 ghost use Rattle.ledger_terms.specs.Topologies.{IsValid};
 ghost use Rattle.canton_model.specs.Inbox.{clean, clean_time, inbox, node_active, node_log, outcome_in, shown_at};
@@ -8,6 +8,8 @@ ghost use Rattle.world_model.specs.Places.{has_place};
 ghost use Rattle.world_model.specs.Node.{claim, finish, put_back, read_entry, sent, with_flag};
 ghost use Rattle.validate_job.specs.Owed.{owed_on_each};
 ghost use Rattle.node_inbox.specs.InboxState.{decided_since};
+ghost use Rattle.prepare_request.specs.Causes.{HoldsNoMemory};
+ghost use Rattle.prepare_request.specs.Machine.{Offered, prepare_over, why_over};
 ghost use Rattle.prepare_request.specs.Within.{IsWithin};
 ghost use Rattle.prepare_request.specs.declared.submit_fault.SubmitFault.TheVariants as SubmitFault;
 ghost use Rattle.node_core.specs.Completion.{completion_of};
@@ -221,9 +223,15 @@ impl<'s> Node<'s> {
         requires within { IsWithin self.now.topology self.now.packages self.now.me (offered_by self.now) what.now }
         ensures paused { self.now.state.is_paused ≡ true → result ≡ Err SubmitFault.Paused }
         ensures exact { Follows SubmitFault.Memory result (prepare_answer self.now what.now now) }
+        ensures wanted { (offered : Offered) → what.now.participant ≡ self.now.me → offered self.now.me (items_of self.now) ≡ offered_by self.now
+            → MatchResult result (λ request. prepare_over self.now.topology self.now.packages offered what.now (items_of self.now) now ≡ Some request)
+            (λ fault. fault ≢ SubmitFault.Memory → fault ≢ SubmitFault.Paused
+            → (prepare_over self.now.topology self.now.packages offered what.now (items_of self.now) now ≡ None)
+            × (why_over self.now.topology self.now.packages offered what.now (items_of self.now) now ≡ fault)) }
         ensures sealed { IfOk result (λ request. (reading_of self.now).is_sealed request ≡ true) }
         ensures sender { IfOk result (λ request. request.sender ≡ self.now.me) }
         ensures command { IfOk result (λ request. request.command ≡ what.now.command) }
+        ensures plain { IfErr result HoldsNoMemory }
     {
         if self.is_paused {
             return Err(SubmitFault::Paused);
