@@ -1,7 +1,6 @@
 -- The next place to claim.
-use Rattle.std.proofs.Common.{◌≡◌, ℕ, zero, suc, ◌+◌, ◌<◌, ◌≤◌, Bool, true, false, ◌&&◌, not, if◌then◌else◌, List, [], ◌∷◌, ◌++◌, length, take, find, Option, Some, None, refl, sym, ap, ◌∙◌, inl, inr, arith}
-use Rattle.std.specs.Prelude.{is_some, slice_get}
-use Rattle.std.specs.List.{list_any}
+use Rattle.std.proofs.Common.{◌≡◌, ℕ, zero, suc, Bool, true, false, ◌&&◌, not, if◌then◌else◌, List, length, find, Option, Some, None, refl, ap, ◌∙◌, inl, inr}
+use Rattle.std.specs.Prelude.{is_some}
 use Rattle.std.proofs.lemmas.Bool.{cases_Bool, both_ways, and_parts}
 use Rattle.ledger_model.specs.Opening.{Shown}
 use Rattle.ledger_model.specs.Terms.{ParticipantId}
@@ -10,7 +9,7 @@ use Rattle.canton_model.specs.Reading.{Reading}
 use Rattle.canton_model.specs.Inbox.{Item, shown_at}
 use Rattle.world_model.specs.Machine.{confirms_some_view}
 use Rattle.world_model.specs.Places.{first_from, has_place}
-use Rattle.world_model.specs.Node.{NodeState, is_claimable, is_decided_now, next_claim, owes_at}
+use Rattle.world_model.specs.Node.{is_claimable, is_decided_now, next_claim, owes_at}
 use Rattle.world_model.proofs.NodeFacts.{first_from_is}
 use Rattle.node_core.specs.Duties.{Kept, is_free, state_of}
 use Rattle.node_core.specs.Participant.{is_received_decided, places_where}

@@ -1,10 +1,9 @@
 -- What one more item leaves as it was.
-use Rattle.std.proofs.Common.{◌≡◌, ℕ, zero, suc, ◌+◌, ◌<◌, ◌≤◌, Bool, true, false, ◌&&◌, ◌||◌, ◌⊎◌, not, if◌then◌else◌, List, [], ◌∷◌, ◌++◌, length, take, map, Option, Some, None, refl, sym, ap, ◌∙◌, subst, inl, inr, arith, append-nil}
+use Rattle.std.proofs.Common.{◌≡◌, ℕ, zero, suc, ◌+◌, ◌<◌, ◌≤◌, Bool, true, false, ◌||◌, ◌⊎◌, if◌then◌else◌, List, [], ◌∷◌, ◌++◌, length, take, Option, Some, None, refl, sym, ap, ◌∙◌, subst, inl, inr, arith}
 use Rattle.std.specs.Prelude.{is_some, slice_get, nat_lt}
 use Rattle.std.specs.List.{list_any}
-use Rattle.std.proofs.lemmas.Bool.{cases_Bool, both_ways, and_parts, and_from, and_cases, or_parts, or_from, or_left, or_right, not_from_true}
+use Rattle.std.proofs.lemmas.Bool.{cases_Bool, both_ways, and_parts, and_from, or_parts, or_from, or_left, or_right}
 use Rattle.std.proofs.lemmas.Option.{none-some, same_Some, slice_get_within}
-use Rattle.std.proofs.lemmas.List.{length-append}
 use Rattle.std.proofs.lemmas.List.Folds.{list_any-append}
 use Rattle.ledger_model.specs.Opening.{Shown}
 use Rattle.ledger_model.specs.Terms.{ParticipantId}
@@ -14,10 +13,9 @@ use Rattle.canton_model.specs.Reading.{Reading}
 use Rattle.canton_model.specs.Timeline.{Moment, verdict_on, is_past, is_decided_at, or_else, decision_on}
 use Rattle.canton_model.specs.Inbox.{Item, moments, verdict_in, shown_in, shown_at, item_time, is_decided_in, decision_time_in}
 use Rattle.world_model.specs.Machine.{confirms_some_view}
-use Rattle.world_model.specs.Places.{has_place}
 use Rattle.world_model.specs.Node.{owes_at}
 use Rattle.world_model.proofs.Grown.{slice_get_left}
-use Rattle.node_core.specs.Duties.{Kept, is_free, IsPassed}
+use Rattle.node_core.specs.Duties.{is_free}
 use Rattle.node_core.specs.Participant.{is_received_decided, places_where}
 
 take_all : {X : Type 0} (xs : List X) (n : ℕ) → length xs ≤ n → take n xs ≡ xs

@@ -1,5 +1,5 @@
 -- What each call leaves of a participant's duties.
-use Rattle.std.proofs.Common.{◌≡◌, ℕ, suc, ◌+◌, ◌<◌, ◌≤◌, if◌then◌else◌, Bool, true, false, ◌&&◌, ◌||◌, ◌⊎◌, not, List, [], ◌∷◌, ◌++◌, length, take, filter, Option, refl, sym, ap, ◌∙◌, subst, inl, inr, arith}
+use Rattle.std.proofs.Common.{◌≡◌, ℕ, suc, ◌+◌, if◌then◌else◌, Bool, true, false, ◌||◌, ◌⊎◌, not, List, [], ◌∷◌, ◌++◌, length, take, filter, refl, sym, ap, ◌∙◌, subst, inl, inr, arith}
 use Rattle.std.specs.Prelude.{nat_eq}
 use Rattle.std.specs.List.{list_any}
 use Rattle.std.proofs.lemmas.Bool.{cases_Bool, both_ways, and_cases, and_left, and_right, or_cases, or_parts, or_from, or_left, or_right, eqb-true, not_from_true}
@@ -10,8 +10,8 @@ use Rattle.canton_model.specs.Log.{Params}
 use Rattle.canton_model.specs.Reading.{Reading}
 use Rattle.canton_model.specs.Inbox.{Item}
 use Rattle.world_model.specs.Messages.{Response}
-use Rattle.world_model.specs.Places.{has_place, without_place}
-use Rattle.world_model.specs.Node.{is_decided_now, is_to, outbox_head, owes_at, waits_at, without}
+use Rattle.world_model.specs.Places.{has_place}
+use Rattle.world_model.specs.Node.{is_decided_now, is_to, outbox_head, owes_at}
 use Rattle.node_core.specs.Duties.{Kept, IsPassed, first_waiting, is_free, state_of, with_claim, with_passed, with_response, without_claim, without_response}
 use Rattle.node_core.specs.Kept.{IsKept}
 use Rattle.node_core.specs.Participant.{is_received_decided, places_where}

@@ -1,5 +1,5 @@
 -- The last entry of a log, to who has read the entries before it.
-use Rattle.std.proofs.Common.{◌≡◌, ℕ, zero, suc, ◌+◌, ◌<◌, ◌≤◌, true, List, [], ◌∷◌, ◌++◌, length, take, Option, Some, None, refl, sym, ap, ◌∙◌, subst, arith}
+use Rattle.std.proofs.Common.{◌≡◌, ℕ, zero, suc, ◌+◌, ◌<◌, true, List, [], ◌∷◌, ◌++◌, length, take, Some, refl, ap, subst, arith}
 use Rattle.std.specs.Prelude.{slice_get}
 use Rattle.std.proofs.lemmas.List.{length-append}
 use Rattle.std.proofs.lemmas.Option.{none-some, same_Some}
@@ -7,7 +7,7 @@ use Rattle.ledger_model.specs.Terms.{ParticipantId}
 use Rattle.canton_model.specs.Log.{Params, FollowsTime, TimesFrom}
 use Rattle.canton_model.specs.Reading.{Reading}
 use Rattle.canton_model.specs.Genuine.{Genuine, FitsIfRequest}
-use Rattle.canton_model.specs.Inbox.{Item, inbox, items_after, last_time}
+use Rattle.canton_model.specs.Inbox.{inbox, items_after, last_time}
 use Rattle.world_model.specs.Messages.{Entry, Message, Request, RequestMessage, ResponseMessage, VerdictMessage, Tick}
 
 -- a list is what stands before its last item, and that

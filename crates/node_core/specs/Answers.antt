@@ -1,15 +1,12 @@
 -- What a participant answers, as one value.
 use Rattle.std.specs.Prelude.{◌≡◌, ℕ, Bool, List, Option, Result, length}
-use Rattle.ledger_terms.specs.declared.topology.Topology.{Topology}
 use Rattle.ledger_terms.specs.declared.submission.Submission.{Submission}
-use Rattle.ledger_model.specs.Terms.{ActiveRow, ParticipantId}
+use Rattle.ledger_model.specs.Terms.{ActiveRow}
 use Rattle.ledger_model.specs.declared.commit.Commit.{Commit}
 use Rattle.canton_model.specs.Inbox.{clean, clean_time, node_active, node_log, outcome_in}
 use Rattle.canton_model.specs.Timeline.{Outcome}
-use Rattle.canton_model.specs.Reading.{Reading}
 use Rattle.world_model.specs.Machine.{Machine}
 use Rattle.world_model.specs.Messages.{Request, Response, ViewVerdict}
-use Rattle.lang_eval.specs.Found.{Packages}
 use Rattle.node_inbox.specs.InboxState.{decided_since}
 use Rattle.prepare_request.specs.declared.submit_fault.SubmitFault.{SubmitFault}
 use Rattle.node_core.specs.Preparing.{prepare_answer}

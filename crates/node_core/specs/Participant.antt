@@ -1,5 +1,5 @@
 -- What contracts see of a participant.
-use Rattle.std.specs.Prelude.{◌≡◌, ◌+◌, ℕ, suc, zero, take, Bool, ◌&&◌, List, [], ◌∷◌, Option, Some, None, is_some, length, if◌then◌else◌}
+use Rattle.std.specs.Prelude.{◌≡◌, ◌+◌, ℕ, suc, zero, take, Bool, ◌&&◌, List, [], ◌∷◌, Option, is_some, length, if◌then◌else◌}
 use Rattle.ledger_terms.specs.declared.topology.Topology.{Topology}
 use Rattle.ledger_model.specs.Terms.{ParticipantId}
 use Rattle.canton_model.specs.Log.{Params}

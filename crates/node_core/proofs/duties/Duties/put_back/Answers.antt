@@ -1,4 +1,4 @@
-use Rattle.std.proofs.Common.{◌≡◌, ◌<◌, ℕ, List, length, min, nat_eq, not, sym, ap, subst, arith}
+use Rattle.std.proofs.Common.{◌<◌, ℕ, List, length, nat_eq, not, sym, ap, subst, arith}
 use Rattle.std.specs.List.{AllWithin}
 use Rattle.canton_model.specs.declared.response.Response.{Response}
 use Rattle.world_model.specs.Node.{is_to}

@@ -1,8 +1,7 @@
 use Rattle.std.proofs.Common.{◌≡◌, ◌∷◌, ◌++◌, [], ℕ, Bool, List, append-nil, true, false, length, Some, get_or, sym, ap, ◌∙◌, subst, arith}
 use Rattle.std.specs.Prelude.{slice_get}
 use Rattle.std.proofs.lemmas.Option.{slice_get-get_or}
-use Rattle.canton_model.specs.Inbox.{Item, inbox}
-use Rattle.world_model.specs.Messages.{Entry}
+use Rattle.canton_model.specs.Inbox.{inbox}
 use Rattle.world_model.specs.Node.{owes_at, read_entry}
 use Rattle.node_inbox.specs.Entries.{item_from}
 use Rattle.node_inbox.specs.InboxState.{InboxState, params_of, reading_of}
