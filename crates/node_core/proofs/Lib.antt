@@ -3,7 +3,6 @@ pub mod Claims
 pub mod Heads
 pub mod Growth
 pub mod LogEnds
-pub mod Entries
 pub mod KeptSteps
 pub mod ReadSteps
 pub mod Alike

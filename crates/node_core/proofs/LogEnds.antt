@@ -23,12 +23,6 @@ front_of [] x (suc n) e = absurd (omega (arith, e))
 front_of (y ∷ ys) x zero e = absurd (omega (arith, e, length-append ys (x ∷ [])))
 front_of (y ∷ ys) x (suc n) e = ap (λ zs. y ∷ zs) (front_of ys x n (omega (arith, e)))
 
-pub last_of : {X : Type 0} (xs : List X) (x : X) (n : ℕ) → length (xs ++ x ∷ []) ≡ n + 1 → slice_get (xs ++ x ∷ []) n ≡ Some x
-last_of [] x zero e = refl
-last_of [] x (suc n) e = absurd (omega (arith, e))
-last_of (y ∷ ys) x zero e = absurd (omega (arith, e, length-append ys (x ∷ [])))
-last_of (y ∷ ys) x (suc n) e = last_of ys x n (omega (arith, e))
-
 later : (m : Message) (before time : ℕ) → FollowsTime m before time → before < time
 later (RequestMessage q) before time h = omega (arith, h)
 later (ResponseMessage r) before time h = omega (arith, h)

@@ -1,5 +1,6 @@
 //! A participant.
-ghost use Rattle.std.specs.Prelude.{◌≡◌, ◌≢◌, ◌<◌, ◌++◌, ◌∷◌, [], true, false, List, Err, None, Some, length, is_some, option_map, MatchResult, IfOk, IfErr, IfSome, IfNone, OnOk, OnErr};
+ghost use Rattle.std.specs.Prelude.{◌≡◌, ◌≢◌, ◌<◌, ◌++◌, ◌∷◌, [], true, false, List, Err, None, Some, length, is_some, option_map};
+ghost use Rattle.std.specs.Prelude.{MatchResult, IfOk, IfErr, IfSome, IfNone, OnOk, OnErr};
 ghost use Rattle.ledger_terms.specs.Answers.{Follows};
 ghost use Rattle.ledger_terms.specs.Topologies.{IsValid};
 ghost use Rattle.canton_model.specs.Inbox.{clean, clean_time, inbox, node_active, node_log, outcome_in, shown_at};
