@@ -1,6 +1,6 @@
 //! The active contracts, by the chain of a salt.
-ghost use Rattle.std.specs.Prelude.{◌≡◌, ◌==◌, ◌<◌, ◌≤◌, ◌&&◌, if◌then◌else◌, ℕ, List};
-ghost use Rattle.std.specs.Prelude.{None, Some, find, map, option_map, option_copied, is_some, IsTrue, IsFalse};
+ghost use Rattle.std.specs.Prelude.{◌≡◌, ◌<◌, ◌&&◌, if◌then◌else◌};
+ghost use Rattle.std.specs.Prelude.{None, Some, map, option_map, option_copied};
 ghost use Rattle.std.specs.Prelude.{slice_get, vec_len};
 ghost use Rattle.std.specs.Str.{bytes_eq};
 ghost use Rattle.indexmap.specs.IndexMap.{get};

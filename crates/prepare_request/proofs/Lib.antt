@@ -5,3 +5,4 @@ mod Sealing
 mod Machines
 mod Prepares
 mod PlainFaults
+mod Told

@@ -1,13 +1,11 @@
 -- The active contracts of a genuine log's inbox name only parties of the topology.
-use Rattle.std.proofs.Common.{◌≡◌, ℕ, zero, suc, Bool, true, false, if◌then◌else◌, List, [], ◌∷◌, ◌++◌, map, Option, Some, None, refl, sym, ap, ◌∙◌, subst, inl, inr}
-use Rattle.std.specs.Prelude.{option_map, slice_get}
-use Rattle.std.specs.List.{flat_map}
+use Rattle.std.proofs.Common.{◌≡◌, ℕ, zero, suc, Bool, true, false, if◌then◌else◌, List, [], ◌∷◌, ◌++◌, Option, Some, None, refl, sym, ap, ◌∙◌, subst, inl, inr}
+use Rattle.std.specs.Prelude.{option_map}
 use Rattle.std.proofs.lemmas.Option.{same_Some}
 use Rattle.ledger_terms.specs.declared.act.Act.{Act}
 use Rattle.ledger_terms.specs.declared.action.Action.{Action}
 use Rattle.ledger_terms.specs.declared.action.Action.TheVariants.{Create, Exercise, Fetch}
 use Rattle.ledger_terms.specs.declared.active_row.ActiveRow.{ActiveRow}
-use Rattle.ledger_terms.specs.declared.known.Known.{Known}
 use Rattle.ledger_terms.specs.declared.topology.Topology.{Topology}
 use Rattle.ledger_model.specs.Forest.{acts, project}
 use Rattle.ledger_model.specs.Opening.{Shown, Transaction, roots_in}
@@ -15,8 +13,8 @@ use Rattle.ledger_model.specs.Terms.{ParticipantId, instance_of}
 use Rattle.ledger_model.proofs.Lists.{In, from_filter}
 use Rattle.ledger_model.proofs.Projected.{in_project}
 use Rattle.canton_model.specs.Genuine.{Genuine}
-use Rattle.canton_model.specs.Inbox.{authentic_below, created_below, first_of_each, inbox, is_active_row, is_informed, items_after, node_active, opened_at}
-use Rattle.canton_model.specs.Inbox.{Nothing, Told, content_of, received, shown_by, verdict_content}
+use Rattle.canton_model.specs.Inbox.{created_below, first_of_each, inbox, is_informed, items_after, node_active, opened_at}
+use Rattle.canton_model.specs.Inbox.{Nothing, Told, content_of, shown_by, verdict_content}
 use Rattle.canton_model.specs.Log.{request_at, request_of}
 use Rattle.canton_model.specs.Reading.{Reading, is_recipient}
 use Rattle.canton_model.specs.declared.entry.Entry.{Entry}
@@ -28,11 +26,11 @@ use Rattle.canton_model.proofs.Fits.{sealed_of}
 use Rattle.canton_model.proofs.FirstRows.{create_below}
 use Rattle.canton_model.proofs.InboxFacts.{shown_received}
 use Rattle.lang_eval.specs.Found.{Packages}
-use Rattle.lang_eval.specs.Named.{AreKnown, parties_in_action, parties_in_instance, parties_in_values}
+use Rattle.lang_eval.specs.Named.{AreKnown, parties_in_action, parties_in_instance}
 use Rattle.lang_eval.proofs.Known.{known_append, known_front}
-use Rattle.interpret.specs.NamedParties.{parties_in_contracts, parties_in_known}
+use Rattle.interpret.specs.NamedParties.{parties_in_contracts}
 use Rattle.contract_store.specs.Active.{knowns}
-use Rattle.sealed_form.specs.SealedForm.{Whole, whole_of}
+use Rattle.sealed_form.specs.SealedForm.{Whole}
 use Rattle.sealed_form.specs.SealedReading.{sealed_reading}
 use Rattle.sealed_form.specs.Within.{is_hosted}
 use Rattle.sealed_form.proofs.Logs.{are_sealed}

@@ -1,5 +1,5 @@
 -- Drafts stop with no want of memory.
-use Rattle.std.proofs.Common.{◌≡◌, Bool, true, false, if◌then◌else◌, List, [], ◌∷◌, ◌++◌, Some, Ok, Err, inl, inr, refl, sym, subst}
+use Rattle.std.proofs.Common.{◌≡◌, Bool, true, false, if◌then◌else◌, List, [], ◌∷◌, ◌++◌, Some, Ok, Err, inl, inr, sym, subst}
 use Rattle.std.specs.Prelude.{◌≢◌, IfErr, Result, flat_map}
 use Rattle.ledger_terms.specs.Drafts.{Drafts}
 use Rattle.ledger_terms.specs.Forest.{Forest, NoRoots, Root, number_from, paths_from, preorder}

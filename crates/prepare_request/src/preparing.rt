@@ -1,10 +1,9 @@
 //! What a submission wants, and its request.
-ghost use Rattle.std.specs.Prelude.{◌≡◌, ◌≢◌, ◌<◌, ℕ, List, true, None, Some, length, find, not, IfOk, IfErr, MatchResult, slice_get};
+ghost use Rattle.std.specs.Prelude.{◌≡◌, ◌≢◌, ◌<◌, List, true, None, Some, length, IfOk, IfErr, MatchResult};
 ghost use Rattle.ledger_terms.specs.Answers.{Follows};
 ghost use Rattle.ledger_terms.specs.Topologies.{IsValid};
 ghost use Rattle.canton_model.specs.Inbox.{Item};
 ghost use Rattle.sealed_form.specs.SealedTest.{is_sealed_form};
-ghost use Rattle.sealed_form.specs.SealedForm.{whole_of};
 ghost use Rattle.interpret.specs.Filled.{filling};
 ghost use Rattle.interpret.specs.Plain.{IsPlain};
 ghost use Rattle.prepare_request.specs.Causes.{HoldsNoMemory};

@@ -38,8 +38,11 @@ back-preserved g c =
     let k = get_some c.args.kept.now.items c.in-Some.at w in
     let step = walk_step (g.T.ContractTest.passes c.args.test.now) c.args.kept.now.items c.args.salt.now c.in-Some.at k.0 k.1 c.requires.linked alike in
     rw (c.before_row-cursor.ensures k.0 k.1)
-    (record { best = c.sooner_passing-best.ensures k.0 k.1
-    ∙ ap (λ o. if g.T.ContractTest.passes c.args.test.now k.0.row.known then sooner (active k.0.row) o else o) best ∙ step.0; alike = step.1 })
+    (record {
+      best = c.sooner_passing-best.ensures k.0 k.1
+          ∙ ap (λ o. if g.T.ContractTest.passes c.args.test.now k.0.row.known then sooner (active k.0.row) o else o) best ∙ step.0;
+      alike = step.1;
+    })
 
 pub returns : goal.returns
 returns g c =

@@ -17,22 +17,22 @@ pub returns-clause-exact : goal.returns-clause-exact
 returns-clause-exact g c =
     exact c.args.setup.now.topology c.args.setup.now.checked c.args.me (g.K.KnownContracts.rows c.args.known.now) c.args.what.now c.args.now
     c.requires.valid c.requires.within c.in_ok-tx.tx c.in_ok-views.views (sym c.in_default.ensures) c.in_ok-tx.ensures.exact c.in_ok-views.ensures
-    c.in_ok-seal.field-0 (c.in_ok-seal.ensures c.args.setup.now.checked c.in_ok-tx.tx (name_at c.args.setup.now.topology c.args.me) c.requires.valid
+    c.in_ok-seal.field-0 (c.in_ok-seal.ensures.made c.args.setup.now.checked c.in_ok-tx.tx (name_at c.args.setup.now.topology c.args.me) c.requires.valid
     c.in_ok-views.ensures (is_named (c.args.setup.now.topology).hosts c.args.me c.requires.within.is_host))
 
 pub returns-clause-sealed : goal.returns-clause-sealed
 returns-clause-sealed g c =
     sealed c.args.setup.now.topology c.args.setup.now.checked c.args.me (g.K.KnownContracts.rows c.args.known.now) c.args.what.now c.args.now
     c.requires.valid c.requires.within c.in_ok-tx.tx c.in_ok-views.views (sym c.in_default.ensures) c.in_ok-tx.ensures.exact c.in_ok-views.ensures
-    _ c.is_sealable-sealable.ensures.wanted c.is_sealable-sealable.ensures.filled c.in_ok-seal.field-0 (c.in_ok-seal.ensures c.args.setup.now.checked c.in_ok-tx.tx (name_at c.args.setup.now.topology c.args.me) c.requires.valid
+    _ c.is_sealable-sealable.ensures.wanted c.is_sealable-sealable.ensures.filled c.in_ok-seal.field-0 (c.in_ok-seal.ensures.made c.args.setup.now.checked c.in_ok-tx.tx (name_at c.args.setup.now.topology c.args.me) c.requires.valid
     c.in_ok-views.ensures (is_named (c.args.setup.now.topology).hosts c.args.me c.requires.within.is_host))
 
 pub returns-clause-sender : goal.returns-clause-sender
-returns-clause-sender g c = ap (λ (r : Request). r.sender) (c.in_ok-seal.ensures c.args.setup.now.checked c.in_ok-tx.tx (name_at c.args.setup.now.topology c.args.me) c.requires.valid
+returns-clause-sender g c = ap (λ (r : Request). r.sender) (c.in_ok-seal.ensures.made c.args.setup.now.checked c.in_ok-tx.tx (name_at c.args.setup.now.topology c.args.me) c.requires.valid
     c.in_ok-views.ensures (is_named (c.args.setup.now.topology).hosts c.args.me c.requires.within.is_host))
 
 pub returns-clause-command : goal.returns-clause-command
-returns-clause-command g c = ap (λ (r : Request). r.command) (c.in_ok-seal.ensures c.args.setup.now.checked c.in_ok-tx.tx (name_at c.args.setup.now.topology c.args.me) c.requires.valid
+returns-clause-command g c = ap (λ (r : Request). r.command) (c.in_ok-seal.ensures.made c.args.setup.now.checked c.in_ok-tx.tx (name_at c.args.setup.now.topology c.args.me) c.requires.valid
     c.in_ok-views.ensures (is_named (c.args.setup.now.topology).hosts c.args.me c.requires.within.is_host))
 
 pub returns-clause-machine : goal.returns-clause-machine
