@@ -14,6 +14,15 @@ use Rattle.world_model.specs.Lawful.{NodeHas}
 use Rattle.world_model.specs.Node.{claim, finish, is_claimable, owes_at, read_entry, response_at}
 use Rattle.world_model.proofs.NodeFacts.{first_from_is, inbox_length}
 use Rattle.world_model.proofs.Steps.{has_claim, has_finish, has_read}
+use Rattle.lang_eval.specs.Named.{AreKnown}
+use Rattle.interpret.specs.NamedParties.{parties_in_contracts}
+use Rattle.contract_store.specs.Active.{knowns}
+use Rattle.contract_store.specs.Written.{written}
+use Rattle.inbox_standing.specs.Changes.{changes_in}
+use Rattle.sealed_form.specs.Within.{is_hosted}
+use Rattle.node_inbox.specs.Offered.{offered}
+use Rattle.node_core.specs.Preparing.{offered_by}
+use Rattle.node_core.proofs.OfferedNames.{offers_named}
 use Rattle.node_core.specs.Answers.{Answers, AreAlike, IsOf, answers_of}
 use Rattle.node_core.specs.Participant.{CanRead, Participant, items_of, next_place, owes_there, params_of, reading_of, response_there}
 use Rattle.node_core.proofs.Growth.{owes_within}
@@ -74,3 +83,13 @@ keeps_finish m p read k is has owes =
     ∙ ap (λ (ps : Params). response_at (reading_of p) ps p.me (items_of p) k) is.params in
     subst (λ (r : Response). NodeHas m p.me read (finish p.state r)) response
     (has_finish m p.me read p.state k has (owes_within (items_of p) (reading_of p) p.me k owes) here)
+
+pub offers_known : (m : Machine) (p : Participant) (read : List Entry) → IsOf m p → NodeHas m p.me read p.state → GenuineLog m read
+    → AreKnown (is_hosted p.topology) (parties_in_contracts (offered_by p))
+offers_known m p read is has genuine =
+    let items = has.items ∙ ap (λ (r : Reading). inbox r p.me read) is.reading in
+    let own =
+    subst (λ (ps : Params). Genuine (reading_of p) ps read) is.params (subst (λ (r : Reading). Genuine r m.params read) is.reading genuine) in
+    subst (λ (xs : List Item). AreKnown (is_hosted p.topology)
+    (parties_in_contracts (knowns (offered (reading_of p) p.me (written (changes_in (reading_of p) xs) []))))) (sym items)
+    (offers_named p.topology p.packages read p.me own)

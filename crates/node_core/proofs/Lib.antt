@@ -7,3 +7,4 @@ pub mod KeptSteps
 pub mod ReadSteps
 pub mod Alike
 pub mod Preparing
+pub mod OfferedNames

@@ -4,8 +4,12 @@ ghost use Rattle.world_model.specs.Messages.{Entry};
 ghost use Rattle.world_model.specs.Machine.{Machine, GenuineLog};
 ghost use Rattle.world_model.specs.Node.{claim, finish, put_back, read_entry, sent, with_flag};
 ghost use Rattle.world_model.specs.Lawful.{NodeHas};
+ghost use Rattle.lang_eval.specs.Named.{AreKnown};
+ghost use Rattle.interpret.specs.NamedParties.{parties_in_contracts};
+ghost use Rattle.sealed_form.specs.Within.{is_hosted};
 ghost use Rattle.node_core.specs.Answers.{AreAlike, IsOf, answers_of};
 ghost use Rattle.node_core.specs.Participant.{CanRead, Participant, next_place, owes_there, reading_of, response_there};
+ghost use Rattle.node_core.specs.Preparing.{offered_by};
 
 /// Two nodes of one participant and setup with equal inboxes, claims, outboxes and flags answer alike, whatever else the logs hold.
 pub fn nodes_answer_alike()
@@ -39,4 +43,13 @@ pub fn node_keeps()
         → NodeHas m p.me read (put_back p.state k) }
     ensures flag { (m : Machine) (p : Participant) (read : List Entry) (paused : Bool) → NodeHas m p.me read p.state
         → NodeHas m p.me read (with_flag p.state paused) }
+{}
+
+/// What a participant that has read a genuine log offers to its submissions names only parties of the topology.
+pub fn node_offers_known_parties()
+    ensures { (m : Machine) (p : Participant) (read : List Entry)
+        → IsOf m p
+        → NodeHas m p.me read p.state
+        → GenuineLog m read
+        → AreKnown (is_hosted p.topology) (parties_in_contracts (offered_by p)) }
 {}
