@@ -1,12 +1,13 @@
 -- What is said of participants in general.
-use Rattle.std.proofs.Common.{◌≡◌, ℕ, ◌+◌, Bool, true, List, [], ◌∷◌, ◌++◌, length, Some, sym, ap, ◌∙◌, subst, arith}
-use Rattle.std.proofs.lemmas.List.{length-append}
+use Rattle.std.proofs.Common.{◌≡◌, ◌<◌, ℕ, suc, ◌+◌, Bool, true, List, [], ◌∷◌, ◌++◌, length, Some, sym, ap, ◌∙◌, subst, arith}
+use Rattle.canton_model.specs.Checks.{verdicts_owed}
+use Rattle.std.proofs.lemmas.List.{length-append, take-append-le}
 use Rattle.ledger_terms.specs.declared.topology.Topology.{Topology}
 use Rattle.ledger_model.specs.Terms.{ParticipantId}
 use Rattle.canton_model.specs.Genuine.{Genuine}
 use Rattle.canton_model.specs.Log.{Params}
 use Rattle.canton_model.specs.Reading.{Reading}
-use Rattle.canton_model.specs.Inbox.{Item, inbox}
+use Rattle.canton_model.specs.Inbox.{Item, inbox, item_after}
 use Rattle.lang_eval.specs.Found.{Packages}
 use Rattle.world_model.specs.Machine.{Machine, GenuineLog}
 use Rattle.world_model.specs.Messages.{Entry, Response}
@@ -24,7 +25,7 @@ use Rattle.node_inbox.specs.Offered.{offered}
 use Rattle.node_core.specs.Preparing.{offered_by}
 use Rattle.node_core.proofs.OfferedNames.{offers_named}
 use Rattle.node_core.specs.Answers.{Answers, AreAlike, IsOf, answers_of}
-use Rattle.node_core.specs.Participant.{CanRead, Participant, items_of, next_place, owes_there, params_of, reading_of, response_there}
+use Rattle.node_core.specs.Participant.{CanRead, Participant, items_of, next_place, owed_there, owes_there, params_of, reading_of, response_there, with_state}
 use Rattle.node_core.proofs.Growth.{owes_within}
 use Rattle.node_core.proofs.LogEnds.{front_of}
 
@@ -93,3 +94,9 @@ offers_known m p read is has genuine =
     subst (λ (xs : List Item). AreKnown (is_hosted p.topology)
     (parties_in_contracts (knowns (offered (reading_of p) p.me (written (changes_in (reading_of p) xs) []))))) (sym items)
     (offers_named p.topology p.packages read p.me own)
+
+pub owed_stays : (p : Participant) (before : List Entry) (entry : Entry) (k : ℕ) → k < length (items_of p)
+    → owed_there (with_state p (read_entry (reading_of p) p.me p.state before entry)) k ≡ owed_there p k
+owed_stays p before entry k lt =
+    ap (λ (xs : List Item). verdicts_owed (reading_of p) (params_of p) p.me xs k)
+    (take-append-le (suc k) (items_of p) (item_after (reading_of p) p.me before entry ∷ []) lt)

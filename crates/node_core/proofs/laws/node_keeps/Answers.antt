@@ -1,5 +1,5 @@
 use Rattle.world_model.proofs.Steps.{has_flag, has_put_back, has_sent}
-use Rattle.node_core.proofs.Alike.{can_read, keeps_claim, keeps_finish, keeps_read}
+use Rattle.node_core.proofs.Alike.{can_read, keeps_claim, keeps_finish, keeps_read, owed_stays}
 use Rattle.node_core.proofs.laws.node_keeps.Goals as goal
 
 pub returns : goal.returns
@@ -7,6 +7,7 @@ returns c =
     record {
       can_read = can_read;
       read = keeps_read;
+      owed = owed_stays;
       claim = keeps_claim;
       finish = keeps_finish;
       sent = λ m p read k has. has_sent m p.me read p.state k has;
