@@ -30,7 +30,7 @@ use Rattle.inbox_standing.specs.Changes.{approves_first, changes_after, changes_
 use Rattle.sealed_form.specs.SealedReading.{sealed_reading}
 use Rattle.sealed_form.specs.Within.{is_hosted}
 use Rattle.prepare_request.proofs.Offers.{of_request, opens}
-use Rattle.node_inbox.specs.Offered.{offered}
+use Rattle.node_core.specs.Preparing.{offered}
 
 module _ (known : List ℕ → Bool) where
   abbrev Named : Known → Type 0
@@ -141,13 +141,13 @@ module _ (known : List ℕ → Bool) where
 pub offers_named : (topology : Topology) (packages : Packages) (log : List Entry) (p : ParticipantId)
     → Genuine (sealed_reading topology packages) topology.params log
     → AreKnown (is_hosted topology)
-    (parties_in_contracts (knowns (offered (sealed_reading topology packages) p
-    (written (changes_in (sealed_reading topology packages) (inbox (sealed_reading topology packages) p log)) []))))
+    (parties_in_contracts (offered (sealed_reading topology packages) p
+    (written (changes_in (sealed_reading topology packages) (inbox (sealed_reading topology packages) p log)) [])))
 offers_named topology packages log p genuine =
     let reading = sealed_reading topology packages in
     let items = inbox reading p log in
     let rows = written (changes_in reading items) [] in
-    knowns_named (is_hosted topology) (offered reading p rows)
+    knowns_named (is_hosted topology) (filter (λ (a : ActiveRow). is_stakeholder_hosted reading p a.known.instance) (active_rows rows))
     (filter_named (is_hosted topology) (λ (a : ActiveRow). is_stakeholder_hosted reading p a.known.instance) (active_rows rows)
     (active_named (is_hosted topology) rows
     (written_named (is_hosted topology) (changes_in reading items) []
