@@ -15,3 +15,5 @@ pub mod Jobs
 pub mod DecidedSince
 pub mod Approved
 pub mod ActiveRows
+pub mod Added
+pub mod Told
