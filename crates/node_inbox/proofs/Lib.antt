@@ -15,5 +15,5 @@ pub mod Jobs
 pub mod DecidedSince
 pub mod Approved
 pub mod ActiveRows
-pub mod Added
+pub mod AddedIds
 pub mod Told

@@ -1,12 +1,13 @@
 -- The ids of an inbox tell of its contracts, one item more.
 use Rattle.std.proofs.Common.{◌≡◌, ℕ, Bool, true, false, cond, if◌then◌else◌, List, [], ◌∷◌, ◌++◌, filter, Option, Some, None, is_some, inl, inr, refl, sym, ap, ◌∙◌, subst}
-use Rattle.std.specs.Prelude.{◌||◌, nat_le}
+use Rattle.std.specs.Prelude.{◌||◌, nat_le, Result, Ok, Err, OnOk, OnErr}
 use Rattle.ledger_terms.specs.declared.active_row.ActiveRow.{ActiveRow}
 use Rattle.ledger_terms.specs.declared.known.Known.{Known}
 use Rattle.ledger_terms.specs.declared.topology.Topology.{Topology}
+use Rattle.ledger_model.specs.Opening.{Shown}
 use Rattle.ledger_model.specs.Terms.{Hash, ParticipantId}
 use Rattle.ledger_model.proofs.Lists.{In, contains_from_In}
-use Rattle.canton_model.specs.Inbox.{Item, Told, verdict_in}
+use Rattle.canton_model.specs.Inbox.{Item, Told, received, verdict_in}
 use Rattle.canton_model.specs.Reading.{Reading}
 use Rattle.lang_eval.specs.Found.{Packages}
 use Rattle.contract_store.specs.Active.{active, active_rows, in_order, in_order_if, knowns}
@@ -19,8 +20,7 @@ use Rattle.inbox_standing.specs.Changes.{changes_in}
 use Rattle.inbox_standing.specs.Standing.{Stands}
 use Rattle.inbox_standing.specs.declared.change.Change.{Change}
 use Rattle.inbox_standing.proofs.Grown.{rows_same, rows_written}
-use Rattle.prepare_request.specs.Hosted.{AreTold, has_hosted_id, hosted_rows, is_among}
-use Rattle.prepare_request.proofs.Told.{tells}
+use Rattle.prepare_request.specs.Hosted.{AreTold, TellHosted, has_hosted_id, hosted_rows, is_among}
 use Rattle.node_inbox.specs.Added.{added_behind}
 use Rattle.node_inbox.specs.Coming.{IsTelling}
 use Rattle.node_inbox.specs.Items.{model_items}
@@ -30,7 +30,7 @@ use Rattle.node_inbox.specs.Offered.{offered}
 use Rattle.node_inbox.specs.Reads.{HasRead, IsUnread, item_with}
 use Rattle.node_inbox.specs.declared.kept_item.KeptItem.{KeptItem}
 use Rattle.node_inbox.specs.declared.telling.ComingVerdict.{ComingVerdict}
-use Rattle.node_inbox.proofs.Added.{all_say, all_told}
+use Rattle.node_inbox.proofs.AddedIds.{TellsOn, all_say, all_told}
 
 module _ (topology : Topology) (packages : Packages) (me : ParticipantId) (old new : List KeptItem) (stands stands' : Stands)
     (i : IsInbox topology packages me old stands) (ids : List Hash) where
@@ -54,21 +54,31 @@ module _ (topology : Topology) (packages : Packages) (me : ParticipantId) (old n
       ∙ (ap (λ (items : List Item). written (changes_in reading items) []) (sym h.items) ∙ sym h.inbox.follows.rows)) told
 
   -- a verdict
-  pub told_verdict : (coming : ComingVerdict) (time : ℕ) (more : List Hash) → IsTelling reading (model_items old) coming.verdict coming
+  pub told_verdict : TellsOn reading me → (coming : ComingVerdict) (time : ℕ) (more : List Hash) → IsTelling reading (model_items old) coming.verdict coming
       → HasRead topology packages me old new stands' (item_with time (Told coming.verdict)) → at_rows ids stands
       → ((c : Hash) → is_among more c ≡ (is_among (added_behind reading me (stands.store).rows [] coming.changes.items) c || is_among ids c))
       → at_rows more stands'
-  told_verdict coming time more tells h told among =
+  told_verdict on coming time more tells h told among =
       subst (λ rows. AreTold reading me more rows)
       (ap (λ (cs : List Change). write_changes coming.verdict.request cs (stands.store).rows) tells.changes_are
       ∙ (rows_written reading (model_items old) (item_with time (Told coming.verdict)) coming.verdict (stands.store).rows refl i.follows.rows
       ∙ (ap (λ (items : List Item). written (changes_in reading items) []) (sym h.items) ∙ sym h.inbox.follows.rows)))
-      (all_told reading me coming.verdict.request (stands.store).rows (all_say (changes_in reading (model_items old)) (stands.store).rows i.follows.rows)
+      (all_told reading me on coming.verdict.request (stands.store).rows (all_say (changes_in reading (model_items old)) (stands.store).rows i.follows.rows)
       coming.changes.items (stands.store).rows ids [] more (λ c. or_nothing (is_some (row_of c (stands.store).rows))) told among)
     where
       or_nothing : (b : Bool) → b ≡ (b || false)
       or_nothing true = refl
       or_nothing false = refl
+
+  -- whether an item that is no verdict was read or not
+  pub told_anyway : {X E : Type 0} (r : Result X E) (x : Item) → verdict_in x.content ≡ None → OnOk r (HasRead topology packages me old new stands' x)
+      → OnErr r (IsUnread topology packages me old new stands') → at_rows ids stands → IsInbox topology packages me new stands' × at_rows ids stands'
+  told_anyway (Ok u) x none ok err told = (ok.inbox, told_same x none ok told)
+  told_anyway (Err e) x none ok err told = (err.inbox, told_unread err told)
+
+pub no_verdict : (o : Option Shown) → verdict_in (received o) ≡ None
+no_verdict None = refl
+no_verdict (Some shown) = refl
 
 -- ---- what is offered
 
@@ -109,6 +119,6 @@ module _ (reading : Reading) (p : ParticipantId) (ids : List Hash) where
       by true false e k = absurd (cc)
       by false true e k = absurd (cc)
 
-  pub offered_is : (rows : List StoreRow) → AreTold reading p ids rows → hosted_rows ids rows ≡ knowns (offered reading p rows)
-  offered_is rows told =
-      filter_agrees (active_rows rows) (agree_rows rows (λ row a there e. tells reading p ids rows told row a (contains_from_In rows row there) e))
+  pub offered_is : (rows : List StoreRow) → TellHosted reading p ids rows → hosted_rows ids rows ≡ knowns (offered reading p rows)
+  offered_is rows tells =
+      filter_agrees (active_rows rows) (agree_rows rows (λ row a there e. tells row a (contains_from_In rows row there) e))

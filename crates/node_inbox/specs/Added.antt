@@ -15,9 +15,13 @@ is_unknown Unknown = true
 is_unknown Active = false
 is_unknown Consumed = false
 
--- it creates a contract that the store doesn't know and that no change before it is on
+-- the store doesn't know the contract and no change before is on it
+abbrev pub is_unheard : List StoreRow → (changed : List Hash) → Hash → Bool
+is_unheard rows changed id = is_unknown (status_in rows id) && not (is_among changed id)
+
+-- it creates one of these
 abbrev pub is_new : List StoreRow → (changed : List Hash) → Change → Bool
-is_new rows changed change = change.is_create && (is_unknown (status_in rows change.known.id) && not (is_among changed change.known.id))
+is_new rows changed change = change.is_create && is_unheard rows changed change.known.id
 
 -- the id of the contract that a change brings, where it has a hosted stakeholder
 abbrev pub added_by : Reading → ParticipantId → List StoreRow → (changed : List Hash) → Change → List Hash

@@ -5,12 +5,12 @@ ghost use Rattle.indexmap.specs.IndexMap.{keys};
 ghost use Rattle.contract_store.specs.Rows.{status_in};
 ghost use Rattle.prepare_request.specs.Hosted.{is_among};
 ghost use Rattle.sealed_form.specs.SealedReading.{sealed_reading};
-ghost use Rattle.node_inbox.specs.Added.{added_behind, added_by, is_new, is_unknown};
+ghost use Rattle.node_inbox.specs.Added.{added_behind, added_by, is_new, is_unheard, is_unknown};
 
 use confirm_reply::Setup;
 use contract_store::Store;
-use indexmap::IndexMap;
 use inbox_standing::Change;
+use indexmap::IndexMap;
 use ledger_model::Status;
 use ledger_terms::{Hash, HashList, ParticipantId};
 use prepare_request::{HostedIds, has_hosted_stakeholder};
@@ -26,13 +26,17 @@ fn is_unknown(status: Status) -> bool
     }
 }
 
-// Whether a change creates a contract that the store doesn't know and that no change before it is on.
+// Whether the store doesn't know a contract and no change before is on it.
+fn is_unheard(store: &Store, changed: &IndexMap<Hash, ()>, id: &Hash) -> bool
+    ensures { result ≡ is_unheard store.now.rows (keys changed.now) id.now }
+{
+    is_unknown(store.status(id)) && !changed.contains_key(id)
+}
+
 fn is_new(store: &Store, changed: &IndexMap<Hash, ()>, change: &Change) -> bool
     ensures { result ≡ is_new store.now.rows (keys changed.now) change.now }
 {
-    change.is_create
-        && is_unknown(store.status(&change.known.id))
-        && !changed.contains_key(&change.known.id)
+    change.is_create && is_unheard(store, changed, &change.known.id)
 }
 
 fn add(

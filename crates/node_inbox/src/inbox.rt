@@ -37,6 +37,7 @@ use contract_store::Store;
 use inbox_standing::Standing;
 use ledger_model::CommitList;
 use ledger_terms::{ActiveRowList, ParticipantId};
+use prepare_request::laws::ids_tell_after_each_change;
 use prepare_request::{HostedContracts, HostedIds};
 use std::alloc::{AllocError, Global};
 use std::marker::Model;
@@ -73,7 +74,6 @@ impl<'s> Model for Inbox<'s> {
     } };
 
     ghost use Rattle.node_inbox.specs.Kept.{IsInbox};
-
     ghost use Rattle.sealed_form.specs.SealedReading.{sealed_reading};
     ghost use Rattle.prepare_request.specs.Hosted.{AreTold};
 
@@ -181,6 +181,7 @@ impl<'s> Inbox<'s> {
             time,
             coming,
         )?;
+        ids_tell_after_each_change();
         put_ids(&mut self.hosted, &ids);
         Ok(())
     }
@@ -261,6 +262,7 @@ impl<'s> Inbox<'s> {
         ensures { hosted_rows result.hosted.now.ids result.store.now.rows
             ≡ knowns (offered (reading_of self.now) self.now.me (written (changes_in (reading_of self.now) self.now.items) [])) }
     {
+        ids_tell_after_each_change();
         HostedContracts {
             store: self.standing.store(),
             hosted: &self.hosted,

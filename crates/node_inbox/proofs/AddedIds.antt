@@ -4,6 +4,7 @@ use Rattle.std.specs.Prelude.{◌||◌, not}
 use Rattle.std.specs.Borrow.{Bor}
 use Rattle.std.specs.List.{list_any}
 use Rattle.std.specs.Str.{bytes_eq}
+use Rattle.indexmap.specs.IndexMap.{IndexMap, get, keys}
 use Rattle.std.proofs.lemmas.Bool.{cases_Bool}
 use Rattle.std.proofs.lemmas.List.{drop_more}
 use Rattle.std.proofs.lemmas.List.Folds.{list_any-append}
@@ -15,11 +16,10 @@ use Rattle.canton_model.specs.Reading.{Reading}
 use Rattle.contract_store.specs.Rows.{consumed, created, is_of, put, row_of, smaller, status_in, status_of, with_consumed, with_created}
 use Rattle.contract_store.specs.Written.{Placed, contract_of, write, written}
 use Rattle.contract_store.specs.declared.row.StoreRow.{StoreRow}
-use Rattle.contract_store.proofs.Maps.{equal_bytes, same_bytes}
+use Rattle.contract_store.proofs.Maps.{equal_bytes, same_bytes, there}
 use Rattle.inbox_standing.specs.ChangeLists.{write_change, write_changes}
 use Rattle.inbox_standing.specs.declared.change.Change.{Change}
 use Rattle.prepare_request.specs.Hosted.{AreTold, is_among}
-use Rattle.prepare_request.proofs.Told.{told_again, told_consumed, told_hosted, told_other}
 use Rattle.node_inbox.specs.Added.{added_behind, added_by, is_new, is_unknown}
 
 either : (a b : Hash) → bytes_eq a b ≡ bytes_eq b a
@@ -31,6 +31,41 @@ either a b = elim (cases_Bool (bytes_eq a b)) [
   ]
 ]
 
+-- ---- ids put among others
+
+-- a key that is put into a map is among its keys, with those that were
+pub put_among : {X S : Type 0} (m n : IndexMap (List ℕ) X S) (k : List ℕ) (v : X)
+    (put : (q : List ℕ) → get bytes_eq n q ≡ cond (bytes_eq k q) (Some v) (get bytes_eq m q)) (q : List ℕ)
+    → is_among (keys n) q ≡ (bytes_eq k q || is_among (keys m) q)
+put_among m n k v put q = sym (there n q) ∙ (ap is_some (put q) ∙ by (bytes_eq k q))
+  where
+    by : (b : Bool) → is_some (cond b (Some v) (get bytes_eq m q)) ≡ (b || is_among (keys m) q)
+    by true = refl
+    by false = there m q
+
+or_behind : (r x h : Bool) → (r || (x || h)) ≡ ((x || r) || h)
+or_behind true true h = refl
+or_behind true false h = refl
+or_behind false x h = by x
+  where
+    by : (t : Bool) → (t || h) ≡ ((t || false) || h)
+    by true = refl
+    by false = refl
+
+pub put_step : (ids : List Hash) (i : ℕ) (x : Hash) (old new : List Hash) (c : Hash) (all : Bool) → i < length ids → x ≡ get_or ids i x
+    → is_among new c ≡ (bytes_eq x c || is_among old c) → (is_among (drop i ids) c || is_among old c) ≡ all
+    → (is_among (drop (i + 1) ids) c || is_among new c) ≡ all
+put_step ids i x old new c all lt at among before =
+    let rest = drop (i + 1) ids in
+    let next : drop i ids ≡ x ∷ rest = drop_more ids i x lt ∙ ap (λ (y : Hash). y ∷ rest) (sym at) in
+    ap (λ (b : Bool). is_among rest c || b) (among ∙ ap (λ (b : Bool). b || is_among old c) (either x c))
+    ∙ (or_behind (is_among rest c) (bytes_eq c x) (is_among old c)
+    ∙ (ap (λ (xs : List Hash). is_among xs c || is_among old c) (sym next) ∙ before))
+
+pub put_end : (ids : List Hash) (i : ℕ) (old : List Hash) (c : Hash) (all : Bool) → length ids ≤ i → (is_among (drop i ids) c || is_among old c) ≡ all
+    → is_among old c ≡ all
+put_end ids i old c all past before = rw (drop_of_length-le ids past) at before
+
 -- ---- changes one after another
 
 module _ (reading : Reading) (p : ParticipantId) (rows : List StoreRow) where
@@ -39,7 +74,7 @@ module _ (reading : Reading) (p : ParticipantId) (rows : List StoreRow) where
   added_alike s t same [] = refl
   added_alike s t same (change ∷ rest) =
       ap (λ (b : Bool). (if (change.is_create && (is_unknown (status_in rows change.known.id) && not b)) && is_stakeholder_hosted reading p change.known.instance
-        then change.known.id ∷ [] else []) ++ added_behind reading p rows (change.known.id ∷ s) rest) (same change.known.id)
+      then change.known.id ∷ [] else []) ++ added_behind reading p rows (change.known.id ∷ s) rest) (same change.known.id)
       ∙ ap (λ (ids : List Hash). added_by reading p rows t change ++ ids)
       (added_alike (change.known.id ∷ s) (change.known.id ∷ t) (λ c. ap (λ (b : Bool). bytes_eq c change.known.id || b) (same c)) rest)
 
@@ -161,13 +196,25 @@ no_new : (a b : Bool) → (not a && not b) ≡ not (a || b)
 no_new true b = refl
 no_new false b = refl
 
+-- what is proved of ids and one change
+pub record TellsOn (reading : Reading) (p : ParticipantId) : Type 0 where
+  pub hosted : (ids more : List Hash) (rows : List StoreRow) (known : Known) (place : ℕ) → AreTold reading p ids rows → row_of known.id rows ≡ None
+      → is_stakeholder_hosted reading p known.instance ≡ true → ((c : Hash) → is_among more c ≡ (bytes_eq known.id c || is_among ids c))
+      → AreTold reading p more (created known place rows)
+  pub other : (ids : List Hash) (rows : List StoreRow) (known : Known) (place : ℕ) → AreTold reading p ids rows → row_of known.id rows ≡ None
+      → is_stakeholder_hosted reading p known.instance ≡ false → AreTold reading p ids (created known place rows)
+  pub again : (ids : List Hash) (rows : List StoreRow) (known : Known) (place : ℕ) (row : StoreRow) → AreTold reading p ids rows
+      → row_of known.id rows ≡ Some row → AreTold reading p ids (created known place rows)
+  pub consumed : (ids : List Hash) (rows : List StoreRow) (known : Known) (place : ℕ) → AreTold reading p ids rows
+      → AreTold reading p ids (consumed known place rows)
+
 module _ (reading : Reading) (p : ParticipantId) where
   same_told : (ids more : List Hash) (rows : List StoreRow) → ((c : Hash) → is_among more c ≡ is_among ids c) → AreTold reading p ids rows
       → AreTold reading p more rows
   same_told ids more rows same told =
       record { tell = λ row there e. same row.known.id ∙ told.tell row there e; of_rows = λ c e. same c ∙ told.of_rows c e }
 
-  module _ (place : ℕ) (before : List StoreRow) (say : AllSay before) where
+  module _ (on : TellsOn reading p) (place : ℕ) (before : List StoreRow) (say : AllSay before) where
     new_is : (rows : List StoreRow) (changed : List Hash) (change : Change)
         → ((c : Hash) → is_some (row_of c rows) ≡ (is_some (row_of c before) || is_among changed c))
         → is_new before changed change ≡ (change.is_create && not (is_some (row_of change.known.id rows)))
@@ -176,25 +223,25 @@ module _ (reading : Reading) (p : ParticipantId) where
         (ap (λ (b : Bool). b && not (is_among changed change.known.id)) (unknown_is before change.known.id say)
         ∙ (no_new (is_some (row_of change.known.id before)) (is_among changed change.known.id) ∙ ap not (sym (have change.known.id))))
 
+    abbrev is_hosted : Change → Bool
+    is_hosted change = is_stakeholder_hosted reading p change.known.instance
+
     one_told : (rows : List StoreRow) (ids changed : List Hash) (change : Change)
         → ((c : Hash) → is_some (row_of c rows) ≡ (is_some (row_of c before) || is_among changed c)) → AreTold reading p ids rows
         → AreTold reading p (added_by reading p before changed change ++ ids) (write_change place change rows)
     one_told rows ids changed change have told =
-        subst (λ (b : Bool). AreTold reading p ((if b && hosted then change.known.id ∷ [] else []) ++ ids) (write_change place change rows))
-        (sym (new_is rows changed change have)) (by change.is_create (row_of change.known.id rows) refl hosted refl)
+        subst (λ (b : Bool). AreTold reading p ((if b && is_hosted change then change.known.id ∷ [] else []) ++ ids) (write_change place change rows))
+        (sym (new_is rows changed change have)) (by change.is_create (row_of change.known.id rows) refl (is_hosted change) refl)
       where
-        abbrev hosted : Bool
-        hosted = is_stakeholder_hosted reading p change.known.instance
-
-        by : (cr : Bool) (o : Option StoreRow) → row_of change.known.id rows ≡ o → (h : Bool) → hosted ≡ h
+        by : (cr : Bool) (o : Option StoreRow) → row_of change.known.id rows ≡ o → (h : Bool) → is_hosted change ≡ h
             → AreTold reading p ((if (cr && not (is_some o)) && h then change.known.id ∷ [] else []) ++ ids)
             (if cr then created change.known place rows else consumed change.known place rows)
-        by false o e h hosts = told_consumed reading p ids rows told change.known place
-        by true (Some row) e h hosts = told_again reading p ids rows told change.known place row e
+        by false o e h hosts = on.consumed ids rows change.known place told
+        by true (Some row) e h hosts = on.again ids rows change.known place row told e
         by true None e true hosts =
-            told_hosted reading p ids rows told change.known place e (change.known.id ∷ ids)
-            (λ c. ap (λ (b : Bool). b || is_among ids c) (either c change.known.id)) hosts
-        by true None e false hosts = told_other reading p ids rows told change.known place e hosts
+            on.hosted ids (change.known.id ∷ ids) rows change.known place told e hosts
+            (λ c. ap (λ (b : Bool). b || is_among ids c) (either c change.known.id))
+        by true None e false hosts = on.other ids rows change.known place told e hosts
 
     -- the ids tell of the contracts after all changes
     pub all_told : (changes : List Change) (rows : List StoreRow) (ids changed more : List Hash)
@@ -203,6 +250,8 @@ module _ (reading : Reading) (p : ParticipantId) where
         → AreTold reading p more (write_changes place changes rows)
     all_told [] rows ids changed more have told among = same_told ids more rows among told
     all_told (change ∷ changes) rows ids changed more have told among =
+        let added : List Hash = added_by reading p before changed change in
+        let rest : List Hash = added_behind reading p before (change.known.id ∷ changed) changes in
         all_told changes (write_change place change rows) (added ++ ids) (change.known.id ∷ changed) more
         (λ c. has_row_after place change rows c
         ∙ (ap (λ (b : Bool). bytes_eq change.known.id c || b) (have c)
@@ -213,9 +262,3 @@ module _ (reading : Reading) (p : ParticipantId) where
         ∙ (ap (λ (b : Bool). b || is_among ids c) (list_any-append (bytes_eq c) added rest)
         ∙ (or_swap (is_among added c) (is_among rest c) (is_among ids c)
         ∙ ap (λ (b : Bool). is_among rest c || b) (sym (list_any-append (bytes_eq c) added ids)))))
-      where
-        abbrev added : List Hash
-        added = added_by reading p before changed change
-
-        abbrev rest : List Hash
-        rest = added_behind reading p before (change.known.id ∷ changed) changes
