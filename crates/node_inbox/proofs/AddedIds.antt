@@ -1,8 +1,6 @@
 -- The ids of contracts with a hosted stakeholder, as changes bring them into a store.
 use Rattle.std.proofs.Common.{◌≡◌, ℕ, ◌+◌, ◌<◌, ◌≤◌, Bool, true, false, ◌&&◌, if◌then◌else◌, cond, List, [], ◌∷◌, ◌++◌, length, drop, get_or, Option, Some, None, is_some, inl, inr, refl, sym, ap, ◌∙◌, subst, append-nil, append_assoc, true≢false}
 use Rattle.std.specs.Prelude.{◌||◌, not}
-use Rattle.std.specs.Borrow.{Bor}
-use Rattle.std.specs.List.{list_any}
 use Rattle.std.specs.Str.{bytes_eq}
 use Rattle.indexmap.specs.IndexMap.{IndexMap, get, keys}
 use Rattle.std.proofs.lemmas.Bool.{cases_Bool}

@@ -10,7 +10,6 @@ mod coming;
 mod confirmed;
 mod decided_since;
 mod facts;
-mod hosting;
 mod inbox;
 mod items;
 mod job;

@@ -1,4 +1,4 @@
-use Rattle.std.proofs.Common.{◌≡◌, ◌&&◌, true, Bool, sym, ap, ◌∙◌}
+use Rattle.std.proofs.Common.{◌≡◌, true, sym, ap, ◌∙◌}
 use Rattle.std.specs.Prelude.{not}
 use Rattle.contract_store.specs.Rows.{status_in}
 use Rattle.contract_store.proofs.Maps.{there}
