@@ -18,7 +18,7 @@ use Rattle.contract_store.proofs.Maps.{equal_bytes, same_bytes, there}
 use Rattle.inbox_standing.specs.ChangeLists.{write_change, write_changes}
 use Rattle.inbox_standing.specs.declared.change.Change.{Change}
 use Rattle.prepare_request.specs.Hosted.{AreTold, is_among}
-use Rattle.node_inbox.specs.Added.{added_behind, added_by, is_new, is_unknown}
+use Rattle.node_inbox.specs.AddedIds.{added_behind, added_by, is_new, is_unknown}
 
 either : (a b : Hash) → bytes_eq a b ≡ bytes_eq b a
 either a b = elim (cases_Bool (bytes_eq a b)) [

@@ -21,7 +21,7 @@ use Rattle.inbox_standing.specs.Standing.{Stands}
 use Rattle.inbox_standing.specs.declared.change.Change.{Change}
 use Rattle.inbox_standing.proofs.Grown.{rows_same, rows_written}
 use Rattle.prepare_request.specs.Hosted.{AreTold, TellHosted, has_hosted_id, hosted_rows, is_among}
-use Rattle.node_inbox.specs.Added.{added_behind}
+use Rattle.node_inbox.specs.AddedIds.{added_behind}
 use Rattle.node_inbox.specs.Coming.{IsTelling}
 use Rattle.node_inbox.specs.Items.{model_items}
 use Rattle.node_inbox.specs.Kept.{IsInbox}

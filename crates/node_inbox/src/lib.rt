@@ -4,7 +4,7 @@
 
 mod actions;
 mod active_rows;
-mod added;
+mod added_ids;
 mod applied;
 mod coming;
 mod confirmed;
