@@ -1,13 +1,11 @@
 -- Approved requests are written into a store, and its active contracts are listed.
 use Rattle.std.proofs.Common.{◌≡◌, ◌≤◌, ◌<◌, ℕ, zero, suc, ◌+◌, Bool, true, false, List, [], ◌∷◌, ◌++◌, map, filter, take, Option, Some, None, refl, sym, ap, ◌∙◌, inl, inr, arith, add-one, append_assoc}
-use Rattle.std.specs.Prelude.{◌||◌, if◌then◌else◌, nat_le, slice_get}
-use Rattle.std.specs.List.{list_any}
+use Rattle.std.specs.Prelude.{if◌then◌else◌, nat_le, slice_get}
 use Rattle.std.proofs.lemmas.Bool.{cases_Bool, leb-true, le-leb}
 use Rattle.std.proofs.lemmas.Bool.Decides.{leb_tells}
 use Rattle.std.proofs.lemmas.Option.{none-some}
 use Rattle.world_model.proofs.Steps.{take_next}
 use Rattle.std.proofs.lemmas.List.Elements.{filter-append}
-use Rattle.std.proofs.lemmas.List.Folds.{list_any-append}
 use Rattle.ledger_terms.specs.declared.act.Act.{Act}
 use Rattle.ledger_terms.specs.declared.active_row.ActiveRow.{ActiveRow}
 use Rattle.ledger_model.specs.Forest.{NoRoots, acts}
@@ -24,9 +22,6 @@ use Rattle.inbox_standing.specs.ChangeLists.{changes_of, write_changes}
 use Rattle.inbox_standing.proofs.Written.{changes_written, written_append}
 use Rattle.node_inbox.specs.Approved.{approved_at}
 use Rattle.node_inbox.specs.Listed.{after_if, after_others, after_row, is_offered}
-
-pub any_of_both : (p : List ℕ → Bool) (a b : List (List ℕ)) → list_any p (a ++ b) ≡ (list_any p a || list_any p b)
-any_of_both p a b = list_any-append p a b
 
 -- ---- a store
 

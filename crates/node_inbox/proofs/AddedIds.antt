@@ -1,8 +1,6 @@
 -- The ids of contracts with a hosted stakeholder, as changes bring them into a store.
 use Rattle.std.proofs.Common.{◌≡◌, ℕ, ◌+◌, ◌<◌, ◌≤◌, Bool, true, false, ◌&&◌, if◌then◌else◌, cond, List, [], ◌∷◌, ◌++◌, length, drop, get_or, Option, Some, None, is_some, inl, inr, refl, sym, ap, ◌∙◌, subst, append-nil, append_assoc, true≢false}
 use Rattle.std.specs.Prelude.{◌||◌, not}
-use Rattle.std.specs.Borrow.{Bor}
-use Rattle.std.specs.List.{list_any}
 use Rattle.std.specs.Str.{bytes_eq}
 use Rattle.indexmap.specs.IndexMap.{IndexMap, get, keys}
 use Rattle.std.proofs.lemmas.Bool.{cases_Bool}
@@ -20,7 +18,7 @@ use Rattle.contract_store.proofs.Maps.{equal_bytes, same_bytes, there}
 use Rattle.inbox_standing.specs.ChangeLists.{write_change, write_changes}
 use Rattle.inbox_standing.specs.declared.change.Change.{Change}
 use Rattle.prepare_request.specs.Hosted.{AreTold, is_among}
-use Rattle.node_inbox.specs.Added.{added_behind, added_by, is_new, is_unknown}
+use Rattle.node_inbox.specs.AddedIds.{added_behind, added_by, is_new, is_unknown}
 
 either : (a b : Hash) → bytes_eq a b ≡ bytes_eq b a
 either a b = elim (cases_Bool (bytes_eq a b)) [

@@ -1,5 +1,5 @@
 -- The ids of an inbox tell of its contracts, one item more.
-use Rattle.std.proofs.Common.{◌≡◌, ℕ, Bool, true, false, cond, if◌then◌else◌, List, [], ◌∷◌, ◌++◌, filter, Option, Some, None, is_some, inl, inr, refl, sym, ap, ◌∙◌, subst}
+use Rattle.std.proofs.Common.{◌≡◌, ℕ, Bool, true, false, cond, if◌then◌else◌, List, [], ◌∷◌, filter, Option, Some, None, is_some, inl, inr, refl, sym, ap, ◌∙◌, subst}
 use Rattle.std.specs.Prelude.{◌||◌, nat_le, Result, Ok, Err, OnOk, OnErr}
 use Rattle.ledger_terms.specs.declared.active_row.ActiveRow.{ActiveRow}
 use Rattle.ledger_terms.specs.declared.known.Known.{Known}
@@ -21,7 +21,7 @@ use Rattle.inbox_standing.specs.Standing.{Stands}
 use Rattle.inbox_standing.specs.declared.change.Change.{Change}
 use Rattle.inbox_standing.proofs.Grown.{rows_same, rows_written}
 use Rattle.prepare_request.specs.Hosted.{AreTold, TellHosted, has_hosted_id, hosted_rows, is_among}
-use Rattle.node_inbox.specs.Added.{added_behind}
+use Rattle.node_inbox.specs.AddedIds.{added_behind}
 use Rattle.node_inbox.specs.Coming.{IsTelling}
 use Rattle.node_inbox.specs.Items.{model_items}
 use Rattle.node_inbox.specs.Kept.{IsInbox}

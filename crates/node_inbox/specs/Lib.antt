@@ -12,4 +12,4 @@ pub mod Approved
 pub mod Decisions
 pub mod Listed
 pub mod Offered
-pub mod Added
+pub mod AddedIds

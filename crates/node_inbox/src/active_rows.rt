@@ -15,13 +15,13 @@ ghost use Rattle.node_inbox.specs.Listed.{after_if, after_others, after_row, is_
 
 use crate::actions::{acts_of, changes_of, roots_of};
 use crate::applied::approved_at;
-use crate::hosting::hosts_stakeholder;
 use crate::kept_item::KeptItem;
 use canton_model::Outcome;
 use confirm_reply::Setup;
 use contract_store::{Store, StoreRow};
 use inbox_standing::{Change, Standing};
 use ledger_terms::{ActiveRow, ActiveRowList, Exact, ParticipantId};
+use prepare_request::has_hosted_stakeholder;
 use std::alloc::{AllocError, Global};
 
 // The changes by the request at a place, where it is approved.
@@ -132,7 +132,7 @@ fn push_if_hosted(
     ensures { OnOk result (kept.new ≡ kept.old
         ++ filter (is_offered (sealed_reading setup.now.topology setup.now.checked) me) (row ∷ [])) }
 {
-    if hosts_stakeholder(alloc, setup, me, &row.known.instance)? {
+    if has_hosted_stakeholder(alloc, setup, me, &row.known.instance)? {
         kept.push(row)?;
     }
     Ok(())

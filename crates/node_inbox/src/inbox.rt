@@ -23,7 +23,7 @@ ghost use Rattle.node_inbox.specs.Offered.{offered};
 ghost use Rattle.node_inbox.specs.Reads.{item_with};
 
 use crate::active_rows::active_rows;
-use crate::added::{added_ids, put_ids};
+use crate::added_ids::{added_ids, put_ids};
 use crate::applied::applied;
 use crate::coming::coming;
 use crate::decided_since::decided_since;

@@ -4,14 +4,13 @@
 
 mod actions;
 mod active_rows;
-mod added;
+mod added_ids;
 mod applied;
 mod coming;
 mod confirmed;
 mod decided_since;
 mod decision;
 mod facts;
-mod hosting;
 mod inbox;
 mod items;
 mod job;

@@ -1,4 +1,4 @@
-use Rattle.std.proofs.Common.{Bool, List, ap, ◌∙◌}
+use Rattle.std.proofs.Common.{List, ap, ◌∙◌}
 use Rattle.std.specs.Prelude.{◌||◌}
 use Rattle.ledger_model.specs.Terms.{Hash}
 use Rattle.sealed_form.specs.SealedReading.{sealed_reading}

@@ -1,9 +1,9 @@
-use Rattle.std.proofs.Common.{◌≡◌, ◌&&◌, true, Bool, sym, ap, ◌∙◌}
+use Rattle.std.proofs.Common.{◌≡◌, true, sym, ap, ◌∙◌}
 use Rattle.std.specs.Prelude.{not}
 use Rattle.contract_store.specs.Rows.{status_in}
 use Rattle.contract_store.proofs.Maps.{there}
-use Rattle.node_inbox.specs.Added.{is_unknown}
-use Rattle.node_inbox.proofs.added.is_unheard.Goals as goal
+use Rattle.node_inbox.specs.AddedIds.{is_unknown}
+use Rattle.node_inbox.proofs.added_ids.is_unheard.Goals as goal
 
 pub returns-then-is_unknown : goal.returns-then-is_unknown
 returns-then-is_unknown c =

@@ -1,8 +1,8 @@
 use Rattle.std.proofs.Common.{◌≡◌, ◌++◌, [], drop}
 use Rattle.indexmap.specs.IndexMap.{keys}
 use Rattle.sealed_form.specs.SealedReading.{sealed_reading}
-use Rattle.node_inbox.specs.Added.{added_behind}
-use Rattle.node_inbox.proofs.added.added_ids.Given as goal
+use Rattle.node_inbox.specs.AddedIds.{added_behind}
+use Rattle.node_inbox.proofs.added_ids.added_ids.Given as goal
 
 abbrev pub invariant-loop-change : goal.invariant-loop-change
 invariant-loop-change l =

@@ -1,6 +1,6 @@
 use Rattle.std.proofs.Common.{◌≤◌, ◌+◌, length, arith}
 use Rattle.node_inbox.proofs.AddedIds.{put_step}
-use Rattle.node_inbox.proofs.added.put_ids.Goals as goal
+use Rattle.node_inbox.proofs.added_ids.put_ids.Goals as goal
 
 pub loop-id-preserved : goal.loop-id-preserved
 loop-id-preserved c =

@@ -1,7 +1,7 @@
 use Rattle.indexmap.specs.IndexMap.{keys}
 use Rattle.sealed_form.specs.SealedReading.{sealed_reading}
-use Rattle.node_inbox.proofs.AddedIds.{added_end, added_step}
-use Rattle.node_inbox.proofs.added.added_ids.Goals as goal
+use Rattle.node_inbox.proofs.AddedIds.{added_step}
+use Rattle.node_inbox.proofs.added_ids.added_ids.Goals as goal
 
 pub loop-change-preserved : goal.loop-change-preserved
 loop-change-preserved c =

@@ -1,7 +1,7 @@
 use Rattle.std.proofs.Common.{◌≡◌, ◌+◌, ◌≤◌, List, ℕ, length, drop}
 use Rattle.std.specs.Prelude.{◌||◌}
 use Rattle.prepare_request.specs.Hosted.{is_among}
-use Rattle.node_inbox.proofs.added.put_ids.Given as goal
+use Rattle.node_inbox.proofs.added_ids.put_ids.Given as goal
 
 abbrev pub invariant-loop-id : goal.invariant-loop-id
 invariant-loop-id l =

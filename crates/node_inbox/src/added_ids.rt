@@ -5,7 +5,7 @@ ghost use Rattle.indexmap.specs.IndexMap.{keys};
 ghost use Rattle.contract_store.specs.Rows.{status_in};
 ghost use Rattle.prepare_request.specs.Hosted.{is_among};
 ghost use Rattle.sealed_form.specs.SealedReading.{sealed_reading};
-ghost use Rattle.node_inbox.specs.Added.{added_behind, added_by, is_new, is_unheard, is_unknown};
+ghost use Rattle.node_inbox.specs.AddedIds.{added_behind, added_by, is_new, is_unheard, is_unknown};
 
 use confirm_reply::Setup;
 use contract_store::Store;
