@@ -10,3 +10,6 @@ pub mod Outcomes
 pub mod Grown
 pub mod Followed
 pub mod Told
+pub mod ByPlace
+pub mod Blocks
+pub mod Offered
