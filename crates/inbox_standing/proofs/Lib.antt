@@ -12,4 +12,6 @@ pub mod Followed
 pub mod Told
 pub mod ByPlace
 pub mod Blocks
+pub mod Once
+pub mod Unplaced
 pub mod Offered
