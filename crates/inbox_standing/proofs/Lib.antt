@@ -10,3 +10,8 @@ pub mod Outcomes
 pub mod Grown
 pub mod Followed
 pub mod Told
+pub mod ByPlace
+pub mod Blocks
+pub mod Once
+pub mod Unplaced
+pub mod Offered

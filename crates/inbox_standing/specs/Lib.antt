@@ -5,3 +5,4 @@ pub mod ChangeLists
 pub mod Steps
 pub mod Room
 pub mod Order
+pub mod Offered

@@ -1,0 +1,21 @@
+-- What a participant offers to its submissions, where no contract is created twice.
+use Rattle.std.specs.Prelude.{◌≡◌, ◌≤◌, List, [], length, filter}
+use Rattle.ledger_terms.specs.declared.active_row.ActiveRow.{ActiveRow}
+use Rattle.ledger_model.specs.Terms.{Hash, ParticipantId, creates}
+use Rattle.canton_model.specs.Reading.{Reading}
+use Rattle.canton_model.specs.Inbox.{Item, is_stakeholder_hosted, node_active}
+use Rattle.contract_store.specs.Active.{active_rows}
+use Rattle.contract_store.specs.Written.{Placed, written, acts_of}
+use Rattle.inbox_standing.specs.Changes.{changes_in}
+use Rattle.inbox_standing.specs.Order.{IsInOrder}
+
+-- at most one of these actions creates the contract, whichever it is
+abbrev pub CreatedOnce : List Placed → Type 0
+CreatedOnce ps = (c : Hash) → length (filter (creates c) (acts_of ps)) ≤ 1
+
+-- what is offered are the model's active contracts at the end of the inbox, in order of creation, though the store was written in
+-- the order in which verdicts were read
+abbrev pub OfferedIsNodeActive : Type 0
+OfferedIsNodeActive = (reading : Reading) (party : ParticipantId) (items : List Item) → IsInOrder items → CreatedOnce (changes_in reading items)
+    → filter (λ (a : ActiveRow). is_stakeholder_hosted reading party a.known.instance) (active_rows (written (changes_in reading items) []))
+    ≡ node_active reading party items (length items)
