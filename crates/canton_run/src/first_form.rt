@@ -17,7 +17,7 @@ use ledger_terms::{
     Arg, ArgList, Command, CommandList, Host, HostList, Name, NameList, Params, ParticipantId,
     PartySet, Submission, SubmissionList, Text, Topology, Value as Term, What,
 };
-use proto_model::Setup;
+use proto_model::PlainSetup;
 use report_text::RoundSubmissionList;
 use script_read::ScriptFault;
 use serde_json::Value;
@@ -381,7 +381,7 @@ fn read_form(alloc: Global, value: &Value) -> Result<Script, ScriptFault>
         params: default_params(),
     };
     Ok(Script {
-        setup: Setup { topology },
+        setup: PlainSetup { topology },
         rounds,
     })
 }

@@ -15,7 +15,7 @@ use crate::prepare::prepare;
 use crate::script::Script;
 use ledger_terms::{ParticipantId, Submission};
 use plain_node::{FinishFault, Node, NodeView, NodeViewList, SubmitResult, SubmitResultList};
-use proto_model::{BuiltIn, Entry, EntryList, Message, Request, Response, Setup, Verdict};
+use proto_model::{BuiltIn, Entry, EntryList, Message, PlainSetup, Request, Response, Verdict};
 use report_text::RoundSubmissionList;
 use std::alloc::{AllocError, Global};
 
@@ -116,7 +116,7 @@ fn view_of(alloc: Global, node: &Node<'_>) -> Result<NodeView, AllocError>
 }
 
 /// The log, the answers and what the participant knows where there is no request.
-fn nothing(alloc: Global, setup: &Setup) -> Result<Played, AllocError>
+fn nothing(alloc: Global, setup: &PlainSetup) -> Result<Played, AllocError>
     ensures { IfOk result (λ played. (played.log ≡ []) × (played.results ≡ [])
         × (played.views ≡ view_in (begun setup.now.topology.hosts setup.now.topology.params 0) ∷ [])) }
 {
@@ -133,7 +133,7 @@ fn nothing(alloc: Global, setup: &Setup) -> Result<Played, AllocError>
 
 /// The same where there is one: it stands at place 0, and the participant had read nothing before.
 #[tactic(auto, using(crate::proofs::LastViews::view_is))]
-fn one_request(alloc: Global, setup: &Setup, request: Request) -> Result<Played, AllocError>
+fn one_request(alloc: Global, setup: &PlainSetup, request: Request) -> Result<Played, AllocError>
     ensures log { IfOk result (λ played. played.log ≡ log_of_request setup.now.topology.hosts setup.now.topology.params request) }
     ensures results { IfOk result (λ played. played.results ≡ Sent 0 0 ∷ []) }
     ensures views { IfOk result (λ played. played.views ≡ view_at (plain_reading setup.now.topology.hosts) setup.now.topology.params played.log 0 ∷ []) }

@@ -6,7 +6,7 @@ use ledger_terms::{
     Arg, Command, Host, HostList, Name, ParticipantId, PartySet, Submission, Value, What,
 };
 use proto_model::note_request::note_request;
-use proto_model::{Request, Setup};
+use proto_model::{PlainSetup, Request};
 use std::alloc::{AllocError, Global};
 
 /// The text of a note that is to be created.
@@ -44,7 +44,7 @@ fn sole_party(parties: &PartySet) -> Option<Name>
 #[tactic(auto, unfolding(crate::specs::Play::prepared))]
 pub fn prepare(
     alloc: Global,
-    setup: &Setup,
+    setup: &PlainSetup,
     submission: &Submission,
 ) -> Result<Option<Request>, AllocError>
     ensures request { IfOk result (λ request. request ≡ prepared setup.now.topology.hosts submission.now) }

@@ -6,7 +6,7 @@ ghost use Rattle.canton_run.specs.Script.{script_of};
 
 use crate::first_form::read_first_form;
 use json_walk::read_json;
-use proto_model::Setup;
+use proto_model::PlainSetup;
 use report_text::RoundSubmissionList;
 use script_read::ScriptFault;
 use std::alloc::Global;
@@ -14,7 +14,7 @@ use std::alloc::Global;
 /// What a synchroniser is made for, and what is submitted to it.
 #[derive(Drop)]
 pub struct Script {
-    pub setup: Setup,
+    pub setup: PlainSetup,
     /// What is submitted in each round, before the synchroniser settles.
     pub rounds: RoundSubmissionList,
 }

@@ -15,12 +15,12 @@ use crate::findings::{Findings, first_reason};
 use crate::inbox::{is_locked, items_through, opened_at, status, time_at};
 use crate::item::Item;
 use ledger_terms::{Name, ParticipantId, Path};
-use proto_model::{LocalVerdict, OpenedForm, Setup, Status, ViewVerdict, ViewVerdictList};
+use proto_model::{LocalVerdict, OpenedForm, PlainSetup, Status, ViewVerdict, ViewVerdictList};
 use std::alloc::{AllocError, Global};
 
 /// Whether a participant hosts a stakeholder of the contract that the form creates.
 #[tactic(auto, using(crate::proofs::CheckFacts::any_append))]
-pub fn hosts_stakeholder(setup: &Setup, me: ParticipantId, opened: &OpenedForm) -> bool
+pub fn hosts_stakeholder(setup: &PlainSetup, me: ParticipantId, opened: &OpenedForm) -> bool
     ensures { result ≡ has_hosted_stakeholder (plain_reading setup.now.topology.hosts) me (root_of opened.now.form) }
 {
     setup.topology.hosts_any(me, &opened.roles.signatories)
@@ -28,14 +28,14 @@ pub fn hosts_stakeholder(setup: &Setup, me: ParticipantId, opened: &OpenedForm) 
 }
 
 /// Whether a participant confirms the one view of the form.
-fn confirms(setup: &Setup, me: ParticipantId, opened: &OpenedForm) -> bool
+fn confirms(setup: &PlainSetup, me: ParticipantId, opened: &OpenedForm) -> bool
     ensures { result ≡ list_any (confirms_at setup.now.topology.hosts me) (view_of_form opened.now.form).confirmers }
 {
     setup.topology.confirms_any(me, &opened.roles.confirmers)
 }
 
 /// Whether a participant confirms a view of the request at a place.
-pub fn confirms_at(setup: &Setup, me: ParticipantId, items: &[Item], place: u64) -> bool
+pub fn confirms_at(setup: &PlainSetup, me: ParticipantId, items: &[Item], place: u64) -> bool
     ensures { result ≡ confirms_some_view (plain_reading setup.now.topology.hosts) me (shown_at (model_items items.now) place) }
 {
     match opened_at(items, place) {
@@ -50,7 +50,7 @@ fn lists_name(names: &[Name], name: Name) -> bool
     names.iter().any(|other| *other == name)
 }
 
-fn has_vetted(setup: &Setup, me: ParticipantId, required: Name) -> bool
+fn has_vetted(setup: &PlainSetup, me: ParticipantId, required: Name) -> bool
     ensures { result ≡ vets (slice_get setup.now.topology.hosts me) required }
 {
     match setup.topology.hosts.get(me.0 as usize) {
@@ -67,7 +67,7 @@ fn is_near(skew: u64, ledger_time: u64, time: u64) -> bool
 
 // Whether the contract is locked, where a stakeholder is hosted.
 fn finds_locked(
-    setup: &Setup,
+    setup: &PlainSetup,
     me: ParticipantId,
     items: &[Item],
     place: u64,
@@ -82,7 +82,7 @@ fn finds_locked(
 
 // Whether the contract was created before, where a stakeholder is hosted.
 fn finds_used(
-    setup: &Setup,
+    setup: &PlainSetup,
     me: ParticipantId,
     items: &[Item],
     place: u64,
@@ -107,7 +107,7 @@ fn is_known(status: Status) -> bool
 /// A participant's verdict on the one view of the request at a place, from its items up to that place.
 #[tactic(auto, using(crate::proofs::CheckFacts::verdict_is))]
 pub fn verdict_on(
-    setup: &Setup,
+    setup: &PlainSetup,
     me: ParticipantId,
     items: &[Item],
     place: u64,
@@ -150,7 +150,7 @@ fn verdicts_of(alloc: Global, verdict: LocalVerdict) -> Result<ViewVerdictList, 
 /// The verdicts that a participant owes to the request at a place, from its items up to that place.
 pub fn verdicts_at(
     alloc: Global,
-    setup: &Setup,
+    setup: &PlainSetup,
     me: ParticipantId,
     items: &[Item],
     place: u64,

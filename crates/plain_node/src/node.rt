@@ -16,7 +16,7 @@ use crate::opening::item_of;
 use crate::{check, inbox, stores};
 use ledger_model::CommitList;
 use ledger_terms::{ActiveRowList, Hash, ParticipantId};
-use proto_model::{BuiltIn, Entry, Response, Setup, Status, ViewVerdictList};
+use proto_model::{BuiltIn, Entry, PlainSetup, Response, Status, ViewVerdictList};
 use std::alloc::{AllocError, Global};
 use std::marker::Model;
 
@@ -24,7 +24,7 @@ use std::marker::Model;
 /// and its responses that are still to be sent.
 #[derive(Drop)]
 pub struct Node<'s> {
-    setup: &'s Setup,
+    setup: &'s PlainSetup,
     built_in: &'s BuiltIn,
     me: ParticipantId,
     items: Vec<Item>,
@@ -59,7 +59,7 @@ impl<'s> Node<'s> {
     /// A participant that has read nothing. `built_in` is the language that it tries contracts by.
     pub fn new(
         alloc: Global,
-        setup: &'s Setup,
+        setup: &'s PlainSetup,
         built_in: &'s BuiltIn,
         me: ParticipantId,
     ) -> Node<'s>

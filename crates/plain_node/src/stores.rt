@@ -11,7 +11,7 @@ use crate::inbox::{is_approved, is_created_below, opened_at};
 use crate::item::Item;
 use ledger_model::{Commit, CommitList};
 use ledger_terms::{ActionNodeList, ActiveRow, ActiveRowList, Exact, Known, ParticipantId};
-use proto_model::{OpenedForm, Setup, root_node};
+use proto_model::{OpenedForm, PlainSetup, root_node};
 use std::alloc::{AllocError, Global};
 
 fn commit_of(alloc: Global, place: u64, opened: &OpenedForm) -> Result<Commit, AllocError>
@@ -69,7 +69,7 @@ fn row_of(place: u64, opened: &OpenedForm) -> Result<ActiveRow, AllocError>
 }
 
 fn push_row(
-    setup: &Setup,
+    setup: &PlainSetup,
     me: ParticipantId,
     items: &[Item],
     place: u64,
@@ -98,7 +98,7 @@ fn push_row(
 #[tactic(auto, using(crate::proofs::ActiveFacts::next_rows, crate::proofs::ActiveFacts::none_consumed))]
 pub fn rows_below(
     alloc: Global,
-    setup: &Setup,
+    setup: &PlainSetup,
     me: ParticipantId,
     items: &[Item],
     end: u64,

@@ -9,9 +9,9 @@ pub mod opened_form;
 mod opening;
 mod participants;
 pub mod plain_form;
+pub mod plain_setup;
 pub mod sealed_laws;
 mod sealing;
-pub mod setup;
 
 pub use blind_tree::{OpenedTree, RolesTree};
 pub use built_in::BuiltIn;
@@ -19,10 +19,11 @@ pub use canton_model::{
     Decision, Entry, EntryList, Envelope, EnvelopeList, LocalVerdict, Message, Outcome, Reason,
     Request, Response, Verdict, ViewVerdict, ViewVerdictList,
 };
+pub use confirm_reply::Setup;
 pub use ledger_model::Status;
 pub use mediator_tree::requested_views;
 pub use opened_form::{OpenedForm, open_envelope, root_node};
 pub use opening::{envelope_of, opened_for, opened_in};
 pub use plain_form::{PlainForm, decode_plain, encode_plain};
+pub use plain_setup::PlainSetup;
 pub use sealing::seal;
-pub use setup::Setup;
