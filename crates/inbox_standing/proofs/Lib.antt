@@ -15,3 +15,5 @@ pub mod Blocks
 pub mod Once
 pub mod Unplaced
 pub mod Offered
+pub mod InboxOrder
+pub mod LedgerOnce

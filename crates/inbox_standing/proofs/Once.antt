@@ -48,26 +48,30 @@ first_once (a ∷ rows) once =
         subst (λ (t : Bool). length (cond t (a ∷ filter (is_row_of a.known.id) rows) (filter (is_row_of a.known.id) rows)) ≤ 1) e h in
         omega (arith, w)
 
+-- as many rows of a contract as actions that create it
+pub as_many_rows : (c : Hash) (ps : List Placed) → length (filter (is_row_of c) (created_rows ps)) ≡ length (filter (creates c) (acts_of ps))
+as_many_rows c [] = refl
+as_many_rows c (p ∷ ps) = by (is_create p.act.action) (bytes_eq (id_of p.act.action) c) refl refl (as_many_rows c ps)
+  where
+    by : (cr o : Bool) → is_create p.act.action ≡ cr → bytes_eq (id_of p.act.action) c ≡ o
+        → length (filter (is_row_of c) (created_rows ps)) ≡ length (filter (creates c) (acts_of ps))
+        → length (filter (is_row_of c) (map row_for (cond cr (p ∷ filter is_creation ps) (filter is_creation ps))))
+        ≡ length (cond (o && cr) (p.act ∷ filter (creates c) (acts_of ps)) (filter (creates c) (acts_of ps)))
+    by true true e h rest = rw h (ap suc rest)
+    by true false e h rest = rw h rest
+    by false true e h rest = rest
+    by false false e h rest = rest
+
 -- the rows of what is created once
 pub rows_once : (ps : List Placed) → CreatedOnce ps → OneEach (created_rows ps)
-rows_once ps once c = subst (λ (n : ℕ). n ≤ 1) (sym (as_many_rows ps)) (once c)
-  where
-    as_many_rows : (ps : List Placed) → length (filter (is_row_of c) (created_rows ps)) ≡ length (filter (creates c) (acts_of ps))
-    as_many_rows [] = refl
-    as_many_rows (p ∷ ps) = by (is_create p.act.action) (bytes_eq (id_of p.act.action) c) refl refl (as_many_rows ps)
-      where
-        by : (cr o : Bool) → is_create p.act.action ≡ cr → bytes_eq (id_of p.act.action) c ≡ o
-            → length (filter (is_row_of c) (created_rows ps)) ≡ length (filter (creates c) (acts_of ps))
-            → length (filter (is_row_of c) (map row_for (cond cr (p ∷ filter is_creation ps) (filter is_creation ps))))
-            ≡ length (cond (o && cr) (p.act ∷ filter (creates c) (acts_of ps)) (filter (creates c) (acts_of ps)))
-        by true true e h rest = rw h (ap suc rest)
-        by true false e h rest = rw h rest
-        by false true e h rest = rest
-        by false false e h rest = rest
+rows_once ps once c = subst (λ (n : ℕ). n ≤ 1) (sym (as_many_rows c ps)) (once c)
 
 -- the same rows, place by place
+pub as_many_placed : (n : ℕ) (rows : List ActiveRow) → AllBelow n rows → (c : Hash)
+    → length (filter (is_row_of c) (by_place n rows)) ≡ length (filter (is_row_of c) rows)
+as_many_placed n rows below c =
+    ap length (filter_placed (is_row_of c) n rows ∙ sym (sorted_is n (filter (is_row_of c) rows) (below_filter n (is_row_of c) rows below)))
+    ∙ as_many (filter (is_row_of c) rows)
+
 pub placed_once : (n : ℕ) (rows : List ActiveRow) → AllBelow n rows → OneEach rows → OneEach (by_place n rows)
-placed_once n rows below once c =
-    subst (λ (k : ℕ). k ≤ 1)
-    (sym (ap length (filter_placed (is_row_of c) n rows ∙ sym (sorted_is n (filter (is_row_of c) rows) (below_filter n (is_row_of c) rows below)))
-    ∙ as_many (filter (is_row_of c) rows))) (once c)
+placed_once n rows below once c = subst (λ (k : ℕ). k ≤ 1) (sym (as_many_placed n rows below c)) (once c)

@@ -1,9 +1,12 @@
 -- What a participant offers to its submissions, where no contract is created twice.
-use Rattle.std.specs.Prelude.{◌≡◌, ◌≤◌, List, [], length, filter}
+use Rattle.std.specs.Prelude.{◌≡◌, ℕ, ◌≤◌, List, [], length, filter, take}
 use Rattle.ledger_terms.specs.declared.active_row.ActiveRow.{ActiveRow}
 use Rattle.ledger_model.specs.Terms.{Hash, ParticipantId, creates}
+use Rattle.canton_model.specs.Genuine.{Genuine, IsReading, NoCollision}
+use Rattle.canton_model.specs.Log.{Params}
+use Rattle.canton_model.specs.declared.entry.Entry.{Entry}
 use Rattle.canton_model.specs.Reading.{Reading}
-use Rattle.canton_model.specs.Inbox.{Item, is_stakeholder_hosted, node_active}
+use Rattle.canton_model.specs.Inbox.{Item, inbox, is_stakeholder_hosted, node_active}
 use Rattle.contract_store.specs.Active.{active_rows}
 use Rattle.contract_store.specs.Written.{Placed, written, acts_of}
 use Rattle.inbox_standing.specs.Changes.{changes_in}
@@ -19,3 +22,11 @@ abbrev pub OfferedIsNodeActive : Type 0
 OfferedIsNodeActive = (reading : Reading) (party : ParticipantId) (items : List Item) → IsInOrder items → CreatedOnce (changes_in reading items)
     → filter (λ (a : ActiveRow). is_stakeholder_hosted reading party a.known.instance) (active_rows (written (changes_in reading items) []))
     ≡ node_active reading party items (length items)
+
+-- so it is over genuine logs without collisions, whose ledger creates no contract twice
+abbrev pub OfferedOfGenuineLog : Type 0
+OfferedOfGenuineLog = (reading : Reading) (params : Params) (log : List Entry) (party : ParticipantId) (n : ℕ)
+    → IsReading reading → NoCollision reading log → Genuine reading params log → n ≤ length log
+    → filter (λ (a : ActiveRow). is_stakeholder_hosted reading party a.known.instance)
+    (active_rows (written (changes_in reading (inbox reading party (take n log))) []))
+    ≡ node_active reading party (inbox reading party (take n log)) (length (inbox reading party (take n log)))
