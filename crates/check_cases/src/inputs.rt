@@ -27,7 +27,7 @@ pub(crate) struct Received {
 }
 
 /// The script that JSON text spells, with its last transaction.
-pub(crate) fn sent(alloc: Global, json: &str) -> Result<Option<Sent>, AllocError> {
+pub(crate) fn last_sent(alloc: Global, json: &str) -> Result<Option<Sent>, AllocError> {
     let script = match read_script(alloc, json.as_bytes()) {
         Ok(script) => script,
         Err(ScriptFault::Memory) => return Err(AllocError),
@@ -81,20 +81,29 @@ fn made(
 }
 
 /// What a participant reads in its tree of the last transaction of a script.
-pub(crate) fn received(
+pub(crate) fn read_tree(
     alloc: Global,
     to: ParticipantId,
     json: &str,
 ) -> Result<Option<Received>, AllocError> {
-    let Some(sent) = sent(alloc, json)? else {
+    let Some(sent) = last_sent(alloc, json)? else {
         return Ok(None);
     };
-    let tree = match split(alloc, &sent.script.checked, &sent.tx) {
-        Ok(views) => opened_to(alloc, &views, sent.sender, &sent.script.topology, to)?,
-        Err(SplitFault::NoRoles { .. }) => None,
-        Err(SplitFault::Memory) => return Err(AllocError),
-    };
+    let tree = tree_for(alloc, &sent, to)?;
     Ok(with_tree(sent, tree))
+}
+
+/// What the tree of the last transaction opens to a participant.
+fn tree_for(
+    alloc: Global,
+    sent: &Sent,
+    to: ParticipantId,
+) -> Result<Option<OpenedTree>, AllocError> {
+    match split(alloc, &sent.script.checked, &sent.tx) {
+        Ok(views) => opened_to(alloc, &views, sent.sender, &sent.script.topology, to),
+        Err(SplitFault::NoRoles { path: _path }) => Ok(None),
+        Err(SplitFault::Memory) => Err(AllocError),
+    }
 }
 
 fn with_tree(sent: Sent, tree: Option<OpenedTree>) -> Option<Received> {
@@ -111,7 +120,7 @@ fn with_tree(sent: Sent, tree: Option<OpenedTree>) -> Option<Received> {
     })
 }
 
-/// What the tree for a participant opens.
+/// What the tree made for a participant opens.
 fn opened_to(
     alloc: Global,
     views: &Views,

@@ -1,9 +1,10 @@
 //! Jobs that are polled by hand.
-ghost use Rattle.std.specs.Prelude.{◌≡◌, true, All, IfOk};
+ghost use Rattle.std.specs.Prelude.{◌≡◌, true, IfOk};
+ghost use Rattle.std.specs.List.{AllByRecursion};
 ghost use Rattle.validate_job.specs.Owed.{CanCheck};
 
 use crate::facts::{facts_of, paths_of};
-use crate::inputs::received;
+use crate::inputs::{Received, read_tree};
 use crate::lines::{digits, path_text, put_line, verdict_text, yes};
 use crate::words::Words;
 use canton_model::ViewVerdict;
@@ -17,6 +18,7 @@ use validate_job::{Finished, ValidateJob};
 
 /// Puts the polls of a case's job at the end: its name, the participant's index, the place, the time, the paths of the views,
 /// the facts and a script. A case `cancel` is given up after its first poll.
+#[tactic(auto, using(crate::proofs::Each::all_of_each))]
 pub(crate) fn put_job(
     rt: &HostRuntime,
     mut words: Words<'_>,
@@ -30,15 +32,16 @@ pub(crate) fn put_job(
     let time = words.number();
     let paths = words.next();
     let facts = words.next();
-    let Some(received) = received(alloc, me, words.rest())? else {
+    let Some(received) = read_tree(alloc, me, words.rest())? else {
         return Ok(put_line(out, &["job", name, "not received"])?);
     };
-    let facts = facts_of(alloc, &received.known, facts)?;
+    let Received { setup, tree, known } = received;
+    let facts = facts_of(alloc, &known, facts)?;
     let input = CheckInput {
-        setup: &received.setup,
+        setup: &setup,
         me,
         time,
-        tree: received.tree,
+        tree,
         facts,
     };
     let views = paths_of(alloc, paths)?;
@@ -56,7 +59,7 @@ pub(crate) fn put_job(
 
 /// Whether each of the views can be checked.
 fn can_check_all(alloc: Global, input: &CheckInput<'_>, views: &[Path]) -> Result<bool, AllocError>
-    ensures { IfOk result (λ can. can ≡ true → All (CanCheck input.now) views.now) }
+    ensures { IfOk result (λ can. can ≡ true → AllByRecursion (CanCheck input.now) views.now) }
 {
     for view in views {
         if !can_check(alloc, &input.setup.checked, &input.tree, view)? {

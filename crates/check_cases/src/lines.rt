@@ -14,6 +14,23 @@ pub(crate) fn put_line(out: &mut String, words: &[&str]) -> Result<(), AllocErro
     out.push_str("\n")
 }
 
+/// Puts a case's word, its name and two words of its answer at the end.
+pub(crate) fn put_answer(
+    out: &mut String,
+    word: &str,
+    name: &str,
+    about: &str,
+    text: &str,
+) -> Result<(), AllocError> {
+    put_line(out, &[word, name, about, text])
+}
+
+/// Puts a line that is answered at the end, and what follows it.
+pub(crate) fn put_asked(out: &mut String, line: &str) -> Result<(), AllocError> {
+    out.push_str(line)?;
+    out.push_str(" - ")
+}
+
 /// The digits of a number.
 pub(crate) fn digits(alloc: Global, number: u64) -> Result<String, AllocError> {
     format!(in alloc; "{number}")

@@ -1,5 +1,5 @@
 //! Actions that are out of order or inactive.
-use crate::inputs::sent;
+use crate::inputs::last_sent;
 use crate::lines::{digits, put_line, yes};
 use crate::words::Words;
 use consist::{Earlier, is_inactive, is_unordered};
@@ -15,7 +15,7 @@ pub(crate) fn put_order(
     out: &mut String,
 ) -> Result<(), AllocError> {
     put_line(out, &["order", words.next()])?;
-    let Some(sent) = sent(alloc, words.rest())? else {
+    let Some(sent) = last_sent(alloc, words.rest())? else {
         return put_line(out, &["not sent"]);
     };
     let mut earlier = Vec::new(alloc);

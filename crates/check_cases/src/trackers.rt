@@ -1,5 +1,5 @@
 //! Calls of a tracker.
-use crate::lines::{digits, put_line};
+use crate::lines::{digits, put_asked, put_line};
 use crate::words::Words;
 use canton_model::Outcome;
 use request_track::Tracker;
@@ -54,13 +54,13 @@ pub(crate) fn put_tracker(
     place: u64,
     out: &mut String,
 ) -> Result<(), AllocError> {
+    put_asked(out, line)?;
     let cursor = digits(alloc, tracker.cursor())?;
     let clean = digits(alloc, tracker.clean())?;
     put_line(
         out,
         &[
-            line,
-            "- cursor",
+            "cursor",
             cursor.as_str(),
             "clean",
             clean.as_str(),

@@ -1,7 +1,7 @@
 //! Verdicts on views.
 use crate::facts::{facts_of, path_of};
-use crate::inputs::received;
-use crate::lines::{put_line, verdict_text};
+use crate::inputs::{Received, read_tree};
+use crate::lines::{put_answer, put_line, verdict_text};
 use crate::words::Words;
 use confirm_reply::{CheckInput, can_check, check_view};
 use ledger_terms::{ParticipantId, Path};
@@ -18,20 +18,21 @@ pub(crate) fn put_view(
     let time = words.number();
     let view = words.next();
     let facts = words.next();
-    let Some(received) = received(alloc, me, words.rest())? else {
+    let Some(received) = read_tree(alloc, me, words.rest())? else {
         return put_line(out, &["view", name, "not received"]);
     };
-    let facts = facts_of(alloc, &received.known, facts)?;
+    let Received { setup, tree, known } = received;
+    let facts = facts_of(alloc, &known, facts)?;
     let input = CheckInput {
-        setup: &received.setup,
+        setup: &setup,
         me,
         time,
-        tree: received.tree,
+        tree,
         facts,
     };
     let path = path_of(alloc, view)?;
     let verdict = verdict_on(alloc, &input, &path)?;
-    put_line(out, &["view", name, view, verdict.as_str()])
+    put_answer(out, "view", name, view, verdict.as_str())
 }
 
 /// The verdict on a view, where it can be checked.
