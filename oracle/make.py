@@ -1,5 +1,5 @@
-"""Writes the inputs and the expected outputs of crates/tree_cases, crates/form_cases, crates/check_cases and
-crates/run_cases from the tables of this folder.
+"""Writes the inputs and the expected outputs of crates/tree_cases, crates/request_cases, crates/form_cases,
+crates/check_cases and crates/run_cases from the tables of this folder.
 
 What a table says of a case by hand is compared with what is computed here, where both are there.
 """
@@ -9,9 +9,10 @@ import os
 import check_cases
 import form_cases
 import language
+import request_cases
 import tree_cases
 from tables import bytes as byte_tables
-from tables import checks, expressions, package_faults, runs, script_faults, transactions
+from tables import checks, expressions, package_faults, requests, runs, script_faults, transactions
 
 CRATES = os.path.join(os.path.dirname(os.path.dirname(os.path.abspath(__file__))), 'crates')
 
@@ -39,6 +40,15 @@ def tree_rows():
         name = 'fault-%d' % at
         lines = list(tree_cases.script_lines(json.loads(text))) if fault is None else ['fault ' + fault]
         yield 'script %s %s' % (name, text), ['script ' + name] + lines
+
+
+def request_rows():
+    for name, script in requests.NAMED:
+        lines = list(request_cases.script_lines(script))
+        for worked in requests.WORKED[name]:
+            if worked not in lines:
+                raise SystemExit('%s has no line %s' % (name, worked))
+        yield 'script %s %s' % (name, compact(script)), ['script ' + name] + lines
 
 
 def check_line(packages):
@@ -133,6 +143,7 @@ def write(crate, parts):
 
 def main():
     write('tree_cases', [('Transactions, and scripts with their first fault', tree_rows())])
+    write('request_cases', [('Transactions as requests', request_rows())])
     write('form_cases', [('Terms and trees as bytes', byte_rows()), ('Expressions', expression_rows()), ('Packages', package_rows())])
     write('check_cases', [
         ('Views', view_rows()), ('Jobs', job_rows()), ('Orders', order_rows()),

@@ -1,20 +1,17 @@
 //! Writing trees as bytes.
-ghost use Rattle.std.specs.Prelude.{◌≡◌, ◌++◌, ◌≤◌, IfOk, OnOk, length};
-ghost use Rattle.blind_tree.specs.Vertices.{count};
-ghost use Rattle.blind_tree.specs.InRange.{AreSpellable, IsSpellable, IsSpellableLeaf, IsSpellableTree};
+ghost use Rattle.std.specs.Prelude.{◌≡◌, ◌++◌, IfOk, OnOk};
 ghost use Rattle.blind_tree.specs.Spelling.{spell_leaf, spell_tree, spell_vertex, spell_vertices};
 
 use crate::leaf::Leaf;
 use crate::tree::Tree;
 use crate::vertex::{Vertex, VertexList};
 use ledger_terms::Bytes;
-use ledger_terms::limits::MOST_ACTIONS;
 use std::alloc::{AllocError, Global};
 use wire_form::{encode_hash, encode_u32};
 
-/// The spelling of a tree.
+/// The spelling of a tree. A count or a length that has no room is written by its lowest bytes, so that a tree can be read again
+/// only where `is_spellable` says so.
 pub fn encode_tree(alloc: Global, tree: &Tree) -> Result<Bytes, AllocError>
-    requires { IsSpellableTree tree.now }
     ensures { IfOk result (λ bytes. bytes ≡ spell_tree tree.now) }
 {
     let mut out = Bytes::new(alloc);
@@ -25,8 +22,8 @@ pub fn encode_tree(alloc: Global, tree: &Tree) -> Result<Bytes, AllocError>
 }
 
 // Puts a leaf's spelling at the end.
+#[tactic(auto, using(crate::proofs::Spelled::four_bytes))]
 fn encode_leaf(leaf: &Leaf, out: &mut Bytes) -> Result<(), AllocError>
-    requires { IsSpellableLeaf leaf.now }
     ensures { OnOk result (out.new ≡ out.old ++ spell_leaf leaf.now) }
 {
     match leaf {
@@ -37,7 +34,7 @@ fn encode_leaf(leaf: &Leaf, out: &mut Bytes) -> Result<(), AllocError>
         Leaf::Plain { salt, bytes } => {
             out.push(1)?;
             encode_hash(salt, out)?;
-            encode_u32(bytes.len() as u32, out)?;
+            encode_u32((bytes.len() % 4_294_967_296) as u32, out)?;
             out.extend(bytes.as_slice())
         }
     }
@@ -45,12 +42,11 @@ fn encode_leaf(leaf: &Leaf, out: &mut Bytes) -> Result<(), AllocError>
 
 // Puts the spelling of vertices at the end, their count first.
 #[cycle(vertices)]
+#[tactic(auto, using(crate::proofs::Spelled::two_bytes))]
 fn encode_vertices(vertices: &VertexList, out: &mut Bytes) -> Result<(), AllocError>
-    requires few { count vertices.now ≤ MOST_ACTIONS }
-    requires each { AreSpellable vertices.now }
     ensures { OnOk result (out.new ≡ out.old ++ spell_vertices vertices.now) }
 {
-    out.extend(&(vertices.len() as u16).to_be_bytes())?;
+    out.extend(&((vertices.len() % 65536) as u16).to_be_bytes())?;
     for vertex in vertices.as_slice() {
         encode_vertex(vertex, out)?;
     }
@@ -59,7 +55,6 @@ fn encode_vertices(vertices: &VertexList, out: &mut Bytes) -> Result<(), AllocEr
 
 #[cycle(vertices)]
 fn encode_vertex(vertex: &Vertex, out: &mut Bytes) -> Result<(), AllocError>
-    requires { IsSpellable vertex.now }
     ensures { OnOk result (out.new ≡ out.old ++ spell_vertex vertex.now) }
 {
     match vertex {

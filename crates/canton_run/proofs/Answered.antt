@@ -7,8 +7,8 @@ use Rattle.canton_model.specs.declared.view_verdict.ViewVerdict.{ViewVerdict}
 use Rattle.ledger_model.specs.Opening.{Shown, OpenedView}
 use Rattle.canton_model.specs.Inbox.{Received, received}
 use Rattle.canton_model.specs.Checks.{is_confirmed_by, verdicts_owed}
-use Rattle.node_core.specs.NodeState.{NodeState}
-use Rattle.node_core.specs.Jobs.{is_due, is_decided_now, due_job}
+use Rattle.plain_node.specs.NodeState.{NodeState}
+use Rattle.plain_node.specs.Jobs.{is_due, is_decided_now, due_job}
 use Rattle.proto_model.specs.PlainReading.{plain_reading}
 use Rattle.canton_run.specs.Play.{answer_at, answer_of}
 

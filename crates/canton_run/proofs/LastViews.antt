@@ -5,7 +5,7 @@ use Rattle.ledger_terms.specs.declared.params.Params.{Params}
 use Rattle.canton_model.specs.declared.entry.Entry.{Entry}
 use Rattle.canton_model.specs.Inbox.{inbox, clean, clean_time, node_log, node_active}
 use Rattle.proto_model.specs.PlainReading.{plain_reading}
-use Rattle.node_core.specs.NodeState.{NodeState}
+use Rattle.plain_node.specs.NodeState.{NodeState}
 use Rattle.canton_run.specs.Play.{view_at, view_in}
 
 pub view_is : (state : NodeState) (hosts : List Host) (params : Params) (log : List Entry)

@@ -8,7 +8,7 @@ use Rattle.ledger_terms.specs.declared.host.Host.{Host}
 use Rattle.canton_model.specs.declared.entry.Entry.{Entry}
 use Rattle.canton_model.specs.Inbox.{Item, inbox}
 use Rattle.proto_model.specs.PlainReading.{plain_reading}
-use Rattle.node_core.specs.NodeState.{NodeState, reading_of, with_item}
+use Rattle.plain_node.specs.NodeState.{NodeState, reading_of, with_item}
 
 -- it has read the log so far as it has items, and nothing else happened since the start
 pub record IsReader (start s : NodeState) (log : List Entry) : Type 0 where

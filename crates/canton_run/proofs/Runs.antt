@@ -22,7 +22,7 @@ use Rattle.proto_model.specs.NoteForm.{request_to_self}
 use Rattle.proto_model.specs.NoteLog.{note_log, LeavesTime}
 use Rattle.proto_model.proofs.Lawful.{lawful}
 use Rattle.proto_model.proofs.OneRequest.{empty_genuine}
-use Rattle.node_core.specs.declared.submit_result.SubmitResult.{SubmitResult}
+use Rattle.plain_node.specs.declared.submit_result.SubmitResult.{SubmitResult}
 use Rattle.canton_run.specs.declared.script.Script.{Script}
 use Rattle.canton_run.specs.Play.{request_of_script}
 use Rattle.canton_run.specs.Run.{IsRun, IsSettled, hosts_of, params_of, requests_in, if_request, results_of}

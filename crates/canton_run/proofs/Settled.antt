@@ -4,7 +4,7 @@ use Rattle.canton_model.specs.declared.entry.Entry.{Entry}
 use Rattle.canton_model.specs.declared.message.Message.TheVariants.{Request as RequestMessage}
 use Rattle.canton_model.specs.declared.request.Request.{Request}
 use Rattle.canton_model.specs.Inbox.{inbox}
-use Rattle.node_core.specs.NodeState.{NodeState, begun, reading_of}
+use Rattle.plain_node.specs.NodeState.{NodeState, begun, reading_of}
 use Rattle.canton_run.specs.Play.{answer_of, with_message, with_answer, reader_of, next_entry, log_of_request}
 
 pub settled : (start node : NodeState) (first second : List Entry) (request : Request)

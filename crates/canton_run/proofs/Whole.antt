@@ -22,7 +22,7 @@ use Rattle.proto_model.proofs.PlainLaws.{plain_again}
 use Rattle.proto_model.proofs.NoteRoles.{signs}
 use Rattle.proto_model.proofs.NoteRun.{request_owed, request_genuine, request_collides_not}
 use Rattle.proto_model.proofs.Sealed.{same_self, or_false}
-use Rattle.node_core.specs.declared.submit_result.SubmitResult.TheVariants.{Sent}
+use Rattle.plain_node.specs.declared.submit_result.SubmitResult.TheVariants.{Sent}
 use Rattle.canton_run.specs.declared.played.Played.{Played}
 use Rattle.canton_run.specs.declared.script.Script.{Script}
 use Rattle.canton_run.specs.FirstForm.{default_params}

@@ -21,13 +21,13 @@ use Rattle.canton_model.specs.declared.decision.Decision.TheVariants.{Approved}
 use Rattle.canton_model.specs.Mediation.{first_rejection}
 use Rattle.canton_model.specs.Inbox.{inbox, clean, clean_time, node_log, node_active}
 use Rattle.canton_model.specs.Reading.{Reading}
-use Rattle.node_core.specs.declared.node_view.NodeView.{NodeView}
-use Rattle.node_core.specs.declared.submit_result.SubmitResult.TheVariants.{Sent}
+use Rattle.plain_node.specs.declared.node_view.NodeView.{NodeView}
+use Rattle.plain_node.specs.declared.submit_result.SubmitResult.TheVariants.{Sent}
 use Rattle.canton_run.specs.declared.played.Played.{Played}
 use Rattle.canton_run.specs.declared.script.Script.{Script}
-use Rattle.node_core.specs.NodeState.{NodeState, begun, reading_of, with_item}
-use Rattle.node_core.specs.Entries.{item_from}
-use Rattle.node_core.specs.Jobs.{due_job, owed_at, is_decided_now}
+use Rattle.plain_node.specs.NodeState.{NodeState, begun, reading_of, with_item}
+use Rattle.plain_node.specs.Entries.{item_from}
+use Rattle.plain_node.specs.Jobs.{due_job, owed_at, is_decided_now}
 use Rattle.proto_model.specs.NoteForm.{note_form, note_request}
 use Rattle.proto_model.specs.Plain.{IsPlain}
 use Rattle.proto_model.specs.PlainReading.{plain_reading}

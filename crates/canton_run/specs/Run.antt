@@ -20,8 +20,8 @@ use Rattle.canton_model.specs.Genuine.{Genuine}
 use Rattle.canton_model.specs.Reading.{Reading}
 use Rattle.proto_model.specs.BuiltIn.{built_in_language}
 use Rattle.proto_model.specs.PlainReading.{plain_reading}
-use Rattle.node_core.specs.declared.submit_result.SubmitResult.{SubmitResult}
-use Rattle.node_core.specs.declared.submit_result.SubmitResult.TheVariants.{Sent}
+use Rattle.plain_node.specs.declared.submit_result.SubmitResult.{SubmitResult}
+use Rattle.plain_node.specs.declared.submit_result.SubmitResult.TheVariants.{Sent}
 use Rattle.canton_run.specs.declared.script.Script.{Script}
 use Rattle.canton_run.specs.Play.{request_of_script}
 

@@ -1,7 +1,7 @@
 //! How a run ended.
 ghost use Rattle.std.specs.Prelude.{◌≡◌, []};
 
-use node_core::SubmitResultList;
+use plain_node::SubmitResultList;
 use proto_model::EntryList;
 use script_read::ScriptFault;
 use std::alloc::Global;

@@ -1,5 +1,5 @@
 //! What a run leaves behind.
-use node_core::{NodeViewList, SubmitResultList};
+use plain_node::{NodeViewList, SubmitResultList};
 use proto_model::EntryList;
 
 /// The sequencer's log, the answers to the submissions in script order, and what each participant knows at its clean place.

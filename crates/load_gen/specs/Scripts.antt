@@ -15,7 +15,7 @@ vetted_packages = codes "Note" ∷ codes "Iou" ∷ []
 
 -- the participant at a place, with its one party
 abbrev pub host_at : ℕ → Host
-host_at place = record { name = participant_at place; parties = party_at place ∷ []; vetted_packages = vetted_packages }
+host_at place = record { name = participant_at place; parties = party_at place ∷ []; vetted = vetted_packages }
 
 abbrev pub hosts : List Host
 hosts = map host_at (range_with_len 0 PARTICIPANTS)

@@ -35,7 +35,7 @@ fn host_at(alloc: Global, place: u8) -> Result<Host, AllocError>
     Ok(Host {
         name: participant_at(alloc, place)?,
         parties,
-        vetted_packages: vetted_packages(alloc)?,
+        vetted: vetted_packages(alloc)?,
     })
 }
 

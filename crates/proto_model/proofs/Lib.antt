@@ -8,3 +8,6 @@ pub mod NoteForms
 pub mod OneCreate
 pub mod OneRequest
 pub mod NoteRun
+pub mod Making
+pub mod SealedMade
+pub mod Told

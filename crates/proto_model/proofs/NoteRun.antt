@@ -1,5 +1,5 @@
 -- A note of a party to itself is approved by its one participant, and its log is genuine.
-use Rattle.std.proofs.Common.{◌≡◌, ℕ, zero, suc, ◌+◌, ◌≤◌, true, false, List, [], ◌∷◌, length, Option, Some, None, nat_eq, nat_le, ne_eqb, refl, sym, ap, ◌∙◌, arith, length-append}
+use Rattle.std.proofs.Common.{◌≡◌, ℕ, zero, suc, ◌+◌, ◌≤◌, true, false, List, [], ◌∷◌, length, Option, Some, None, nat_eq, nat_le, ne_eqb, refl, ap, ◌∙◌, arith, length-append}
 use Rattle.std.specs.Prelude.{option_map, if◌then◌else◌, ◌&&◌}
 use Rattle.std.proofs.lemmas.Bool.{and_parts, and_from}
 use Rattle.std.proofs.lemmas.Bool.Decides.{nat_tests}

@@ -74,8 +74,8 @@ module _ (hosts : List Host) (request : Request) (form : PlainForm) (party : Lis
       by_test true = refl
       by_test false = refl
 
-  confirmed : is_confirmed_by (plain_reading hosts) request.sender (view_of_form form) ≡ true
-  confirmed = rw r.signs sender_confirms
+  view_confirmed : is_confirmed_by (plain_reading hosts) request.sender (view_of_form form) ≡ true
+  view_confirmed = rw r.signs sender_confirms
 
   one_act : (a : Act) → Contains (acts (roots_of_form form)) a → root_of form ≡ a
   one_act a h = by_case (in_from_Contains (root_of form ∷ []) a h)
@@ -87,11 +87,11 @@ module _ (hosts : List Host) (request : Request) (form : PlainForm) (party : Lis
   signs : list_any (confirms_at hosts request.sender) (built_in_language.signatories form.instance) ≡ true
   signs = rw r.signs sender_confirms
 
-  confirmed : (a : Act) → Contains (acts (roots_of_form form)) a → (p : ℕ) × (list_any ((plain_reading hosts).confirms p) (built_in_language.signatories (instance_of a.action)) ≡ true)
-  confirmed a h = (request.sender, subst (λ (x : Act). list_any (confirms_at hosts request.sender) (built_in_language.signatories (instance_of x.action)) ≡ true) (one_act a h) signs)
+  each_confirmed : (a : Act) → Contains (acts (roots_of_form form)) a → (p : ℕ) × (list_any ((plain_reading hosts).confirms p) (built_in_language.signatories (instance_of a.action)) ≡ true)
+  each_confirmed a h = (request.sender, subst (λ (x : Act). list_any (confirms_at hosts request.sender) (built_in_language.signatories (instance_of x.action)) ≡ true) (one_act a h) signs)
 
   viewed_here : (i : ℕ) (a : Act) → slice_get (root_of form ∷ []) i ≡ Some a → (view : OpenedView) × Contains (view_of_form form ∷ []) view × Contains view.core (i, a) × (is_confirmed_by (plain_reading hosts) request.sender view ≡ true)
-  viewed_here zero a e = (view_of_form form, (0, omega arith, refl), (0, omega arith, ap (λ (x : Act). (0, x)) (same_Some _ a e)), confirmed)
+  viewed_here zero a e = (view_of_form form, (0, omega arith, refl), (0, omega arith, ap (λ (x : Act). (0, x)) (same_Some _ a e)), view_confirmed)
   viewed_here (suc i) a e = absurd (none-some a e)
 
   same_place : (p q : ℕ) → nat_eq p q ≡ true → q ≡ p
@@ -141,7 +141,7 @@ module _ (hosts : List Host) (request : Request) (form : PlainForm) (party : Lis
         is_shown = ap (option_map shown_of_form) to_sender;
         view = view_of_form form;
         is_opened = (0, omega arith, refl);
-        is_confirmed = confirmed;
+        is_confirmed = view_confirmed;
       }
 
   answers : (p : ℕ) → Contains request.confirming p → Answers (plain_reading hosts) request p
@@ -159,7 +159,7 @@ module _ (hosts : List Host) (request : Request) (form : PlainForm) (party : Lis
         is_shown = ap (option_map shown_of_form) to_sender;
         view = view_of_form form;
         is_opened = (0, omega arith, refl);
-        is_confirmed = confirmed;
+        is_confirmed = view_confirmed;
         number = 0;
         in_core = (0, omega arith, refl);
         below = refl;
@@ -180,7 +180,7 @@ module _ (hosts : List Host) (request : Request) (form : PlainForm) (party : Lis
         is_whole = ap (option_map whole_of_form) to_sender;
         has_roles = λ a h. subst (λ (x : Act). built_in_language.has_roles x.action ≡ true) (one_act a h) r.has_roles;
         opens = opens;
-        confirmed = confirmed;
+        confirmed = each_confirmed;
         viewed = λ p shown i a is e signs. viewed p shown i a is e;
         numbered = numbered;
         tells = tells;

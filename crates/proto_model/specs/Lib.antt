@@ -5,3 +5,6 @@ pub mod PlainReading
 pub mod NoteRequest
 pub mod NoteForm
 pub mod NoteLog
+pub mod Made
+pub mod RequestedViews
+pub mod SealedRequests

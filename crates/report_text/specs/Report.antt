@@ -4,8 +4,8 @@ use Rattle.std.specs.List.{flat_map, zip}
 use Rattle.ledger_terms.specs.declared.submission.Submission.{Submission}
 use Rattle.ledger_terms.specs.declared.topology.Topology.{Topology}
 use Rattle.canton_model.specs.declared.entry.Entry.{Entry}
-use Rattle.node_core.specs.declared.node_view.NodeView.{NodeView}
-use Rattle.node_core.specs.declared.submit_result.SubmitResult.{SubmitResult}
+use Rattle.plain_node.specs.declared.node_view.NodeView.{NodeView}
+use Rattle.plain_node.specs.declared.submit_result.SubmitResult.{SubmitResult}
 use Rattle.report_text.specs.Entries.{entry_lines}
 use Rattle.report_text.specs.Results.{result_lines}
 use Rattle.report_text.specs.Outcomes.{outcome_lines}

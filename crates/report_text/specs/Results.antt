@@ -3,10 +3,10 @@ use Rattle.std.specs.Prelude.{ℕ, ◌+◌, List, [], ◌∷◌, ◌++◌, codes
 use Rattle.std.specs.List.{flat_map, zip}
 use Rattle.ledger_terms.specs.declared.host.Host.{Host}
 use Rattle.ledger_terms.specs.declared.submission.Submission.{Submission}
-use Rattle.node_core.specs.declared.submit_fault.SubmitFault.{SubmitFault}
-use Rattle.node_core.specs.declared.submit_fault.SubmitFault.TheVariants.{Paused, NotHosted, Command, Split, Duplicate, LogFull, Memory}
-use Rattle.node_core.specs.declared.submit_result.SubmitResult.{SubmitResult}
-use Rattle.node_core.specs.declared.submit_result.SubmitResult.TheVariants.{Sent, Refused}
+use Rattle.plain_node.specs.declared.submit_fault.SubmitFault.{SubmitFault}
+use Rattle.plain_node.specs.declared.submit_fault.SubmitFault.TheVariants.{Paused, NotHosted, Command, Split, Duplicate, LogFull, Memory}
+use Rattle.plain_node.specs.declared.submit_result.SubmitResult.{SubmitResult}
+use Rattle.plain_node.specs.declared.submit_result.SubmitResult.TheVariants.{Sent, Refused}
 use Rattle.report_text.specs.FaultNames.{command_fault_name, split_fault_name}
 use Rattle.report_text.specs.Entries.{host_text}
 

@@ -8,7 +8,7 @@ use crate::fault_names::{command_fault_name, split_fault_name};
 use crate::round_submissions::RoundSubmissionList;
 use crate::values::put_number;
 use ledger_terms::{HostList, Submission, SubmissionList};
-use node_core::{SubmitFault, SubmitResult, SubmitResultList};
+use plain_node::{SubmitFault, SubmitResult, SubmitResultList};
 use std::alloc::AllocError;
 
 fn put_fault(out: &mut String, fault: &SubmitFault) -> Result<(), AllocError>

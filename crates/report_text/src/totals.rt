@@ -10,7 +10,7 @@ use canton_model::{Decision, EntryList, Outcome};
 use ledger_terms::{
     ActiveRow, Host, HostList, Instance, ListOf, TemplateName, Text, Topology, Value,
 };
-use node_core::{NodeView, NodeViewList, SubmitResult, SubmitResultList};
+use plain_node::{NodeView, NodeViewList, SubmitResult, SubmitResultList};
 use std::alloc::{AllocError, Global};
 
 /// How the request at the place ended.

@@ -10,7 +10,7 @@ use crate::round_submissions::RoundSubmissionList;
 use crate::values::put_number;
 use canton_model::EntryList;
 use ledger_terms::{Text, Topology};
-use node_core::{NodeViewList, SubmitResultList};
+use plain_node::{NodeViewList, SubmitResultList};
 use std::alloc::{AllocError, Global};
 
 /// The text of a run: its log, then the results of the submissions, which stand in script order, the outcomes of the

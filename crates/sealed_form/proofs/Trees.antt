@@ -16,11 +16,11 @@ use Rattle.blind_tree.specs.LeafBytes.{common_bytes}
 use Rattle.blind_tree.specs.InRange.{IsLeaf, AreVertices, IsTree, IsSpellableLeaf, AreSpellable}
 use Rattle.blind_tree.specs.Reading.{ended, with_place, read_all, tree_at}
 use Rattle.blind_tree.specs.Spelling.{spell_tree}
-use Rattle.blind_tree.specs.Blind.{leaf_with, sees_root}
+use Rattle.blind_tree.specs.Blind.{leaf_with, sees_root, tree_to_mediator}
 use Rattle.blind_tree.specs.declared.leaf.Leaf.{Leaf}
 use Rattle.blind_tree.specs.declared.leaf.Leaf.TheVariants.{Blind, Plain}
 use Rattle.blind_tree.specs.declared.tree.Tree.{Tree}
-use Rattle.blind_tree.specs.declared.recipient.Recipient.TheVariants.{Participant}
+use Rattle.blind_tree.specs.declared.recipient.Recipient.TheVariants.{Mediator, Participant}
 use Rattle.blind_tree.proofs.Blinded.{sized, spellable}
 use Rattle.blind_tree.proofs.TreeLaws.{tree_reads}
 use Rattle.sealed_form.specs.SealedForm.{CanBeSealed, Whole, found, split_as, tree_for, tree_in, views_by}
@@ -61,6 +61,19 @@ module _ (topology : Topology) (packages : Packages) (sender : ℕ) (whole : Who
         requesters_is =
             leaf_is (sees_root (hosts_at topology.hosts p) (views_by packages whole.transaction) || nat_eq p sender) 2 (whole.salts).requesters
             (spell_parties (whole.transaction).requesters) can.requesters_salt (can.small).requesters;
+        few = room.few;
+        nested = room.nested;
+        vertices = are_vertices _ room.vertices long.vertices;
+      }
+
+  pub mediators_is_tree : IsTree (tree_to_mediator sha256 whole.salts whole.sender whole.transaction (views_by packages whole.transaction))
+  mediators_is_tree =
+      let room = spellable sha256 as_split whole.sender topology.hosts Mediator can.small in
+      let long = sized sha256 length-sha256 as_split whole.sender topology.hosts Mediator in
+      record {
+        common_is = leaf_is true 1 (whole.salts).common (common_bytes whole.sender (whole.transaction).ledger_time) can.common_salt (can.small).common;
+        requesters_is =
+            leaf_is false 2 (whole.salts).requesters (spell_parties (whole.transaction).requesters) can.requesters_salt (can.small).requesters;
         few = room.few;
         nested = room.nested;
         vertices = are_vertices _ room.vertices long.vertices;

@@ -1,8 +1,7 @@
 //! Cases.
-use crate::lines::{path_text, put_line};
 use crate::submissions::put_submission;
 use consist::find_inconsistent;
-use fixtures::{fault_text, know_created};
+use fixtures::{fault_text, know_created, path_text, put_line};
 use ledger_model::{Commit, CommitList};
 use ledger_terms::{ActionNodeList, KnownList};
 use script_read::{Script, read_script};

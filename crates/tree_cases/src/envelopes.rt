@@ -2,12 +2,13 @@
 ghost use Rattle.blind_tree.specs.Vertices.{IsNarrow};
 ghost use Rattle.blind_tree.specs.InRange.{IsSpellableTree};
 
-use crate::lines::{hash_text, put_line};
+use crate::lines::hash_text;
 use crate::opened_views::put_opened;
 use blind_tree::{
     Recipient, RecipientList, Tree, are_spellable, blind_all, decode_tree, encode_tree,
     is_spellable, root_of, verify,
 };
+use fixtures::put_line;
 use ledger_terms::{Hash, Name, ParticipantId, Topology};
 use std::alloc::{AllocError, Global};
 use view_split::Views;

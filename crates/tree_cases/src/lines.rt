@@ -1,31 +1,7 @@
 //! Lines of an answer.
-use ledger_terms::{Hash, PartySet, Path};
+use ledger_terms::{Hash, PartySet};
 use report_text::put_names;
 use std::alloc::{AllocError, Global};
-
-/// Puts words and a line feed at the end, a space between words.
-pub(crate) fn put_line(out: &mut String, words: &[&str]) -> Result<(), AllocError> {
-    let mut gap = "";
-    for word in words {
-        out.push_str(gap)?;
-        out.push_str(word)?;
-        gap = " ";
-    }
-    out.push_str("\n")
-}
-
-/// A path, its steps joined by points.
-pub(crate) fn path_text(alloc: Global, path: &Path) -> Result<String, AllocError> {
-    let mut text = String::new(alloc);
-    let mut gap = "";
-    for step in path.as_slice() {
-        text.push_str(gap)?;
-        let step = format!(in alloc; "{step}")?;
-        text.push_str(step.as_str())?;
-        gap = ".";
-    }
-    Ok(text)
-}
 
 /// The digits of a hash.
 pub(crate) fn hash_text(alloc: Global, hash: &Hash) -> Result<String, AllocError> {

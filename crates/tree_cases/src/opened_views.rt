@@ -1,9 +1,10 @@
 //! What a tree opens to its recipient.
 ghost use Rattle.blind_tree.specs.Vertices.{IsNarrow};
 
-use crate::lines::{names_text, path_text, put_line};
+use crate::lines::names_text;
 use crate::views::put_views;
 use blind_tree::{OpenedTree, PlacedView, Tree, informee_tree, opened};
+use fixtures::{path_text, put_line};
 use ledger_terms::{Name, Topology};
 use std::alloc::{AllocError, Global};
 use wire_form::WireFault;

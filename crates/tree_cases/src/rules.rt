@@ -1,8 +1,9 @@
 //! What the rules of the ledger say of a transaction.
-use crate::lines::{path_text, put_line, yes};
+use crate::lines::yes;
 use crate::roles_given::{all_have_roles, children_have_roles, has_roles};
 use authorise::{authorised, children_authorised};
 use consist::find_unordered;
+use fixtures::{path_text, put_line};
 use interpret::{encoded_bytes, reexecute};
 use lang_eval::Checked;
 use ledger_terms::{ActionNode, ActionNodeList, Tx};

@@ -1,8 +1,7 @@
 //! What becomes of a submission.
 use crate::envelopes::put_envelopes;
-use crate::lines::{path_text, put_line};
 use crate::rules::put_rules;
-use fixtures::{sender_of, transaction};
+use fixtures::{path_text, put_line, sender_of, transaction};
 use interpret::CommandFault;
 use ledger_terms::{ActionNodeList, KnownList, Name, Submission, Tx};
 use report_text::{command_fault_name, put_trees};

@@ -1,6 +1,7 @@
 //! Who sees and who confirms the views of a transaction.
-use crate::lines::{names_text, path_text, put_line};
+use crate::lines::names_text;
 use blind_tree::{RolesTree, ViewRoles};
+use fixtures::{path_text, put_line};
 use ledger_terms::{PartySet, Topology};
 use std::alloc::{AllocError, Global};
 

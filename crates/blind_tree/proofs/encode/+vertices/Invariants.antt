@@ -1,6 +1,5 @@
 use Rattle.std.proofs.Common.{◌≡◌, ◌++◌, ◌+◌, ◌*◌, drop}
 use Rattle.blind_tree.specs.VertexLists.{vertices_of, one_vertex, vertex_count}
-use Rattle.blind_tree.specs.InRange.{AreSpellable}
 use Rattle.blind_tree.specs.Spelling.{spell_each, spell_vertices}
 use Rattle.blind_tree.proofs.encode.+vertices.Given as goal
 
@@ -13,5 +12,4 @@ decreases-encode_vertices l = 2 * vertex_count l.vertices.now + 1
 -- what was written, and what is left, is the whole
 abbrev pub invariant-encode_vertices-loop-vertex : goal.invariant-encode_vertices-loop-vertex
 invariant-encode_vertices-loop-vertex l =
-    AreSpellable (vertices_of (drop l.vertex-index l.vertex-items))
-    × (l.out ++ spell_each (vertices_of (drop l.vertex-index l.vertex-items)) ≡ l.fn.out ++ spell_vertices l.vertices)
+    l.out ++ spell_each (vertices_of (drop l.vertex-index l.vertex-items)) ≡ l.fn.out ++ spell_vertices l.vertices

@@ -1,0 +1,25 @@
+//! What the mediator reads of a request.
+ghost use Rattle.std.specs.Prelude.{◌≡◌, IfOk};
+ghost use Rattle.proto_model.specs.RequestedViews.{requested_views};
+
+use blind_tree::{RolesTree, decode_tree, informee_tree};
+use canton_model::Request;
+use std::alloc::{AllocError, Global};
+use wire_form::WireFault;
+
+/// The sender's name, and the informees and confirmers of every view, as the mediator's bytes tell them; nothing where these
+/// can't be read.
+pub fn requested_views(alloc: Global, request: &Request) -> Result<Option<RolesTree>, AllocError>
+    ensures { IfOk result (λ views. views ≡ requested_views request.now) }
+{
+    let tree = match decode_tree(alloc, request.mediator.as_slice()) {
+        Ok(tree) => tree,
+        Err(WireFault::Bad { .. }) => return Ok(None),
+        Err(WireFault::Memory) => return Err(AllocError),
+    };
+    match informee_tree(alloc, &tree) {
+        Ok(views) => Ok(Some(views)),
+        Err(WireFault::Bad { .. }) => Ok(None),
+        Err(WireFault::Memory) => Err(AllocError),
+    }
+}
