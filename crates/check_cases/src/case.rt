@@ -1,12 +1,12 @@
 //! Cases.
 use crate::jobs::put_job;
-use crate::lines::put_line;
-use crate::orders::put_order;
+use crate::lines::put_asked;
 use crate::stores::{Change, change_all, put_contract, put_row, put_store};
 use crate::trackers::{advance, begin, outcome_of, put_tracker};
 use crate::verdicts::put_view;
 use crate::words::Words;
 use contract_store::Store;
+use fixtures::put_line;
 use request_track::Tracker;
 use std::alloc::{AllocError, Global};
 use std::io;
@@ -33,11 +33,15 @@ impl Cases {
         let mut words = Words::of(line);
         match words.next() {
             "view" => put_view(alloc, words, &mut out)?,
-            "job" => put_job(rt, words, false, &mut out)?,
-            "cancel" => put_job(rt, words, true, &mut out)?,
-            "order" => put_order(alloc, words, &mut out)?,
-            "tracker" => self.tracker_call(alloc, words, line, &mut out)?,
-            "store" => self.store_call(alloc, words, line, &mut out)?,
+            "job" => put_job(rt, words, &mut out)?,
+            "tracker" => {
+                put_asked(&mut out, line)?;
+                self.tracker_call(alloc, words, &mut out)?;
+            }
+            "store" => {
+                put_asked(&mut out, line)?;
+                self.store_call(alloc, words, &mut out)?;
+            }
             _ => put_line(&mut out, &[line])?,
         }
         Ok(out)
@@ -48,7 +52,6 @@ impl Cases {
         &mut self,
         alloc: Global,
         mut words: Words<'_>,
-        line: &str,
         out: &mut String,
     ) -> Result<(), AllocError> {
         let mut place = 0;
@@ -63,7 +66,7 @@ impl Cases {
             "expire" => self.tracker.expire(words.number()),
             _ => place = words.number(),
         }
-        put_tracker(alloc, &self.tracker, line, place, out)
+        put_tracker(alloc, &self.tracker, place, out)
     }
 
     /// Calls the store, and puts at the end what it tells then.
@@ -71,18 +74,17 @@ impl Cases {
         &mut self,
         alloc: Global,
         mut words: Words<'_>,
-        line: &str,
         out: &mut String,
     ) -> Result<(), AllocError> {
         match words.next() {
-            "contract" => return put_contract(&self.store, line, words.number(), out),
-            "row" => return put_row(alloc, &self.store, line, &mut words, out),
+            "contract" => return put_contract(&self.store, words.number(), out),
+            "row" => return put_row(alloc, &self.store, &mut words, out),
             "new" => self.store = Store::new(alloc),
             "create" => change_all(alloc, &mut self.store, Change::Create, &mut words)?,
             "consume" => change_all(alloc, &mut self.store, Change::Consume, &mut words)?,
             "hold" => change_all(alloc, &mut self.store, Change::Hold, &mut words)?,
             _ => self.store.release(words.number()),
         }
-        put_store(alloc, &self.store, line, out)
+        put_store(alloc, &self.store, out)
     }
 }

@@ -1,6 +1,6 @@
 //! What a case is checked by.
 use blind_tree::{Recipient, are_spellable, blind, is_spellable, opened};
-use confirm_reply::{CheckInput, IdFactsList, Setup};
+use confirm_reply::Setup;
 use fixtures::{know_created, sender_of, transaction};
 use interpret::CommandFault;
 use ledger_terms::{KnownList, Name, ParticipantId, Submission, Topology, Tx};
@@ -11,11 +11,11 @@ use wire_form::WireFault;
 
 /// A script, its last transaction with who sends that, and the contracts that its transactions create, in order.
 #[derive(Drop)]
-pub(crate) struct Sent {
-    pub(crate) script: Script,
-    pub(crate) sender: Name,
-    pub(crate) tx: Tx,
-    pub(crate) known: KnownList,
+struct Sent {
+    script: Script,
+    sender: Name,
+    tx: Tx,
+    known: KnownList,
 }
 
 /// What a participant reads of a script's last transaction, and what it is set up with.
@@ -27,7 +27,7 @@ pub(crate) struct Received {
 }
 
 /// The script that JSON text spells, with its last transaction.
-pub(crate) fn last_sent(alloc: Global, json: &str) -> Result<Option<Sent>, AllocError> {
+fn last_sent(alloc: Global, json: &str) -> Result<Option<Sent>, AllocError> {
     let script = match read_script(alloc, json.as_bytes()) {
         Ok(script) => script,
         Err(ScriptFault::Memory) => return Err(AllocError),

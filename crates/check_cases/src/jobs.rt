@@ -5,10 +5,11 @@ ghost use Rattle.validate_job.specs.Owed.{CanCheck};
 
 use crate::facts::{facts_of, paths_of};
 use crate::inputs::{Received, read_tree};
-use crate::lines::{digits, path_text, put_line, verdict_text, yes};
+use crate::lines::{digits, verdict_text, yes};
 use crate::words::Words;
 use canton_model::ViewVerdict;
 use confirm_reply::{CheckInput, can_check};
+use fixtures::{path_text, put_line};
 use futures::task::Poll;
 use futures::test::MockTask;
 use ledger_terms::{ParticipantId, Path};
@@ -17,12 +18,11 @@ use std::io;
 use validate_job::{Finished, ValidateJob};
 
 /// Puts the polls of a case's job at the end: its name, the participant's index, the place, the time, the paths of the views,
-/// the facts and a script. A case `cancel` is given up after its first poll.
+/// the facts and a script.
 #[tactic(auto, using(crate::proofs::Each::all_of_each))]
 pub(crate) fn put_job(
     rt: &HostRuntime,
     mut words: Words<'_>,
-    gives_up: bool,
     out: &mut String,
 ) -> io::Result<()> {
     let alloc = rt.alloc();
@@ -48,13 +48,7 @@ pub(crate) fn put_job(
     if views.is_empty() || !can_check_all(alloc, &input, views.as_slice())? {
         return Ok(put_line(out, &["job", name, "not checked"])?);
     }
-    put_polls(
-        rt,
-        name,
-        ValidateJob::new(input, place, views),
-        gives_up,
-        out,
-    )
+    put_polls(rt, name, ValidateJob::new(input, place, views), out)
 }
 
 /// Whether each of the views can be checked.
@@ -69,19 +63,17 @@ fn can_check_all(alloc: Global, input: &CheckInput<'_>, views: &[Path]) -> Resul
     Ok(true)
 }
 
-/// Polls a job as often as it has views, or once where it is given up, and puts what it answers at the end.
+/// Polls a job as often as it has views, and puts what it answers at the end.
 fn put_polls(
     rt: &HostRuntime,
     name: &str,
     mut job: ValidateJob<'_>,
-    gives_up: bool,
     out: &mut String,
 ) -> io::Result<()> {
     let alloc = rt.alloc();
     let task = MockTask::new(rt)?;
     put_left(alloc, &["job", name], &job, out)?;
-    let polls = if gives_up { 1 } else { job.left() };
-    for _ in 0..polls {
+    for _ in 0..job.left() {
         if job.left() == 0 {
             break;
         }
@@ -89,10 +81,6 @@ fn put_polls(
             Poll::Pending => put_left(alloc, &["pending, woken", yes(task.is_woken())], &job, out)?,
             Poll::Ready(finished) => put_finished(alloc, &finished?, out)?,
         }
-    }
-    if gives_up {
-        let place = digits(alloc, job.cancel())?;
-        put_line(out, &["cancelled", place.as_str()])?;
     }
     Ok(())
 }

@@ -1,7 +1,6 @@
 //! Reads cases from standard input, a line each, and writes what a participant's own checks and stores answer: the verdict on a
-//! view and the polls of a job, over a script's last transaction as the participant reads it, which actions of that are out of
-//! order or inactive, and what a tracker and a store tell after each call, which goes on from those before it. A line that begins
-//! otherwise is written again.
+//! view and the polls of a job, over a script's last transaction as the participant reads it, and what a tracker and a store tell
+//! after each call, which goes on from those before it. A line that begins otherwise is written again.
 #![tactic(auto)]
 
 mod case;
@@ -9,7 +8,6 @@ mod facts;
 mod inputs;
 mod jobs;
 mod lines;
-mod orders;
 mod stores;
 mod trackers;
 mod verdicts;

@@ -3,9 +3,10 @@ ghost use Rattle.std.specs.Prelude.{◌≡◌, ◌<◌, true, OnOk};
 ghost use Rattle.contract_store.specs.Stored.{is_ready};
 
 use crate::facts::status_word;
-use crate::lines::{digits, put_asked, put_line, yes};
+use crate::lines::{digits, yes};
 use crate::words::Words;
 use contract_store::{HashList, Store, StoreRow};
+use fixtures::put_line;
 use ledger_terms::{
     Exact, Hash, Instance, Known, KnownContracts, KnownList, Name, TemplateName, ValueList,
 };
@@ -120,10 +121,8 @@ fn make_ready(alloc: Global, store: &mut Store, known: &Known) -> Result<(), All
 pub(crate) fn put_store(
     alloc: Global,
     store: &Store,
-    line: &str,
     out: &mut String,
 ) -> Result<(), AllocError> {
-    put_asked(out, line)?;
     let rows = digits(alloc, store.len() as u64)?;
     let kept = digits(alloc, store.kept_holds() as u64)?;
     put_line(out, &["rows", rows.as_str(), "kept", kept.as_str()])
@@ -132,11 +131,9 @@ pub(crate) fn put_store(
 /// Puts what a store tells of a contract at the end.
 pub(crate) fn put_contract(
     store: &Store,
-    line: &str,
     number: u64,
     out: &mut String,
 ) -> Result<(), AllocError> {
-    put_asked(out, line)?;
     let id = id_of(number);
     put_line(
         out,
@@ -155,13 +152,11 @@ pub(crate) fn put_contract(
 pub(crate) fn put_row(
     alloc: Global,
     store: &Store,
-    line: &str,
     words: &mut Words<'_>,
     out: &mut String,
 ) -> Result<(), AllocError> {
     let at = words.number();
     let number = words.number();
-    put_asked(out, line)?;
     match store.row(at as usize) {
         Some(row) => put_found(alloc, row, number, out),
         None => put_line(out, &["none"]),

@@ -1,7 +1,8 @@
 //! Calls of a tracker.
-use crate::lines::{digits, put_asked, put_line};
+use crate::lines::digits;
 use crate::words::Words;
 use canton_model::Outcome;
+use fixtures::put_line;
 use request_track::Tracker;
 use std::alloc::{AllocError, Global};
 
@@ -50,11 +51,9 @@ fn outcome_word(outcome: Option<Outcome>) -> &'static str {
 pub(crate) fn put_tracker(
     alloc: Global,
     tracker: &Tracker,
-    line: &str,
     place: u64,
     out: &mut String,
 ) -> Result<(), AllocError> {
-    put_asked(out, line)?;
     let cursor = digits(alloc, tracker.cursor())?;
     let clean = digits(alloc, tracker.clean())?;
     put_line(

@@ -1,9 +1,10 @@
 //! Verdicts on views.
 use crate::facts::{facts_of, path_of};
 use crate::inputs::{Received, read_tree};
-use crate::lines::{put_answer, put_line, verdict_text};
+use crate::lines::verdict_text;
 use crate::words::Words;
 use confirm_reply::{CheckInput, can_check, check_view};
+use fixtures::put_line;
 use ledger_terms::{ParticipantId, Path};
 use std::alloc::{AllocError, Global};
 
@@ -32,7 +33,7 @@ pub(crate) fn put_view(
     };
     let path = path_of(alloc, view)?;
     let verdict = verdict_on(alloc, &input, &path)?;
-    put_answer(out, "view", name, view, verdict.as_str())
+    put_line(out, &["view", name, view, verdict.as_str()])
 }
 
 /// The verdict on a view, where it can be checked.
