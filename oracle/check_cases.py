@@ -110,17 +110,17 @@ def is_unordered(on_it, node):
 
 
 def view_lines(name, script, me, time, path, facts):
-    yield 'view %s %s %s' % (name, path_text(path), Check(script, me, time, facts).verdict(path))
+    yield 'view ' + name
+    yield Check(script, me, time, facts).verdict(path)
 
 
 def job_lines(name, script, me, place, time, paths, facts):
     """A job checks one view at each poll, and wakes itself where views remain."""
-    check, left = Check(script, me, time, facts), len(paths)
-    yield 'job %s place %d left %d' % (name, place, left)
-    while left > 1:
-        left -= 1
-        yield 'pending, woken yes place %d left %d' % (place, left)
-    yield 'ready place %d' % place
+    check = Check(script, me, time, facts)
+    yield 'job ' + name
+    for left in range(len(paths), 0, -1):
+        yield 'place %d left %d' % (place, left)
+        yield 'pending, woken yes' if left > 1 else 'ready place %d' % place
     for path in paths:
         yield 'verdict %s %s' % (path_text(path), check.verdict(path))
 

@@ -94,15 +94,15 @@ def path_word(paths):
 def view_rows():
     for name, script, me, time, path, facts, worked in checks.VIEWS:
         lines = list(check_cases.view_lines(name, script, me, time, path, facts))
-        agreed(name, lines, ['view %s %s %s' % (name, path_word([path]), worked)])
-        yield 'view %s %d %d %s %s %s' % (name, me, time, path_word([path]), facts_word(facts), compact(script)), lines
+        agreed(name, lines[1], worked)
+        yield 'view %s %s %d %d %s %s' % (name, path_word([path]), me, time, facts_word(facts), compact(script)), lines
 
 
 def job_rows():
     for name, script, me, place, time, paths, facts, worked in checks.JOBS:
         lines = list(check_cases.job_lines(name, script, me, place, time, paths, facts))
         agreed(name, lines[1:], worked)
-        yield 'job %s %d %d %d %s %s %s' % (name, me, place, time, path_word(paths), facts_word(facts), compact(script)), lines
+        yield 'job %s %d %s %d %d %s %s' % (name, place, path_word(paths), me, time, facts_word(facts), compact(script)), lines
 
 
 def call_rows(word, called, calls):

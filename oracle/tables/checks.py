@@ -93,12 +93,11 @@ VIEWS = [
     ('stakeholder', STRANGER, P1, 4, [0], [(0, 'consumed', HELD)], 'Locked 0')]
 
 # --- jobs: name, script, who checks, the place, the time, the paths, the facts, and what was worked out of the lines after the first
+TWO_POLLS = ['place 3 left 2', 'pending, woken yes', 'place 3 left 1', 'ready place 3']
 JOBS = [
-    ('transfer', TRANSFER, P1, 3, 4, [[0], [0, 0]], FIRST,
-     ['pending, woken yes place 3 left 1', 'ready place 3', 'verdict 0 approve', 'verdict 0.0 approve']),
-    ('wrong-child', WRONG_CHILD, P1, 3, 4, [[0], [0, 0]], FIRST,
-     ['pending, woken yes place 3 left 1', 'ready place 3', 'verdict 0 NotConformant 0', 'verdict 0.0 approve']),
-    ('one-view', WRONG_CHILD, P2, 3, 4, [[0]], FIRST, ['ready place 3', 'verdict 0 NotConformant 0'])]
+    ('transfer', TRANSFER, P1, 3, 4, [[0], [0, 0]], FIRST, TWO_POLLS + ['verdict 0 approve', 'verdict 0.0 approve']),
+    ('wrong-child', WRONG_CHILD, P1, 3, 4, [[0], [0, 0]], FIRST, TWO_POLLS + ['verdict 0 NotConformant 0', 'verdict 0.0 approve']),
+    ('one-view', WRONG_CHILD, P2, 3, 4, [[0]], FIRST, ['place 3 left 1', 'ready place 3', 'verdict 0 NotConformant 0'])]
 
 # --- trackers and stores: the words of calls, with what was worked out of what they tell
 TRACKERS = [

@@ -7,9 +7,9 @@ use crate::verdicts::put_view;
 use crate::words::Words;
 use contract_store::Store;
 use fixtures::put_line;
+use futures::test::MockTask;
 use request_track::Tracker;
 use std::alloc::{AllocError, Global};
-use std::io;
 
 /// The tracker and the store that lines call.
 #[derive(Drop)]
@@ -27,24 +27,32 @@ impl Cases {
     }
 
     /// The text that answers a line.
-    pub(crate) fn answer(&mut self, rt: &HostRuntime, line: &str) -> io::Result<String> {
-        let alloc = rt.alloc();
+    pub(crate) fn answer(
+        &mut self,
+        alloc: Global,
+        task: &MockTask,
+        line: &str,
+    ) -> Result<String, AllocError> {
         let mut out = String::new(alloc);
+        self.put_answer(alloc, task, line, &mut out)?;
+        Ok(out)
+    }
+
+    fn put_answer(
+        &mut self,
+        alloc: Global,
+        task: &MockTask,
+        line: &str,
+        out: &mut String,
+    ) -> Result<(), AllocError> {
         let mut words = Words::of(line);
         match words.next() {
-            "view" => put_view(alloc, words, &mut out)?,
-            "job" => put_job(rt, words, &mut out)?,
-            "tracker" => {
-                put_asked(&mut out, line)?;
-                self.tracker_call(alloc, words, &mut out)?;
-            }
-            "store" => {
-                put_asked(&mut out, line)?;
-                self.store_call(alloc, words, &mut out)?;
-            }
-            _ => put_line(&mut out, &[line])?,
+            "view" => put_view(alloc, words, out),
+            "job" => put_job(alloc, task, words, out),
+            "tracker" => self.tracker_call(alloc, words, line, out),
+            "store" => self.store_call(alloc, words, line, out),
+            _ => put_line(out, &[line]),
         }
-        Ok(out)
     }
 
     /// Calls the tracker, and puts at the end what it tells then.
@@ -52,8 +60,10 @@ impl Cases {
         &mut self,
         alloc: Global,
         mut words: Words<'_>,
+        line: &str,
         out: &mut String,
     ) -> Result<(), AllocError> {
+        put_asked(out, line)?;
         let mut place = 0;
         match words.next() {
             "new" => self.tracker = Tracker::new(alloc),
@@ -74,8 +84,10 @@ impl Cases {
         &mut self,
         alloc: Global,
         mut words: Words<'_>,
+        line: &str,
         out: &mut String,
     ) -> Result<(), AllocError> {
+        put_asked(out, line)?;
         match words.next() {
             "contract" => return put_contract(&self.store, words.number(), out),
             "row" => return put_row(alloc, &self.store, &mut words, out),

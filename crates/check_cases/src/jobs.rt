@@ -3,8 +3,8 @@ ghost use Rattle.std.specs.Prelude.{◌≡◌, true, IfOk};
 ghost use Rattle.std.specs.List.{AllByRecursion};
 ghost use Rattle.validate_job.specs.Owed.{CanCheck};
 
-use crate::facts::{facts_of, paths_of};
-use crate::inputs::{Received, read_tree};
+use crate::facts::paths_of;
+use crate::inputs::{Received, received};
 use crate::lines::{digits, verdict_text, yes};
 use crate::words::Words;
 use canton_model::ViewVerdict;
@@ -12,31 +12,42 @@ use confirm_reply::{CheckInput, can_check};
 use fixtures::{path_text, put_line};
 use futures::task::Poll;
 use futures::test::MockTask;
-use ledger_terms::{ParticipantId, Path};
+use ledger_terms::{Path, PathList};
 use std::alloc::{AllocError, Global};
-use std::io;
 use validate_job::{Finished, ValidateJob};
 
-/// Puts the polls of a case's job at the end: its name, the participant's index, the place, the time, the paths of the views,
-/// the facts and a script.
-#[tactic(auto, using(crate::proofs::Each::all_of_each))]
+/// Puts the polls of a case's job at the end: its name, the place, the paths of the views, and what is received.
 pub(crate) fn put_job(
-    rt: &HostRuntime,
+    alloc: Global,
+    task: &MockTask,
     mut words: Words<'_>,
     out: &mut String,
-) -> io::Result<()> {
-    let alloc = rt.alloc();
-    let name = words.next();
-    let me = ParticipantId(words.number() as u8);
+) -> Result<(), AllocError> {
+    put_line(out, &["job", words.next()])?;
     let place = words.number();
-    let time = words.number();
-    let paths = words.next();
-    let facts = words.next();
-    let Some(received) = read_tree(alloc, me, words.rest())? else {
-        return Ok(put_line(out, &["job", name, "not received"])?);
-    };
-    let Received { setup, tree, known } = received;
-    let facts = facts_of(alloc, &known, facts)?;
+    let views = paths_of(alloc, words.next())?;
+    match received(alloc, &mut words)? {
+        Some(received) => put_job_on(alloc, task, received, place, views, out),
+        None => put_line(out, &["not received"]),
+    }
+}
+
+#[tactic(auto, using(crate::proofs::Each::all_of_each))]
+fn put_job_on(
+    alloc: Global,
+    task: &MockTask,
+    received: Received,
+    place: u64,
+    views: PathList,
+    out: &mut String,
+) -> Result<(), AllocError> {
+    let Received {
+        setup,
+        me,
+        time,
+        tree,
+        facts,
+    } = received;
     let input = CheckInput {
         setup: &setup,
         me,
@@ -44,11 +55,11 @@ pub(crate) fn put_job(
         tree,
         facts,
     };
-    let views = paths_of(alloc, paths)?;
     if views.is_empty() || !can_check_all(alloc, &input, views.as_slice())? {
-        return Ok(put_line(out, &["job", name, "not checked"])?);
+        return put_line(out, &["not checked"]);
     }
-    put_polls(rt, name, ValidateJob::new(input, place, views), out)
+    let mut job = ValidateJob::new(input, place, views);
+    put_polls(alloc, task, &mut job, out)
 }
 
 /// Whether each of the views can be checked.
@@ -65,40 +76,39 @@ fn can_check_all(alloc: Global, input: &CheckInput<'_>, views: &[Path]) -> Resul
 
 /// Polls a job as often as it has views, and puts what it answers at the end.
 fn put_polls(
-    rt: &HostRuntime,
-    name: &str,
-    mut job: ValidateJob<'_>,
+    alloc: Global,
+    task: &MockTask,
+    job: &mut ValidateJob<'_>,
     out: &mut String,
-) -> io::Result<()> {
-    let alloc = rt.alloc();
-    let task = MockTask::new(rt)?;
-    put_left(alloc, &["job", name], &job, out)?;
+) -> Result<(), AllocError> {
     for _ in 0..job.left() {
-        if job.left() == 0 {
-            break;
-        }
-        match task.poll(&mut job) {
-            Poll::Pending => put_left(alloc, &["pending, woken", yes(task.is_woken())], &job, out)?,
-            Poll::Ready(finished) => put_finished(alloc, &finished?, out)?,
-        }
+        put_left(alloc, job, out)?;
+        put_poll(alloc, task, job, out)?;
     }
     Ok(())
 }
 
-/// Puts words at the end, and the place of a job and how many views it has left.
-fn put_left(
-    alloc: Global,
-    words: &[&str],
-    job: &ValidateJob<'_>,
-    out: &mut String,
-) -> Result<(), AllocError> {
-    for word in words {
-        out.push_str(word)?;
-        out.push_str(" ")?;
-    }
+/// Puts the place of a job and how many views it has left at the end.
+fn put_left(alloc: Global, job: &ValidateJob<'_>, out: &mut String) -> Result<(), AllocError> {
     let place = digits(alloc, job.place())?;
     let left = digits(alloc, job.left() as u64)?;
     put_line(out, &["place", place.as_str(), "left", left.as_str()])
+}
+
+fn put_poll(
+    alloc: Global,
+    task: &MockTask,
+    job: &mut ValidateJob<'_>,
+    out: &mut String,
+) -> Result<(), AllocError> {
+    if job.left() == 0 {
+        return Ok(());
+    }
+    match task.poll(job) {
+        Poll::Pending => put_line(out, &["pending, woken", yes(task.is_woken())]),
+        Poll::Ready(Ok(finished)) => put_finished(alloc, &finished, out),
+        Poll::Ready(Err(lack)) => Err(lack),
+    }
 }
 
 fn put_finished(alloc: Global, finished: &Finished, out: &mut String) -> Result<(), AllocError> {

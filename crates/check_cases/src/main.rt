@@ -14,14 +14,16 @@ mod verdicts;
 mod words;
 
 use case::Cases;
+use futures::test::MockTask;
 use std::io;
 
 fn main(rt: HostRuntime) -> io::Result<()> {
     let alloc = rt.alloc();
     let mut cases = Cases::new(alloc);
+    let task = MockTask::new(&rt)?;
     for line in rt.lines(alloc) {
         let line = line?;
-        let answer = cases.answer(&rt, line.as_str())?;
+        let answer = cases.answer(alloc, &task, line.as_str())?;
         print!(rt; "{answer}")?;
     }
     Ok(())

@@ -118,22 +118,14 @@ fn make_ready(alloc: Global, store: &mut Store, known: &Known) -> Result<(), All
 }
 
 /// Puts how many rows and holds a store keeps at the end.
-pub(crate) fn put_store(
-    alloc: Global,
-    store: &Store,
-    out: &mut String,
-) -> Result<(), AllocError> {
+pub(crate) fn put_store(alloc: Global, store: &Store, out: &mut String) -> Result<(), AllocError> {
     let rows = digits(alloc, store.len() as u64)?;
     let kept = digits(alloc, store.kept_holds() as u64)?;
     put_line(out, &["rows", rows.as_str(), "kept", kept.as_str()])
 }
 
 /// Puts what a store tells of a contract at the end.
-pub(crate) fn put_contract(
-    store: &Store,
-    number: u64,
-    out: &mut String,
-) -> Result<(), AllocError> {
+pub(crate) fn put_contract(store: &Store, number: u64, out: &mut String) -> Result<(), AllocError> {
     let id = id_of(number);
     put_line(
         out,

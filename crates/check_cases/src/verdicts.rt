@@ -1,29 +1,40 @@
 //! Verdicts on views.
-use crate::facts::{facts_of, path_of};
-use crate::inputs::{Received, read_tree};
+use crate::facts::path_of;
+use crate::inputs::{Received, received};
 use crate::lines::verdict_text;
 use crate::words::Words;
 use confirm_reply::{CheckInput, can_check, check_view};
 use fixtures::put_line;
-use ledger_terms::{ParticipantId, Path};
+use ledger_terms::Path;
 use std::alloc::{AllocError, Global};
 
-/// Puts the verdict of a case at the end: its name, the participant's index, the time, the view's path, the facts and a script.
+/// Puts the verdict of a case at the end: its name, the view's path, and what is received.
 pub(crate) fn put_view(
     alloc: Global,
     mut words: Words<'_>,
     out: &mut String,
 ) -> Result<(), AllocError> {
-    let name = words.next();
-    let me = ParticipantId(words.number() as u8);
-    let time = words.number();
-    let view = words.next();
-    let facts = words.next();
-    let Some(received) = read_tree(alloc, me, words.rest())? else {
-        return put_line(out, &["view", name, "not received"]);
-    };
-    let Received { setup, tree, known } = received;
-    let facts = facts_of(alloc, &known, facts)?;
+    put_line(out, &["view", words.next()])?;
+    let path = path_of(alloc, words.next())?;
+    match received(alloc, &mut words)? {
+        Some(received) => put_verdict_on(alloc, received, &path, out),
+        None => put_line(out, &["not received"]),
+    }
+}
+
+fn put_verdict_on(
+    alloc: Global,
+    received: Received,
+    path: &Path,
+    out: &mut String,
+) -> Result<(), AllocError> {
+    let Received {
+        setup,
+        me,
+        time,
+        tree,
+        facts,
+    } = received;
     let input = CheckInput {
         setup: &setup,
         me,
@@ -31,9 +42,8 @@ pub(crate) fn put_view(
         tree,
         facts,
     };
-    let path = path_of(alloc, view)?;
-    let verdict = verdict_on(alloc, &input, &path)?;
-    put_line(out, &["view", name, view, verdict.as_str()])
+    let verdict = verdict_on(alloc, &input, path)?;
+    put_line(out, &[verdict.as_str()])
 }
 
 /// The verdict on a view, where it can be checked.
