@@ -29,7 +29,7 @@ pub(crate) struct Received {
 }
 
 /// What words say that a participant reads: its index, the time, the facts and a script.
-pub(crate) fn received(
+pub(crate) fn receive(
     alloc: Global,
     words: &mut Words<'_>,
 ) -> Result<Option<Received>, AllocError> {

@@ -4,7 +4,7 @@ ghost use Rattle.std.specs.List.{AllByRecursion};
 ghost use Rattle.validate_job.specs.Owed.{CanCheck};
 
 use crate::facts::paths_of;
-use crate::inputs::{Received, received};
+use crate::inputs::{Received, receive};
 use crate::lines::{digits, verdict_text, yes};
 use crate::words::Words;
 use canton_model::ViewVerdict;
@@ -26,7 +26,7 @@ pub(crate) fn put_job(
     put_line(out, &["job", words.next()])?;
     let place = words.number();
     let views = paths_of(alloc, words.next())?;
-    match received(alloc, &mut words)? {
+    match receive(alloc, &mut words)? {
         Some(received) => put_job_on(alloc, task, received, place, views, out),
         None => put_line(out, &["not received"]),
     }

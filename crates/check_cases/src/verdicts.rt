@@ -1,6 +1,6 @@
 //! Verdicts on views.
 use crate::facts::path_of;
-use crate::inputs::{Received, received};
+use crate::inputs::{Received, receive};
 use crate::lines::verdict_text;
 use crate::words::Words;
 use confirm_reply::{CheckInput, can_check, check_view};
@@ -16,7 +16,7 @@ pub(crate) fn put_view(
 ) -> Result<(), AllocError> {
     put_line(out, &["view", words.next()])?;
     let path = path_of(alloc, words.next())?;
-    match received(alloc, &mut words)? {
+    match receive(alloc, &mut words)? {
         Some(received) => put_verdict_on(alloc, received, &path, out),
         None => put_line(out, &["not received"]),
     }
