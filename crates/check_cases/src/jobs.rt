@@ -32,7 +32,6 @@ pub(crate) fn put_job(
     }
 }
 
-#[tactic(auto, using(crate::proofs::Each::all_of_each))]
 fn put_job_on(
     alloc: Global,
     task: &MockTask,
@@ -55,10 +54,30 @@ fn put_job_on(
         tree,
         facts,
     };
+    put_checked(alloc, task, input, place, views, out)
+}
+
+#[tactic(auto, using(crate::proofs::Each::all_of_each))]
+fn put_checked(
+    alloc: Global,
+    task: &MockTask,
+    input: CheckInput<'_>,
+    place: u64,
+    views: PathList,
+    out: &mut String,
+) -> Result<(), AllocError> {
     if views.is_empty() || !can_check_all(alloc, &input, views.as_slice())? {
         return put_line(out, &["not checked"]);
     }
-    let mut job = ValidateJob::new(input, place, views);
+    put_all(alloc, task, ValidateJob::new(input, place, views), out)
+}
+
+fn put_all(
+    alloc: Global,
+    task: &MockTask,
+    mut job: ValidateJob<'_>,
+    out: &mut String,
+) -> Result<(), AllocError> {
     put_polls(alloc, task, &mut job, out)
 }
 

@@ -18,12 +18,15 @@ use futures::test::MockTask;
 use std::io;
 
 fn main(rt: HostRuntime) -> io::Result<()> {
-    let alloc = rt.alloc();
-    let mut cases = Cases::new(alloc);
     let task = MockTask::new(&rt)?;
-    for line in rt.lines(alloc) {
+    let mut cases = Cases::new(rt.alloc());
+    answer_lines(&rt, &task, &mut cases)
+}
+
+fn answer_lines(rt: &HostRuntime, task: &MockTask, cases: &mut Cases) -> io::Result<()> {
+    for line in rt.lines(rt.alloc()) {
         let line = line?;
-        let answer = cases.answer(alloc, &task, line.as_str())?;
+        let answer = cases.answer(rt.alloc(), task, line.as_str())?;
         print!(rt; "{answer}")?;
     }
     Ok(())

@@ -42,15 +42,20 @@ fn put_verdict_on(
         tree,
         facts,
     };
-    let verdict = verdict_on(alloc, &input, path)?;
-    put_line(out, &[verdict.as_str()])
+    put_verdict(alloc, &input, path, out)
 }
 
-/// The verdict on a view, where it can be checked.
-fn verdict_on(alloc: Global, input: &CheckInput<'_>, path: &Path) -> Result<String, AllocError> {
+/// Puts the verdict on a view at the end, where it can be checked.
+fn put_verdict(
+    alloc: Global,
+    input: &CheckInput<'_>,
+    path: &Path,
+    out: &mut String,
+) -> Result<(), AllocError> {
     if !can_check(alloc, &input.setup.checked, &input.tree, path)? {
-        return "not checked".to_string(alloc);
+        return put_line(out, &["not checked"]);
     }
     let verdict = check_view(alloc, input, path)?;
-    verdict_text(alloc, &verdict)
+    let text = verdict_text(alloc, &verdict)?;
+    put_line(out, &[text.as_str()])
 }
