@@ -37,13 +37,21 @@ pub(crate) fn receive(
     let time = words.number();
     let facts = words.next();
     match read_script(alloc, words.rest().as_bytes()) {
-        Ok(script) => {
-            let read = read_last(alloc, &script, me, facts)?;
-            Ok(with_script(script, me, time, read))
-        }
+        Ok(script) => on_script(alloc, script, me, time, facts),
         Err(ScriptFault::Memory) => Err(AllocError),
         Err(_) => Ok(None),
     }
+}
+
+fn on_script(
+    alloc: Global,
+    script: Script,
+    me: ParticipantId,
+    time: u64,
+    facts: &str,
+) -> Result<Option<Received>, AllocError> {
+    let read = read_last(alloc, &script, me, facts)?;
+    Ok(with_script(script, me, time, read))
 }
 
 fn with_script(
