@@ -33,7 +33,7 @@ pub(crate) fn receive(
     alloc: Global,
     words: &mut Words<'_>,
 ) -> Result<Option<Received>, AllocError> {
-    let me = ParticipantId(words.number() as u8);
+    let me = ParticipantId(words.next().parse::<u8>().unwrap_or(0));
     let time = words.number();
     let facts = words.next();
     match read_script(alloc, words.rest().as_bytes()) {
