@@ -110,33 +110,19 @@ def is_unordered(on_it, node):
 
 
 def view_lines(name, script, me, time, path, facts):
-    yield 'view %s %s %s' % (name, path_text(path), Check(script, me, time, facts).verdict(path))
+    yield 'view ' + name
+    yield Check(script, me, time, facts).verdict(path)
 
 
-def job_lines(name, script, me, place, time, paths, facts, gives_up):
+def job_lines(name, script, me, place, time, paths, facts):
     """A job checks one view at each poll, and wakes itself where views remain."""
-    check, left = Check(script, me, time, facts), len(paths)
-    yield 'job %s place %d left %d' % (name, place, left)
-    while left > 1:
-        left -= 1
-        yield 'pending, woken yes place %d left %d' % (place, left)
-        if gives_up:
-            yield 'cancelled %d' % place
-            return
-    yield 'ready place %d' % place
+    check = Check(script, me, time, facts)
+    yield 'job ' + name
+    for left in range(len(paths), 0, -1):
+        yield 'place %d left %d' % (place, left)
+        yield 'pending, woken yes' if left > 1 else 'ready place %d' % place
     for path in paths:
         yield 'verdict %s %s' % (path_text(path), check.verdict(path))
-
-
-def order_lines(name, script):
-    yield 'order ' + name
-    acts = [node for _, node in ledger.preorder(last_sent(script)[2][2])]
-    for at, node in enumerate(acts):
-        on_it = [other for other in acts[:at] if other['action']['id'] == node['action']['id']]
-        is_create = node['action']['kind'] == 'create'
-        is_made = any(other['action']['kind'] == 'create' for other in on_it)
-        inactive = [not is_create and status != 'active' and not is_made for status in ('unknown', 'active', 'consumed')]
-        yield 'action %d unordered %s inactive %s' % (at, yes(is_unordered(on_it, node)), ' '.join(map(yes, inactive)))
 
 
 # --- stores

@@ -94,24 +94,15 @@ def path_word(paths):
 def view_rows():
     for name, script, me, time, path, facts, worked in checks.VIEWS:
         lines = list(check_cases.view_lines(name, script, me, time, path, facts))
-        agreed(name, lines, ['view %s %s %s' % (name, path_word([path]), worked)])
-        yield 'view %s %d %d %s %s %s' % (name, me, time, path_word([path]), facts_word(facts), compact(script)), lines
+        agreed(name, lines[1], worked)
+        yield 'view %s %s %d %d %s %s' % (name, path_word([path]), me, time, facts_word(facts), compact(script)), lines
 
 
 def job_rows():
-    for word, cases in [('job', checks.JOBS), ('cancel', checks.CANCELLED)]:
-        for name, script, me, place, time, paths, facts, worked in cases:
-            lines = list(check_cases.job_lines(name, script, me, place, time, paths, facts, word == 'cancel'))
-            agreed(name, lines[1:], worked)
-            words = (word, name, me, place, time, path_word(paths), facts_word(facts), compact(script))
-            yield '%s %s %d %d %d %s %s %s' % words, lines
-
-
-def order_rows():
-    for name, script, worked in checks.ORDER_CASES:
-        lines = list(check_cases.order_lines(name, script))
-        agreed(name, worked in lines, True)
-        yield 'order %s %s' % (name, compact(script)), lines
+    for name, script, me, place, time, paths, facts, worked in checks.JOBS:
+        lines = list(check_cases.job_lines(name, script, me, place, time, paths, facts))
+        agreed(name, lines[1:], worked)
+        yield 'job %s %d %s %d %d %s %s' % (name, place, path_word(paths), me, time, facts_word(facts), compact(script)), lines
 
 
 def call_rows(word, called, calls):
@@ -146,7 +137,7 @@ def main():
     write('request_cases', [('Transactions as requests', request_rows())])
     write('form_cases', [('Terms and trees as bytes', byte_rows()), ('Expressions', expression_rows()), ('Packages', package_rows())])
     write('check_cases', [
-        ('Views', view_rows()), ('Jobs', job_rows()), ('Orders', order_rows()),
+        ('Views', view_rows()), ('Jobs', job_rows()),
         ('Trackers', call_rows('tracker', check_cases.Tracker(), checks.TRACKERS)),
         ('Stores', call_rows('store', check_cases.Store(), checks.STORES))])
     write('run_cases', [('Whole runs', run_rows())])

@@ -2,9 +2,7 @@
 
 A fact is the number of a contract among those that a script's transactions create, its status, and whether a request holds it.
 """
-from tables.transactions import (
-    FLASH, IOU, KNOWN, ORDERS, OTHER, PARTICIPANTS, TRANSFER, asked, create, does, exercise, fetch, forged, iou, known, party, prepared,
-    script)
+from tables.transactions import FLASH, IOU, OTHER, TRANSFER, asked, create, does, exercise, fetch, forged, iou, known, party, prepared, script
 
 P1, P2, P3 = 0, 1, 2
 FREE, HELD = False, True
@@ -95,27 +93,11 @@ VIEWS = [
     ('stakeholder', STRANGER, P1, 4, [0], [(0, 'consumed', HELD)], 'Locked 0')]
 
 # --- jobs: name, script, who checks, the place, the time, the paths, the facts, and what was worked out of the lines after the first
+TWO_POLLS = ['place 3 left 2', 'pending, woken yes', 'place 3 left 1', 'ready place 3']
 JOBS = [
-    ('transfer', TRANSFER, P1, 3, 4, [[0], [0, 0]], FIRST,
-     ['pending, woken yes place 3 left 1', 'ready place 3', 'verdict 0 approve', 'verdict 0.0 approve']),
-    ('wrong-child', WRONG_CHILD, P1, 3, 4, [[0], [0, 0]], FIRST,
-     ['pending, woken yes place 3 left 1', 'ready place 3', 'verdict 0 NotConformant 0', 'verdict 0.0 approve']),
-    ('one-view', WRONG_CHILD, P2, 3, 4, [[0]], FIRST, ['ready place 3', 'verdict 0 NotConformant 0'])]
-CANCELLED = [
-    ('transfer', TRANSFER, P1, 3, 4, [[0], [0, 0]], FIRST, ['pending, woken yes place 3 left 1', 'cancelled 3'])]
-
-# --- orders: name, script, and a line that was worked out
-AFTER = script(*KNOWN, *[r['submits'][0] for r in ORDERS['rounds'] if r['submits'][0]['command'] == 'after'])
-MADE = script(*BEGUN, dict(prepared("P1", "again", ["Bank"], iou("Alice", 10), fetch(IOU_10, ["Bank"])), seed_of=["P1", "c1"]))
-MADE_LATE = script(
-    asked("P1", "c2", ["Bank"], iou("Alice", 1), iou("Alice", 2)),
-    dict(prepared("P1", "late", ["Bank"], fetch(known("#P1:c2:1"), ["Bank"]), iou("Alice", 2)), seed_of=["P1", "c2"]))
-WITHIN = script(*BEGUN, prepared(
-    "P2", "used", ["Alice"], does(IOU_10, "Transfer", ["Alice"], fetch(IOU_10, ["Alice"]), args=[party("Carol")]), iou("Alice", 10)))
-ORDER_CASES = [
-    ('after', AFTER, 'action 2 unordered yes inactive yes no yes'), ('made', MADE, 'action 1 unordered no inactive no no no'),
-    ('made-late', MADE_LATE, 'action 1 unordered yes inactive no no no'), ('within', WITHIN, 'action 1 unordered yes inactive yes no yes'),
-    ('transient', FLASH, 'action 2 unordered no inactive no no no'), ('ask', ASK, 'action 3 unordered no inactive no no no')]
+    ('transfer', TRANSFER, P1, 3, 4, [[0], [0, 0]], FIRST, TWO_POLLS + ['verdict 0 approve', 'verdict 0.0 approve']),
+    ('wrong-child', WRONG_CHILD, P1, 3, 4, [[0], [0, 0]], FIRST, TWO_POLLS + ['verdict 0 NotConformant 0', 'verdict 0.0 approve']),
+    ('one-view', WRONG_CHILD, P2, 3, 4, [[0]], FIRST, ['place 3 left 1', 'ready place 3', 'verdict 0 NotConformant 0'])]
 
 # --- trackers and stores: the words of calls, with what was worked out of what they tell
 TRACKERS = [

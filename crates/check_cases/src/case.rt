@@ -1,15 +1,15 @@
 //! Cases.
 use crate::jobs::put_job;
-use crate::lines::put_line;
-use crate::orders::put_order;
+use crate::lines::put_asked;
 use crate::stores::{Change, change_all, put_contract, put_row, put_store};
 use crate::trackers::{advance, begin, outcome_of, put_tracker};
 use crate::verdicts::put_view;
 use crate::words::Words;
 use contract_store::Store;
+use fixtures::put_line;
+use futures::test::MockTask;
 use request_track::Tracker;
 use std::alloc::{AllocError, Global};
-use std::io;
 
 /// The tracker and the store that lines call.
 #[derive(Drop)]
@@ -27,20 +27,32 @@ impl Cases {
     }
 
     /// The text that answers a line.
-    pub(crate) fn answer(&mut self, rt: &HostRuntime, line: &str) -> io::Result<String> {
-        let alloc = rt.alloc();
+    pub(crate) fn answer(
+        &mut self,
+        alloc: Global,
+        task: &MockTask,
+        line: &str,
+    ) -> Result<String, AllocError> {
         let mut out = String::new(alloc);
+        self.put_answer(alloc, task, line, &mut out)?;
+        Ok(out)
+    }
+
+    fn put_answer(
+        &mut self,
+        alloc: Global,
+        task: &MockTask,
+        line: &str,
+        out: &mut String,
+    ) -> Result<(), AllocError> {
         let mut words = Words::of(line);
         match words.next() {
-            "view" => put_view(alloc, words, &mut out)?,
-            "job" => put_job(rt, words, false, &mut out)?,
-            "cancel" => put_job(rt, words, true, &mut out)?,
-            "order" => put_order(alloc, words, &mut out)?,
-            "tracker" => self.tracker_call(alloc, words, line, &mut out)?,
-            "store" => self.store_call(alloc, words, line, &mut out)?,
-            _ => put_line(&mut out, &[line])?,
+            "view" => put_view(alloc, words, out),
+            "job" => put_job(alloc, task, words, out),
+            "tracker" => self.tracker_call(alloc, words, line, out),
+            "store" => self.store_call(alloc, words, line, out),
+            _ => put_line(out, &[line]),
         }
-        Ok(out)
     }
 
     /// Calls the tracker, and puts at the end what it tells then.
@@ -51,6 +63,7 @@ impl Cases {
         line: &str,
         out: &mut String,
     ) -> Result<(), AllocError> {
+        put_asked(out, line)?;
         let mut place = 0;
         match words.next() {
             "new" => self.tracker = Tracker::new(alloc),
@@ -63,7 +76,7 @@ impl Cases {
             "expire" => self.tracker.expire(words.number()),
             _ => place = words.number(),
         }
-        put_tracker(alloc, &self.tracker, line, place, out)
+        put_tracker(alloc, &self.tracker, place, out)
     }
 
     /// Calls the store, and puts at the end what it tells then.
@@ -74,15 +87,16 @@ impl Cases {
         line: &str,
         out: &mut String,
     ) -> Result<(), AllocError> {
+        put_asked(out, line)?;
         match words.next() {
-            "contract" => return put_contract(&self.store, line, words.number(), out),
-            "row" => return put_row(alloc, &self.store, line, &mut words, out),
+            "contract" => return put_contract(&self.store, words.number(), out),
+            "row" => return put_row(alloc, &self.store, &mut words, out),
             "new" => self.store = Store::new(alloc),
             "create" => change_all(alloc, &mut self.store, Change::Create, &mut words)?,
             "consume" => change_all(alloc, &mut self.store, Change::Consume, &mut words)?,
             "hold" => change_all(alloc, &mut self.store, Change::Hold, &mut words)?,
             _ => self.store.release(words.number()),
         }
-        put_store(alloc, &self.store, line, out)
+        put_store(alloc, &self.store, out)
     }
 }

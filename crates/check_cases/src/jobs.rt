@@ -1,62 +1,89 @@
 //! Jobs that are polled by hand.
-ghost use Rattle.std.specs.Prelude.{◌≡◌, true, All, IfOk};
+ghost use Rattle.std.specs.Prelude.{◌≡◌, true, IfOk};
+ghost use Rattle.std.specs.List.{AllByRecursion};
 ghost use Rattle.validate_job.specs.Owed.{CanCheck};
 
-use crate::facts::{facts_of, paths_of};
-use crate::inputs::received;
-use crate::lines::{digits, path_text, put_line, verdict_text, yes};
+use crate::facts::paths_of;
+use crate::inputs::{Received, receive};
+use crate::lines::{digits, verdict_text, yes};
 use crate::words::Words;
 use canton_model::ViewVerdict;
 use confirm_reply::{CheckInput, can_check};
+use fixtures::{path_text, put_line};
 use futures::task::Poll;
 use futures::test::MockTask;
-use ledger_terms::{ParticipantId, Path};
+use ledger_terms::{Path, PathList};
 use std::alloc::{AllocError, Global};
-use std::io;
 use validate_job::{Finished, ValidateJob};
 
-/// Puts the polls of a case's job at the end: its name, the participant's index, the place, the time, the paths of the views,
-/// the facts and a script. A case `cancel` is given up after its first poll.
+/// Puts the polls of a case's job at the end: its name, the place, the paths of the views, and what is received.
 pub(crate) fn put_job(
-    rt: &HostRuntime,
+    alloc: Global,
+    task: &MockTask,
     mut words: Words<'_>,
-    gives_up: bool,
     out: &mut String,
-) -> io::Result<()> {
-    let alloc = rt.alloc();
-    let name = words.next();
-    let me = ParticipantId(words.number() as u8);
+) -> Result<(), AllocError> {
+    put_line(out, &["job", words.next()])?;
     let place = words.number();
-    let time = words.number();
-    let paths = words.next();
-    let facts = words.next();
-    let Some(received) = received(alloc, me, words.rest())? else {
-        return Ok(put_line(out, &["job", name, "not received"])?);
-    };
-    let facts = facts_of(alloc, &received.known, facts)?;
-    let input = CheckInput {
-        setup: &received.setup,
+    let views = paths_of(alloc, words.next())?;
+    match receive(alloc, &mut words)? {
+        Some(received) => put_job_on(alloc, task, received, place, views, out),
+        None => put_line(out, &["not received"]),
+    }
+}
+
+fn put_job_on(
+    alloc: Global,
+    task: &MockTask,
+    received: Received,
+    place: u64,
+    views: PathList,
+    out: &mut String,
+) -> Result<(), AllocError> {
+    let Received {
+        setup,
         me,
         time,
-        tree: received.tree,
+        tree,
+        facts,
+    } = received;
+    let input = CheckInput {
+        setup: &setup,
+        me,
+        time,
+        tree,
         facts,
     };
-    let views = paths_of(alloc, paths)?;
+    put_checked(alloc, task, input, place, views, out)
+}
+
+#[tactic(auto, using(crate::proofs::Each::all_of_each))]
+fn put_checked(
+    alloc: Global,
+    task: &MockTask,
+    input: CheckInput<'_>,
+    place: u64,
+    views: PathList,
+    out: &mut String,
+) -> Result<(), AllocError> {
     if views.is_empty() || !can_check_all(alloc, &input, views.as_slice())? {
-        return Ok(put_line(out, &["job", name, "not checked"])?);
+        return put_line(out, &["not checked"]);
     }
-    put_polls(
-        rt,
-        name,
-        ValidateJob::new(input, place, views),
-        gives_up,
-        out,
-    )
+    put_all(alloc, task, ValidateJob::new(input, place, views), out)
+}
+
+fn put_all(
+    alloc: Global,
+    task: &MockTask,
+    mut job: ValidateJob<'_>,
+    out: &mut String,
+) -> Result<(), AllocError> {
+    put_polls(alloc, task, &mut job, out)
 }
 
 /// Whether each of the views can be checked.
 fn can_check_all(alloc: Global, input: &CheckInput<'_>, views: &[Path]) -> Result<bool, AllocError>
-    ensures { IfOk result (λ can. can ≡ true → All (CanCheck input.now) views.now) }
+    ensures { IfOk result (λ can. can ≡ true → AllByRecursion (CanCheck input.now) views.now) }
 {
     for view in views {
         if !can_check(alloc, &input.setup.checked, &input.tree, view)? {
@@ -66,48 +93,41 @@ fn can_check_all(alloc: Global, input: &CheckInput<'_>, views: &[Path]) -> Resul
     Ok(true)
 }
 
-/// Polls a job as often as it has views, or once where it is given up, and puts what it answers at the end.
+/// Polls a job as often as it has views, and puts what it answers at the end.
 fn put_polls(
-    rt: &HostRuntime,
-    name: &str,
-    mut job: ValidateJob<'_>,
-    gives_up: bool,
+    alloc: Global,
+    task: &MockTask,
+    job: &mut ValidateJob<'_>,
     out: &mut String,
-) -> io::Result<()> {
-    let alloc = rt.alloc();
-    let task = MockTask::new(rt)?;
-    put_left(alloc, &["job", name], &job, out)?;
-    let polls = if gives_up { 1 } else { job.left() };
-    for _ in 0..polls {
-        if job.left() == 0 {
-            break;
-        }
-        match task.poll(&mut job) {
-            Poll::Pending => put_left(alloc, &["pending, woken", yes(task.is_woken())], &job, out)?,
-            Poll::Ready(finished) => put_finished(alloc, &finished?, out)?,
-        }
-    }
-    if gives_up {
-        let place = digits(alloc, job.cancel())?;
-        put_line(out, &["cancelled", place.as_str()])?;
+) -> Result<(), AllocError> {
+    for _ in 0..job.left() {
+        put_left(alloc, job, out)?;
+        put_poll(alloc, task, job, out)?;
     }
     Ok(())
 }
 
-/// Puts words at the end, and the place of a job and how many views it has left.
-fn put_left(
-    alloc: Global,
-    words: &[&str],
-    job: &ValidateJob<'_>,
-    out: &mut String,
-) -> Result<(), AllocError> {
-    for word in words {
-        out.push_str(word)?;
-        out.push_str(" ")?;
-    }
+/// Puts the place of a job and how many views it has left at the end.
+fn put_left(alloc: Global, job: &ValidateJob<'_>, out: &mut String) -> Result<(), AllocError> {
     let place = digits(alloc, job.place())?;
     let left = digits(alloc, job.left() as u64)?;
     put_line(out, &["place", place.as_str(), "left", left.as_str()])
+}
+
+fn put_poll(
+    alloc: Global,
+    task: &MockTask,
+    job: &mut ValidateJob<'_>,
+    out: &mut String,
+) -> Result<(), AllocError> {
+    if job.left() == 0 {
+        return Ok(());
+    }
+    match task.poll(job) {
+        Poll::Pending => put_line(out, &["pending, woken", yes(task.is_woken())]),
+        Poll::Ready(Ok(finished)) => put_finished(alloc, &finished, out),
+        Poll::Ready(Err(lack)) => Err(lack),
+    }
 }
 
 fn put_finished(alloc: Global, finished: &Finished, out: &mut String) -> Result<(), AllocError> {

@@ -1,7 +1,6 @@
 //! Reads cases from standard input, a line each, and writes what a participant's own checks and stores answer: the verdict on a
-//! view and the polls of a job, over a script's last transaction as the participant reads it, which actions of that are out of
-//! order or inactive, and what a tracker and a store tell after each call, which goes on from those before it. A line that begins
-//! otherwise is written again.
+//! view and the polls of a job, over a script's last transaction as the participant reads it, and what a tracker and a store tell
+//! after each call, which goes on from those before it. A line that begins otherwise is written again.
 #![tactic(auto)]
 
 mod case;
@@ -9,21 +8,25 @@ mod facts;
 mod inputs;
 mod jobs;
 mod lines;
-mod orders;
 mod stores;
 mod trackers;
 mod verdicts;
 mod words;
 
 use case::Cases;
+use futures::test::MockTask;
 use std::io;
 
 fn main(rt: HostRuntime) -> io::Result<()> {
-    let alloc = rt.alloc();
-    let mut cases = Cases::new(alloc);
-    for line in rt.lines(alloc) {
+    let task = MockTask::new(&rt)?;
+    let mut cases = Cases::new(rt.alloc());
+    answer_lines(&rt, &task, &mut cases)
+}
+
+fn answer_lines(rt: &HostRuntime, task: &MockTask, cases: &mut Cases) -> io::Result<()> {
+    for line in rt.lines(rt.alloc()) {
         let line = line?;
-        let answer = cases.answer(&rt, line.as_str())?;
+        let answer = cases.answer(rt.alloc(), task, line.as_str())?;
         print!(rt; "{answer}")?;
     }
     Ok(())

@@ -3,9 +3,10 @@ ghost use Rattle.std.specs.Prelude.{◌≡◌, ◌<◌, true, OnOk};
 ghost use Rattle.contract_store.specs.Stored.{is_ready};
 
 use crate::facts::status_word;
-use crate::lines::{digits, put_line, yes};
+use crate::lines::{digits, yes};
 use crate::words::Words;
-use contract_store::{HashList, Store};
+use contract_store::{HashList, Store, StoreRow};
+use fixtures::put_line;
 use ledger_terms::{
     Exact, Hash, Instance, Known, KnownContracts, KnownList, Name, TemplateName, ValueList,
 };
@@ -37,14 +38,6 @@ fn salt_of(number: u64) -> Hash {
     hash_of(number, 2)
 }
 
-fn template() -> Option<TemplateName> {
-    let package = Name::read("Note")?;
-    Some(TemplateName {
-        package,
-        name: package,
-    })
-}
-
 /// Changes as many contracts as the words say, for the request at one place: the number of the first, what is added for each of
 /// the next, how many they are, and the place.
 pub(crate) fn change_all(
@@ -53,26 +46,49 @@ pub(crate) fn change_all(
     change: Change,
     words: &mut Words<'_>,
 ) -> Result<(), AllocError> {
-    let Some(template) = template() else {
-        return Ok(());
-    };
+    match Name::read("Note") {
+        Some(package) => change_each(alloc, store, change, package, words),
+        None => Ok(()),
+    }
+}
+
+fn change_each(
+    alloc: Global,
+    store: &mut Store,
+    change: Change,
+    package: Name,
+    words: &mut Words<'_>,
+) -> Result<(), AllocError> {
     let first = words.number();
     let step = words.number();
     let count = words.number();
     let place = words.number();
     for i in 0..count {
         let number = first.wrapping_add(i.wrapping_mul(step)) % CONTRACTS;
-        let known = Known {
-            id: id_of(number),
-            salt: salt_of(number),
-            instance: Instance {
-                template,
-                fields: ValueList::new(alloc),
-            },
-        };
-        change_one(alloc, store, change, known, place)?;
+        change_one(
+            alloc,
+            store,
+            change,
+            known_of(alloc, package, number),
+            place,
+        )?;
     }
     Ok(())
+}
+
+/// A contract of the template that has the package's name.
+fn known_of(alloc: Global, package: Name, number: u64) -> Known {
+    Known {
+        id: id_of(number),
+        salt: salt_of(number),
+        instance: Instance {
+            template: TemplateName {
+                package,
+                name: package,
+            },
+            fields: ValueList::new(alloc),
+        },
+    }
 }
 
 fn change_one(
@@ -102,30 +118,18 @@ fn make_ready(alloc: Global, store: &mut Store, known: &Known) -> Result<(), All
 }
 
 /// Puts how many rows and holds a store keeps at the end.
-pub(crate) fn put_store(
-    alloc: Global,
-    store: &Store,
-    line: &str,
-    out: &mut String,
-) -> Result<(), AllocError> {
+pub(crate) fn put_store(alloc: Global, store: &Store, out: &mut String) -> Result<(), AllocError> {
     let rows = digits(alloc, store.len() as u64)?;
     let kept = digits(alloc, store.kept_holds() as u64)?;
-    put_line(out, &[line, "- rows", rows.as_str(), "kept", kept.as_str()])
+    put_line(out, &["rows", rows.as_str(), "kept", kept.as_str()])
 }
 
 /// Puts what a store tells of a contract at the end.
-pub(crate) fn put_contract(
-    store: &Store,
-    line: &str,
-    number: u64,
-    out: &mut String,
-) -> Result<(), AllocError> {
+pub(crate) fn put_contract(store: &Store, number: u64, out: &mut String) -> Result<(), AllocError> {
     let id = id_of(number);
     put_line(
         out,
         &[
-            line,
-            "-",
             status_word(store.status(&id)),
             "held",
             yes(store.locked(&id)),
@@ -140,31 +144,36 @@ pub(crate) fn put_contract(
 pub(crate) fn put_row(
     alloc: Global,
     store: &Store,
-    line: &str,
     words: &mut Words<'_>,
     out: &mut String,
 ) -> Result<(), AllocError> {
     let at = words.number();
     let number = words.number();
     match store.row(at as usize) {
-        Some(row) => {
-            let created = place_text(alloc, row.created_at)?;
-            let consumed = place_text(alloc, row.consumed_at)?;
-            put_line(
-                out,
-                &[
-                    line,
-                    "-",
-                    yes(row.known.id == id_of(number)),
-                    "created",
-                    created.as_str(),
-                    "consumed",
-                    consumed.as_str(),
-                ],
-            )
-        }
-        None => put_line(out, &[line, "- none"]),
+        Some(row) => put_found(alloc, row, number, out),
+        None => put_line(out, &["none"]),
     }
+}
+
+fn put_found(
+    alloc: Global,
+    row: &StoreRow,
+    number: u64,
+    out: &mut String,
+) -> Result<(), AllocError> {
+    let created = place_text(alloc, row.created_at)?;
+    let consumed = place_text(alloc, row.consumed_at)?;
+    let is_it = yes(row.known.id == id_of(number));
+    put_line(
+        out,
+        &[
+            is_it,
+            "created",
+            created.as_str(),
+            "consumed",
+            consumed.as_str(),
+        ],
+    )
 }
 
 fn place_text(alloc: Global, place: Option<u64>) -> Result<String, AllocError> {

@@ -1,7 +1,8 @@
 //! Calls of a tracker.
-use crate::lines::{digits, put_line};
+use crate::lines::digits;
 use crate::words::Words;
 use canton_model::Outcome;
+use fixtures::put_line;
 use request_track::Tracker;
 use std::alloc::{AllocError, Global};
 
@@ -50,7 +51,6 @@ fn outcome_word(outcome: Option<Outcome>) -> &'static str {
 pub(crate) fn put_tracker(
     alloc: Global,
     tracker: &Tracker,
-    line: &str,
     place: u64,
     out: &mut String,
 ) -> Result<(), AllocError> {
@@ -59,8 +59,7 @@ pub(crate) fn put_tracker(
     put_line(
         out,
         &[
-            line,
-            "- cursor",
+            "cursor",
             cursor.as_str(),
             "clean",
             clean.as_str(),

@@ -1,44 +1,61 @@
 //! Verdicts on views.
-use crate::facts::{facts_of, path_of};
-use crate::inputs::received;
-use crate::lines::{put_line, verdict_text};
+use crate::facts::path_of;
+use crate::inputs::{Received, receive};
+use crate::lines::verdict_text;
 use crate::words::Words;
 use confirm_reply::{CheckInput, can_check, check_view};
-use ledger_terms::{ParticipantId, Path};
+use fixtures::put_line;
+use ledger_terms::Path;
 use std::alloc::{AllocError, Global};
 
-/// Puts the verdict of a case at the end: its name, the participant's index, the time, the view's path, the facts and a script.
+/// Puts the verdict of a case at the end: its name, the view's path, and what is received.
 pub(crate) fn put_view(
     alloc: Global,
     mut words: Words<'_>,
     out: &mut String,
 ) -> Result<(), AllocError> {
-    let name = words.next();
-    let me = ParticipantId(words.number() as u8);
-    let time = words.number();
-    let view = words.next();
-    let facts = words.next();
-    let Some(received) = received(alloc, me, words.rest())? else {
-        return put_line(out, &["view", name, "not received"]);
-    };
-    let facts = facts_of(alloc, &received.known, facts)?;
-    let input = CheckInput {
-        setup: &received.setup,
-        me,
-        time,
-        tree: received.tree,
-        facts,
-    };
-    let path = path_of(alloc, view)?;
-    let verdict = verdict_on(alloc, &input, &path)?;
-    put_line(out, &["view", name, view, verdict.as_str()])
+    put_line(out, &["view", words.next()])?;
+    let path = path_of(alloc, words.next())?;
+    match receive(alloc, &mut words)? {
+        Some(received) => put_verdict_on(alloc, received, &path, out),
+        None => put_line(out, &["not received"]),
+    }
 }
 
-/// The verdict on a view, where it can be checked.
-fn verdict_on(alloc: Global, input: &CheckInput<'_>, path: &Path) -> Result<String, AllocError> {
+fn put_verdict_on(
+    alloc: Global,
+    received: Received,
+    path: &Path,
+    out: &mut String,
+) -> Result<(), AllocError> {
+    let Received {
+        setup,
+        me,
+        time,
+        tree,
+        facts,
+    } = received;
+    let input = CheckInput {
+        setup: &setup,
+        me,
+        time,
+        tree,
+        facts,
+    };
+    put_verdict(alloc, &input, path, out)
+}
+
+/// Puts the verdict on a view at the end, where it can be checked.
+fn put_verdict(
+    alloc: Global,
+    input: &CheckInput<'_>,
+    path: &Path,
+    out: &mut String,
+) -> Result<(), AllocError> {
     if !can_check(alloc, &input.setup.checked, &input.tree, path)? {
-        return "not checked".to_string(alloc);
+        return put_line(out, &["not checked"]);
     }
     let verdict = check_view(alloc, input, path)?;
-    verdict_text(alloc, &verdict)
+    let text = verdict_text(alloc, &verdict)?;
+    put_line(out, &[text.as_str()])
 }

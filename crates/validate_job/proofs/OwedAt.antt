@@ -1,5 +1,5 @@
 -- The verdicts of a job are those that a participant owes.
-use Rattle.std.proofs.Common.{◌≡◌, ℕ, Bool, true, false, List, [], ◌∷◌, ◌++◌, map, filter, Option, Some, None, refl, sym, ap, ◌∙◌, inl, inr}
+use Rattle.std.proofs.Common.{◌≡◌, ℕ, Bool, true, false, List, [], ◌∷◌, ◌++◌, map, filter, Some, refl, sym, ap, ◌∙◌, inl, inr}
 use Rattle.std.specs.Prelude.{All, Contains, IsSome, find}
 use Rattle.std.specs.Cmp.{IsTotalOrder}
 use Rattle.std.specs.Cmp.Lexicographic.{nat_list_cmp_total, slice_cmp}
@@ -23,7 +23,7 @@ use Rattle.canton_model.specs.Reading.{Reading}
 use Rattle.canton_model.specs.declared.local_verdict.LocalVerdict.{LocalVerdict}
 use Rattle.canton_model.specs.declared.view_verdict.ViewVerdict.{ViewVerdict}
 use Rattle.view_split.specs.Placed.{shown_by}
-use Rattle.confirm_reply.specs.Opened.{CanBeChecked, view_at}
+use Rattle.confirm_reply.specs.Opened.{CanBeChecked}
 use Rattle.confirm_reply.specs.declared.check_input.CheckInput.{CheckInput}
 use Rattle.confirm_reply.proofs.AtPlace.{as_at_place}
 use Rattle.validate_job.specs.Owed.{CanCheck, owed_on, owed_on_each, owed_on_opened}
