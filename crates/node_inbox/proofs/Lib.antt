@@ -15,3 +15,4 @@ pub mod Jobs
 pub mod DecidedSince
 pub mod Approved
 pub mod ActiveRows
+pub mod Told

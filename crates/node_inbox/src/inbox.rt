@@ -1,8 +1,9 @@
 //! An inbox.
-ghost use Rattle.std.specs.Prelude.{◌≡◌, ◌<◌, ◌^◌, ◌&&◌, ℕ, List, [], true, length, is_some, IfOk, OnOk, OnErr};
+ghost use Rattle.std.specs.Prelude.{◌≡◌, ◌<◌, ◌^◌, ◌&&◌, ℕ, List, [], true, length, is_some, option_copied, IfOk, OnOk, OnErr};
 ghost use Rattle.canton_model.specs.declared.request.Request.{Request as RequestValue};
 ghost use Rattle.canton_model.specs.declared.message.Message.TheVariants.{Request as RequestMessage};
-ghost use Rattle.canton_model.specs.Inbox.{Nothing, clean, clean_time, is_decided_in, last_time, node_active, node_log, received, shown_at};
+ghost use Rattle.canton_model.specs.Inbox.{Nothing, clean, clean_time, is_decided_in, last_time, moments, node_active, node_log, received, shown_at};
+ghost use Rattle.canton_model.specs.Timeline.{verdict_on};
 ghost use Rattle.world_model.specs.Node.{owed_at, owes_at};
 ghost use Rattle.contract_store.specs.Rows.{status_in};
 ghost use Rattle.contract_store.specs.Stored.{is_held};
@@ -20,13 +21,14 @@ use crate::active_rows::active_rows;
 use crate::applied::applied;
 use crate::coming::coming;
 use crate::decided_since::decided_since;
+use crate::decision::decision_at;
 use crate::items::{request_at, time_at};
 use crate::job::job;
 use crate::kept_item::KeptItem;
 use crate::putting::{put_nothing, put_request, put_verdict};
 use crate::telling::telling;
 use blind_tree::laws::opened_views_are_filled;
-use canton_model::{Entry, Message, Outcome, Request, Verdict};
+use canton_model::{Decision, Entry, Message, Outcome, Request, Verdict};
 use confirm_reply::Setup;
 use contract_store::Store;
 use inbox_standing::Standing;
@@ -192,6 +194,13 @@ impl<'s> Inbox<'s> {
         ensures { result ≡ outcome_received (params_of self.now) self.now.items place }
     {
         self.standing.outcome(place)
+    }
+
+    /// The decision of the verdict on the request at a place. Goes through what was read from that place on.
+    pub fn decision(&self, place: u64) -> Option<&Decision>
+        ensures { option_copied result ≡ verdict_on place (moments self.now.items) }
+    {
+        decision_at(self.items.as_slice(), place)
     }
 
     /// Whether a request was received at a place and is decided at the cursor.

@@ -8,6 +8,7 @@ mod applied;
 mod coming;
 mod confirmed;
 mod decided_since;
+mod decision;
 mod facts;
 mod hosting;
 mod inbox;

@@ -1,5 +1,5 @@
 mod Offered
-mod Offers
+pub mod Offers
 mod Wants
 mod Sealing
 mod Machines

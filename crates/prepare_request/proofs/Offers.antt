@@ -44,10 +44,10 @@ among_first (x ∷ xs) r (inl same) = inl same
 among_first (x ∷ xs) r (inr t) = inr (among_first xs r (from_filter _ (first_of_each xs) r t).0)
 
 -- what is opened at a place of an inbox is opened of the request that stands there
-record Opens (reading : Reading) (p : ParticipantId) (log : List Entry) (k : ℕ) (a : Act) : Type 0 where
-  request : Request
-  there : request_at log k ≡ Some request
-  opened : In a (acts (roots_in (reading.shown p request)))
+pub record Opens (reading : Reading) (p : ParticipantId) (log : List Entry) (k : ℕ) (a : Act) : Type 0 where
+  pub request : Request
+  pub there : request_at log k ≡ Some request
+  pub opened : In a (acts (roots_in (reading.shown p request)))
 
 module _ (reading : Reading) (p : ParticipantId) where
   told_nothing : (verdict : Verdict) (o : Option Request) → shown_by (verdict_content reading p verdict o) ≡ None
@@ -58,7 +58,7 @@ module _ (reading : Reading) (p : ParticipantId) where
       by true = refl
       by false = refl
 
-  opens : (before log : List Entry) (k : ℕ) (a : Act) → In a (acts (opened_at (items_after reading p before log) k)) → Opens reading p log k a
+  pub opens : (before log : List Entry) (k : ℕ) (a : Act) → In a (acts (opened_at (items_after reading p before log) k)) → Opens reading p log k a
   opens before [] zero a h = absurd h
   opens before [] (suc k) a h = absurd h
   opens before (entry ∷ rest) zero a h = by entry.message refl h
@@ -96,7 +96,7 @@ module _ (topology : Topology) (packages : Packages) (log : List Entry) (genuine
   abbrev reading : Reading
   reading = sealed_reading topology packages
 
-  of_request : (k : ℕ) (a : Act) → Opens reading p log k a → AreKnown (is_hosted topology) (parties_in_instance (instance_of a.action))
+  pub of_request : (k : ℕ) (a : Act) → Opens reading p log k a → AreKnown (is_hosted topology) (parties_in_instance (instance_of a.action))
   of_request k a o =
       let s = sealed_of reading topology.params log (lawful topology packages) genuine k o.request o.there in
       let form = are_sealed topology packages log genuine k o.request o.there in

@@ -1,0 +1,152 @@
+-- What each call leaves of a participant's duties.
+use Rattle.std.proofs.Common.{◌≡◌, ℕ, suc, ◌+◌, if◌then◌else◌, Bool, true, false, ◌||◌, ◌⊎◌, not, List, [], ◌∷◌, ◌++◌, length, take, filter, refl, sym, ap, ◌∙◌, subst, inl, inr, arith}
+use Rattle.std.specs.Prelude.{nat_eq}
+use Rattle.std.specs.List.{list_any}
+use Rattle.std.proofs.lemmas.Bool.{cases_Bool, both_ways, and_cases, and_left, and_right, or_cases, or_parts, or_from, or_left, or_right, eqb-true, not_from_true}
+use Rattle.std.proofs.lemmas.List.{length-append}
+use Rattle.std.proofs.lemmas.List.Folds.{list_any-append}
+use Rattle.ledger_model.specs.Terms.{ParticipantId}
+use Rattle.canton_model.specs.Log.{Params}
+use Rattle.canton_model.specs.Reading.{Reading}
+use Rattle.canton_model.specs.Inbox.{Item}
+use Rattle.world_model.specs.Messages.{Response}
+use Rattle.world_model.specs.Places.{has_place}
+use Rattle.world_model.specs.Node.{is_decided_now, is_to, outbox_head, owes_at}
+use Rattle.node_core.specs.Duties.{Kept, IsPassed, first_waiting, is_free, state_of, with_claim, with_passed, with_response, without_claim, without_response}
+use Rattle.node_core.specs.Kept.{IsKept}
+use Rattle.node_core.specs.Participant.{is_received_decided, places_where}
+use Rattle.node_core.proofs.Claims.{decided_is}
+use Rattle.node_core.proofs.Growth.{owes_within, owes_stays, passed_stays, received_decided_stays, where_more, where_same}
+use Rattle.node_core.proofs.Heads.{head_facts, head_first, same_first}
+
+any_filtered : {X : Type 0} (p q : X → Bool) (xs : List X) → list_any p (filter q xs) ≡ true → list_any p xs ≡ true
+any_filtered p q [] h = h
+any_filtered p q (x ∷ xs) h =
+    elim (cases_Bool (q x)) [
+      | inl b ↦ elim (or_cases (p x) (list_any p (filter q xs)) (rw b at h)) [
+        | inl here ↦ or_left _ _ here
+        | inr later ↦ or_right _ _ (any_filtered p q xs later)
+      ]
+      | inr b ↦ or_right _ _ (any_filtered p q xs (rw b at h))
+    ]
+
+any_pushed : {X : Type 0} (p : X → Bool) (xs : List X) (y : X) → list_any p (xs ++ y ∷ []) ≡ true → (list_any p xs ≡ true) ⊎ (p y ≡ true)
+any_pushed p xs y h =
+    elim (or_cases (list_any p xs) (p y || false) (sym (list_any-append p xs (y ∷ [])) ∙ h)) [
+      | inl before ↦ inl before
+      | inr last ↦ elim (or_cases (p y) false last) [ inl here ↦ inr here | inr none ↦ absurd (both_ways false refl none) ]
+    ]
+
+none_more : (f g : ℕ → Bool) (xs : List ℕ) → ((k : ℕ) → f k ≡ false → g k ≡ false) → list_any f xs ≡ false → list_any g xs ≡ false
+none_more f g [] h e = refl
+none_more f g (x ∷ xs) h e =
+    let parts = or_parts (f x) (list_any f xs) e in
+    or_from _ _ (h x parts.0) (none_more f g xs h parts.1)
+
+claimed_more : (decided : ℕ → Bool) (claimed : List ℕ) (k j : ℕ) → is_free decided claimed j ≡ false → is_free decided (claimed ++ k ∷ []) j ≡ false
+claimed_more decided claimed k j h =
+    elim (and_cases (not (decided j)) (not (has_place claimed j)) h) [
+      | inl done ↦ and_left _ _ done
+      | inr there ↦ and_right (not (decided j)) _
+          (not_from_true _ (list_any-append (nat_eq j) claimed (k ∷ []) ∙ or_left (has_place claimed j) _ (there_if (has_place claimed j) there)))
+    ]
+  where
+    there_if : (x : Bool) → not x ≡ false → x ≡ true
+    there_if true h = refl
+    there_if false h = absurd (both_ways true h refl)
+
+abbrev pub placed_if : Bool → ℕ → List ℕ
+placed_if b k = if b then k ∷ [] else []
+
+-- after one more item, where its place is owed or not
+pub item_keeps : (reading : Reading) (params : Params) (p : ParticipantId) (items : List Item) (item : Item) (kept after : Kept)
+    → IsKept reading params p items kept
+    → after.owed ≡ kept.owed ++ placed_if (owes_at reading p (items ++ item ∷ []) (length items)) (length items)
+    → after.passed ≡ kept.passed
+    → after.claimed ≡ kept.claimed
+    → after.unfinished ≡ kept.unfinished
+    → after.outbox ≡ kept.outbox
+    → IsKept reading params p (items ++ item ∷ []) after
+item_keeps reading params p items item kept after is owed same claimed unfinished outbox =
+    let more = items ++ item ∷ [] in
+    let long : length more ≡ suc (length items) = let e = length-append items (item ∷ []) in omega arith in
+    let last = placed_if (owes_at reading p more (length items)) (length items) in
+    let front : places_where (owes_at reading p items) 0 (length items) ≡ places_where (owes_at reading p more) 0 (length items) =
+    where_same (owes_at reading p items) (owes_at reading p more) 0 (length items) (λ k lt. sym (owes_stays params items item reading p k (omega (arith, lt)))) in
+    let none : 0 + length items ≡ length items = omega arith in
+    let next =
+    subst (λ (n : ℕ). places_where (owes_at reading p more) 0 (suc (length items))
+    ≡ places_where (owes_at reading p more) 0 (length items) ++ placed_if (owes_at reading p more n) n) none
+    (where_more (owes_at reading p more) 0 (length items)) in
+    let owes_on : (k : ℕ) → owes_at reading p items k ≡ true → owes_at reading p more k ≡ true =
+    λ k h. owes_stays params items item reading p k (owes_within items reading p k h) ∙ h in
+    record {
+      owed =
+          owed ∙ ap (λ (ks : List ℕ). ks ++ last) (is.owed ∙ front)
+          ∙ sym (ap (places_where (owes_at reading p more) 0) long ∙ next);
+      passed = (
+        rw (same, owed) (let e = length-append kept.owed last in let le = (is.passed).0 in omega arith),
+        rw (same, owed, claimed)
+            (passed_stays (is_received_decided params items) (is_received_decided params more) kept.claimed kept.owed last kept.passed (is.passed).0
+            (received_decided_stays params items item) (is.passed).1),
+      );
+      unfinished = λ k h. owes_on k (is.unfinished k (rw unfinished at h));
+      outbox = λ k h. owes_on k (is.outbox k (rw outbox at h));
+    }
+
+module _ (reading : Reading) (params : Params) (p : ParticipantId) (items : List Item) (kept : Kept) (is : IsKept reading params p items kept) where
+  pub passed_keeps : (n : ℕ) → IsPassed (is_received_decided params items) (with_passed kept n) → IsKept reading params p items (with_passed kept n)
+  passed_keeps n passed = record { owed = is.owed; passed = passed; unfinished = is.unfinished; outbox = is.outbox }
+
+  pub claim_keeps : (k : ℕ) → owes_at reading p items k ≡ true → IsKept reading params p items (with_claim kept k)
+  claim_keeps k owes =
+      record {
+        owed = is.owed;
+        passed = (
+          (is.passed).0,
+          none_more (is_free (is_received_decided params items) kept.claimed) (is_free (is_received_decided params items) (kept.claimed ++ k ∷ []))
+              (take kept.passed kept.owed) (claimed_more (is_received_decided params items) kept.claimed k) (is.passed).1,
+        );
+        unfinished = λ j h. elim (any_pushed (nat_eq j) kept.unfinished k h) [
+          | inl before ↦ is.unfinished j before
+          | inr here ↦ ap (owes_at reading p items) (eqb-true j k here) ∙ owes
+        ];
+        outbox = is.outbox;
+      }
+
+  pub response_keeps : (response : Response) → owes_at reading p items response.request ≡ true → IsKept reading params p items (with_response kept response)
+  response_keeps response owes =
+      record {
+        owed = is.owed;
+        passed = is.passed;
+        unfinished = λ j h. is.unfinished j (any_filtered (nat_eq j) (λ (n : ℕ). not (nat_eq n response.request)) kept.unfinished h);
+        outbox = λ j h. elim (any_pushed (is_to j) kept.outbox response h) [
+          | inl before ↦ is.outbox j before
+          | inr here ↦ ap (owes_at reading p items) (sym (eqb-true response.request j here)) ∙ owes
+        ];
+      }
+
+  pub sent_keeps : (k : ℕ) → IsKept reading params p items (without_response kept k)
+  sent_keeps k =
+      record {
+        owed = is.owed;
+        passed = is.passed;
+        unfinished = is.unfinished;
+        outbox = λ j h. is.outbox j (any_filtered (is_to j) (λ (r : Response). not (is_to k r)) kept.outbox h);
+      }
+
+  pub put_back_keeps : (k passed : ℕ) → IsPassed (is_received_decided params items) (without_claim kept k passed)
+      → IsKept reading params p items (without_claim kept k passed)
+  put_back_keeps k n passed =
+      record {
+        owed = is.owed;
+        passed = passed;
+        unfinished = λ j h. is.unfinished j (any_filtered (nat_eq j) (λ (n : ℕ). not (nat_eq n k)) kept.unfinished h);
+        outbox = λ j h. is.outbox j (any_filtered (is_to j) (λ (r : Response). not (is_to k r)) kept.outbox h);
+      }
+
+  pub waiting_is_next : (is_paused : Bool) → first_waiting (is_received_decided params items) kept.outbox ≡ outbox_head params (state_of items is_paused kept)
+  waiting_is_next is_paused =
+      same_first (is_received_decided params items) (is_decided_now params items) kept.outbox (λ k w. decided_is reading params p items k (is.outbox k w))
+      ∙ head_first (is_decided_now params items) kept.outbox (length items) (first_waiting (is_decided_now params items) kept.outbox)
+      (head_facts (is_decided_now params items) kept.outbox) (λ k w. owes_within items reading p k (is.outbox k w))

@@ -1,0 +1,10 @@
+pub mod DutyFacts
+pub mod Claims
+pub mod Heads
+pub mod Growth
+pub mod LogEnds
+pub mod KeptSteps
+pub mod ReadSteps
+pub mod Alike
+pub mod Preparing
+pub mod OfferedNames

@@ -1,0 +1,34 @@
+-- What a participant's submission wants, by what its inbox and its setup say.
+use Rattle.std.proofs.Common.{◌≡◌, ◌≢◌, ℕ, List, Some, None, Result, Ok, Err, MatchResult}
+use Rattle.std.proofs.Common.{subst}
+use Rattle.ledger_terms.specs.declared.submission.Submission.{Submission}
+use Rattle.ledger_terms.specs.declared.topology.Topology.{Topology}
+use Rattle.canton_model.specs.Inbox.{Item}
+use Rattle.canton_model.specs.declared.request.Request.{Request}
+use Rattle.lang_eval.specs.Found.{Packages}
+use Rattle.prepare_request.specs.Machine.{Offered, prepare_over, why_over}
+use Rattle.prepare_request.specs.declared.submit_fault.SubmitFault.{SubmitFault}
+use Rattle.prepare_request.specs.declared.submit_fault.SubmitFault.TheVariants.{Memory, Paused}
+
+-- what a request or a fault says of what is wanted
+abbrev pub Wanted : Topology → Packages → Offered → Submission → List Item → (now : ℕ) → Result Request SubmitFault → Type 0
+Wanted topology packages offered what items now result =
+    MatchResult result (λ request. prepare_over topology packages offered what items now ≡ Some request)
+    (λ fault. fault ≢ Memory → (prepare_over topology packages offered what items now ≡ None) × (why_over topology packages offered what items now ≡ fault))
+
+-- the same, where the participant may be paused
+abbrev pub WantedUnlessPaused : Topology → Packages → Offered → Submission → List Item → (now : ℕ) → Result Request SubmitFault → Type 0
+WantedUnlessPaused topology packages offered what items now result =
+    MatchResult result (λ request. prepare_over topology packages offered what items now ≡ Some request)
+    (λ fault. fault ≢ Memory → fault ≢ Paused
+    → (prepare_over topology packages offered what items now ≡ None) × (why_over topology packages offered what items now ≡ fault))
+
+pub unless_paused : (t u : Topology) (ps qs : Packages) (offered : Offered) (what : Submission) (items : List Item) (now : ℕ) (result : Result Request SubmitFault)
+    → t ≡ u → ps ≡ qs → Wanted t ps offered what items now result → WantedUnlessPaused u qs offered what items now result
+unless_paused t u ps qs offered what items now result a b w =
+    weaker result
+    (subst (λ (x : Topology). Wanted x qs offered what items now result) a (subst (λ (x : Packages). Wanted t x offered what items now result) b w))
+  where
+    weaker : (r : Result Request SubmitFault) → Wanted u qs offered what items now r → WantedUnlessPaused u qs offered what items now r
+    weaker (Ok request) h = h
+    weaker (Err fault) h = λ memory paused. h memory

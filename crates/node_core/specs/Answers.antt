@@ -1,0 +1,63 @@
+-- What a participant answers, as one value.
+use Rattle.std.specs.Prelude.{◌≡◌, ℕ, Bool, List, Option, Result, length}
+use Rattle.ledger_terms.specs.declared.submission.Submission.{Submission}
+use Rattle.ledger_model.specs.Terms.{ActiveRow}
+use Rattle.ledger_model.specs.declared.commit.Commit.{Commit}
+use Rattle.canton_model.specs.Inbox.{clean, clean_time, node_active, node_log, outcome_in}
+use Rattle.canton_model.specs.Timeline.{Outcome}
+use Rattle.world_model.specs.Machine.{Machine}
+use Rattle.world_model.specs.Messages.{Request, Response, ViewVerdict}
+use Rattle.node_inbox.specs.InboxState.{decided_since}
+use Rattle.prepare_request.specs.declared.submit_fault.SubmitFault.{SubmitFault}
+use Rattle.node_core.specs.Preparing.{prepare_answer}
+use Rattle.node_core.specs.Participant.{Participant, is_decided_there, items_of, next_place, next_response, owed_there, owes_there, params_of, reading_of}
+
+pub record Answers : Type 0 where
+  pub cursor : ℕ
+  pub clean : ℕ
+  pub clean_time : ℕ
+  pub applied : List Commit
+  pub active : List ActiveRow
+  pub is_paused : Bool
+  pub next_place : Option ℕ
+  pub owes : (k : ℕ) → Bool
+  pub owed : (k : ℕ) → List ViewVerdict
+  pub is_decided : (k : ℕ) → Bool
+  pub decided_since : (k : ℕ) → ℕ
+  pub next_response : Option Response
+  pub outcome : (k : ℕ) → Outcome
+  pub prepare : Submission → (now : ℕ) → Result Request SubmitFault
+
+abbrev pub answers_of : Participant → Answers
+answers_of p =
+    record {
+      cursor = length (items_of p);
+      clean = clean (params_of p) (items_of p);
+      clean_time = clean_time (params_of p) (items_of p);
+      applied = node_log (params_of p) (items_of p);
+      active = node_active (reading_of p) p.me (items_of p) (clean (params_of p) (items_of p));
+      is_paused = p.state.is_paused;
+      next_place = next_place p;
+      owes = owes_there p;
+      owed = owed_there p;
+      is_decided = is_decided_there p;
+      decided_since = decided_since (params_of p) (items_of p);
+      next_response = next_response p;
+      outcome = outcome_in (params_of p) (items_of p);
+      prepare = prepare_answer p;
+    }
+
+-- Two participants are one, over one setup, with equal inboxes, claims, outboxes and flags.
+pub record AreAlike (a b : Participant) : Type 0 where
+  pub topology : a.topology ≡ b.topology
+  pub packages : a.packages ≡ b.packages
+  pub me : a.me ≡ b.me
+  pub items : items_of a ≡ items_of b
+  pub claimed : a.state.claimed ≡ b.state.claimed
+  pub outbox : a.state.outbox ≡ b.state.outbox
+  pub is_paused : a.state.is_paused ≡ b.state.is_paused
+
+-- it reads requests as the machine does, and has its times
+pub record IsOf (m : Machine) (p : Participant) : Type 0 where
+  pub reading : m.reading ≡ reading_of p
+  pub params : m.params ≡ params_of p

@@ -1,0 +1,6 @@
+pub mod Duties
+pub mod Participant
+pub mod Completion
+pub mod Kept
+pub mod Answers
+pub mod Preparing

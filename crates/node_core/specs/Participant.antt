@@ -1,0 +1,72 @@
+-- What contracts see of a participant.
+use Rattle.std.specs.Prelude.{◌≡◌, ◌+◌, ℕ, suc, zero, take, Bool, ◌&&◌, List, [], ◌∷◌, Option, is_some, length, if◌then◌else◌}
+use Rattle.ledger_terms.specs.declared.topology.Topology.{Topology}
+use Rattle.ledger_model.specs.Terms.{ParticipantId}
+use Rattle.canton_model.specs.Log.{Params}
+use Rattle.canton_model.specs.Reading.{Reading}
+use Rattle.canton_model.specs.Genuine.{Genuine}
+use Rattle.canton_model.specs.Inbox.{Item, inbox, is_decided_in, shown_at}
+use Rattle.world_model.specs.Node.{NodeState, new_node, next_claim, outbox_head, owed_at, owes_at, response_at, is_decided_now}
+use Rattle.world_model.specs.Messages.{Entry, Response, ViewVerdict}
+use Rattle.lang_eval.specs.Found.{Packages}
+use Rattle.sealed_form.specs.SealedReading.{sealed_reading}
+
+-- The participants with their times, the packages, which participant it is, and its state.
+pub record Participant : Type 0 where
+  pub topology : Topology
+  pub packages : Packages
+  pub me : ParticipantId
+  pub state : NodeState
+
+-- how it reads requests
+abbrev pub reading_of : Participant → Reading
+reading_of p = sealed_reading p.topology p.packages
+
+abbrev pub params_of : Participant → Params
+params_of p = p.topology.params
+
+abbrev pub items_of : Participant → List Item
+items_of p = p.state.items
+
+abbrev pub begun : Topology → Packages → ParticipantId → Participant
+begun topology packages me = record { topology = topology; packages = packages; me = me; state = new_node }
+
+abbrev pub with_state : Participant → NodeState → Participant
+with_state p state = record { topology = p.topology; packages = p.packages; me = p.me; state = state }
+
+-- The list is genuine, and all of it was read but its last entry.
+pub record CanRead (p : Participant) (list : List Entry) : Type 0 where
+  pub cursor : length list ≡ length (items_of p) + 1
+  pub genuine : Genuine (reading_of p) (params_of p) list
+  pub before : items_of p ≡ inbox (reading_of p) p.me (take (length (items_of p)) list)
+
+-- it owes verdicts to the request at a place
+abbrev pub owes_there : Participant → ℕ → Bool
+owes_there p k = owes_at (reading_of p) p.me (items_of p) k
+
+-- the verdicts that it owes there
+abbrev pub owed_there : Participant → ℕ → List ViewVerdict
+owed_there p k = owed_at (reading_of p) (params_of p) p.me (items_of p) k
+
+abbrev pub response_there : Participant → ℕ → Response
+response_there p k = response_at (reading_of p) (params_of p) p.me (items_of p) k
+
+abbrev pub is_decided_there : Participant → ℕ → Bool
+is_decided_there p k = is_decided_now (params_of p) (items_of p) k
+
+-- the place that it claims next
+abbrev pub next_place : Participant → Option ℕ
+next_place p = next_claim (reading_of p) (params_of p) p.me p.state
+
+-- the response that it sends next
+abbrev pub next_response : Participant → Option Response
+next_response p = outbox_head (params_of p) p.state
+
+-- a request was received there, and is decided at the cursor
+abbrev pub is_received_decided : Params → List Item → ℕ → Bool
+is_received_decided params items k = is_some (shown_at items k) && is_decided_in params items k (length items)
+
+-- the places of so many that pass a test, from one on
+abbrev pub places_where : (ℕ → Bool) → (start count : ℕ) → List ℕ
+places_where test start zero = []
+places_where test start (suc count) = if test start then start ∷ places_where test (suc start) count else places_where test (suc start) count

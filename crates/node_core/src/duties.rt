@@ -1,0 +1,216 @@
+//! What a participant keeps of claims and responses.
+ghost use Rattle.std.specs.Prelude.{◌≡◌, ◌<◌, ◌≤◌, false, true, ℕ, Bool, All, find, take, length, option_copied, OnOk, OnErr, slice_get, ◌+◌, ◌++◌, ◌∷◌, []};
+ghost use Rattle.std.specs.Prelude.{vec_len, vec_capacity};
+ghost use Rattle.std.specs.List.{AllWithin, list_any};
+ghost use Rattle.std.specs.List.Sorted.{IsNonDecreasing};
+ghost use Rattle.indexmap.specs.IndexSet.{spare};
+ghost use Rattle.world_model.specs.Places.{has_place, without_place};
+ghost use Rattle.node_core.specs.Duties.{nothing_kept, with_passed, with_room, with_owed, with_claim, with_response, without_response, without_claim};
+ghost use Rattle.node_core.specs.Duties.{is_free, IsPassed, first_waiting};
+
+use crate::decisions::Decisions;
+use crate::outbox::{first_waiting, remove};
+use canton_model::Response;
+use indexmap::IndexSet;
+use ledger_terms::RoomyList;
+use std::alloc::{AllocError, Global};
+use std::marker::Model;
+
+/// The requests that a participant owes verdicts to, what it has claimed of them, and the responses that wait.
+#[derive(Drop)]
+pub struct Duties {
+    // Rising places.
+    owed: RoomyList<u64>,
+    // The owed places below this index are decided or claimed.
+    passed: usize,
+    claimed: IndexSet<u64>,
+    unfinished: Vec<u64>,
+    // It has room for a response to each unfinished place.
+    outbox: Vec<Response>,
+}
+
+impl Model for Duties {
+    ghost use Rattle.std.specs.Prelude.{◌≤◌, ◌+◌, length};
+    ghost use Rattle.std.specs.List.Sorted.{IsNonDecreasing};
+    ghost use Rattle.std.specs.Vec.{vec_capacity};
+    ghost use Rattle.node_core.specs.Duties.{Kept};
+
+    ghost Value = { Kept };
+
+    ghost view = { λ d. record {
+      owed = d.owed.items;
+      room = d.owed.spare;
+      passed = d.passed;
+      claimed = d.claimed.keys;
+      unfinished = d.unfinished.items;
+      outbox = d.outbox.items;
+    } };
+
+    ghost invariant = { λ d. IsNonDecreasing d.owed.items
+        × (length d.outbox.items + length d.unfinished.items ≤ vec_capacity d.outbox) };
+}
+
+// How many of the owed places are passed, where `passed` were before.
+fn passed_now<D: Decisions>(
+    decisions: &D,
+    owed: &[u64],
+    claimed: &IndexSet<u64>,
+    passed: usize,
+) -> usize
+    requires within { passed ≤ length owed.now }
+    requires passed { list_any (is_free (D.decided decisions.now) claimed.now.keys) (take passed owed.now) ≡ false }
+    ensures within { result ≤ length owed.now }
+    ensures passed { list_any (is_free (D.decided decisions.now) claimed.now.keys) (take result owed.now) ≡ false }
+    ensures first { slice_get owed.now result ≡ find (is_free (D.decided decisions.now) claimed.now.keys) owed.now }
+{
+    for at in passed..owed.len() {
+        let place = owed[at];
+        if !claimed.contains(&place) && !decisions.has_decided(place) {
+            return at;
+        }
+    }
+    owed.len()
+}
+
+fn places_below(owed: &[u64], place: u64) -> usize
+    requires { IsNonDecreasing owed.now }
+    ensures within { result ≤ length owed.now }
+    ensures below { AllWithin (λ k. k < place) owed.now 0 result }
+{
+    owed.partition_point(|k| *k < place)
+}
+
+impl Duties {
+    pub fn new(alloc: Global) -> Duties
+        ensures { result ≡ with_room nothing_kept result.room }
+    {
+        Duties {
+            owed: RoomyList::new(alloc),
+            passed: 0,
+            claimed: IndexSet::new(alloc),
+            unfinished: Vec::new(alloc),
+            outbox: Vec::new(alloc),
+        }
+    }
+
+    /// Makes room for one more owed place.
+    pub fn reserve(&mut self) -> Result<(), AllocError>
+        ensures same { self.new ≡ with_room self.old self.new.room }
+        ensures room { OnOk result (0 < self.new.room) }
+    {
+        self.owed.reserve(1)
+    }
+
+    /// It owes verdicts to the request at a place.
+    pub fn owe(&mut self, place: u64)
+        requires room { 0 < self.old.room }
+        requires last { All (λ k. k ≤ place) self.old.owed }
+        ensures { self.new ≡ with_room (with_owed self.old place) self.new.room }
+    {
+        self.owed.push_within(place);
+    }
+
+    /// The first owed place that is neither decided nor claimed.
+    pub fn next_place<D: Decisions>(&mut self, decisions: &D) -> Option<u64>
+        requires { IsPassed (D.decided decisions.now) self.old }
+        ensures place { result ≡ find (is_free (D.decided decisions.now) self.old.claimed) self.old.owed }
+        ensures passed { IsPassed (D.decided decisions.now) self.new }
+        ensures same { self.new ≡ with_passed self.old self.new.passed }
+    {
+        self.passed = passed_now(decisions, self.owed.as_slice(), &self.claimed, self.passed);
+        self.owed.get(self.passed).copied()
+    }
+
+    /// Claims a place, with room for its response.
+    pub fn claim(&mut self, place: u64) -> Result<(), AllocError>
+        requires { has_place self.old.claimed place ≡ false }
+        ensures ok { OnOk result (self.new ≡ with_claim self.old place) }
+        ensures err { OnErr result (self.new ≡ self.old) }
+    {
+        make_room(&mut self.claimed, &mut self.unfinished, &mut self.outbox)?;
+        put_claim(&mut self.claimed, place);
+        self.unfinished.push_reserved(place);
+        Ok(())
+    }
+
+    /// A response, where a job of its request is unfinished.
+    pub fn finish(&mut self, response: Response)
+        requires { has_place self.old.unfinished response.request ≡ true }
+        ensures { self.new ≡ with_response self.old response }
+    {
+        let place = response.request;
+        drop_place(&mut self.unfinished, place);
+        self.outbox.push_reserved(response);
+    }
+
+    /// Whether a job of the request at a place was claimed and neither finished nor put back.
+    pub fn is_unfinished(&self, place: u64) -> bool
+        ensures { result ≡ has_place self.now.unfinished place }
+    {
+        self.unfinished.iter().any(|k| place == *k)
+    }
+
+    /// Takes back the claim of a place and its response.
+    pub fn put_back(&mut self, place: u64)
+        ensures state { self.new ≡ without_claim self.old place self.new.passed }
+        ensures passed { (decided : ℕ → Bool) → IsPassed decided self.old → IsPassed decided self.new }
+    {
+        self.passed = self.passed.min(places_below(self.owed.as_slice(), place));
+        drop_claim(&mut self.claimed, place);
+        drop_place(&mut self.unfinished, place);
+        remove(&mut self.outbox, place);
+    }
+
+    /// The first response in order of place whose request isn't decided.
+    pub fn first_waiting<D: Decisions>(&self, decisions: &D) -> Option<&Response>
+        ensures { option_copied result ≡ first_waiting (D.decided decisions.now) self.now.outbox }
+    {
+        first_waiting(decisions, self.outbox.as_slice())
+    }
+
+    /// The response to a request is sent.
+    pub fn sent(&mut self, request: u64)
+        ensures { self.new ≡ without_response self.old request }
+    {
+        remove(&mut self.outbox, request);
+    }
+}
+
+// Room for one more claim and for the responses to all unfinished places.
+fn make_room(
+    claimed: &mut IndexSet<u64>,
+    unfinished: &mut Vec<u64>,
+    outbox: &mut Vec<Response>,
+) -> Result<(), AllocError>
+    ensures claimed { claimed.new.keys ≡ claimed.old.keys }
+    ensures unfinished { unfinished.new.items ≡ unfinished.old.items }
+    ensures outbox { outbox.new.items ≡ outbox.old.items }
+    ensures kept { vec_capacity outbox.old ≤ vec_capacity outbox.new }
+    ensures room { OnOk result ((0 < spare claimed.new) × (vec_len unfinished.new < vec_capacity unfinished.new)
+        × (length outbox.new.items + length unfinished.new.items < vec_capacity outbox.new)) }
+{
+    claimed.reserve(1)?;
+    unfinished.reserve(1)?;
+    outbox.reserve(unfinished.len() + 1)
+}
+
+// One more claim, in the room that is there.
+fn put_claim(claimed: &mut IndexSet<u64>, place: u64)
+    requires room { 0 < spare claimed.old }
+    requires new { has_place claimed.old.keys place ≡ false }
+    ensures { claimed.new.keys ≡ claimed.old.keys ++ place ∷ [] }
+{
+    let _ = claimed.insert(place).unwrap();
+}
+
+fn drop_claim(claimed: &mut IndexSet<u64>, place: u64)
+    ensures { claimed.new.keys ≡ without_place place claimed.old.keys }
+{
+    claimed.retain(|k| *k != place);
+}
+
+fn drop_place(places: &mut Vec<u64>, place: u64)
+    ensures { places.new.items ≡ without_place place places.old.items }
+{
+    places.retain(|k| *k != place);
+}

@@ -1,0 +1,50 @@
+//! Decisions that were told.
+ghost use Rattle.std.specs.Prelude.{◌≡◌, drop, length, option_copied};
+ghost use Rattle.canton_model.specs.Inbox.{moments, verdict_in};
+ghost use Rattle.canton_model.specs.Timeline.{decision_on, verdict_on};
+ghost use Rattle.inbox_standing.specs.Order.{VerdictsBehind};
+ghost use Rattle.node_inbox.specs.Items.{model_content, model_items};
+
+use crate::kept_item::{KeptContent, KeptItem};
+use canton_model::Decision;
+
+fn decision_in(content: &KeptContent, request: u64) -> Option<&Decision>
+    ensures { option_copied result ≡ decision_on request (verdict_in (model_content content.now)) }
+{
+    match content {
+        KeptContent::Told(verdict) => {
+            if verdict.request == request {
+                Some(&verdict.decision)
+            } else {
+                None
+            }
+        }
+        KeptContent::Received(_) => None,
+        KeptContent::Nothing => None,
+    }
+}
+
+fn decision_among(items: &[KeptItem], request: u64) -> Option<&Decision>
+    ensures { option_copied result ≡ verdict_on request (moments (model_items items.now)) }
+{
+    'items: for item in items {
+        if let Some(decision) = decision_in(&item.content, request) {
+            return Some(decision);
+        }
+    }
+    None
+}
+
+fn items_from(items: &[KeptItem], place: u64) -> &[KeptItem]
+    ensures { result.now ≡ drop place items.now }
+{
+    &items[(place as usize).min(items.len())..]
+}
+
+/// The decision of the verdict on the request at a place. Goes through what was read from that place on.
+pub fn decision_at(items: &[KeptItem], place: u64) -> Option<&Decision>
+    requires behind { VerdictsBehind 0 (model_items items.now) }
+    ensures { option_copied result ≡ verdict_on place (moments (model_items items.now)) }
+{
+    decision_among(items_from(items, place), place)
+}
