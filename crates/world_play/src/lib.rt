@@ -1,0 +1,9 @@
+//! The world of one synchroniser: its sequencer, its mediator and its participants, and the calls that move it.
+#![tactic(auto)]
+
+mod handing_in;
+mod mediating;
+mod reading;
+mod sending;
+mod turn;
+mod validating;
