@@ -1,6 +1,10 @@
+pub mod Answered
 pub mod Moved
 pub mod Readers
 pub mod Jobs
 pub mod Sends
-pub mod Mediates
 pub mod Turns
+pub mod Mediates
+pub mod Passing
+pub mod Passed
+pub mod Settles

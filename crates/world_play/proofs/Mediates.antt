@@ -237,3 +237,15 @@ all_read_before m state mediator before s on i =
           ∙ (take_grown before.list on.more (length before.list) (le_refl (length before.list))
           ∙ take_all (length before.list) before.list (le_refl (length before.list)))) i.has;
     }
+
+pub verdicts_are : (m : Machine) (after : MediatorState) (given : List ℕ) (mediator : Kept) (s : Sequenced) → IsMediator m after (length s.list) mediator s
+    → after.given ≡ given → verdict_messages after.given after.cases ≡ verdict_messages given (cases_of m.params s.list)
+verdicts_are m after given mediator s i same =
+    ap (λ (g : List ℕ). verdict_messages g after.cases) same
+    ∙ ap (verdict_messages given) ((i.has).cases ∙ ap (cases_of m.params) (take_all (length s.list) s.list (le_refl (length s.list))))
+
+-- another value that keeps the same
+pub same_mediator : (m : Machine) (state : MediatorState) (n : ℕ) (mediator after : Kept) (s : Sequenced) → IsMediator m state n mediator s
+    → after.params ≡ mediator.params → Keeps after state → IsMediator m state n after s
+same_mediator m state n mediator after s i same keeps =
+    record { is_for = i.is_for; behind = i.behind; params = same ∙ i.params; keeps = keeps; within = i.within; has = i.has }

@@ -99,8 +99,12 @@ module _ (first : NodeValue) (log : List Entry) where
                   ∙ ap (has_read first) (sym (take_next r.read log next.0 (ap (slice_get log) (sym is_read) ∙ next.1))))));
             }
 
+        after_long : length (after.state).items ≡ suc r.read
+        unfolding reads_on
+        after_long = cursor_is after reads_on
+
         pub smaller : length log - length (after.state).items < length log - length (node.state).items
-        smaller = let a = cursor_is after reads_on in let s = is_read in omega (arith, lt, s, at, a)
+        smaller = let a = after_long in let s = is_read in omega (arith, lt, s, at, a)
 
   pub ends : (node : NodeValue) → IsReader first log node → length log ≤ length (node.state).items → node ≡ has_read first log
   ends node r le =

@@ -44,7 +44,7 @@ module _ (m : Machine) (p : ParticipantId) where
 
     -- after reading
     module _ (n : ℕ) (from : given.read ≤ n) where
-      more : List Item
+      abbrev more : List Item
       more = items_after m.reading p (take given.read s.list) (drop given.read (take n s.list))
 
       items_more : (first.state).items ++ more ≡ inbox m.reading p (take n s.list)

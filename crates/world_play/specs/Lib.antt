@@ -1,2 +1,4 @@
 pub mod Reading
 pub mod Standing
+pub mod Worlds
+pub mod WorldOf

@@ -3,7 +3,12 @@
 
 mod handing_in;
 mod mediating;
+mod pass;
 mod reading;
 mod sending;
+mod settling;
 mod turn;
 mod validating;
+mod world;
+
+pub use world::{NodeList, World};
