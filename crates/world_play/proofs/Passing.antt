@@ -44,6 +44,14 @@ item_at [] k x lt = absurd (omega (arith, lt))
 item_at (y ∷ ys) zero x lt = refl
 item_at (y ∷ ys) (suc k) x lt = item_at ys k x (omega (arith, lt))
 
+pub set_same : {X : Type 0} (xs : List X) (k : ℕ) (x : X) → slice_set xs k (slice_index_or xs k x) ≡ xs
+set_same [] k x = refl
+set_same (y ∷ ys) zero x = refl
+set_same (y ∷ ys) (suc k) x = ap (λ (zs : List _). y ∷ zs) (set_same ys k x)
+
+pub item_within : {k n m : ℕ} → k < n → m ≡ n → k < m
+item_within lt same = omega (arith, lt, same)
+
 set_at_cases : (nodes : List NodeValue) (k i : ℕ) (x y : NodeValue) → slice_get (slice_set nodes k x) i ≡ Some y
     → ((i ≡ k) × (x ≡ y)) ⊎ (slice_get nodes i ≡ Some y)
 set_at_cases [] k i x y e = inr e

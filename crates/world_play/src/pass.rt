@@ -13,7 +13,7 @@ ghost use Rattle.world_play.specs.WorldOf.{IsWorldOf, world_of};
 
 use crate::mediating::mediate;
 use crate::turn::take_turn;
-use crate::world::World;
+use crate::world::{NodeList, World};
 use ledger_terms::ParticipantId;
 use node_full::Node;
 use seq_log::Sequencer;
@@ -27,8 +27,8 @@ fn is_among(participants: &[ParticipantId], at: usize) -> bool
         .any(|participant| at == participant.0 as usize)
 }
 
-/// Each participant that isn't paused has its turn, in order.
-fn take_turns(
+// Each participant that isn't paused has its turn, in order.
+fn take_turns_slice(
     alloc: Global,
     nodes: &mut [Node<'_>],
     sequencer: &mut Sequencer<'_>,
@@ -54,6 +54,26 @@ fn take_turns(
     Ok(())
 }
 
+// The same of a list.
+fn take_turns(
+    alloc: Global,
+    nodes: &mut NodeList<'_>,
+    sequencer: &mut Sequencer<'_>,
+    paused: &[ParticipantId],
+) -> Result<(), AllocError>
+    requires { (m : Machine) × (now : ℕ) × (state : MediatorState) × AreNodesOf m nodes.old.items sequencer.old
+        × Lawful m (world_with now state nodes.old.items sequencer.old) }
+    ensures on { GoesOn sequencer.old sequencer.new }
+    ensures nodes { (m : Machine) → AreNodesOf m nodes.old.items sequencer.old → AreNodesOf m nodes.new.items sequencer.new }
+    ensures lawful { (m : Machine) (now : ℕ) (state : MediatorState) → AreNodesOf m nodes.old.items sequencer.old
+        → Lawful m (world_with now state nodes.old.items sequencer.old) → Lawful m (world_with now state nodes.new.items sequencer.new) }
+    ensures ok { OnOk result ((m : Machine) (now : ℕ) (state : MediatorState) (began : List Entry) → AreNodesOf m nodes.old.items sequencer.old
+        → PassedTo m paused.now began 0 (world_with now state nodes.old.items sequencer.old)
+        → PassedTo m paused.now began m.hosts (world_with now state nodes.new.items sequencer.new)) }
+{
+    take_turns_slice(alloc, nodes.as_mut_slice(), sequencer, paused)
+}
+
 /// Each participant that isn't paused has its turn, and then the mediator. After want of memory the pass was made in part.
 pub fn pass(
     alloc: Global,
@@ -71,11 +91,6 @@ pub fn pass(
         → (after : MediatorState) × IsWorldOf m after world.new × WorldReady m paused.now (world_of after world.new)
         × ((world.new.sequencer).list ≡ pass m world.old.now paused.now hold_verdicts (world.old.sequencer).list)) }
 {
-    take_turns(
-        alloc,
-        world.nodes.as_mut_slice(),
-        &mut world.sequencer,
-        paused,
-    )?;
+    take_turns(alloc, &mut world.nodes, &mut world.sequencer, paused)?;
     mediate(&mut world.mediator, &mut world.sequencer, hold_verdicts)
 }

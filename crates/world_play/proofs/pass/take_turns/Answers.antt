@@ -1,63 +1,48 @@
-use Rattle.std.proofs.Common.{List, refl, sym, ap, ◌∙◌, ◌+◌, subst, arith}
-use Rattle.std.specs.Prelude.{slice_index_or, slice_set}
-use Rattle.world_model.specs.Places.{has_place}
-use Rattle.seq_log.specs.Sequenced.{Sequenced}
+use Rattle.std.proofs.Common.{List, rules, sym, subst}
+use Rattle.std.proofs.lemmas.List.{with_items_is, places}
+use Rattle.world_model.specs.Lawful.{Lawful}
+use Rattle.world_model.specs.Settling.{PassedTo}
 use Rattle.node_full.specs.NodeValue.{NodeValue}
-use Rattle.world_play.proofs.Passing.{IsTurning, item_at, in_turn, left_nodes, left_lawful, turning_on, turning_past, turning_ends}
+use Rattle.world_play.specs.Worlds.{world_with, AreNodesOf}
+use Rattle.world_play.proofs.Answered.{on_ok}
 use Rattle.world_play.proofs.pass.take_turns.Goals as goal
-use Rattle.world_play.proofs.pass.take_turns.Goals.{then-not-is_among+in_ok-take_turn, else-not-is_among}
 
-pub take_turn-requires : goal.take_turn-requires
-take_turn-requires c =
-    let t = c.nodes.invariant.1 in
-    let k = c.nodes.node-index in
-    (
-      c.requires.0,
-      k,
-      in_turn c.args.paused.now c.args.nodes.now c.args.sequencer.now c.nodes.nodes c.nodes.sequencer k t
-          (slice_index_or c.nodes.nodes k c.node-item.result) (item_at c.nodes.nodes k c.node-item.result c.nodes-test.true) c.requires.0 c.requires.1 c.requires.2
-          (t.nodes_of c.requires.0 c.requires.3) (t.lawful c.requires.0 c.requires.1 c.requires.2 c.requires.3 c.requires.4),
+pub take_turns_slice-requires : goal.take_turns_slice-requires
+take_turns_slice-requires c =
+    let r = c.requires in
+    let at = sym c.as_mut_slice.ensures.value in
+    let s = c.args.sequencer.now in (
+      r.0,
+      r.1,
+      r.2,
+      subst (λ (xs : List NodeValue). AreNodesOf r.0 xs s) at r.3,
+      subst (λ (xs : List NodeValue). Lawful r.0 (world_with r.1 r.2 xs s)) at r.4,
     )
 
-pub returns-in_err-take_turn-clause-nodes : goal.returns-in_err-take_turn-clause-nodes
-returns-in_err-take_turn-clause-nodes c =
-    left_nodes c.args.paused.now c.args.nodes.now c.args.sequencer.now c.nodes.nodes c.nodes.sequencer c.nodes.node-index c.nodes.invariant.1
-    (slice_index_or c.nodes.nodes c.nodes.node-index c.node-item.result) (item_at c.nodes.nodes c.nodes.node-index c.node-item.result c.nodes-test.true)
-    c.take_turn.new.node c.take_turn.new.sequencer c.take_turn.ensures.on c.take_turn.ensures.same c.take_turn.ensures.keeps
+pub returns-clause-nodes : goal.returns-clause-nodes
+returns-clause-nodes c = λ m a.
+    let at = sym c.as_mut_slice.ensures.value in
+    let s = c.args.sequencer.now in
+    let all = with_items_is c.args.nodes.now c.take_turns_slice.new.nodes (search (rules, places)) in
+    subst (λ (xs : List NodeValue). AreNodesOf m xs c.take_turns_slice.new.sequencer) (sym all)
+    (c.take_turns_slice.ensures.nodes m (subst (λ (xs : List NodeValue). AreNodesOf m xs s) at a))
 
-pub returns-in_err-take_turn-clause-lawful : goal.returns-in_err-take_turn-clause-lawful
-returns-in_err-take_turn-clause-lawful c =
-    left_lawful c.args.paused.now c.args.nodes.now c.args.sequencer.now c.nodes.nodes c.nodes.sequencer c.nodes.node-index c.nodes.invariant.1
-    (slice_index_or c.nodes.nodes c.nodes.node-index c.node-item.result) (item_at c.nodes.nodes c.nodes.node-index c.node-item.result c.nodes-test.true)
-    c.take_turn.new.node c.take_turn.new.sequencer c.take_turn.ensures.on c.take_turn.ensures.same c.take_turn.ensures.keeps
-
-pub nodes-preserved : goal.nodes-preserved
-nodes-preserved c =
-    let inv = c.nodes.invariant in
-    let k = c.nodes.node-index in
-    let paused = c.args.paused.now in
-    let first = c.args.nodes.now in
-    let began = c.args.sequencer.now in
-    let node = slice_index_or c.nodes.nodes k c.node-item.result in
-    (
-      ap (λ i. i + 1) inv.0,
-      elim c.if-not-is_among.branch [
-        | then-not-is_among+in_ok-take_turn w ↦
-            subst (λ (ns : List NodeValue). IsTurning paused first began ns c.if-not-is_among.sequencer (k + 1)) (sym w.nodes-is)
-            (subst (λ (q : Sequenced). IsTurning paused first began (slice_set c.nodes.nodes k w.take_turn.new.node) q (k + 1)) (sym w.sequencer-is)
-            (turning_on paused first began c.nodes.nodes c.nodes.sequencer k inv.1 node (item_at c.nodes.nodes k c.node-item.result c.nodes-test.true)
-            w.take_turn.new.node w.take_turn.new.sequencer w.take_turn.ensures.on w.take_turn.ensures.same w.take_turn.ensures.keeps
-            (ap (has_place paused) (sym inv.0) ∙ (sym c.is_among.ensures ∙ w.if-not-is_among.true))
-            w.in_ok-take_turn.ensures.sends w.in_ok-take_turn.ensures.has))
-        | else-not-is_among w ↦
-            subst (λ (ns : List NodeValue). IsTurning paused first began ns c.if-not-is_among.sequencer (k + 1)) (sym w.nodes-is)
-            (subst (λ (q : Sequenced). IsTurning paused first began c.nodes.nodes q (k + 1)) (sym w.sequencer-is)
-            (turning_past paused first began c.nodes.nodes c.nodes.sequencer k inv.1
-            (ap (has_place paused) (sym inv.0) ∙ (sym c.is_among.ensures ∙ w.if-not-is_among.false))))
-      ],
-    )
+pub returns-clause-lawful : goal.returns-clause-lawful
+returns-clause-lawful c = λ m now state a l.
+    let at = sym c.as_mut_slice.ensures.value in
+    let s = c.args.sequencer.now in
+    let all = with_items_is c.args.nodes.now c.take_turns_slice.new.nodes (search (rules, places)) in
+    subst (λ (xs : List NodeValue). Lawful m (world_with now state xs c.take_turns_slice.new.sequencer)) (sym all)
+    (c.take_turns_slice.ensures.lawful m now state (subst (λ (xs : List NodeValue). AreNodesOf m xs s) at a)
+    (subst (λ (xs : List NodeValue). Lawful m (world_with now state xs s)) at l))
 
 pub returns-clause-ok : goal.returns-clause-ok
 returns-clause-ok c =
-    turning_ends c.args.paused.now c.args.nodes.now c.args.sequencer.now c.nodes.nodes c.nodes.sequencer c.nodes.node-index c.nodes.invariant.1
-    (let ends = c.nodes.auto.node-index-end in let out = c.nodes-test.false in omega (arith, ends, out))
+    on_ok c.take_turns_slice.result _ _ c.take_turns_slice.ensures.ok
+    (λ ok m now state began a h.
+    let at = sym c.as_mut_slice.ensures.value in
+    let s = c.args.sequencer.now in
+    let all = with_items_is c.args.nodes.now c.take_turns_slice.new.nodes (search (rules, places)) in
+    subst (λ (xs : List NodeValue). PassedTo m c.args.paused.now began m.hosts (world_with now state xs c.take_turns_slice.new.sequencer)) (sym all)
+    (ok m now state began (subst (λ (xs : List NodeValue). AreNodesOf m xs s) at a)
+    (subst (λ (xs : List NodeValue). PassedTo m c.args.paused.now began 0 (world_with now state xs s)) at h)))
