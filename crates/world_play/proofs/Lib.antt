@@ -8,3 +8,5 @@ pub mod Mediates
 pub mod Passing
 pub mod Passed
 pub mod Settles
+pub mod Scanned
+pub mod Resumes

@@ -1,10 +1,13 @@
 //! The world of one synchroniser: its sequencer, its mediator and its participants, and the calls that move it.
 #![tactic(auto)]
 
+mod among;
 mod handing_in;
 mod mediating;
 mod pass;
 mod reading;
+mod resuming;
+mod scanning;
 mod sending;
 mod settling;
 mod turn;

@@ -3,7 +3,6 @@ ghost use Rattle.std.specs.Prelude.{◌≡◌, ℕ, List, OnOk};
 ghost use Rattle.world_model.specs.Messages.{Entry};
 ghost use Rattle.world_model.specs.Machine.{Machine};
 ghost use Rattle.world_model.specs.Mediator.{MediatorState};
-ghost use Rattle.world_model.specs.Places.{has_place};
 ghost use Rattle.world_model.specs.Lawful.{Lawful};
 ghost use Rattle.world_model.specs.Settled.{pass};
 ghost use Rattle.world_model.specs.Settling.{PassedTo, WorldReady};
@@ -11,6 +10,7 @@ ghost use Rattle.world_play.specs.Standing.{GoesOn};
 ghost use Rattle.world_play.specs.Worlds.{AreNodesOf, world_with};
 ghost use Rattle.world_play.specs.WorldOf.{IsWorldOf, world_of};
 
+use crate::among::is_among;
 use crate::mediating::mediate;
 use crate::turn::take_turn;
 use crate::world::{NodeList, World};
@@ -18,14 +18,6 @@ use ledger_terms::ParticipantId;
 use node_full::Node;
 use seq_log::Sequencer;
 use std::alloc::{AllocError, Global};
-
-fn is_among(participants: &[ParticipantId], at: usize) -> bool
-    ensures { result ≡ has_place participants.now at }
-{
-    participants
-        .iter()
-        .any(|participant| at == participant.0 as usize)
-}
 
 // Each participant that isn't paused has its turn, in order.
 fn take_turns_slice(
