@@ -9,4 +9,6 @@ pub mod Passing
 pub mod Passed
 pub mod Settles
 pub mod Scanned
+pub mod Each
 pub mod Resumes
+pub mod Catches

@@ -25,7 +25,7 @@ use Rattle.world_play.specs.Standing.{IsMediator, HasAll, GoesOn}
 use Rattle.world_play.proofs.Sends.{stays, goes_further, still_for}
 
 -- what stands in a beginning of a list
-in_beginning : {X : Type 0} (k n : ℕ) (xs : List X) (x : X) → slice_get (take n xs) k ≡ Some x → k < n → slice_get xs k ≡ Some x
+pub in_beginning : {X : Type 0} (k n : ℕ) (xs : List X) (x : X) → slice_get (take n xs) k ≡ Some x → k < n → slice_get xs k ≡ Some x
 in_beginning k zero xs x e lt = absurd (omega (arith, lt))
 in_beginning k (suc n) [] x e lt = e
 in_beginning zero (suc n) (y ∷ xs) x e lt = e

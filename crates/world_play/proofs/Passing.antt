@@ -61,6 +61,55 @@ set_at_cases (z ∷ zs) (suc k) zero x y e = inr e
 set_at_cases (z ∷ zs) (suc k) (suc i) x y e =
     elim (set_at_cases zs k i x y e) [ inl h ↦ inl (ap suc h.0, h.1) | inr h ↦ inr h ]
 
+-- one participant moved
+module _ (nodes : List NodeValue) (s : Sequenced) (k : ℕ) (node : NodeValue) (at : slice_get nodes k ≡ Some node) where
+  -- the participant at its turn
+  pub in_turn : (m : Machine) (now : ℕ) (state : MediatorState) → AreNodesOf m nodes s → Lawful m (world_with now state nodes s)
+      → IsParticipant m k node s
+  in_turn m now state a l =
+      let n = l.node k node.state (map_at nodes k node at) in
+      record {
+        is_reading = a.is_reading;
+        is_for = a.is_for;
+        behind = record { genuine = l.genuine; within_capacity = l.within_capacity };
+        is = a.node k node at;
+        read = n.0;
+        within = n.1;
+        has = n.2;
+      }
+
+  module _ (node' : NodeValue) (s' : Sequenced) (on : GoesOn s s') (same : node' ≡ with_state node node'.state)
+      (keeps : (m : Machine) (p : ParticipantId) → IsParticipant m p node s → IsParticipant m p node' s') where
+    abbrev nodes' : List NodeValue
+    nodes' = slice_set nodes k node'
+
+    pub nodes_then : (m : Machine) → AreNodesOf m nodes s → AreNodesOf m nodes' s'
+    nodes_then m a =
+        record {
+          is_reading = a.is_reading;
+          is_for = still_for m s s' on a.is_for;
+          node = λ p x there. elim (set_at_cases nodes k p node' x there) [
+            | inl here ↦
+                let i = a.node k node at in
+                subst (λ (q : ParticipantId). IsNodeOf m q x) (sym here.0)
+                (subst (IsNodeOf m k) (sym same ∙ here.1) (record { reading = i.reading; params = i.params; me = i.me }))
+            | inr old ↦ let i = a.node p x old in record { reading = i.reading; params = i.params; me = i.me }
+          ];
+        }
+
+    pub lawful_then : (m : Machine) (now : ℕ) (state : MediatorState) → AreNodesOf m nodes s → Lawful m (world_with now state nodes s)
+        → Lawful m (world_with now state nodes' s')
+    lawful_then m now state a l =
+        let p' = keeps m k (in_turn m now state a l) in
+        let grown : Lawful m (record { log = s.list ++ on.more; now = now; mediator = state; nodes = map state_of nodes }) =
+        lawful_grown m (world_with now state nodes s) on.more now l (subst (λ (xs : List Entry). Genuine m.reading m.params xs) on.is_more (p'.behind).genuine)
+        (subst (λ (xs : List Entry). reserved xs ≤ m.capacity) on.is_more (p'.behind).within_capacity) in
+        let here : Lawful m (record { log = s'.list; now = now; mediator = state; nodes = map state_of nodes }) =
+        subst (λ (xs : List Entry). Lawful m (record { log = xs; now = now; mediator = state; nodes = map state_of nodes })) (sym on.is_more) grown in
+        subst (λ (xs : List NodeState). Lawful m (record { log = s'.list; now = now; mediator = state; nodes = xs })) (sym (map_set nodes k node'))
+        (lawful_with_node m (record { log = s'.list; now = now; mediator = state; nodes = map state_of nodes }) k node'.state here
+        (p'.read, p'.within, p'.has))
+
 module _ (paused : List ParticipantId) (first : List NodeValue) (began_at : Sequenced) where
   pub record IsTurning (nodes : List NodeValue) (s : Sequenced) (k : ℕ) : Type 0 where
     pub on : GoesOn began_at s
@@ -80,60 +129,19 @@ module _ (paused : List ParticipantId) (first : List NodeValue) (began_at : Sequ
       }
 
   module _ (nodes : List NodeValue) (s : Sequenced) (k : ℕ) (t : IsTurning nodes s k) (node : NodeValue) (at : slice_get nodes k ≡ Some node) where
-    -- the participant at its turn
-    pub in_turn : (m : Machine) (now : ℕ) (state : MediatorState) → AreNodesOf m nodes s → Lawful m (world_with now state nodes s)
-        → IsParticipant m k node s
-    in_turn m now state a l =
-        let n = l.node k node.state (map_at nodes k node at) in
-        record {
-          is_reading = a.is_reading;
-          is_for = a.is_for;
-          behind = record { genuine = l.genuine; within_capacity = l.within_capacity };
-          is = a.node k node at;
-          read = n.0;
-          within = n.1;
-          has = n.2;
-        }
-
     module _ (node' : NodeValue) (s' : Sequenced) (on : GoesOn s s') (same : node' ≡ with_state node node'.state)
         (keeps : (m : Machine) (p : ParticipantId) → IsParticipant m p node s → IsParticipant m p node' s') where
-      abbrev nodes' : List NodeValue
-      nodes' = slice_set nodes k node'
-
-      nodes_then : (m : Machine) → AreNodesOf m nodes s → AreNodesOf m nodes' s'
-      nodes_then m a =
-          record {
-            is_reading = a.is_reading;
-            is_for = still_for m s s' on a.is_for;
-            node = λ p x there. elim (set_at_cases nodes k p node' x there) [
-              | inl here ↦
-                  let i = a.node k node at in
-                  subst (λ (q : ParticipantId). IsNodeOf m q x) (sym here.0)
-                  (subst (IsNodeOf m k) (sym same ∙ here.1) (record { reading = i.reading; params = i.params; me = i.me }))
-              | inr old ↦ let i = a.node p x old in record { reading = i.reading; params = i.params; me = i.me }
-            ];
-          }
-
-      lawful_then : (m : Machine) (now : ℕ) (state : MediatorState) → AreNodesOf m nodes s → Lawful m (world_with now state nodes s)
-          → Lawful m (world_with now state nodes' s')
-      lawful_then m now state a l =
-          let p' = keeps m k (in_turn m now state a l) in
-          let grown : Lawful m (record { log = s.list ++ on.more; now = now; mediator = state; nodes = map state_of nodes }) =
-          lawful_grown m (world_with now state nodes s) on.more now l (subst (λ (xs : List Entry). Genuine m.reading m.params xs) on.is_more (p'.behind).genuine)
-          (subst (λ (xs : List Entry). reserved xs ≤ m.capacity) on.is_more (p'.behind).within_capacity) in
-          let here : Lawful m (record { log = s'.list; now = now; mediator = state; nodes = map state_of nodes }) =
-          subst (λ (xs : List Entry). Lawful m (record { log = xs; now = now; mediator = state; nodes = map state_of nodes })) (sym on.is_more) grown in
-          subst (λ (xs : List NodeState). Lawful m (record { log = s'.list; now = now; mediator = state; nodes = xs })) (sym (map_set nodes k node'))
-          (lawful_with_node m (record { log = s'.list; now = now; mediator = state; nodes = map state_of nodes }) k node'.state here
-          (p'.read, p'.within, p'.has))
+      abbrev moved : List NodeValue
+      moved = slice_set nodes k node'
 
       -- it broke off
-      pub left_nodes : (m : Machine) → AreNodesOf m first began_at → AreNodesOf m nodes' s'
-      left_nodes m a = nodes_then m (t.nodes_of m a)
+      pub left_nodes : (m : Machine) → AreNodesOf m first began_at → AreNodesOf m moved s'
+      left_nodes m a = nodes_then nodes s k node at node' s' on same keeps m (t.nodes_of m a)
 
       pub left_lawful : (m : Machine) (now : ℕ) (state : MediatorState) → AreNodesOf m first began_at
-          → Lawful m (world_with now state first began_at) → Lawful m (world_with now state nodes' s')
-      left_lawful m now state a l = lawful_then m now state (t.nodes_of m a) (t.lawful m now state a l)
+          → Lawful m (world_with now state first began_at) → Lawful m (world_with now state moved s')
+      left_lawful m now state a l =
+          lawful_then nodes s k node at node' s' on same keeps m now state (t.nodes_of m a) (t.lawful m now state a l)
 
       pub left_on : GoesOn began_at s'
       left_on = goes_further began_at s s' t.on on
@@ -143,7 +151,7 @@ module _ (paused : List ParticipantId) (first : List NodeValue) (began_at : Sequ
           (sends : (m : Machine) (p : ParticipantId) (now : ℕ) → IsParticipant m p node s
           → s'.list ≡ append_each m now s.list (turn_messages m p s.list node.state))
           (has : (m : Machine) (p : ParticipantId) → IsParticipant m p node s → NodeHas m p s.list node'.state) where
-        turned : IsTurning nodes' s' (suc k)
+        turned : IsTurning moved s' (suc k)
         turned =
             record {
               on = left_on;
@@ -153,15 +161,15 @@ module _ (paused : List ParticipantId) (first : List NodeValue) (began_at : Sequ
                   let w = world_with now state nodes s in
                   let done = t.passed m now state began a h in
                   let a' = t.nodes_of m a in
-                  let given = in_turn m now state a' ((done.ready).lawful) in
+                  let given = in_turn nodes s k node at m now state a' ((done.ready).lawful) in
                   subst (λ (xs : List NodeState). PassedTo m paused began (suc k) (record { log = s'.list; now = now; mediator = state; nodes = xs }))
                   (sym (map_set nodes k node'))
                   (subst (λ (xs : List Entry). PassedTo m paused began (suc k) (with_node (with_log w xs) k node'.state)) (sym (sends m k now given))
                   (turn m paused began k w node.state node'.state a'.is_reading done (map_at nodes k node at) awake (has m k given)));
             }
 
-        pub turning_on : IsTurning nodes' s' (k + 1)
-        turning_on = let one : suc k ≡ k + 1 = omega arith in subst (IsTurning nodes' s') one turned
+        pub turning_on : IsTurning moved s' (k + 1)
+        turning_on = let one : suc k ≡ k + 1 = omega arith in subst (IsTurning moved s') one turned
 
   pub turning_past : (nodes : List NodeValue) (s : Sequenced) (k : ℕ) → IsTurning nodes s k → has_place paused k ≡ true → IsTurning nodes s (k + 1)
   turning_past nodes s k t asleep =

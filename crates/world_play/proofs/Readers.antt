@@ -26,7 +26,7 @@ module _ {X : Type 0} where
   take_take (suc n) (suc k) (x ∷ xs) le = ap (λ (ys : List X). x ∷ ys) (take_take n k xs (omega (arith, le)))
 
   -- what stands at a place of it
-  stands : (k : ℕ) (xs : List X) → k < length xs → (x : X) × (slice_get xs k ≡ Some x) × (slice_get (take (k + 1) xs) k ≡ Some x)
+  pub stands : (k : ℕ) (xs : List X) → k < length xs → (x : X) × (slice_get xs k ≡ Some x) × (slice_get (take (k + 1) xs) k ≡ Some x)
   stands k [] lt = absurd (omega (arith, lt))
   stands zero (x ∷ xs) lt = (x, refl, refl)
   stands (suc k) (x ∷ xs) lt =

@@ -23,7 +23,8 @@ use Rattle.node_full.specs.NodeValue.{NodeValue, reading_of, with_state}
 use Rattle.world_play.specs.Standing.{IsMediator, IsNodeOf, IsParticipant}
 use Rattle.world_play.specs.Worlds.{state_of, world_with, AreNodesOf}
 use Rattle.world_play.proofs.Moved.{from_machine}
-use Rattle.world_play.proofs.Passing.{map_at}
+use Rattle.world_play.proofs.Each.{AreDone}
+use Rattle.world_play.proofs.Passing.{in_turn}
 use Rattle.world_play.proofs.Turns.{cursor_of}
 
 -- a participant
@@ -62,7 +63,7 @@ module _ (at : ℕ) (first : NodeValue) (s : Sequenced) where
           ap (λ (items : List Item). owes_at m.reading at items k) (given.has).items
           ∙ (owes_is m.reading at (take given.read s.list) k ∙ (ap (is_asked_in m.reading at) (request_taken s.list given.read k read) ∙ asked)) in
           subst (λ (x : NodeValue). owes_at (reading_of x) x.me (node.state).items k ≡ true) (sym r.same)
-          (ap (owes_at (reading_of first) first.me) r.items
+          (ap (λ (items : List Item). owes_at (reading_of first) first.me items k) r.items
           ∙ from_machine m at first given.is (λ (q : Reading) (t : Params) (i : ParticipantId). owes_at q i (first.state).items k ≡ true) owes)
         where
           taken : (xs : List Entry) (n i : ℕ) → i < n → slice_get (take n xs) i ≡ slice_get xs i
@@ -144,29 +145,9 @@ module _ (first : Kept) (s : Sequenced) where
   returner_ends mediator k r end m state n i =
       subst (λ (j : ℕ). IsMediator m (return_below m.params s.list state j) n mediator s) end (r.returned_to m state n i)
 
--- lists
-module _ {X : Type 0} where
-  item_of : (xs : List X) (k : ℕ) → k < length xs → (x : X) × (slice_get xs k ≡ Some x)
-  item_of [] k lt = absurd (omega (arith, lt))
-  item_of (x ∷ xs) zero lt = (x, refl)
-  item_of (x ∷ xs) (suc k) lt = item_of xs k (omega (arith, lt))
-
-  length_slice_set : (xs : List X) (k : ℕ) (y : X) → length (slice_set xs k y) ≡ length xs
-  length_slice_set [] k y = refl
-  length_slice_set (x ∷ xs) zero y = refl
-  length_slice_set (x ∷ xs) (suc k) y = ap suc (length_slice_set xs k y)
-
-  set_here : (xs : List X) (k : ℕ) (y : X) → k < length xs → slice_get (slice_set xs k y) k ≡ Some y
-  set_here [] k y lt = absurd (omega (arith, lt))
-  set_here (x ∷ xs) zero y lt = refl
-  set_here (x ∷ xs) (suc k) y lt = set_here xs k y (omega (arith, lt))
-
-  set_other : (xs : List X) (k i : ℕ) (y : X) → (i ≡ k → ⊥) → slice_get (slice_set xs k y) i ≡ slice_get xs i
-  set_other [] k i y apart = refl
-  set_other (x ∷ xs) zero zero y apart = absurd (apart refl)
-  set_other (x ∷ xs) zero (suc i) y apart = refl
-  set_other (x ∷ xs) (suc k) zero y apart = refl
-  set_other (x ∷ xs) (suc k) (suc i) y apart = set_other xs k i y (λ e. apart (ap suc e))
+-- all participants
+abbrev pub Resumed : Sequenced → ℕ → NodeValue → NodeValue → Type 0
+Resumed s i x y = (y ≡ with_state x y.state) × ((m : Machine) → IsParticipant m i x s → y.state ≡ resumed m s.list i x.state)
 
 each_is : (m : Machine) (log : List Entry) (p : ℕ) (xs ys : List NodeValue) → length ys ≡ length xs
     → ((i : ℕ) (x y : NodeValue) → slice_get xs i ≡ Some x → slice_get ys i ≡ Some y → y.state ≡ resumed m log (p + i) x.state)
@@ -183,77 +164,12 @@ each_is m log p (x ∷ xs) (y ∷ ys) long h =
     let n : p + suc i ≡ suc p + i = omega arith in h (suc i) u v a b ∙ ap (λ (j : ℕ). resumed m log j u.state) n) in
     ap (λ (t : NodeState). t ∷ map state_of ys) head ∙ ap (λ (ts : List NodeState). resumed m log p x.state ∷ ts) rest
 
-pub participant_of : (m : Machine) (now : ℕ) (state : MediatorState) (nodes : List NodeValue) (s : Sequenced) → AreNodesOf m nodes s
-    → Lawful m (world_with now state nodes s) → (k : ℕ) (node : NodeValue) → slice_get nodes k ≡ Some node → IsParticipant m k node s
-participant_of m now state nodes s a l k node at =
-    let n = l.node k node.state (map_at nodes k node at) in
-    record {
-      is_reading = a.is_reading;
-      is_for = a.is_for;
-      behind = record { genuine = l.genuine; within_capacity = l.within_capacity };
-      is = a.node k node at;
-      read = n.0;
-      within = n.1;
-      has = n.2;
-    }
-
--- all participants, when the first k are resumed
-module _ (first : List NodeValue) (s : Sequenced) where
-  pub record AreResumed (nodes : List NodeValue) (k : ℕ) : Type 0 where
-    pub long : length nodes ≡ length first
-    pub before : (i : ℕ) (x y : NodeValue) → i < k → slice_get first i ≡ Some x → slice_get nodes i ≡ Some y
-        → (y ≡ with_state x y.state) × ((m : Machine) → IsParticipant m i x s → y.state ≡ resumed m s.list i x.state)
-    pub after : (i : ℕ) → k ≤ i → slice_get nodes i ≡ slice_get first i
-
-  pub resumed_starts : (k : ℕ) → k ≡ 0 → AreResumed first k
-  resumed_starts k z = record { long = refl; before = λ i x y lt. absurd (omega (arith, lt, z)); after = λ i le. refl }
-
-  module _ (nodes : List NodeValue) (k : ℕ) (r : AreResumed nodes k) (node : NodeValue) (at : slice_get nodes k ≡ Some node) where
-    pub first_at : slice_get first k ≡ Some node
-    first_at = sym (r.after k (le_refl k)) ∙ at
-
-    pub resumed_on : (node' : NodeValue) → node' ≡ with_state node node'.state
-        → ((m : Machine) → IsParticipant m k node s → node'.state ≡ resumed m s.list k node.state) → AreResumed (slice_set nodes k node') (k + 1)
-    resumed_on node' same is =
-        let within = slice_get_within nodes k node at in
-        record {
-          long = length_slice_set nodes k node' ∙ r.long;
-          before = λ i x y lt a b. elim (cases_order i k) [
-            | inl here ↦
-                let x_is : node ≡ x = same_Some node x (sym first_at ∙ (ap (slice_get first) (sym here) ∙ a)) in
-                let y_is : node' ≡ y = same_Some node' y (sym (set_here nodes k node' within) ∙ (ap (slice_get (slice_set nodes k node')) (sym here) ∙ b)) in
-                subst (λ (j : ℕ). (y ≡ with_state x y.state) × ((m : Machine) → IsParticipant m j x s → y.state ≡ resumed m s.list j x.state)) (sym here)
-                (subst (λ (u : NodeValue). (y ≡ with_state u y.state) × ((m : Machine) → IsParticipant m k u s → y.state ≡ resumed m s.list k u.state)) x_is
-                (subst (λ (u : NodeValue). (u ≡ with_state node u.state) × ((m : Machine) → IsParticipant m k node s → u.state ≡ resumed m s.list k node.state)) y_is
-                (same, is)))
-            | inr o ↦ elim o [
-              | inl low ↦ r.before i x y low a (sym (set_other nodes k i node' (λ e. omega (arith, low, e))) ∙ b)
-              | inr high ↦ absurd (omega (arith, high, lt))
-            ]
-          ];
-          after = λ i le. set_other nodes k i node' (λ e. omega (arith, le, e)) ∙ r.after i (omega (arith, le));
-        }
-
-  pub resumed_nodes : (nodes : List NodeValue) (k : ℕ) → AreResumed nodes k → k ≡ length nodes → (m : Machine) → AreNodesOf m first s → AreNodesOf m nodes s
-  resumed_nodes nodes k r end m a =
-      record {
-        is_reading = a.is_reading;
-        is_for = a.is_for;
-        node = λ p node there.
-            let within = slice_get_within nodes p node there in
-            let long = r.long in
-            let x = item_of first p (omega (arith, within, long)) in
-            let is = a.node p x.0 x.1 in
-            subst (IsNodeOf m p) (sym (r.before p x.0 node (omega (arith, within, end)) x.1 there).0)
-            (record { reading = is.reading; params = is.params; me = is.me });
-      }
-
-  pub resumed_states : (nodes : List NodeValue) (k : ℕ) → AreResumed nodes k → k ≡ length nodes → (m : Machine) (now : ℕ) (state : MediatorState)
-      → AreNodesOf m first s → Lawful m (world_with now state first s) → map state_of nodes ≡ resume_each m s.list 0 (map state_of first)
-  resumed_states nodes k r end m now state a l =
-      each_is m s.list 0 first nodes r.long
-      (λ i x y at there.
-      let within = slice_get_within nodes i y there in
-      let z : i ≡ 0 + i = omega arith in
-      (r.before i x y (omega (arith, within, end)) at there).1 m (participant_of m now state first s a l i x at)
-      ∙ ap (λ (j : ℕ). resumed m s.list j x.state) z)
+pub resumed_states : (first : List NodeValue) (s : Sequenced) (nodes : List NodeValue) (k : ℕ) → AreDone (Resumed s) first nodes k → k ≡ length nodes
+    → (m : Machine) (now : ℕ) (state : MediatorState) → AreNodesOf m first s → Lawful m (world_with now state first s)
+    → map state_of nodes ≡ resume_each m s.list 0 (map state_of first)
+resumed_states first s nodes k r end m now state a l =
+    each_is m s.list 0 first nodes r.long
+    (λ i x y at there.
+    let within = slice_get_within nodes i y there in
+    let z : i ≡ 0 + i = omega arith in
+    (r.before i x y (omega (arith, within, end)) at there).1 m (in_turn first s i x at m now state a l) ∙ ap (λ (j : ℕ). resumed m s.list j x.state) z)

@@ -3,7 +3,7 @@ use Rattle.std.proofs.Common.{◌≡◌, ℕ, zero, suc, ◌+◌, ◌<◌, ◌�
 use Rattle.std.proofs.Common.{refl, sym, ap, ◌∙◌, subst, inl, inr, arith, not, le_refl, take-append-drop, nat_eq}
 use Rattle.std.specs.Prelude.{slice_get, is_some, nat_lt, ◌||◌, ◌&&◌}
 use Rattle.std.specs.List.{list_any}
-use Rattle.std.proofs.lemmas.Bool.{cases_Bool, both_ways, eqb-true, eq-eqb, and_parts}
+use Rattle.std.proofs.lemmas.Bool.{cases_Bool, both_ways, eqb-true, eq-eqb, or_parts}
 use Rattle.std.proofs.lemmas.Option.{none-some, slice_get_within}
 use Rattle.std.proofs.lemmas.List.{length-map, take_all}
 use Rattle.std.proofs.lemmas.List.Folds.{list_any-append}
@@ -27,6 +27,7 @@ use Rattle.world_model.proofs.Completeness.{below_last}
 use Rattle.world_model.proofs.NodeFacts.{asked_confirms}
 use Rattle.world_model.proofs.Steps.{take_next, length_take, verdicts_below}
 use Rattle.world_model.proofs.TurnFacts.{last_snoc}
+use Rattle.seq_log.specs.Sequenced.{Sequenced, IsFor}
 use Rattle.world_play.specs.Scans.{closes, responds, asks, passes_test}
 use Rattle.world_play.proofs.Mediates.{in_beginning}
 use Rattle.world_play.proofs.Readers.{stands}
@@ -152,6 +153,58 @@ module _ (m : Machine) (log : List Entry) (g : GenuineLog m log) (j : ℕ) (lt :
       ∙ (list_any-append (closes j d) (take (j + 1) log) (drop (j + 1) log)
       ∙ ap (λ (b : Bool). b || list_any (closes j d) (drop (j + 1) log)) none_closes) in
       rw (front, more) (ap not (sym (closes_any j d log) ∙ whole))
+
+  dropped : (xs : List Entry) (k : ℕ) → list_any (closes j d) (take (k + 1) xs) ≡ false
+      → list_any (closes j d) (drop k xs) ≡ list_any (closes j d) (drop (k + 1) xs)
+  dropped [] zero h = refl
+  dropped [] (suc k) h = let one : suc k + 1 ≡ suc (suc k) = omega arith in ap (λ (n : ℕ). list_any (closes j d) (drop n [])) (sym one)
+  dropped (x ∷ xs) zero h = let none = (or_parts (closes j d x) false h).0 in rw none refl
+  dropped (x ∷ xs) (suc k) h =
+      let one : suc k + 1 ≡ suc (k + 1) = omega arith in
+      let h' : list_any (closes j d) (take (suc (k + 1)) (x ∷ xs)) ≡ false =
+      ap (λ (n : ℕ). list_any (closes j d) (take n (x ∷ xs))) (sym one) ∙ h in
+      dropped xs k (or_parts (closes j d x) (list_any (closes j d) (take (k + 1) xs)) h').1
+      ∙ ap (λ (n : ℕ). list_any (closes j d) (drop n (x ∷ xs))) (sym one)
+
+  pub open_is : (D : ℕ) → D ≡ d → (b : Bool) → list_any (closes j D) (drop j log) ≡ b → not b ≡ is_undecided m.params log j
+  open_is D same b h =
+      sym (undecided_is
+      ∙ ap not (sym (dropped log j none_closes) ∙ (ap (λ (n : ℕ). list_any (closes j n) (drop j log)) (sym same) ∙ h)))
+
+pub decision_is : (m : Machine) (s : Sequenced) (j sent : ℕ) (params : Params) → IsFor m s → sent ≡ time_of (slice_get s.list j) → params ≡ s.params
+    → sent + params.response_timeout + params.reaction_timeout ≡ decision_time_of m.params s.list j
+decision_is m s j sent params f at same =
+    ap (λ (n : ℕ). n + params.response_timeout + params.reaction_timeout) at
+    ∙ ap (λ (q : Params). time_of (slice_get s.list j) + q.response_timeout + q.reaction_timeout) (same ∙ sym f.params)
+
+-- a scan, step by step
+pub scan_miss : (test : Entry → Bool) (s began : Sequenced) (k : ℕ) (b : Bool) → s ≡ began → b ≡ passes_test test (slice_get s.list k) → b ≡ false
+    → list_any test (drop (k + 1) began.list) ≡ list_any test (drop k began.list)
+scan_miss test s began k b same is none =
+    let one : suc k ≡ k + 1 = omega arith in
+    ap (λ (n : ℕ). list_any test (drop n began.list)) (sym one)
+    ∙ sym (any_past test began.list k (ap (λ (q : Sequenced). passes_test test (slice_get q.list k)) (sym same) ∙ (sym is ∙ none)))
+
+pub scan_hit : (test : Entry → Bool) (s began : Sequenced) (k : ℕ) (b : Bool) → s ≡ began → b ≡ passes_test test (slice_get s.list k) → b ≡ true
+    → list_any test (drop k began.list) ≡ true
+scan_hit test s began k b same is hit =
+    any_here test began.list k (ap (λ (q : Sequenced). passes_test test (slice_get q.list k)) (sym same) ∙ (sym is ∙ hit))
+
+pub scan_end : (test : Entry → Bool) (began s : Sequenced) (end k : ℕ) → s ≡ began → end ≡ length s.list → end ≤ k
+    → list_any test (drop k began.list) ≡ false
+scan_end test began s end k same is le =
+    any_done test began.list k (let e = is ∙ ap (λ (q : Sequenced). length q.list) same in omega (arith, e, le))
+
+-- whether a response is due
+pub not_due : (a h u : Bool) → a ≡ false → false ≡ (a && (not h && u))
+not_due a h u e = rw e refl
+
+pub due_unless : (a h u r : Bool) → a ≡ true → u ≡ true → r ≡ h → not r ≡ (a && (not h && u))
+due_unless a h u r e f g = rw (e, f, g) (both_true (not h))
+  where
+    both_true : (b : Bool) → b ≡ (b && true)
+    both_true true = refl
+    both_true false = refl
 
 -- who is asked
 iff_same : (a b : Bool) → (a ≡ true → b ≡ true) → (b ≡ true → a ≡ true) → a ≡ b

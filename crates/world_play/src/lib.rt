@@ -2,6 +2,7 @@
 #![tactic(auto)]
 
 mod among;
+mod catching_up;
 mod handing_in;
 mod mediating;
 mod pass;
@@ -14,4 +15,5 @@ mod turn;
 mod validating;
 mod world;
 
+pub use settling::settle;
 pub use world::{NodeList, World};

@@ -122,7 +122,7 @@ pub fn is_undecided(sequencer: &mut Sequencer<'_>, place: u64) -> bool
 {
     let params = *sequencer.params();
     let sent = time_at(sequencer, place);
-    'entries: for at in place + 1..sequencer.len() {
+    'entries: for at in place..sequencer.len() {
         if closes_at(sequencer, at, place, sent, &params) {
             return false;
         }

@@ -13,7 +13,7 @@ take_turn-requires c =
     let k = c.nodes.node-index in (
       c.requires.0,
       k,
-      in_turn c.args.paused.now c.args.nodes.now c.args.sequencer.now c.nodes.nodes c.nodes.sequencer k t
+      in_turn c.nodes.nodes c.nodes.sequencer k
           (slice_index_or c.nodes.nodes k c.node-item.result) (item_at c.nodes.nodes k c.node-item.result (item_within c.nodes-test.true c.nodes.auto.nodes)) c.requires.0 c.requires.1 c.requires.2
           (t.nodes_of c.requires.0 c.requires.3) (t.lawful c.requires.0 c.requires.1 c.requires.2 c.requires.3 c.requires.4),
     )

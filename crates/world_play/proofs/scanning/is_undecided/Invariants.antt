@@ -7,4 +7,4 @@ abbrev pub invariant-entries : goal.invariant-entries
 invariant-entries l =
     (l.sequencer ≡ l.fn.sequencer)
     × (list_any (closes l.place (l.sent + (l.params).response_timeout + (l.params).reaction_timeout)) (drop l.at (l.fn.sequencer).list)
-    ≡ list_any (closes l.place (l.sent + (l.params).response_timeout + (l.params).reaction_timeout)) (drop (l.place + 1) (l.fn.sequencer).list))
+    ≡ list_any (closes l.place (l.sent + (l.params).response_timeout + (l.params).reaction_timeout)) (drop l.place (l.fn.sequencer).list))
