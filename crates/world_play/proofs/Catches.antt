@@ -1,5 +1,5 @@
 -- Every participant reads to the end.
-use Rattle.std.proofs.Common.{◌≡◌, ℕ, suc, ◌+◌, ◌<◌, List, [], ◌∷◌, length, map, Some, refl, sym, ap, ◌∙◌, arith, slice_set}
+use Rattle.std.proofs.Common.{◌≡◌, ℕ, suc, ◌+◌, List, [], ◌∷◌, length, map, Some, refl, sym, ap, ◌∙◌, arith, slice_set}
 use Rattle.std.specs.Prelude.{slice_get}
 use Rattle.std.proofs.lemmas.Option.{slice_get_within}
 use Rattle.world_model.specs.Messages.{Entry}
@@ -14,7 +14,7 @@ use Rattle.node_full.specs.NodeValue.{NodeValue, with_state}
 use Rattle.world_play.specs.Reading.{IsReader, has_read}
 use Rattle.world_play.specs.Standing.{IsParticipant}
 use Rattle.world_play.specs.Worlds.{state_of, world_with, AreNodesOf}
-use Rattle.world_play.proofs.Each.{AreDone, done_starts, done_on}
+use Rattle.world_play.proofs.Each.{AreDone}
 use Rattle.world_play.proofs.Passing.{in_turn, nodes_then, lawful_then}
 use Rattle.world_play.proofs.Sends.{stays}
 use Rattle.world_play.proofs.Turns.{caught_is, reader_is}

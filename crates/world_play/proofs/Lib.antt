@@ -12,3 +12,4 @@ pub mod Scanned
 pub mod Each
 pub mod Resumes
 pub mod Catches
+pub mod Makes

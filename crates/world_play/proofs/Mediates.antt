@@ -1,10 +1,9 @@
 -- The mediator reads entry after entry, and gives verdict after verdict.
-use Rattle.std.proofs.Common.{◌≡◌, ℕ, zero, suc, ◌+◌, ◌-◌, ◌<◌, ◌≤◌, Bool, true, false, List, [], ◌∷◌, ◌++◌, take, drop, length, Option, Some, None}
-use Rattle.std.proofs.Common.{refl, sym, ap, ◌∙◌, subst, inl, inr, arith, le_refl, take-append-drop}
+use Rattle.std.proofs.Common.{◌≡◌, ℕ, zero, suc, ◌+◌, ◌<◌, ◌≤◌, Bool, true, false, List, [], ◌∷◌, ◌++◌, take, drop, length, Some, None}
+use Rattle.std.proofs.Common.{refl, sym, ap, ◌∙◌, subst, arith, le_refl, take-append-drop}
 use Rattle.std.specs.Prelude.{slice_get, ◌||◌, if◌then◌else◌}
-use Rattle.std.proofs.lemmas.Bool.{cases_Bool}
 use Rattle.std.proofs.lemmas.List.{length-append, take_all}
-use Rattle.world_model.specs.Messages.{Entry, Message, VerdictMessage, Verdict, Decision}
+use Rattle.world_model.specs.Messages.{Entry, Message, VerdictMessage, Verdict}
 use Rattle.world_model.specs.Machine.{Machine}
 use Rattle.world_model.specs.Sequencing.{sequenced}
 use Rattle.world_model.specs.Fits.{IsDecision, MayStand}

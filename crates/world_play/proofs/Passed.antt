@@ -1,11 +1,10 @@
 -- The end of a pass.
-use Rattle.std.proofs.Common.{◌≡◌, ◌≤◌, ℕ, Bool, true, false, List, ◌++◌, take, length, refl, sym, ap, ◌∙◌, subst}
+use Rattle.std.proofs.Common.{◌≡◌, ◌≤◌, ℕ, Bool, true, false, List, refl, sym, ap, ◌∙◌, subst}
 use Rattle.ledger_model.specs.Terms.{ParticipantId}
 use Rattle.world_model.specs.Messages.{Entry}
 use Rattle.world_model.specs.Machine.{Machine, GenuineLog}
 use Rattle.world_model.specs.Mediator.{MediatorState, cases_of}
 use Rattle.world_model.specs.Sequencing.{reserved}
-use Rattle.world_model.specs.World.{World}
 use Rattle.world_model.specs.Lawful.{Lawful}
 use Rattle.world_model.specs.Settled.{append_each, pass}
 use Rattle.world_model.specs.Settling.{PassedTo, WorldReady}
@@ -16,7 +15,7 @@ use Rattle.mediator.specs.Kept.{Kept}
 use Rattle.seq_log.specs.Sequenced.{Sequenced}
 use Rattle.node_full.specs.NodeValue.{NodeValue}
 use Rattle.world_play.specs.Standing.{IsMediator, HasAll, GoesOn}
-use Rattle.world_play.specs.Worlds.{state_of, world_with, AreNodesOf, IsMediatorOf}
+use Rattle.world_play.specs.Worlds.{world_with, AreNodesOf, IsMediatorOf}
 use Rattle.world_play.proofs.Sends.{still_for}
 
 module _ (m : Machine) (now : ℕ) (nodes : List NodeValue) (s : Sequenced) (a : AreNodesOf m nodes s) where

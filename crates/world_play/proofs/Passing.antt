@@ -1,5 +1,5 @@
 -- The participants have their turns one after another.
-use Rattle.std.proofs.Common.{◌≡◌, ℕ, zero, suc, ◌<◌, true, false, List, [], ◌∷◌, take, length, map, Option, Some, None, refl, sym, ap, ◌∙◌, subst, inl, inr, slice_set, arith}
+use Rattle.std.proofs.Common.{◌≡◌, ℕ, zero, suc, ◌<◌, true, false, List, [], ◌∷◌, length, map, Some, refl, sym, ap, ◌∙◌, subst, inl, inr, slice_set, arith}
 use Rattle.std.specs.Prelude.{slice_get, slice_index_or, ◌+◌, ◌⊎◌, ◌≤◌, ◌++◌}
 use Rattle.canton_model.specs.Genuine.{Genuine}
 use Rattle.world_model.specs.Sequencing.{reserved}
@@ -10,14 +10,14 @@ use Rattle.world_model.specs.Machine.{Machine}
 use Rattle.world_model.specs.Mediator.{MediatorState}
 use Rattle.world_model.specs.Node.{NodeState}
 use Rattle.world_model.specs.Places.{has_place}
-use Rattle.world_model.specs.World.{World, set_at, with_log, with_node}
+use Rattle.world_model.specs.World.{set_at, with_log, with_node}
 use Rattle.world_model.specs.Lawful.{Lawful, NodeHas}
 use Rattle.world_model.specs.Settled.{append_each}
 use Rattle.world_model.specs.Settling.{PassedTo}
 use Rattle.world_model.specs.Turns.{turn_messages}
 use Rattle.world_model.proofs.Steps.{lawful_grown, lawful_with_node}
 use Rattle.world_model.proofs.WorldPasses.{turn, turn_skipped}
-use Rattle.seq_log.specs.Sequenced.{Sequenced, IsFor}
+use Rattle.seq_log.specs.Sequenced.{Sequenced}
 use Rattle.node_full.specs.NodeValue.{NodeValue, with_state}
 use Rattle.world_play.specs.Standing.{IsNodeOf, IsParticipant, GoesOn}
 use Rattle.world_play.specs.Worlds.{state_of, world_with, AreNodesOf}

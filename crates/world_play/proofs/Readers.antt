@@ -1,10 +1,9 @@
 -- A participant that reads entry after entry.
-use Rattle.std.proofs.Common.{◌≡◌, ℕ, zero, suc, ◌+◌, ◌-◌, ◌<◌, ◌≤◌, List, [], ◌∷◌, ◌++◌, take, length, Some, refl, sym, ap, ◌∙◌, subst, arith, le_refl}
+use Rattle.std.proofs.Common.{◌≡◌, ℕ, zero, suc, ◌+◌, ◌-◌, ◌<◌, ◌≤◌, List, [], ◌∷◌, take, length, Some, refl, sym, ap, ◌∙◌, subst, arith, le_refl}
 use Rattle.std.specs.Prelude.{slice_get}
-use Rattle.std.proofs.lemmas.Option.{same_Some}
-use Rattle.std.proofs.lemmas.List.{take_all, take-append-le}
+use Rattle.std.proofs.lemmas.List.{take_all}
 use Rattle.canton_model.specs.Genuine.{Genuine}
-use Rattle.canton_model.specs.Inbox.{Item, inbox, item_after}
+use Rattle.canton_model.specs.Inbox.{Item, inbox}
 use Rattle.canton_model.proofs.InboxGrows.{items_push}
 use Rattle.canton_model.proofs.LongerLogs.{genuine_take}
 use Rattle.world_model.specs.Messages.{Entry}

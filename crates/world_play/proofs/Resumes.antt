@@ -1,9 +1,9 @@
 -- What is put back, and given back, place after place.
-use Rattle.std.proofs.Common.{◌≡◌, ℕ, zero, suc, ◌+◌, ◌<◌, ◌≤◌, Bool, true, false, List, [], ◌∷◌, take, length, map, Some, refl, sym, ap, ◌∙◌, subst}
-use Rattle.std.proofs.Common.{inl, inr, arith, le_refl, slice_set}
+use Rattle.std.proofs.Common.{◌≡◌, ℕ, zero, suc, ◌+◌, ◌<◌, Bool, true, false, List, [], ◌∷◌, take, length, map, Some, refl, sym, ap, ◌∙◌, subst}
+use Rattle.std.proofs.Common.{arith}
 use Rattle.std.specs.Prelude.{slice_get, is_some, nat_lt, ◌&&◌}
-use Rattle.std.proofs.lemmas.Bool.{and_parts, cases_order, ltb-true}
-use Rattle.std.proofs.lemmas.Option.{same_Some, slice_get_within}
+use Rattle.std.proofs.lemmas.Bool.{and_parts, ltb-true}
+use Rattle.std.proofs.lemmas.Option.{slice_get_within}
 use Rattle.ledger_model.specs.Terms.{ParticipantId}
 use Rattle.canton_model.specs.Log.{Params, request_at, request_in}
 use Rattle.canton_model.specs.Reading.{Reading}
@@ -13,14 +13,14 @@ use Rattle.world_model.specs.Mediator.{MediatorState, give_back}
 use Rattle.world_model.specs.Node.{NodeState, owes_at, put_back}
 use Rattle.world_model.specs.Settled.{is_asked_in, is_due, is_undecided}
 use Rattle.world_model.specs.Settling.{resume_below, resumed, resume_each, return_below, returned}
-use Rattle.canton_model.specs.Inbox.{Item, inbox}
+use Rattle.canton_model.specs.Inbox.{Item}
 use Rattle.world_model.specs.Lawful.{Lawful}
 use Rattle.world_model.proofs.NodeFacts.{owes_is}
-use Rattle.world_model.proofs.Steps.{mediator_has_back, length_take}
+use Rattle.world_model.proofs.Steps.{mediator_has_back}
 use Rattle.mediator.specs.Kept.{Kept, Keeps}
 use Rattle.seq_log.specs.Sequenced.{Sequenced, IsFor}
 use Rattle.node_full.specs.NodeValue.{NodeValue, reading_of, with_state}
-use Rattle.world_play.specs.Standing.{IsMediator, IsNodeOf, IsParticipant}
+use Rattle.world_play.specs.Standing.{IsMediator, IsParticipant}
 use Rattle.world_play.specs.Worlds.{state_of, world_with, AreNodesOf}
 use Rattle.world_play.proofs.Moved.{from_machine}
 use Rattle.world_play.proofs.Each.{AreDone}

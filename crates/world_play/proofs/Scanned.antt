@@ -1,34 +1,30 @@
 -- Scanning a log for what it tells of a request.
-use Rattle.std.proofs.Common.{◌≡◌, ℕ, zero, suc, ◌+◌, ◌<◌, ◌≤◌, Bool, true, false, List, [], ◌∷◌, ◌++◌, take, drop, length, map, Option, Some, None}
-use Rattle.std.proofs.Common.{refl, sym, ap, ◌∙◌, subst, inl, inr, arith, not, le_refl, take-append-drop, nat_eq}
+use Rattle.std.proofs.Common.{◌≡◌, ℕ, zero, suc, ◌+◌, ◌<◌, ◌≤◌, Bool, true, false, List, [], ◌∷◌, take, drop, length, Option, Some, None}
+use Rattle.std.proofs.Common.{refl, sym, ap, ◌∙◌, subst, inl, inr, arith, not, take-append-drop, nat_eq}
 use Rattle.std.specs.Prelude.{slice_get, is_some, nat_lt, ◌||◌, ◌&&◌}
 use Rattle.std.specs.List.{list_any}
-use Rattle.std.proofs.lemmas.Bool.{cases_Bool, both_ways, eqb-true, eq-eqb, or_parts}
-use Rattle.std.proofs.lemmas.Option.{none-some, slice_get_within}
+use Rattle.std.proofs.lemmas.Bool.{cases_Bool, eqb-true, eq-eqb, or_parts}
+use Rattle.std.proofs.lemmas.Option.{slice_get_within}
 use Rattle.std.proofs.lemmas.List.{length-map, take_all}
 use Rattle.std.proofs.lemmas.List.Folds.{list_any-append}
-use Rattle.ledger_model.specs.Terms.{ParticipantId}
-use Rattle.ledger_model.specs.Opening.{Shown, views_in}
 use Rattle.ledger_model.proofs.Lists.{In, in_any, from_any, in_from_Contains, contains_from_In}
 use Rattle.canton_model.specs.Log.{Params, request_at, decision_time_of, time_of, verdict_of}
-use Rattle.canton_model.specs.Genuine.{IsReading, IsSealed, Answers}
-use Rattle.canton_model.specs.Mediation.{has_responded}
-use Rattle.canton_model.specs.Reading.{Reading}
+use Rattle.canton_model.specs.Genuine.{IsReading}
 use Rattle.canton_model.specs.Timeline.{moment_of, timeline_of, verdict_on, decision_on, or_else, is_past}
 use Rattle.canton_model.specs.Checks.{is_confirmed_by}
 use Rattle.canton_model.proofs.Fits.{sealed_of}
 use Rattle.canton_model.proofs.LongerLogs.{genuine_take}
-use Rattle.world_model.specs.Messages.{Entry, Message, RequestMessage, ResponseMessage, VerdictMessage, Tick, Request, Verdict, Decision}
+use Rattle.world_model.specs.Messages.{Entry, Message, RequestMessage, ResponseMessage, VerdictMessage, Tick, Request, Verdict}
 use Rattle.world_model.specs.Machine.{Machine, GenuineLog, confirms_some_view, is_asked}
 use Rattle.world_model.specs.Places.{has_place}
-use Rattle.world_model.specs.Sequencing.{is_verdict_on, last_time, last_time_from}
-use Rattle.world_model.specs.Settled.{is_undecided, is_asked_in, is_due}
+use Rattle.world_model.specs.Sequencing.{is_verdict_on, last_time}
+use Rattle.world_model.specs.Settled.{is_undecided, is_asked_in}
 use Rattle.world_model.proofs.Completeness.{below_last}
 use Rattle.world_model.proofs.NodeFacts.{asked_confirms}
 use Rattle.world_model.proofs.Steps.{take_next, length_take, verdicts_below}
 use Rattle.world_model.proofs.TurnFacts.{last_snoc}
 use Rattle.seq_log.specs.Sequenced.{Sequenced, IsFor}
-use Rattle.world_play.specs.Scans.{closes, responds, asks, passes_test}
+use Rattle.world_play.specs.Scans.{closes, asks, passes_test}
 use Rattle.world_play.proofs.Mediates.{in_beginning}
 use Rattle.world_play.proofs.Readers.{stands}
 

@@ -1,5 +1,5 @@
 -- What waits, handed in one after another.
-use Rattle.std.proofs.Common.{◌≡◌, ℕ, suc, ◌<◌, ◌≤◌, List, [], ◌∷◌, ◌++◌, take, drop, length, Option, Some, None, refl, sym, ap, ◌∙◌, subst, arith}
+use Rattle.std.proofs.Common.{◌≡◌, ℕ, suc, ◌<◌, List, [], ◌++◌, take, drop, length, Option, Some, None, refl, sym, ap, ◌∙◌, subst, arith}
 use Rattle.std.proofs.Common.{append_assoc, append-nil, take-append-drop}
 use Rattle.std.specs.Prelude.{option_and_then}
 use Rattle.std.proofs.lemmas.List.{length-append}
@@ -7,10 +7,9 @@ use Rattle.std.proofs.lemmas.Option.{none-some}
 use Rattle.ledger_model.specs.Terms.{ParticipantId}
 use Rattle.ledger_model.proofs.Lists.{In}
 use Rattle.canton_model.specs.Log.{Params}
-use Rattle.canton_model.specs.Genuine.{IsReading}
 use Rattle.canton_model.proofs.LongerLogs.{genuine_take}
 use Rattle.world_model.specs.Messages.{Entry, Message, ResponseMessage, Response}
-use Rattle.world_model.specs.Machine.{Machine, GenuineLog}
+use Rattle.world_model.specs.Machine.{Machine}
 use Rattle.world_model.specs.Sequencing.{sequenced}
 use Rattle.world_model.specs.Places.{first_from}
 use Rattle.world_model.specs.Fits.{IsOwed, MayStand}

@@ -3,6 +3,7 @@
 
 mod among;
 mod catching_up;
+mod event;
 mod handing_in;
 mod mediating;
 mod pass;
@@ -15,5 +16,6 @@ mod turn;
 mod validating;
 mod world;
 
+pub use event::{Event, EventList};
 pub use settling::settle;
 pub use world::{NodeList, World};

@@ -1,4 +1,4 @@
-use Rattle.std.proofs.Common.{Option, sym, ap, ◌∙◌, subst}
+use Rattle.std.proofs.Common.{Option, sym, ◌∙◌, subst}
 use Rattle.world_model.specs.Messages.{Verdict}
 use Rattle.seq_log.specs.Sequenced.{Sequenced}
 use Rattle.mediator.specs.Kept.{Kept, Keeps, taken}

@@ -1,4 +1,4 @@
-use Rattle.std.proofs.Common.{List, refl, sym, ap, ◌∙◌, ◌+◌, subst, arith}
+use Rattle.std.proofs.Common.{List, sym, ap, ◌∙◌, ◌+◌, subst, arith}
 use Rattle.std.specs.Prelude.{slice_index_or, slice_set}
 use Rattle.world_model.specs.Places.{has_place}
 use Rattle.seq_log.specs.Sequenced.{Sequenced}

@@ -1,5 +1,5 @@
 use Rattle.std.proofs.Common.{◌∙◌}
-use Rattle.world_play.proofs.Readers.{next_genuine, next_long, next_read, reads_on, smaller, ends, slip_list, place_within, past_end}
+use Rattle.world_play.proofs.Readers.{next_genuine, next_read, reads_on, smaller, ends, slip_list, place_within, past_end}
 use Rattle.world_play.proofs.reading.read_to_end.Goals as goal
 
 pub read-requires-clause-genuine : goal.read-requires-clause-genuine

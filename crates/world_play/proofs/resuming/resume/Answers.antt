@@ -1,8 +1,8 @@
-use Rattle.std.proofs.Common.{List, map, ap, ◌∙◌}
+use Rattle.std.proofs.Common.{List, ap, ◌∙◌}
 use Rattle.world_model.specs.Node.{NodeState}
 use Rattle.world_model.specs.Settling.{returned}
 use Rattle.seq_log.specs.Sequenced.{Sequenced}
-use Rattle.world_play.specs.Worlds.{state_of, world_with}
+use Rattle.world_play.specs.Worlds.{world_with}
 use Rattle.world_play.proofs.resuming.resume.Goals as goal
 
 pub returns-clause-resumed : goal.returns-clause-resumed
