@@ -1,3 +1,4 @@
 pub mod Stand
 pub mod NodeValue
 pub mod Outcome
+pub mod Refused

@@ -7,6 +7,7 @@ ghost use Rattle.world_model.specs.Places.{has_place};
 ghost use Rattle.world_model.specs.Node.{read_entry, next_claim, owed_at, owes_at, claim, finish, is_decided_now, new_node};
 ghost use Rattle.world_model.specs.Node.{put_back, outbox_head, sent, with_flag};
 ghost use Rattle.node_full.specs.NodeValue.{reading_of, with_state};
+ghost use Rattle.node_full.specs.Refused.{IsRefused};
 ghost use Rattle.node_full.specs.Stand.{wanted_request};
 
 use crate::job::{Finished, ValidateJob};
@@ -182,6 +183,8 @@ impl<'s> Node<'s> {
         ensures ok { IfOk result (λ request.
             wanted_request self.now.topology self.now.packages what.now (self.now.state).items now ≡ Some request) }
         ensures awake { OnOk result ((self.now.state).is_paused ≡ false) }
+        ensures refused { IfErr result (λ fault. IsRefused fault self.now.state
+            (wanted_request self.now.topology self.now.packages what.now (self.now.state).items now)) }
     {
         Err(SubmitFault::Memory)
     }

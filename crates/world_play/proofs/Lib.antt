@@ -13,3 +13,4 @@ pub mod Each
 pub mod Resumes
 pub mod Catches
 pub mod Makes
+pub mod Happened

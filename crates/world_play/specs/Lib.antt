@@ -6,3 +6,5 @@ pub mod Scans
 pub mod Machines
 pub mod Making
 pub mod Events
+pub mod Moves
+pub mod Decides

@@ -3,9 +3,11 @@
 
 mod among;
 mod catching_up;
+mod deciding;
 mod event;
 mod handing_in;
 mod mediating;
+mod moving;
 mod pass;
 mod reading;
 mod resuming;

@@ -13,7 +13,7 @@ use node_full::{Finished, Node, ValidateJob};
 use std::alloc::{AllocError, Global};
 
 /// Checks all views of a job, one after another.
-fn run_job(job: ValidateJob<'_>) -> Result<Finished, AllocError>
+pub fn run_job(job: ValidateJob<'_>) -> Result<Finished, AllocError>
     requires { 0 < job.left }
     ensures { IfOk result (IsOutcome job.entry.given) }
 {
