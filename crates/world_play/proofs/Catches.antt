@@ -43,7 +43,7 @@ module _ (first : List NodeValue) (s : Sequenced) where
       let same = reader_same node node' s.list read in
       let keeps : (m : Machine) (p : ℕ) → IsParticipant m p node s → IsParticipant m p node' s = λ m p given. reader_is m p node s given node' read in
       record {
-        nodes_of = λ m a. nodes_then nodes s k node at node' s (stays s) same keeps m (r.nodes_of m a);
+        nodes_of = λ m a. nodes_then nodes s k node at node' s (stays s) same m (r.nodes_of m a);
         lawful = λ m now state a l. lawful_then nodes s k node at node' s (stays s) same keeps m now state (r.nodes_of m a) (r.lawful m now state a l);
       }
 

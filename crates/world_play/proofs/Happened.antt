@@ -14,7 +14,9 @@ use Rattle.world_model.specs.World.{World, NodeRead, Validate, Reply, LoseReply,
 use Rattle.world_model.specs.World.{set_at, with_node, append_to}
 use Rattle.seq_log.specs.Sequenced.{Sequenced, IsFor}
 use Rattle.node_full.specs.NodeValue.{NodeValue, reading_of, with_state}
-use Rattle.world_play.specs.Moves.{Happens, validated_if}
+use Rattle.world_play.specs.declared.moving.NodeMove.{NodeMove}
+use Rattle.world_play.specs.declared.moving.NodeMove.TheVariants as move
+use Rattle.world_play.specs.Moves.{Happens, event_at, validated_if}
 use Rattle.world_play.specs.Reading.{Reads}
 use Rattle.world_play.specs.Standing.{IsNodeOf, IsParticipant}
 use Rattle.world_play.proofs.Moved.{to_machine}
@@ -26,7 +28,7 @@ set_own [] p x e = refl
 set_own (y ∷ ys) zero x e = ap (λ (z : NodeState). z ∷ ys) (sym (same_Some y x e))
 set_own (y ∷ ys) (suc p) x e = ap (λ (zs : List NodeState). y ∷ zs) (set_own ys p x e)
 
-past : {X : Type 0} (xs : List X) (k : ℕ) → length xs ≤ k → slice_get xs k ≡ None
+pub past : {X : Type 0} (xs : List X) (k : ℕ) → length xs ≤ k → slice_get xs k ≡ None
 past [] k le = refl
 past (x ∷ xs) zero le = absurd (omega (arith, le))
 past (x ∷ xs) (suc k) le = past xs k (omega (arith, le))
@@ -143,3 +145,13 @@ module _ (m : Machine) (p : ParticipantId) (first : NodeValue) (s : Sequenced) (
       let w : World = record { log = s.list; now = now; mediator = mediator; nodes = nodes } in
       ap (λ (x : NodeValue). record { log = s.list; now = now; mediator = mediator; nodes = set_at nodes p x.state }) a
       ∙ sym (ap (λ (o : Option NodeState). at_node w o (λ node. with_node w p (with_flag node b))) there)
+
+-- where there is no such participant nothing happens
+pub nobody : (m : Machine) (w : World) (p : ParticipantId) (action : NodeMove) → slice_get w.nodes p ≡ None → w ≡ happens m w (event_at action p)
+nobody m w p move.Read e =
+    sym (ap (λ (o : Option NodeState). at_node w o (λ node. node_reads m w p node (slice_get w.log (length node.items)))) e)
+nobody m w p move.Validate e =
+    sym (ap (λ (o : Option NodeState). at_node w o (λ node. validates m w p node (next_claim m.reading m.params p node))) e)
+nobody m w p move.Reply e = sym (ap (λ (o : Option NodeState). at_node w o (λ node. replies m w p node (outbox_head m.params node))) e)
+nobody m w p move.LoseReply e = sym (ap (λ (o : Option NodeState). at_node w o (λ node. loses_reply w p node (outbox_head m.params node))) e)
+nobody m w p (move.Pause b) e = sym (ap (λ (o : Option NodeState). at_node w o (λ node. with_node w p (with_flag node b))) e)

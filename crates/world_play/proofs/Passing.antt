@@ -78,8 +78,7 @@ module _ (nodes : List NodeValue) (s : Sequenced) (k : ℕ) (node : NodeValue) (
         has = n.2;
       }
 
-  module _ (node' : NodeValue) (s' : Sequenced) (on : GoesOn s s') (same : node' ≡ with_state node node'.state)
-      (keeps : (m : Machine) (p : ParticipantId) → IsParticipant m p node s → IsParticipant m p node' s') where
+  module _ (node' : NodeValue) (s' : Sequenced) (on : GoesOn s s') (same : node' ≡ with_state node node'.state) where
     abbrev nodes' : List NodeValue
     nodes' = slice_set nodes k node'
 
@@ -97,9 +96,9 @@ module _ (nodes : List NodeValue) (s : Sequenced) (k : ℕ) (node : NodeValue) (
           ];
         }
 
-    pub lawful_then : (m : Machine) (now : ℕ) (state : MediatorState) → AreNodesOf m nodes s → Lawful m (world_with now state nodes s)
-        → Lawful m (world_with now state nodes' s')
-    lawful_then m now state a l =
+    pub lawful_then : ((m : Machine) (p : ParticipantId) → IsParticipant m p node s → IsParticipant m p node' s') → (m : Machine) (now : ℕ)
+        (state : MediatorState) → AreNodesOf m nodes s → Lawful m (world_with now state nodes s) → Lawful m (world_with now state nodes' s')
+    lawful_then keeps m now state a l =
         let p' = keeps m k (in_turn m now state a l) in
         let grown : Lawful m (record { log = s.list ++ on.more; now = now; mediator = state; nodes = map state_of nodes }) =
         lawful_grown m (world_with now state nodes s) on.more now l (subst (λ (xs : List Entry). Genuine m.reading m.params xs) on.is_more (p'.behind).genuine)
@@ -136,7 +135,7 @@ module _ (paused : List ParticipantId) (first : List NodeValue) (began_at : Sequ
 
       -- it broke off
       pub left_nodes : (m : Machine) → AreNodesOf m first began_at → AreNodesOf m moved s'
-      left_nodes m a = nodes_then nodes s k node at node' s' on same keeps m (t.nodes_of m a)
+      left_nodes m a = nodes_then nodes s k node at node' s' on same m (t.nodes_of m a)
 
       pub left_lawful : (m : Machine) (now : ℕ) (state : MediatorState) → AreNodesOf m first began_at
           → Lawful m (world_with now state first began_at) → Lawful m (world_with now state moved s')
