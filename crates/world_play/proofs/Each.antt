@@ -78,5 +78,5 @@ module _ (R : ℕ → NodeValue → NodeValue → Type 0) (first : List NodeValu
             let x = item_of first p (omega (arith, within, long)) in
             let is = a.node p x.0 x.1 in
             subst (IsNodeOf m p) (sym (same p x.0 node (r.before p x.0 node (omega (arith, within, end)) x.1 there)))
-            (record { reading = is.reading; params = is.params; me = is.me });
+            (record { reading = is.reading; params = is.params; me = is.me; prepares = is.prepares });
       }

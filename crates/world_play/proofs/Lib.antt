@@ -14,3 +14,5 @@ pub mod Resumes
 pub mod Catches
 pub mod Makes
 pub mod Happened
+pub mod Submits
+pub mod Plays

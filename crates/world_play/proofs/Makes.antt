@@ -9,7 +9,8 @@ use Rattle.world_model.specs.Node.{NodeState, new_node}
 use Rattle.node_full.proofs.Readings.{sealed_is_reading}
 use Rattle.node_full.specs.NodeValue.{NodeValue}
 use Rattle.seq_log.specs.Sequenced.{Sequenced}
-use Rattle.world_play.specs.Machines.{Prepare, machine_of}
+use Rattle.node_full.specs.Stand.{wanted_request}
+use Rattle.world_play.specs.Machines.{machine_of}
 use Rattle.world_play.specs.Making.{AreNewNodes}
 use Rattle.world_play.specs.Standing.{IsNodeOf}
 use Rattle.world_play.specs.Worlds.{state_of, AreNodesOf}
@@ -50,12 +51,12 @@ module _ (topology : Topology) (packages : Packages) where
   new_states count nodes a =
       all_new nodes (λ p x e. ap state_of (a.each p x e)) ∙ ap (λ (n : ℕ). replicate n new_node) a.many
 
-  pub new_nodes_are : (prepare : Prepare) (count : ℕ) (nodes : List NodeValue) (s : Sequenced) → AreNewNodes topology packages count nodes
-      → s.params ≡ topology.params → AreNodesOf (machine_of prepare topology packages s.capacity) nodes s
-  new_nodes_are prepare count nodes s a params =
+  pub new_nodes_are : (count : ℕ) (nodes : List NodeValue) (s : Sequenced) → AreNewNodes topology packages count nodes
+      → s.params ≡ topology.params → AreNodesOf (machine_of (wanted_request topology packages) topology packages s.capacity) nodes s
+  new_nodes_are count nodes s a params =
       record {
         is_reading = sealed_is_reading topology packages;
         is_for = record { params = sym params; capacity = refl };
         node = λ p x e.
-            subst (IsNodeOf (machine_of prepare topology packages s.capacity) p) (sym (a.each p x e)) (record { reading = refl; params = refl; me = refl });
+            subst (IsNodeOf (machine_of (wanted_request topology packages) topology packages s.capacity) p) (sym (a.each p x e)) (record { reading = refl; params = refl; me = refl; prepares = refl });
       }

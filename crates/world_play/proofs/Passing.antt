@@ -91,8 +91,8 @@ module _ (nodes : List NodeValue) (s : Sequenced) (k : ℕ) (node : NodeValue) (
             | inl here ↦
                 let i = a.node k node at in
                 subst (λ (q : ParticipantId). IsNodeOf m q x) (sym here.0)
-                (subst (IsNodeOf m k) (sym same ∙ here.1) (record { reading = i.reading; params = i.params; me = i.me }))
-            | inr old ↦ let i = a.node p x old in record { reading = i.reading; params = i.params; me = i.me }
+                (subst (IsNodeOf m k) (sym same ∙ here.1) (record { reading = i.reading; params = i.params; me = i.me; prepares = i.prepares }))
+            | inr old ↦ let i = a.node p x old in record { reading = i.reading; params = i.params; me = i.me; prepares = i.prepares }
           ];
         }
 

@@ -107,7 +107,7 @@ module _ (first : NodeValue) (began : Sequenced) where
           subst (λ (x : NodeValue). IsParticipant m p x next) (sym after_first)
           (over_more m p node (with_state first (sent node.state r.request)) s next now on
           (behind m now.is_for now.behind (head_may m p node s r now head_m))
-          (record { reading = (given.is).reading; params = (given.is).params; me = (given.is).me })
+          (record { reading = (given.is).reading; params = (given.is).params; me = (given.is).me; prepares = (given.is).prepares })
           (has_sent m p (take now.read s.list) node.state r.request now.has))
 
       same_all : (m : Machine) (now : ℕ) → IsFor m began

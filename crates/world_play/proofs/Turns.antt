@@ -24,7 +24,7 @@ use Rattle.world_play.proofs.Readers.{take_take}
 
 module _ (m : Machine) (p : ParticipantId) where
   pub node_with : (node : NodeValue) (state : NodeState) → IsNodeOf m p node → IsNodeOf m p (with_state node state)
-  node_with node state is = record { reading = is.reading; params = is.params; me = is.me }
+  node_with node state is = record { reading = is.reading; params = is.params; me = is.me; prepares = is.prepares }
 
   module _ (first : NodeValue) (s : Sequenced) (given : IsParticipant m p first s) where
     pub cursor_of : length (first.state).items ≡ given.read

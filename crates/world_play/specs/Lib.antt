@@ -8,3 +8,5 @@ pub mod Making
 pub mod Events
 pub mod Moves
 pub mod Decides
+pub mod Submitting
+pub mod Becoming

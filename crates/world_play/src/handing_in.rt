@@ -1,6 +1,6 @@
 //! How responses and verdicts are handed in to the sequencer.
 ghost use Rattle.std.specs.Prelude.{◌≡◌, ℕ, OnErr, OnOk};
-ghost use Rattle.world_model.specs.Messages.{ResponseMessage, VerdictMessage};
+ghost use Rattle.world_model.specs.Messages.{RequestMessage, ResponseMessage, VerdictMessage};
 ghost use Rattle.world_model.specs.Machine.{Machine};
 ghost use Rattle.world_model.specs.Sequencing.{sequenced};
 ghost use Rattle.world_model.specs.Fits.{MayStand};
@@ -8,7 +8,7 @@ ghost use Rattle.world_model.specs.Locks.{SequencerBehind};
 ghost use Rattle.seq_log.specs.Sequenced.{IsFor};
 ghost use Rattle.world_play.specs.Standing.{GoesOn};
 
-use canton_model::{Message, Response, Verdict};
+use canton_model::{Message, Request, Response, Verdict};
 use seq_log::{AppendFault, AppendRefusal, Sequencer};
 use std::alloc::AllocError;
 
@@ -53,4 +53,16 @@ pub fn hand_in_verdict(sequencer: &mut Sequencer<'_>, verdict: Verdict) -> Resul
         → MayStand m sequencer.old.list (VerdictMessage verdict) → SequencerBehind m sequencer.new.list }
 {
     hand_in(sequencer, Message::Verdict(verdict))
+}
+
+/// Appends the request. One whose sender and command stand in the log already, or for which there is no room, is dropped.
+pub fn hand_in_request(sequencer: &mut Sequencer<'_>, request: Request) -> Result<(), AllocError>
+    ensures on { GoesOn sequencer.old sequencer.new }
+    ensures ok { OnOk result ((m : Machine) (now : ℕ) → IsFor m sequencer.old
+        → sequencer.new.list ≡ sequenced m now sequencer.old.list (RequestMessage request)) }
+    ensures err { OnErr result (sequencer.new ≡ sequencer.old) }
+    ensures behind { (m : Machine) → IsFor m sequencer.old → SequencerBehind m sequencer.old.list
+        → MayStand m sequencer.old.list (RequestMessage request) → SequencerBehind m sequencer.new.list }
+{
+    hand_in(sequencer, Message::Request(request))
 }

@@ -3,7 +3,8 @@ ghost use Rattle.std.specs.Prelude.{◌≡◌, ◌≤◌, [], length, map, repli
 ghost use Rattle.world_model.specs.Node.{new_node};
 ghost use Rattle.world_model.specs.Mediator.{new_mediator};
 ghost use Rattle.world_model.specs.World.{new_world};
-ghost use Rattle.world_play.specs.Machines.{Prepare, machine_of};
+ghost use Rattle.node_full.specs.Stand.{wanted_request};
+ghost use Rattle.world_play.specs.Machines.{machine_of};
 ghost use Rattle.world_play.specs.Making.{AreNewNodes};
 ghost use Rattle.world_play.specs.WorldOf.{IsWorldOf, world_of};
 
@@ -66,10 +67,10 @@ impl<'r> World<'r> {
         capacity: u64,
     ) -> Result<World<'r>, AllocError>
         requires { length setup.now.topology.hosts ≤ 256 }
-        ensures is { IfOk result (λ world. (prepare : Prepare)
-            → IsWorldOf (machine_of prepare setup.now.topology setup.now.checked capacity) new_mediator world) }
-        ensures new { IfOk result (λ world. (prepare : Prepare)
-            → world_of new_mediator world ≡ new_world (machine_of prepare setup.now.topology setup.now.checked capacity)) }
+        ensures is { IfOk result (λ world. IsWorldOf (machine_of (wanted_request setup.now.topology setup.now.checked)
+            setup.now.topology setup.now.checked capacity) new_mediator world) }
+        ensures new { IfOk result (λ world. world_of new_mediator world
+            ≡ new_world (machine_of (wanted_request setup.now.topology setup.now.checked) setup.now.topology setup.now.checked capacity)) }
     {
         let nodes = new_nodes(alloc, setup)?;
         let mediator = Mediator::new(alloc, &setup.topology);

@@ -5,23 +5,24 @@ use Rattle.world_model.specs.Mediator.{new_mediator}
 use Rattle.mediator.specs.Kept.{Kept, Keeps}
 use Rattle.seq_log.specs.Sequenced.{Sequenced}
 use Rattle.node_full.specs.NodeValue.{NodeValue}
+use Rattle.node_full.specs.Stand.{wanted_request}
 use Rattle.world_play.specs.Machines.{machine_of}
 use Rattle.world_play.specs.Worlds.{state_of, AreNodesOf}
 use Rattle.world_play.proofs.Makes.{new_nodes_are, new_states}
 use Rattle.world_play.proofs.world.World.new.Goals as goal
 
 pub returns-clause-is : goal.returns-clause-is
-returns-clause-is c = λ prepare.
+returns-clause-is c =
     let t = c.args.setup.now.topology in
     let p = c.args.setup.now.checked in
-    let m = machine_of prepare t p c.args.capacity in
+    let m = machine_of (wanted_request t p) t p c.args.capacity in
     let s = c.in_ok-sequencer.sequencer in
     let e = c.in_ok-sequencer.ensures in
     let of = c.of.ensures in
     let nodes = (c.in_ok-nodes.nodes).items in
     let made =
-    subst (λ (n : ℕ). AreNodesOf (machine_of prepare t p n) nodes s) (ap (λ (q : Sequenced). q.capacity) e)
-    (new_nodes_are t p prepare (length t.hosts) nodes s c.in_ok-nodes.ensures (ap (λ (q : Sequenced). q.params) e)) in
+    subst (λ (n : ℕ). AreNodesOf (machine_of (wanted_request t p) t p n) nodes s) (ap (λ (q : Sequenced). q.capacity) e)
+    (new_nodes_are t p (length t.hosts) nodes s c.in_ok-nodes.ensures (ap (λ (q : Sequenced). q.params) e)) in
     record {
       nodes =
           subst (λ (q : Sequenced). AreNodesOf m ((c.of.result).nodes).items q) (sym of.0)
@@ -33,7 +34,7 @@ returns-clause-is c = λ prepare.
     }
 
 pub returns-clause-new : goal.returns-clause-new
-returns-clause-new c = λ prepare.
+returns-clause-new c =
     let t = c.args.setup.now.topology in
     let p = c.args.setup.now.checked in
     let of = c.of.ensures in
