@@ -1,27 +1,25 @@
 -- What a world's events are at one participant.
 use Rattle.std.proofs.Common.{◌≡◌, ℕ, zero, suc, ◌+◌, ◌<◌, ◌≤◌, Bool, List, [], ◌∷◌, take, length, Option, Some, None, refl, sym, ap, ◌∙◌, subst, arith}
 use Rattle.std.specs.Prelude.{slice_get}
-use Rattle.std.proofs.lemmas.Option.{none-some, same_Some}
+use Rattle.std.proofs.lemmas.Option.{same_Some}
 use Rattle.ledger_model.specs.Terms.{ParticipantId}
 use Rattle.canton_model.specs.Log.{Params}
 use Rattle.canton_model.specs.Reading.{Reading}
-use Rattle.world_model.specs.Messages.{Entry, Message, ResponseMessage, Response}
+use Rattle.world_model.specs.Messages.{Entry, ResponseMessage, Response}
 use Rattle.world_model.specs.Machine.{Machine}
 use Rattle.world_model.specs.Mediator.{MediatorState}
 use Rattle.world_model.specs.Sequencing.{sequenced}
-use Rattle.world_model.specs.Node.{NodeState, read_entry, next_claim, validate, outbox_head, sent, with_flag}
+use Rattle.world_model.specs.Node.{NodeState, read_entry, next_claim, outbox_head, sent, with_flag}
 use Rattle.world_model.specs.World.{World, NodeRead, Validate, Reply, LoseReply, Pause, happens, at_node, node_reads, validates, replies, loses_reply}
-use Rattle.world_model.specs.World.{set_at, with_node, append_to}
-use Rattle.seq_log.specs.Sequenced.{Sequenced, IsFor}
+use Rattle.world_model.specs.World.{set_at, with_node}
+use Rattle.seq_log.specs.Sequenced.{Sequenced}
 use Rattle.node_full.specs.NodeValue.{NodeValue, reading_of, with_state}
 use Rattle.world_play.specs.declared.moving.NodeMove.{NodeMove}
 use Rattle.world_play.specs.declared.moving.NodeMove.TheVariants as move
 use Rattle.world_play.specs.Moves.{Happens, event_at, validated_if}
-use Rattle.world_play.specs.Reading.{Reads}
-use Rattle.world_play.specs.Standing.{IsNodeOf, IsParticipant}
+use Rattle.world_play.specs.Standing.{IsNodeOf}
 use Rattle.world_play.proofs.Moved.{to_machine}
-use Rattle.world_play.proofs.Readers.{begins, stands, take_take}
-use Rattle.world_play.proofs.Turns.{reads_of}
+use Rattle.world_play.proofs.Readers.{stands, take_take}
 
 set_own : (nodes : List NodeState) (p : ℕ) (x : NodeState) → slice_get nodes p ≡ Some x → set_at nodes p x ≡ nodes
 set_own [] p x e = refl

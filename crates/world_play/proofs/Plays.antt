@@ -1,5 +1,5 @@
 -- Event after event.
-use Rattle.std.proofs.Common.{◌≡◌, ℕ, zero, suc, ◌+◌, ◌<◌, ◌≤◌, List, [], ◌∷◌, ◌++◌, take, length, map, Some, refl, sym, ap, ◌∙◌, subst, arith, le_refl}
+use Rattle.std.proofs.Common.{◌≡◌, ℕ, zero, suc, ◌+◌, ◌≤◌, List, [], ◌∷◌, ◌++◌, take, length, Some, refl, sym, ap, ◌∙◌, subst, arith}
 use Rattle.std.specs.Prelude.{slice_get, ◌^◌}
 use Rattle.std.proofs.lemmas.List.{map-append, take_all}
 use Rattle.ledger_terms.specs.declared.topology.Topology.{Topology}
@@ -8,7 +8,6 @@ use Rattle.world_model.specs.Machine.{Machine, IsMachine}
 use Rattle.world_model.specs.Mediator.{MediatorState}
 use Rattle.world_model.specs.World as w
 use Rattle.world_model.specs.Lawful.{Lawful}
-use Rattle.world_model.specs.Headline.{Headline}
 use Rattle.world_model.proofs.Steps.{take_next, played_keeps, new_lawful}
 use Rattle.node_full.proofs.Readings.{sealed_is_reading, wanted_is_request}
 use Rattle.node_full.specs.Stand.{wanted_request}

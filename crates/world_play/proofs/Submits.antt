@@ -1,7 +1,6 @@
 -- What a submission does to a world.
-use Rattle.std.proofs.Common.{◌≡◌, ℕ, zero, suc, Bool, true, false, List, [], ◌∷◌, length, map, Option, Some, None, refl, sym, ap, ◌∙◌, inl, inr}
-use Rattle.std.specs.Prelude.{slice_get, if◌then◌else◌}
-use Rattle.std.proofs.lemmas.Bool.{cases_Bool}
+use Rattle.std.proofs.Common.{◌≡◌, ℕ, zero, suc, Bool, true, false, List, [], ◌∷◌, map, Option, Some, None, refl, sym, ap, ◌∙◌}
+use Rattle.std.specs.Prelude.{slice_get}
 use Rattle.std.proofs.lemmas.Option.{none-some}
 use Rattle.ledger_terms.specs.declared.submission.Submission.{Submission}
 use Rattle.canton_model.specs.Inbox.{Item}
@@ -9,7 +8,7 @@ use Rattle.world_model.specs.Messages.{Request}
 use Rattle.world_model.specs.Machine.{Machine}
 use Rattle.world_model.specs.Mediator.{MediatorState}
 use Rattle.world_model.specs.Node.{NodeState}
-use Rattle.world_model.specs.World.{World, Submit, happens, at_node, submit, submit_wanted}
+use Rattle.world_model.specs.World.{Submit, happens, at_node, submit, submit_wanted}
 use Rattle.seq_log.specs.Sequenced.{Sequenced}
 use Rattle.node_full.specs.NodeValue.{NodeValue}
 use Rattle.node_full.specs.Stand.{wanted_request}

@@ -10,7 +10,7 @@ mod happening;
 mod mediating;
 mod moving;
 mod pass;
-mod play;
+mod playing;
 mod reading;
 mod resuming;
 mod scanning;
@@ -22,6 +22,6 @@ mod validating;
 mod world;
 
 pub use event::{Event, EventList};
-pub use play::play;
+pub use playing::play;
 pub use settling::settle;
 pub use world::{NodeList, World};

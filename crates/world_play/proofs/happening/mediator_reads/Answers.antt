@@ -1,4 +1,4 @@
-use Rattle.std.proofs.Common.{List, map, sym, ap, ◌∙◌, subst}
+use Rattle.std.proofs.Common.{map, sym, ap, ◌∙◌, subst}
 use Rattle.seq_log.specs.Sequenced.{Sequenced}
 use Rattle.world_play.specs.Worlds.{state_of, AreNodesOf}
 use Rattle.world_play.proofs.Answered.{on_ok}

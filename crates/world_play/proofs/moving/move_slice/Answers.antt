@@ -1,4 +1,4 @@
-use Rattle.std.proofs.Common.{List, map, sym, ap, ◌∙◌, arith}
+use Rattle.std.proofs.Common.{List, map, ap, ◌∙◌, arith}
 use Rattle.std.specs.Prelude.{slice_index_or}
 use Rattle.world_model.specs.Node.{NodeState}
 use Rattle.world_play.specs.Worlds.{state_of, world_with}

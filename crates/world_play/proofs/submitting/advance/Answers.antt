@@ -1,4 +1,4 @@
-use Rattle.std.proofs.Common.{◌≡◌, ◌+◌, List, [], ◌∷◌, ◌++◌, map, Option, sym, ap, ◌∙◌, ne_eqb}
+use Rattle.std.proofs.Common.{◌+◌, List, [], ◌∷◌, ◌++◌, map, Option, sym, ap, ◌∙◌, ne_eqb}
 use Rattle.world_model.specs.Messages.{Entry, Tick}
 use Rattle.world_model.specs.Sequencing.{AppendFault, entry_after, unless_refused}
 use Rattle.world_play.specs.Worlds.{state_of}

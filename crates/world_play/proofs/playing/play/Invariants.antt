@@ -1,7 +1,7 @@
 use Rattle.node_full.specs.Stand.{wanted_request}
 use Rattle.world_play.specs.Machines.{machine_of}
 use Rattle.world_play.proofs.Plays.{IsPlayed, is_machine}
-use Rattle.world_play.proofs.play.play.Given as goal
+use Rattle.world_play.proofs.playing.play.Given as goal
 
 abbrev pub invariant-events : goal.invariant-events
 invariant-events l =
