@@ -16,7 +16,7 @@ module _ {X : Type 0} where
   item_of (x ∷ xs) zero lt = (x, refl)
   item_of (x ∷ xs) (suc k) lt = item_of xs k (omega (arith, lt))
 
-  length_slice_set : (xs : List X) (k : ℕ) (y : X) → length (slice_set xs k y) ≡ length xs
+  pub length_slice_set : (xs : List X) (k : ℕ) (y : X) → length (slice_set xs k y) ≡ length xs
   length_slice_set [] k y = refl
   length_slice_set (x ∷ xs) zero y = refl
   length_slice_set (x ∷ xs) (suc k) y = ap suc (length_slice_set xs k y)

@@ -1,5 +1,5 @@
 -- What a world's events are at one participant.
-use Rattle.std.proofs.Common.{◌≡◌, ℕ, zero, suc, ◌+◌, ◌<◌, ◌≤◌, Bool, List, [], ◌∷◌, take, length, Option, Some, None, refl, sym, ap, ◌∙◌, subst, arith}
+use Rattle.std.proofs.Common.{◌≡◌, ℕ, zero, suc, ◌+◌, ◌<◌, ◌≤◌, Bool, List, [], ◌∷◌, ◌++◌, take, length, Option, Some, None, refl, sym, ap, ◌∙◌, subst, arith}
 use Rattle.std.specs.Prelude.{slice_get}
 use Rattle.std.proofs.lemmas.Option.{same_Some}
 use Rattle.ledger_model.specs.Terms.{ParticipantId}
@@ -18,6 +18,8 @@ use Rattle.world_play.specs.declared.moving.NodeMove.{NodeMove}
 use Rattle.world_play.specs.declared.moving.NodeMove.TheVariants as move
 use Rattle.world_play.specs.Moves.{Happens, event_at, validated_if}
 use Rattle.world_play.specs.Standing.{IsNodeOf}
+use Rattle.node_core.proofs.LogEnds.{before_last}
+use Rattle.world_model.proofs.Steps.{length_take}
 use Rattle.world_play.proofs.Moved.{to_machine}
 use Rattle.world_play.proofs.Readers.{stands, take_take}
 
@@ -82,12 +84,16 @@ module _ (m : Machine) (p : ParticipantId) (first : NodeValue) (s : Sequenced) (
       ∙ reads_none m p now mediator nodes s.list first.state there (past s.list (length (first.state).items) (omega (arith, le, at)))
 
   pub read_here : IsNodeOf m p first → (list : List Entry) → k < length s.list → list ≡ take (k + 1) s.list → (after : NodeValue)
-      → ((e : Entry) → slice_get list (length (first.state).items) ≡ Some e
-      → after ≡ with_state first (read_entry (reading_of first) first.me first.state (take (length (first.state).items) list) e))
+      → ((front : List Entry) (e : Entry) → list ≡ front ++ e ∷ []
+      → after ≡ with_state first (read_entry (reading_of first) first.me first.state front e))
       → Happens m p (NodeRead p) first s after s
   read_here is list lt same after step now mediator nodes there =
       let e = stands k s.list lt in
-      let stepped = step e.0 (ap (slice_get list) (sym at) ∙ (ap (λ (xs : List Entry). slice_get xs k) same ∙ e.2)) in
+      let n = length (first.state).items in
+      let long : length list ≡ n + 1 =
+      ap length same ∙ (length_take (k + 1) s.list (omega (arith, lt)) ∙ ap (λ (i : ℕ). i + 1) at) in
+      let stepped =
+      step (take n list) e.0 (before_last list n e.0 long (ap (slice_get list) (sym at) ∙ (ap (λ (xs : List Entry). slice_get xs k) same ∙ e.2))) in
       let front : take (length (first.state).items) list ≡ take (length (first.state).items) s.list =
       ap (take (length (first.state).items)) same ∙ take_take (length (first.state).items) (k + 1) s.list (omega (arith, at)) in
       let state : after.state ≡ read_entry m.reading p first.state (take (length (first.state).items) s.list) e.0 =

@@ -16,10 +16,11 @@ use Rattle.world_model.specs.Turns.{validate_below}
 use Rattle.world_model.proofs.Loops.{claims_on, claims_none, responses_within}
 use Rattle.world_model.proofs.NodeFacts.{first_from_is}
 use Rattle.world_model.proofs.Steps.{has_claim, has_validated}
-use Rattle.node_core.specs.Participant.{Participant as NodeValue, reading_of, with_state}
+use Rattle.node_core.specs.Participant.{Participant as NodeValue, reading_of, response_there, with_state}
 use Rattle.validate_job.specs.declared.finished.Finished.{Finished}
 use Rattle.validate_job.specs.Outcome.{IsOutcome}
 use Rattle.validate_job.specs.Job.{Assignment}
+use Rattle.validate_job.specs.Owed.{owed_on_each}
 use Rattle.world_play.specs.Standing.{IsNodeOf}
 use Rattle.world_play.proofs.Moved.{from_machine}
 
@@ -80,7 +81,7 @@ module _ (first : NodeValue) where
         (λ m p read is h. has_claim m p read node.state k h (claim_open (reading_of first) (first.topology).params first.me node.state k next_first).1)
 
     module _ (given : Assignment) (done : Finished) (o : IsOutcome given done) (at : given.place ≡ k)
-        (owed : given.owed ≡ owed_at (reading_of node) (node.topology).params node.me (node.state).items given.place) where
+        (owed : owed_on_each given.input given.views ≡ owed_at (reading_of node) (node.topology).params node.me (node.state).items given.place) where
       place_is : done.place ≡ k
       place_is = o.place ∙ at
 
@@ -100,7 +101,7 @@ module _ (first : NodeValue) where
 
       module _ {X : Type 0} {Y : Type 0} (after : NodeValue) (r : Result X Y)
           (decided : OnErr r (is_decided_now (claimed.topology).params (claimed.state).items done.place ≡ true))
-          (ok : OnOk r (after ≡ with_state claimed (finish claimed.state (record { from = claimed.me; request = done.place; verdicts = done.verdicts })))) where
+          (ok : OnOk r (after ≡ with_state claimed (finish claimed.state (response_there claimed done.place)))) where
         undecided : is_decided_now (claimed.topology).params (claimed.state).items done.place ≡ false
         undecided =
             subst (λ (i : ℕ). is_decided_now (claimed.topology).params (claimed.state).items i ≡ false) (sym place_is)
@@ -108,7 +109,10 @@ module _ (first : NodeValue) where
             (claim_undecided (reading_of node) (node.topology).params node.me node.state k next))
 
         finished : after ≡ with_state claimed (finish claimed.state (record { from = claimed.me; request = done.place; verdicts = done.verdicts }))
-        finished = when_open r _ _ undecided decided ok
+        finished =
+            when_open r _ _ undecided decided ok
+            ∙ ap (λ (vs : List ViewVerdict). with_state claimed (finish claimed.state (record { from = claimed.me; request = done.place; verdicts = vs })))
+            (sym owed_then)
 
         owed_first : done.verdicts ≡ owed_at (reading_of first) (first.topology).params first.me (node.state).items k
         owed_first =

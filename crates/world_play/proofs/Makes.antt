@@ -6,13 +6,13 @@ use Rattle.std.proofs.lemmas.Option.{none-some, same_Some}
 use Rattle.ledger_terms.specs.declared.topology.Topology.{Topology}
 use Rattle.lang_eval.specs.Found.{Packages}
 use Rattle.world_model.specs.Node.{NodeState, new_node}
-use Rattle.node_full.proofs.Readings.{sealed_is_reading}
+use Rattle.sealed_form.proofs.Sealed.{lawful}
 use Rattle.node_core.specs.Participant.{Participant as NodeValue}
 use Rattle.seq_log.specs.Sequenced.{Sequenced}
-use Rattle.node_full.specs.Stand.{wanted_request}
 use Rattle.world_play.specs.Machines.{machine_of}
 use Rattle.world_play.specs.Making.{AreNewNodes}
 use Rattle.world_play.specs.Standing.{IsNodeOf}
+use Rattle.world_play.specs.Submitting.{AreSetUp}
 use Rattle.world_play.specs.Worlds.{state_of, AreNodesOf}
 
 in_push : {X : Type 0} (xs : List X) (y z : X) (i : ℕ) → slice_get (xs ++ y ∷ []) i ≡ Some z → (slice_get xs i ≡ Some z) ⊎ ((i ≡ length xs) × (y ≡ z))
@@ -52,11 +52,19 @@ module _ (topology : Topology) (packages : Packages) where
       all_new nodes (λ p x e. ap state_of (a.each p x e)) ∙ ap (λ (n : ℕ). replicate n new_node) a.many
 
   pub new_nodes_are : (count : ℕ) (nodes : List NodeValue) (s : Sequenced) → AreNewNodes topology packages count nodes
-      → s.params ≡ topology.params → AreNodesOf (machine_of (wanted_request topology packages) topology packages s.capacity) nodes s
+      → s.params ≡ topology.params → AreNodesOf (machine_of topology packages s.capacity) nodes s
   new_nodes_are count nodes s a params =
       record {
-        is_reading = sealed_is_reading topology packages;
+        is_reading = lawful topology packages;
         is_for = record { params = sym params; capacity = refl };
         node = λ p x e.
-            subst (IsNodeOf (machine_of (wanted_request topology packages) topology packages s.capacity) p) (sym (a.each p x e)) (record { reading = refl; params = refl; me = refl; prepares = refl });
+            subst (IsNodeOf (machine_of topology packages s.capacity) p) (sym (a.each p x e)) (record { reading = refl; params = refl; me = refl; prepares = refl });
+      }
+
+  pub set_up_new : (nodes : List NodeValue) → AreNewNodes topology packages (length topology.hosts) nodes → AreSetUp topology packages nodes
+  set_up_new nodes a =
+      record {
+        many = a.many;
+        each = λ p x e.
+            let is = a.each p x e in (ap (λ (y : NodeValue). y.topology) is, ap (λ (y : NodeValue). y.packages) is);
       }

@@ -21,6 +21,10 @@ use Rattle.seq_log.specs.Sequenced.{Sequenced}
 use Rattle.node_core.specs.Participant.{Participant as NodeValue, with_state}
 use Rattle.world_play.specs.Standing.{IsNodeOf, IsParticipant, GoesOn}
 use Rattle.world_play.specs.Worlds.{state_of, world_with, AreNodesOf}
+use Rattle.ledger_terms.specs.declared.topology.Topology.{Topology}
+use Rattle.lang_eval.specs.Found.{Packages}
+use Rattle.world_play.specs.Submitting.{AreSetUp}
+use Rattle.world_play.proofs.Each.{length_slice_set}
 use Rattle.world_play.proofs.Sends.{stays, goes_further, still_for}
 
 -- one node changed
@@ -76,6 +80,20 @@ module _ (nodes : List NodeValue) (s : Sequenced) (k : ℕ) (node : NodeValue) (
         read = n.0;
         within = n.1;
         has = n.2;
+      }
+
+  pub set_up_then : (node' : NodeValue) → node' ≡ with_state node node'.state → (topology : Topology) (packages : Packages)
+      → AreSetUp topology packages nodes → AreSetUp topology packages (slice_set nodes k node')
+  set_up_then node' same topology packages u =
+      record {
+        many = length_slice_set nodes k node' ∙ u.many;
+        each = λ p x there. elim (set_at_cases nodes k p node' x there) [
+          | inl here ↦
+              let i = u.each k node at in
+              let is = sym here.1 ∙ same in
+              (ap (λ (y : NodeValue). y.topology) is ∙ i.0, ap (λ (y : NodeValue). y.packages) is ∙ i.1)
+          | inr old ↦ u.each p x old
+        ];
       }
 
   module _ (node' : NodeValue) (s' : Sequenced) (on : GoesOn s s') (same : node' ≡ with_state node node'.state) where

@@ -1,6 +1,7 @@
 -- Event after event.
 use Rattle.std.proofs.Common.{◌≡◌, ℕ, zero, suc, ◌+◌, ◌≤◌, List, [], ◌∷◌, ◌++◌, take, length, Some, refl, sym, ap, ◌∙◌, subst, arith}
-use Rattle.std.specs.Prelude.{slice_get, ◌^◌}
+use Rattle.std.specs.Prelude.{slice_get, ◌^◌, All}
+use Rattle.std.proofs.lemmas.Option.{none-some, same_Some}
 use Rattle.std.proofs.lemmas.List.{map-append, take_all}
 use Rattle.ledger_terms.specs.declared.topology.Topology.{Topology}
 use Rattle.lang_eval.specs.Found.{Packages}
@@ -9,19 +10,21 @@ use Rattle.world_model.specs.Mediator.{MediatorState}
 use Rattle.world_model.specs.World as w
 use Rattle.world_model.specs.Lawful.{Lawful}
 use Rattle.world_model.proofs.Steps.{take_next, played_keeps, new_lawful}
-use Rattle.node_full.proofs.Readings.{sealed_is_reading, wanted_is_request}
-use Rattle.node_full.specs.Stand.{wanted_request}
+use Rattle.prepare_request.proofs.Machines.{machine}
 use Rattle.world_play.specs.declared.event.Event.{Event}
 use Rattle.world_play.specs.declared.world.World.{World}
 use Rattle.world_play.specs.Becoming.{Becomes}
 use Rattle.world_play.specs.Events.{event_of, events_of, advance_of, advance_in}
-use Rattle.world_play.specs.Machines.{machine_of}
+use Rattle.world_play.specs.Machines.{machine_of, offered_in}
 use Rattle.world_play.specs.WorldOf.{IsWorldOf, world_of}
 
-pub is_machine : (topology : Topology) (packages : Packages) (capacity : ℕ)
-    → IsMachine (machine_of (wanted_request topology packages) topology packages capacity)
-is_machine topology packages capacity =
-    record { is_reading = sealed_is_reading topology packages; prepares = λ what log now request g e. wanted_is_request topology packages what log now request e }
+pub is_machine : (topology : Topology) (packages : Packages) (capacity : ℕ) → IsMachine (machine_of topology packages capacity)
+is_machine topology packages capacity = machine topology packages capacity (offered_in topology packages)
+
+pub each_of : {X : Type 0} (P : X → Type 0) (xs : List X) (k : ℕ) (x : X) → All P xs → slice_get xs k ≡ Some x → P x
+each_of P [] k x a e = absurd (none-some x e)
+each_of P (y ∷ ys) zero x a e = subst P (same_Some y x e) a.0
+each_of P (y ∷ ys) (suc k) x a e = each_of P ys k x a.1 e
 
 played_more : (m : Machine) (world : w.World) (xs : List w.Event) (e : w.Event) → w.played m world (xs ++ e ∷ []) ≡ w.happens m (w.played m world xs) e
 played_more m world [] e = refl

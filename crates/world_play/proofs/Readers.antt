@@ -1,5 +1,5 @@
 -- A participant that reads entry after entry.
-use Rattle.std.proofs.Common.{◌≡◌, ℕ, zero, suc, ◌+◌, ◌-◌, ◌<◌, ◌≤◌, List, [], ◌∷◌, take, length, Some, refl, sym, ap, ◌∙◌, subst, arith, le_refl}
+use Rattle.std.proofs.Common.{◌≡◌, ℕ, zero, suc, ◌+◌, ◌-◌, ◌<◌, ◌≤◌, List, [], ◌∷◌, ◌++◌, take, length, Some, refl, sym, ap, ◌∙◌, subst, arith, le_refl}
 use Rattle.std.specs.Prelude.{slice_get}
 use Rattle.std.proofs.lemmas.List.{take_all}
 use Rattle.canton_model.specs.Genuine.{Genuine}
@@ -13,7 +13,8 @@ use Rattle.world_model.proofs.Steps.{take_next, length_take}
 use Rattle.log_row.specs.LogPrefix.{LogPrefix}
 use Rattle.seq_log.specs.Sequenced.{Sequenced, prefix_of}
 use Rattle.seq_log.specs.Slips.{prefix_to}
-use Rattle.node_core.specs.Participant.{Participant as NodeValue, reading_of, with_state}
+use Rattle.node_core.specs.Participant.{Participant as NodeValue, CanRead, reading_of, with_state}
+use Rattle.node_core.proofs.LogEnds.{before_last}
 use Rattle.world_play.specs.Reading.{Reads, IsReader, has_read}
 
 module _ {X : Type 0} where
@@ -53,12 +54,12 @@ module _ (first : NodeValue) (log : List Entry) where
     is_read = at ∙ cursor_is node r
 
     module _ (list : List Entry) (lt : k < length log) (is : list ≡ take (k + 1) log) where
-      pub next_long : length list ≡ length (node.state).items + 1
+      next_long : length list ≡ length (node.state).items + 1
       next_long =
           let long = length_take (k + 1) log (omega (arith, lt)) in
           let same = ap length is in omega (arith, at, long, same)
 
-      pub next_genuine : Genuine (reading_of node) (node.topology).params list
+      next_genuine : Genuine (reading_of node) (node.topology).params list
       next_genuine =
           subst (λ (x : NodeValue). Genuine (reading_of x) (x.topology).params list) (sym r.is)
           (subst (Genuine (reading_of first) (first.topology).params) (sym is)
@@ -69,19 +70,25 @@ module _ (first : NodeValue) (log : List Entry) where
           ap (λ (n : ℕ). take n list) (cursor_is node r)
           ∙ (ap (take r.read) is ∙ take_take r.read (k + 1) log (let e = is_read in omega (arith, e)))
 
-      pub next_read : (node.state).items ≡ inbox (reading_of node) node.me (take (length (node.state).items) list)
+      next_read : (node.state).items ≡ inbox (reading_of node) node.me (take (length (node.state).items) list)
       next_read =
           subst (λ (x : NodeValue). (node.state).items ≡ inbox (reading_of x) x.me (take (length (node.state).items) list)) (sym r.is)
           (ap (λ (x : NodeValue). (x.state).items) r.is ∙ ap (inbox (reading_of first) first.me) (sym before))
 
+      pub can_read : CanRead node list
+      can_read = record { cursor = next_long; genuine = next_genuine; before = next_read }
+
       module _ (after : NodeValue)
-          (step : (e : Entry) → slice_get list (length (node.state).items) ≡ Some e
-          → after ≡ with_state node (read_entry (reading_of node) node.me node.state (take (length (node.state).items) list) e)) where
+          (step : (front : List Entry) (e : Entry) → list ≡ front ++ e ∷ []
+          → after ≡ with_state node (read_entry (reading_of node) node.me node.state front e)) where
         next : (e : Entry) × (slice_get log k ≡ Some e) × (slice_get (take (k + 1) log) k ≡ Some e)
         next = stands k log lt
 
         stepped : after ≡ with_state node (read_entry (reading_of node) node.me node.state (take (length (node.state).items) list) next.0)
-        stepped = step next.0 (ap (slice_get list) (sym at) ∙ (ap (λ (xs : List Entry). slice_get xs k) is ∙ next.2))
+        stepped =
+            step (take (length (node.state).items) list) next.0
+            (before_last list (length (node.state).items) next.0 next_long
+            (ap (slice_get list) (sym at) ∙ (ap (λ (xs : List Entry). slice_get xs k) is ∙ next.2)))
 
         pub reads_on : IsReader first log after
         reads_on =

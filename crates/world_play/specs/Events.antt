@@ -1,9 +1,12 @@
 -- Events in the words of the world model.
 use Rattle.std.specs.Prelude.{◌+◌, ℕ, List, [], ◌∷◌, map}
+use Rattle.ledger_terms.specs.declared.topology.Topology.{Topology}
+use Rattle.lang_eval.specs.Found.{Packages}
 use Rattle.world_model.specs.World as w
 use Rattle.world_play.specs.declared.event.Event.{Event}
 use Rattle.world_play.specs.declared.event.Event.TheVariants.{Advance, Submit, NodeRead, Validate, Reply, LoseReply, MediatorRead, GiveVerdict}
 use Rattle.world_play.specs.declared.event.Event.TheVariants.{LoseVerdict, Pause}
+use Rattle.world_play.specs.Submitting.{CanSubmit}
 
 abbrev pub event_of : Event → w.Event
 event_of (Advance by) = w.Advance by
@@ -36,3 +39,16 @@ advance_of (Pause node paused) = 0
 abbrev pub advance_in : List Event → ℕ
 advance_in [] = 0
 advance_in (event ∷ rest) = advance_of event + advance_in rest
+
+-- a submission is within the topology
+abbrev pub CanHappen : Topology → Packages → Event → Type 0
+CanHappen topology packages (Advance by) = Unit {0}
+CanHappen topology packages (Submit what) = CanSubmit topology packages what
+CanHappen topology packages (NodeRead node) = Unit {0}
+CanHappen topology packages (Validate node) = Unit {0}
+CanHappen topology packages (Reply node) = Unit {0}
+CanHappen topology packages (LoseReply node) = Unit {0}
+CanHappen topology packages MediatorRead = Unit {0}
+CanHappen topology packages GiveVerdict = Unit {0}
+CanHappen topology packages LoseVerdict = Unit {0}
+CanHappen topology packages (Pause node paused) = Unit {0}

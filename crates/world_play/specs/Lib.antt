@@ -5,8 +5,8 @@ pub mod WorldOf
 pub mod Scans
 pub mod Machines
 pub mod Making
-pub mod Events
 pub mod Moves
 pub mod Decides
 pub mod Submitting
+pub mod Events
 pub mod Becoming

@@ -10,7 +10,7 @@ use Rattle.world_model.specs.Lawful.{NodeHas, MediatorHas}
 use Rattle.mediator.specs.Kept.{Kept, Keeps}
 use Rattle.seq_log.specs.Sequenced.{Sequenced, IsFor}
 use Rattle.node_core.specs.Participant.{Participant as NodeValue, reading_of}
-use Rattle.node_full.specs.Stand.{wanted_request}
+use Rattle.world_play.specs.Machines.{wanted_request}
 
 -- it is participant p of the machine
 pub record IsNodeOf (m : Machine) (p : ParticipantId) (node : NodeValue) : Type 0 where

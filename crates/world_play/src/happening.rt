@@ -1,12 +1,15 @@
 //! What each event does to a synchroniser.
 ghost use Rattle.std.specs.Prelude.{◌≡◌, ◌+◌, ◌≤◌, ◌^◌, OnOk};
+ghost use Rattle.ledger_terms.specs.declared.topology.Topology.{Topology};
+ghost use Rattle.lang_eval.specs.Found.{Packages};
 ghost use Rattle.world_model.specs.Machine.{Machine};
 ghost use Rattle.world_model.specs.Mediator.{MediatorState};
 ghost use Rattle.world_model.specs.Lawful.{Lawful};
 ghost use Rattle.world_model.specs.World.{MediatorRead, GiveVerdict, LoseVerdict};
 ghost use Rattle.world_play.specs.Becoming.{Becomes};
-ghost use Rattle.world_play.specs.Events.{advance_of, event_of};
+ghost use Rattle.world_play.specs.Events.{CanHappen, advance_of, event_of};
 ghost use Rattle.world_play.specs.Moves.{event_at};
+ghost use Rattle.world_play.specs.Submitting.{AreSetUp};
 ghost use Rattle.world_play.specs.WorldOf.{IsWorldOf, world_of};
 
 use crate::deciding::{give, lose, read_next};
@@ -25,6 +28,8 @@ fn move_at(
 ) -> Result<(), AllocError>
     requires { (m : Machine) × (state : MediatorState) × IsWorldOf m state world.old × Lawful m (world_of state world.old) }
     ensures now { world.new.now ≡ world.old.now }
+    ensures set_up { OnOk result ((topology : Topology) (packages : Packages) → AreSetUp topology packages (world.old.nodes).items
+        → AreSetUp topology packages (world.new.nodes).items) }
     ensures ok { OnOk result ((m : Machine) (state : MediatorState) → IsWorldOf m state world.old → Lawful m (world_of state world.old)
         → Becomes m (event_at action node) state world.old world.new) }
 {
@@ -40,6 +45,7 @@ fn move_at(
 fn mediator_reads(world: &mut World<'_>) -> Result<(), AllocError>
     requires { (m : Machine) × (state : MediatorState) × IsWorldOf m state world.old × Lawful m (world_of state world.old) }
     ensures now { world.new.now ≡ world.old.now }
+    ensures nodes { world.new.nodes ≡ world.old.nodes }
     ensures ok { OnOk result ((m : Machine) (state : MediatorState) → IsWorldOf m state world.old → Lawful m (world_of state world.old)
         → Becomes m MediatorRead state world.old world.new) }
 {
@@ -48,6 +54,7 @@ fn mediator_reads(world: &mut World<'_>) -> Result<(), AllocError>
 
 fn verdict_comes(world: &mut World<'_>) -> Result<(), AllocError>
     ensures now { world.new.now ≡ world.old.now }
+    ensures nodes { world.new.nodes ≡ world.old.nodes }
     ensures ok { OnOk result ((m : Machine) (state : MediatorState) → IsWorldOf m state world.old → Lawful m (world_of state world.old)
         → Becomes m GiveVerdict state world.old world.new) }
 {
@@ -56,6 +63,7 @@ fn verdict_comes(world: &mut World<'_>) -> Result<(), AllocError>
 
 fn verdict_is_lost(world: &mut World<'_>) -> Result<(), AllocError>
     ensures now { world.new.now ≡ world.old.now }
+    ensures nodes { world.new.nodes ≡ world.old.nodes }
     ensures ok { OnOk result ((m : Machine) (state : MediatorState) → IsWorldOf m state world.old → Lawful m (world_of state world.old)
         → Becomes m LoseVerdict state world.old world.new) }
 {
@@ -66,7 +74,11 @@ fn verdict_is_lost(world: &mut World<'_>) -> Result<(), AllocError>
 pub fn happen(alloc: Global, world: &mut World<'_>, event: &Event) -> Result<(), AllocError>
     requires now { world.old.now + advance_of event.now ≤ 10 ^ 16 }
     requires lawful { (m : Machine) × (state : MediatorState) × IsWorldOf m state world.old × Lawful m (world_of state world.old) }
+    requires within { (topology : Topology) × (packages : Packages) × AreSetUp topology packages (world.old.nodes).items
+        × CanHappen topology packages event.now }
     ensures now { OnOk result (world.new.now ≡ world.old.now + advance_of event.now) }
+    ensures set_up { OnOk result ((topology : Topology) (packages : Packages) → AreSetUp topology packages (world.old.nodes).items
+        → AreSetUp topology packages (world.new.nodes).items) }
     ensures ok { OnOk result ((m : Machine) (state : MediatorState) → IsWorldOf m state world.old → Lawful m (world_of state world.old)
         → Becomes m (event_of event.now) state world.old world.new) }
 {

@@ -1,6 +1,8 @@
 //! What one participant does in an event.
 ghost use Rattle.std.specs.Prelude.{◌≡◌, ℕ, OnOk};
+ghost use Rattle.ledger_terms.specs.declared.topology.Topology.{Topology};
 ghost use Rattle.ledger_model.specs.Terms.{ParticipantId};
+ghost use Rattle.lang_eval.specs.Found.{Packages};
 ghost use Rattle.world_model.specs.Machine.{Machine};
 ghost use Rattle.world_model.specs.Mediator.{MediatorState};
 ghost use Rattle.world_model.specs.Node.{next_claim};
@@ -10,6 +12,7 @@ ghost use Rattle.seq_log.specs.Sequenced.{Sequenced};
 ghost use Rattle.node_core.specs.Participant.{reading_of, with_state};
 ghost use Rattle.world_play.specs.Moves.{Happens, event_at, validated_if};
 ghost use Rattle.world_play.specs.Standing.{GoesOn, IsParticipant};
+ghost use Rattle.world_play.specs.Submitting.{AreSetUp};
 ghost use Rattle.world_play.specs.Worlds.{AreNodesOf, world_with};
 
 use crate::handing_in::hand_in_response;
@@ -123,6 +126,8 @@ fn move_slice(
     requires { (m : Machine) × (now : ℕ) × (state : MediatorState) × AreNodesOf m nodes.old sequencer.old
         × Lawful m (world_with now state nodes.old sequencer.old) }
     ensures nodes { OnOk result ((m : Machine) → AreNodesOf m nodes.old sequencer.old → AreNodesOf m nodes.new sequencer.new) }
+    ensures set_up { OnOk result ((topology : Topology) (packages : Packages) → AreSetUp topology packages nodes.old
+        → AreSetUp topology packages nodes.new) }
     ensures ok { OnOk result ((m : Machine) (now : ℕ) (state : MediatorState) → AreNodesOf m nodes.old sequencer.old
         → Lawful m (world_with now state nodes.old sequencer.old)
         → world_with now state nodes.new sequencer.new ≡ happens m (world_with now state nodes.old sequencer.old) (event_at action at)) }
@@ -144,6 +149,8 @@ pub fn move_node(
     requires { (m : Machine) × (now : ℕ) × (state : MediatorState) × AreNodesOf m nodes.old.items sequencer.old
         × Lawful m (world_with now state nodes.old.items sequencer.old) }
     ensures nodes { OnOk result ((m : Machine) → AreNodesOf m nodes.old.items sequencer.old → AreNodesOf m nodes.new.items sequencer.new) }
+    ensures set_up { OnOk result ((topology : Topology) (packages : Packages) → AreSetUp topology packages nodes.old.items
+        → AreSetUp topology packages nodes.new.items) }
     ensures ok { OnOk result ((m : Machine) (now : ℕ) (state : MediatorState) → AreNodesOf m nodes.old.items sequencer.old
         → Lawful m (world_with now state nodes.old.items sequencer.old)
         → world_with now state nodes.new.items sequencer.new

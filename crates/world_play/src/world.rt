@@ -3,9 +3,9 @@ ghost use Rattle.std.specs.Prelude.{◌≡◌, ◌≤◌, [], length, map, repli
 ghost use Rattle.world_model.specs.Node.{new_node};
 ghost use Rattle.world_model.specs.Mediator.{new_mediator};
 ghost use Rattle.world_model.specs.World.{new_world};
-ghost use Rattle.node_full.specs.Stand.{wanted_request};
 ghost use Rattle.world_play.specs.Machines.{machine_of};
 ghost use Rattle.world_play.specs.Making.{AreNewNodes};
+ghost use Rattle.world_play.specs.Submitting.{AreSetUp};
 ghost use Rattle.world_play.specs.WorldOf.{IsWorldOf, world_of};
 
 use ledger_terms::ParticipantId;
@@ -68,10 +68,10 @@ impl<'r> World<'r> {
         capacity: u64,
     ) -> Result<World<'r>, AllocError>
         requires { length setup.now.topology.hosts ≤ 256 }
-        ensures is { IfOk result (λ world. IsWorldOf (machine_of (wanted_request setup.now.topology setup.now.checked)
-            setup.now.topology setup.now.checked capacity) new_mediator world) }
+        ensures is { IfOk result (λ world. IsWorldOf (machine_of setup.now.topology setup.now.checked capacity) new_mediator world) }
+        ensures set_up { IfOk result (λ world. AreSetUp setup.now.topology setup.now.checked (world.nodes).items) }
         ensures new { IfOk result (λ world. world_of new_mediator world
-            ≡ new_world (machine_of (wanted_request setup.now.topology setup.now.checked) setup.now.topology setup.now.checked capacity)) }
+            ≡ new_world (machine_of setup.now.topology setup.now.checked capacity)) }
     {
         let nodes = new_nodes(alloc, setup)?;
         let mediator = Mediator::new(alloc, &setup.topology);

@@ -1,7 +1,8 @@
 use Rattle.std.proofs.Common.{sym, subst}
 use Rattle.world_play.specs.declared.event.Event.{Event}
 use Rattle.world_play.specs.Becoming.{Becomes}
-use Rattle.world_play.specs.Events.{event_of}
+use Rattle.ledger_terms.specs.declared.topology.Topology.{Topology}
+use Rattle.world_play.specs.Events.{CanHappen, event_of}
 use Rattle.world_play.proofs.Answered.{on_ok}
 use Rattle.world_play.proofs.happening.happen.Goals as goal
 
@@ -52,3 +53,7 @@ returns-in-Pause-clause-ok c =
     on_ok c.move_at-in-Pause.result _ _ c.move_at-in-Pause.ensures.ok
     (λ ok m state is l.
     subst (λ (e : Event). Becomes m (event_of e) state c.args.world.now c.move_at-in-Pause.new.world) (sym c.in-Pause.is) (ok m state is l))
+
+pub submit-requires-clause-within : goal.submit-requires-clause-within
+submit-requires-clause-within c =
+    let w = c.requires.within in (w.0, w.1, w.2, subst (λ (e : Event). CanHappen w.0 w.1 e) c.in-Submit.is w.3)

@@ -4,6 +4,7 @@ use Rattle.world_model.specs.Lawful.{Lawful}
 use Rattle.world_model.specs.World.{happens}
 use Rattle.node_core.specs.Participant.{Participant as NodeValue}
 use Rattle.world_play.specs.Moves.{event_at}
+use Rattle.world_play.specs.Submitting.{AreSetUp}
 use Rattle.world_play.specs.Worlds.{world_with, AreNodesOf}
 use Rattle.world_play.proofs.Answered.{on_ok}
 use Rattle.world_play.proofs.moving.move_node.Goals as goal
@@ -16,6 +17,14 @@ returns-clause-nodes c =
     let new = c.move_slice.new.nodes in
     subst (λ (xs : List NodeValue). AreNodesOf m xs c.move_slice.new.sequencer) (sym (with_items_is c.args.nodes.now new (search (rules, places))))
     (ok m (subst (λ (xs : List NodeValue). AreNodesOf m xs s) (sym c.as_mut_slice.ensures.value) a)))
+
+pub returns-clause-set_up : goal.returns-clause-set_up
+returns-clause-set_up c =
+    on_ok c.move_slice.result _ _ c.move_slice.ensures.set_up
+    (λ ok topology packages u.
+    let new = c.move_slice.new.nodes in
+    subst (λ (xs : List NodeValue). AreSetUp topology packages xs) (sym (with_items_is c.args.nodes.now new (search (rules, places))))
+    (ok topology packages (subst (λ (xs : List NodeValue). AreSetUp topology packages xs) (sym c.as_mut_slice.ensures.value) u)))
 
 pub returns-clause-ok : goal.returns-clause-ok
 returns-clause-ok c =

@@ -4,7 +4,7 @@ use Rattle.world_model.specs.Node.{NodeState}
 use Rattle.world_play.specs.Worlds.{state_of, world_with}
 use Rattle.world_play.proofs.Answered.{on_ok, both_ok}
 use Rattle.world_play.proofs.Happened.{nobody, past}
-use Rattle.world_play.proofs.Passing.{item_at, in_turn, nodes_then, map_at, map_set, length_states}
+use Rattle.world_play.proofs.Passing.{item_at, in_turn, nodes_then, set_up_then, map_at, map_set, length_states}
 use Rattle.world_play.proofs.moving.move_slice.Goals as goal
 
 pub move_once-requires : goal.move_once-requires
@@ -26,6 +26,15 @@ returns-then-at-nodes-clause-nodes c =
     (λ on same m a.
     nodes_then nodes c.args.sequencer.now k (slice_index_or nodes k c.index-nodes-at.result)
     (item_at nodes k c.index-nodes-at.result c.if-at-nodes.true) c.move_once.new.node c.move_once.new.sequencer on same m a)
+
+pub returns-then-at-nodes-clause-set_up : goal.returns-then-at-nodes-clause-set_up
+returns-then-at-nodes-clause-set_up c =
+    let nodes = c.args.nodes.now in
+    let k = c.args.at in
+    on_ok c.move_once.result _ _ c.move_once.ensures.same
+    (λ same topology packages u.
+    set_up_then nodes c.args.sequencer.now k (slice_index_or nodes k c.index-nodes-at.result)
+    (item_at nodes k c.index-nodes-at.result c.if-at-nodes.true) c.move_once.new.node same topology packages u)
 
 pub returns-then-at-nodes-clause-ok : goal.returns-then-at-nodes-clause-ok
 returns-then-at-nodes-clause-ok c =

@@ -2,26 +2,17 @@ use Rattle.std.proofs.Common.{refl}
 use Rattle.world_play.proofs.Answered.{on_ok}
 use Rattle.world_play.proofs.Catches.{reader_same}
 use Rattle.world_play.proofs.Happened.{read_past, read_here}
-use Rattle.world_play.proofs.Readers.{begins, next_genuine, next_read, reads_on, slip_list}
+use Rattle.world_play.proofs.Readers.{begins, can_read, reads_on, slip_list}
 use Rattle.world_play.proofs.Turns.{reads_of}
 use Rattle.world_play.proofs.moving.read_next.Goals as goal
 
-pub read-requires-clause-genuine : goal.read-requires-clause-genuine
-read-requires-clause-genuine c =
+pub read-requires : goal.read-requires
+read-requires c =
     let node = c.args.node.now in
     let s = c.args.sequencer.now in
     let reads = reads_of c.requires.0 c.requires.1 node s c.requires.2 in
     let some = c.in-Some.ensures.some in
-    next_genuine node s.list reads node (begins node s.list reads) c.cursor.result c.cursor.ensures (c.in-Some.slip).list some.0
-    (slip_list s s c.in-Some.slip c.cursor.result refl some.1)
-
-pub read-requires-clause-read : goal.read-requires-clause-read
-read-requires-clause-read c =
-    let node = c.args.node.now in
-    let s = c.args.sequencer.now in
-    let reads = reads_of c.requires.0 c.requires.1 node s c.requires.2 in
-    let some = c.in-Some.ensures.some in
-    next_read node s.list reads node (begins node s.list reads) c.cursor.result c.cursor.ensures (c.in-Some.slip).list some.0
+    can_read node s.list reads node (begins node s.list reads) c.cursor.result c.cursor.ensures (c.in-Some.slip).list some.0
     (slip_list s s c.in-Some.slip c.cursor.result refl some.1)
 
 pub returns-in-Some-clause-same : goal.returns-in-Some-clause-same

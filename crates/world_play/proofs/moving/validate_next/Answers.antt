@@ -7,11 +7,11 @@ use Rattle.world_play.proofs.moving.validate_next.Goals as goal
 pub returns-in_ok-finished : goal.returns-in_ok-finished
 returns-in_ok-finished c =
     let node = c.args.node.now in
-    let next = rw c.in-Some.is at c.in_ok-job.ensures.place in
+    let next = sym (rw c.in-Some.is at c.in_ok-job.ensures.place) in
     record {
       ok =
-          after_is node node (starts node) (c.in-Some.job.given).place next c.claim_job.new.self (rw c.in-Some.is at c.in_ok-job.ensures.claimed)
-          c.in-Some.job.given c.in_ok-finished.finished c.in_ok-finished.ensures refl (rw c.in-Some.is at c.in_ok-job.ensures.owed)
+          after_is node node (starts node) (c.in-Some.job.given).place next c.claim_job.new.self (rw c.in-Some.is at c.in_ok-job.ensures.some)
+          c.in-Some.job.given c.in_ok-finished.finished c.in_ok-finished.ensures refl (rw c.in-Some.is at c.in_ok-job.ensures.verdicts)
           c.finish_job.new.self c.finish_job.result c.finish_job.ensures.decided c.finish_job.ensures.ok
           ∙ sym (ap (λ (o : Option ℕ). with_state node (validated_if (reading_of node) (node.topology).params node.me node.state o)) next);
     }

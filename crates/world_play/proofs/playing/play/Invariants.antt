@@ -1,9 +1,10 @@
-use Rattle.node_full.specs.Stand.{wanted_request}
 use Rattle.world_play.specs.Machines.{machine_of}
+use Rattle.world_play.specs.Submitting.{AreSetUp}
 use Rattle.world_play.proofs.Plays.{IsPlayed, is_machine}
 use Rattle.world_play.proofs.playing.play.Given as goal
 
 abbrev pub invariant-events : goal.invariant-events
 invariant-events l =
-    IsPlayed (machine_of (wanted_request ((l.setup).topology) ((l.setup).checked)) ((l.setup).topology) ((l.setup).checked) l.capacity)
+    IsPlayed (machine_of ((l.setup).topology) ((l.setup).checked) l.capacity)
     (is_machine ((l.setup).topology) ((l.setup).checked) l.capacity) l.events l.event-index l.world
+    × AreSetUp ((l.setup).topology) ((l.setup).checked) (l.world.nodes).items

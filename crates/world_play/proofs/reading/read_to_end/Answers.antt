@@ -1,19 +1,12 @@
 use Rattle.std.proofs.Common.{◌∙◌}
-use Rattle.world_play.proofs.Readers.{next_genuine, next_read, reads_on, smaller, ends, slip_list, place_within, past_end}
+use Rattle.world_play.proofs.Readers.{can_read, reads_on, smaller, ends, slip_list, place_within, past_end}
 use Rattle.world_play.proofs.reading.read_to_end.Goals as goal
 
-pub read-requires-clause-genuine : goal.read-requires-clause-genuine
-read-requires-clause-genuine c =
+pub read-requires : goal.read-requires
+read-requires c =
     let inv = c.entries.invariant in
     let some = c.in-Some.ensures.some in
-    next_genuine c.args.node.now (c.args.sequencer.now).list c.requires c.entries.node inv.1 c.cursor.result c.cursor.ensures (c.in-Some.slip).list
-    (place_within _ _ c.cursor.result inv.0 some.0) (slip_list _ _ c.in-Some.slip c.cursor.result inv.0 some.1)
-
-pub read-requires-clause-read : goal.read-requires-clause-read
-read-requires-clause-read c =
-    let inv = c.entries.invariant in
-    let some = c.in-Some.ensures.some in
-    next_read c.args.node.now (c.args.sequencer.now).list c.requires c.entries.node inv.1 c.cursor.result c.cursor.ensures (c.in-Some.slip).list
+    can_read c.args.node.now (c.args.sequencer.now).list c.requires c.entries.node inv.1 c.cursor.result c.cursor.ensures (c.in-Some.slip).list
     (place_within _ _ c.cursor.result inv.0 some.0) (slip_list _ _ c.in-Some.slip c.cursor.result inv.0 some.1)
 
 pub entries-smaller : goal.entries-smaller

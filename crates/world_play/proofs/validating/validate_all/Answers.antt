@@ -1,25 +1,25 @@
-use Rattle.std.proofs.Common.{refl}
+use Rattle.std.proofs.Common.{refl, sym}
 use Rattle.world_play.proofs.Jobs.{left_claimed, goes_on, smaller, done_all}
 use Rattle.world_play.proofs.validating.validate_all.Goals as goal
 
 pub returns-in_err-finished-clause-has : goal.returns-in_err-finished-clause-has
 returns-in_err-finished-clause-has c =
-    (left_claimed c.args.node.now c.jobs.node c.jobs.invariant (c.in-Some.job.given).place (rw c.in-Some.is at c.in_ok-job.ensures.place)
-    c.claim_job.new.self (rw c.in-Some.is at c.in_ok-job.ensures.claimed)).has
+    (left_claimed c.args.node.now c.jobs.node c.jobs.invariant (c.in-Some.job.given).place (sym (rw c.in-Some.is at c.in_ok-job.ensures.place))
+    c.claim_job.new.self (rw c.in-Some.is at c.in_ok-job.ensures.some)).has
 
 pub jobs-smaller : goal.jobs-smaller
 jobs-smaller c =
-    smaller c.args.node.now c.jobs.node c.jobs.invariant (c.in-Some.job.given).place (rw c.in-Some.is at c.in_ok-job.ensures.place)
-    c.claim_job.new.self (rw c.in-Some.is at c.in_ok-job.ensures.claimed) c.in-Some.job.given c.in_ok-finished.finished c.in_ok-finished.ensures refl
-    (rw c.in-Some.is at c.in_ok-job.ensures.owed) c.finish_job.new.self c.finish_job.result c.finish_job.ensures.decided c.finish_job.ensures.ok
+    smaller c.args.node.now c.jobs.node c.jobs.invariant (c.in-Some.job.given).place (sym (rw c.in-Some.is at c.in_ok-job.ensures.place))
+    c.claim_job.new.self (rw c.in-Some.is at c.in_ok-job.ensures.some) c.in-Some.job.given c.in_ok-finished.finished c.in_ok-finished.ensures refl
+    (rw c.in-Some.is at c.in_ok-job.ensures.verdicts) c.finish_job.new.self c.finish_job.result c.finish_job.ensures.decided c.finish_job.ensures.ok
 
 pub jobs-preserved : goal.jobs-preserved
 jobs-preserved c =
-    goes_on c.args.node.now c.jobs.node c.jobs.invariant (c.in-Some.job.given).place (rw c.in-Some.is at c.in_ok-job.ensures.place)
-    c.claim_job.new.self (rw c.in-Some.is at c.in_ok-job.ensures.claimed) c.in-Some.job.given c.in_ok-finished.finished c.in_ok-finished.ensures refl
-    (rw c.in-Some.is at c.in_ok-job.ensures.owed) c.finish_job.new.self c.finish_job.result c.finish_job.ensures.decided c.finish_job.ensures.ok
+    goes_on c.args.node.now c.jobs.node c.jobs.invariant (c.in-Some.job.given).place (sym (rw c.in-Some.is at c.in_ok-job.ensures.place))
+    c.claim_job.new.self (rw c.in-Some.is at c.in_ok-job.ensures.some) c.in-Some.job.given c.in_ok-finished.finished c.in_ok-finished.ensures refl
+    (rw c.in-Some.is at c.in_ok-job.ensures.verdicts) c.finish_job.new.self c.finish_job.result c.finish_job.ensures.decided c.finish_job.ensures.ok
 
 pub returns-clause-ok : goal.returns-clause-ok
 returns-clause-ok c =
-    done_all c.args.node.now c.jobs.node c.claim_job.new.self c.jobs.invariant (rw c.in_default.is at c.in_ok-job.ensures.none)
-    (rw c.in_default.is at c.in_ok-job.ensures.same)
+    done_all c.args.node.now c.jobs.node c.claim_job.new.self c.jobs.invariant (sym (rw c.in_default.is at c.in_ok-job.ensures.place))
+    (rw c.in_default.is at c.in_ok-job.ensures.none)
