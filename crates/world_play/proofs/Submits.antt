@@ -1,7 +1,8 @@
 -- What a submission does to a world.
 use Rattle.std.proofs.Common.{◌≡◌, ◌≢◌, ℕ, zero, suc, Bool, true, false, if◌then◌else◌, List, [], ◌∷◌, map, take, length, Option, Some, None, refl, sym, ap}
 use Rattle.std.proofs.Common.{◌∙◌, Result, Ok, Err, MatchResult, subst, arith}
-use Rattle.std.specs.Prelude.{result_ok, slice_get, IfOk}
+use Rattle.std.specs.Prelude.{slice_get, IfOk}
+use Rattle.std.specs.Result.{result_ok}
 use Rattle.std.proofs.lemmas.Option.{none-some, slice_get_within}
 use Rattle.ledger_terms.specs.declared.submission.Submission.{Submission}
 use Rattle.canton_model.specs.Inbox.{Item}
@@ -65,6 +66,10 @@ submits m now state nodes s what a = by_node (slice_get nodes what.participant) 
 pub if_ok : {X Y : Type 0} (r : Result X Y) (P Q : X → Type 0) → IfOk r P → ((x : X) → P x → Q x) → IfOk r Q
 if_ok (Ok x) P Q h f = f x h
 if_ok (Err y) P Q h f = h
+
+pub only_wanted : {X Y : Type 0} (r : Result X Y) (P : X → Type 0) (Q : Y → Type 0) → MatchResult r P Q → MatchResult r P (λ y. Unit {0})
+only_wanted (Ok x) P Q h = h
+only_wanted (Err y) P Q h = tt
 
 -- what a participant answers
 module _ (node : NodeValue) (what : Submission) (now : ℕ) (own : what.participant ≡ node.me) where

@@ -1,5 +1,6 @@
 //! How submissions and Ticks come into the log.
-ghost use Rattle.std.specs.Prelude.{◌≡◌, ◌≢◌, ◌+◌, ◌≤◌, ◌^◌, Err, Some, result_ok, slice_get, IfOk, OnOk};
+ghost use Rattle.std.specs.Prelude.{◌≡◌, ◌≢◌, ◌+◌, ◌≤◌, ◌^◌, Err, Some, slice_get, IfOk, OnOk};
+ghost use Rattle.std.specs.Result.{result_ok};
 ghost use Rattle.ledger_terms.specs.declared.topology.Topology.{Topology};
 ghost use Rattle.lang_eval.specs.Found.{Packages};
 ghost use Rattle.world_model.specs.Machine.{Machine};

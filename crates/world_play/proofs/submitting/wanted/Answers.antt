@@ -1,6 +1,34 @@
-use Rattle.std.proofs.Common.{sym, ap, ◌∙◌}
+use Rattle.std.proofs.Common.{◌≡◌, refl, sym, ap, ◌∙◌}
 use Rattle.std.specs.Prelude.{slice_index_or}
+use Rattle.node_core.specs.Participant.{Participant}
+use Rattle.world_play.specs.Machines.{offered_in}
 use Rattle.world_play.specs.Submitting.{wanted_of}
 use Rattle.world_play.proofs.Passing.{item_at}
-use Rattle.world_play.proofs.Submits.{if_ok, told}
+use Rattle.world_play.proofs.Submits.{if_ok, only_wanted, told}
 use Rattle.world_play.proofs.submitting.wanted.Goals as goal
+
+pub prepare-requires-clause-valid : goal.prepare-requires-clause-valid
+prepare-requires-clause-valid c =
+    let nodes = c.args.nodes.now in
+    let k = c.args.what.now.participant in
+    (c.requires (slice_index_or nodes k c.index-nodes-at.result) (item_at nodes k c.index-nodes-at.result c.if-at-nodes.false)).valid
+
+pub prepare-requires-clause-within : goal.prepare-requires-clause-within
+prepare-requires-clause-within c =
+    let nodes = c.args.nodes.now in
+    let k = c.args.what.now.participant in
+    (c.requires (slice_index_or nodes k c.index-nodes-at.result) (item_at nodes k c.index-nodes-at.result c.if-at-nodes.false)).within
+
+pub returns : goal.returns
+returns c =
+    let nodes = c.args.nodes.now in
+    let what = c.args.what.now in
+    let k = what.participant in
+    let node = slice_index_or nodes k c.index-nodes-at.result in
+    let at = item_at nodes k c.index-nodes-at.result c.if-at-nodes.false in
+    let can = c.requires node at in
+    if_ok c.request_of.result _ _ c.request_of.ensures
+    (λ o h.
+    h.0 ∙ (told node what c.args.now can.own c.prepare.result h.1 c.prepare.ensures.paused c.prepare.ensures.exact
+    (only_wanted c.prepare.result _ _ (c.prepare.ensures.wanted (offered_in node.topology node.packages) can.own refl))
+    ∙ ap (wanted_of what c.args.now) (sym at)))
