@@ -3,23 +3,16 @@ use Rattle.std.proofs.Common.{◌≡◌, ℕ, zero, suc, ◌+◌, ◌≤◌, Lis
 use Rattle.std.specs.Prelude.{slice_get, ◌^◌, All}
 use Rattle.std.proofs.lemmas.Option.{none-some, same_Some}
 use Rattle.std.proofs.lemmas.List.{map-append, take_all}
-use Rattle.ledger_terms.specs.declared.topology.Topology.{Topology}
-use Rattle.lang_eval.specs.Found.{Packages}
 use Rattle.world_model.specs.Machine.{Machine, IsMachine}
 use Rattle.world_model.specs.Mediator.{MediatorState}
 use Rattle.world_model.specs.World as w
 use Rattle.world_model.specs.Lawful.{Lawful}
 use Rattle.world_model.proofs.Steps.{take_next, played_keeps, new_lawful}
-use Rattle.prepare_request.proofs.Machines.{machine}
 use Rattle.world_play.specs.declared.event.Event.{Event}
 use Rattle.world_play.specs.declared.world.World.{World}
 use Rattle.world_play.specs.Becoming.{Becomes}
 use Rattle.world_play.specs.Events.{event_of, events_of, advance_of, advance_in}
-use Rattle.world_play.specs.Machines.{machine_of, offered_in}
 use Rattle.world_play.specs.WorldOf.{IsWorldOf, world_of}
-
-pub is_machine : (topology : Topology) (packages : Packages) (capacity : ℕ) → IsMachine (machine_of topology packages capacity)
-is_machine topology packages capacity = machine topology packages capacity (offered_in topology packages)
 
 pub each_of : {X : Type 0} (P : X → Type 0) (xs : List X) (k : ℕ) (x : X) → All P xs → slice_get xs k ≡ Some x → P x
 each_of P [] k x a e = absurd (none-some x e)
@@ -39,7 +32,7 @@ advance_below zero xs = omega arith
 advance_below (suc n) [] = omega arith
 advance_below (suc n) (x ∷ xs) = let r = advance_below n xs in omega arith
 
-module _ (m : Machine) (machine : IsMachine m) (events : List Event) where
+module _ (m : Machine) (events : List Event) where
   pub record IsPlayed (k : ℕ) (world : World) : Type 0 where
     pub now : world.now ≡ advance_in (take k events)
     pub state : MediatorState
@@ -50,8 +43,8 @@ module _ (m : Machine) (machine : IsMachine m) (events : List Event) where
       → IsPlayed 0 world
   played_starts state world now is new = record { now = now; state = state; is = is; played = new }
 
-  pub played_lawful : (k : ℕ) (world : World) (p : IsPlayed k world) → Lawful m (world_of p.state world)
-  played_lawful k world p =
+  pub played_lawful : IsMachine m → (k : ℕ) (world : World) (p : IsPlayed k world) → Lawful m (world_of p.state world)
+  played_lawful machine k world p =
       subst (Lawful m) (sym p.played) (played_keeps m machine (w.new_world m) (events_of (take k events)) (new_lawful m))
 
   module _ (k : ℕ) (e : Event) (at : slice_get events k ≡ Some e) where

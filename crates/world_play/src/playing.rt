@@ -13,6 +13,7 @@ use crate::happening::happen;
 use crate::world::World;
 use confirm_reply::Setup;
 use log_row::LogRow;
+use prepare_request::laws::prepared_requests_make_a_machine;
 use std::alloc::{AllocError, Global};
 
 /// The synchroniser after these events, from an empty log on. One with nothing to do changes nothing.
@@ -32,6 +33,8 @@ pub fn play<'r>(
     ensures headline { IfOk result (λ world. Headline (sealed_reading setup.now.topology setup.now.checked) (setup.now.topology).params
         (world.sequencer).list) }
 {
+    // the prover learns from this call that there is a machine
+    prepared_requests_make_a_machine();
     let mut world = World::new(alloc, setup, row, capacity)?;
     'events: for event in events.as_slice() {
         happen(alloc, &mut world, event)?;
