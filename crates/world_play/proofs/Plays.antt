@@ -1,7 +1,8 @@
 -- Event after event.
 use Rattle.std.proofs.Common.{◌≡◌, ℕ, zero, suc, ◌+◌, ◌≤◌, List, [], ◌∷◌, ◌++◌, take, length, Some, refl, sym, ap, ◌∙◌, subst, arith}
 use Rattle.std.specs.Prelude.{slice_get, ◌^◌, All}
-use Rattle.std.proofs.lemmas.Option.{none-some, same_Some}
+use Rattle.std.proofs.lemmas.Option.{get_or_from_slice_get, slice_get_within}
+use Rattle.std.proofs.lemmas.List.Elements.{All-get_or}
 use Rattle.std.proofs.lemmas.List.{map-append, take_all}
 use Rattle.world_model.specs.Machine.{Machine, IsMachine}
 use Rattle.world_model.specs.Mediator.{MediatorState}
@@ -15,9 +16,7 @@ use Rattle.world_play.specs.Events.{event_of, events_of, advance_of, advance_in}
 use Rattle.world_play.specs.WorldOf.{IsWorldOf, world_of}
 
 pub each_of : {X : Type 0} (P : X → Type 0) (xs : List X) (k : ℕ) (x : X) → All P xs → slice_get xs k ≡ Some x → P x
-each_of P [] k x a e = absurd (none-some x e)
-each_of P (y ∷ ys) zero x a e = subst P (same_Some y x e) a.0
-each_of P (y ∷ ys) (suc k) x a e = each_of P ys k x a.1 e
+each_of P xs k x a e = subst P (get_or_from_slice_get xs k x x e) (All-get_or P xs k x (slice_get_within xs k x e) a)
 
 played_more : (m : Machine) (world : w.World) (xs : List w.Event) (e : w.Event) → w.played m world (xs ++ e ∷ []) ≡ w.happens m (w.played m world xs) e
 played_more m world [] e = refl

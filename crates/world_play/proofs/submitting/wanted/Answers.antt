@@ -1,5 +1,5 @@
-use Rattle.std.proofs.Common.{◌≡◌, ◌<◌, ℕ, Some, length, refl, sym, ap, ◌∙◌, subst}
-use Rattle.std.specs.Prelude.{slice_get, slice_index_or}
+use Rattle.std.proofs.Common.{◌≡◌, ℕ, Some, refl, sym, ap, ◌∙◌, subst}
+use Rattle.std.specs.Prelude.{slice_get}
 use Rattle.ledger_terms.specs.declared.submission.Submission.{Submission}
 use Rattle.world_play.specs.Machines.{offered_in}
 use Rattle.world_play.specs.Submitting.{wanted_of}
@@ -11,26 +11,29 @@ pub prepare-requires-clause-valid : goal.prepare-requires-clause-valid
 prepare-requires-clause-valid c =
     let nodes = c.args.nodes.now in
     let k = c.what.inside.0.0.0 in
-    let node = slice_index_or nodes k c.index-nodes-at.result in
+    let node = c.index-nodes-at.result in
     let own = ap (λ (w : Submission). w.participant) c.what.view_is in
-    (c.requires node (subst (λ (i : ℕ). slice_get nodes i ≡ Some node) own (item_at nodes k c.index-nodes-at.result c.if-at-nodes.false))).valid
+    let there = item_at nodes k node c.if-at-nodes.false ∙ ap Some (sym c.index-nodes-at.is) in
+    (c.requires node (subst (λ (i : ℕ). slice_get nodes i ≡ Some node) own there)).valid
 
 pub prepare-requires-clause-within : goal.prepare-requires-clause-within
 prepare-requires-clause-within c =
     let nodes = c.args.nodes.now in
     let k = c.what.inside.0.0.0 in
-    let node = slice_index_or nodes k c.index-nodes-at.result in
+    let node = c.index-nodes-at.result in
     let own = ap (λ (w : Submission). w.participant) c.what.view_is in
-    (c.requires node (subst (λ (i : ℕ). slice_get nodes i ≡ Some node) own (item_at nodes k c.index-nodes-at.result c.if-at-nodes.false))).within
+    let there = item_at nodes k node c.if-at-nodes.false ∙ ap Some (sym c.index-nodes-at.is) in
+    (c.requires node (subst (λ (i : ℕ). slice_get nodes i ≡ Some node) own there)).within
 
 pub returns : goal.returns
 returns c =
     let nodes = c.args.nodes.now in
     let what = c.args.what.now in
     let k = c.what.inside.0.0.0 in
-    let node = slice_index_or nodes k c.index-nodes-at.result in
+    let node = c.index-nodes-at.result in
     let own = ap (λ (w : Submission). w.participant) c.what.view_is in
-    let at = subst (λ (i : ℕ). slice_get nodes i ≡ Some node) own (item_at nodes k c.index-nodes-at.result c.if-at-nodes.false) in
+    let there = item_at nodes k node c.if-at-nodes.false ∙ ap Some (sym c.index-nodes-at.is) in
+    let at = subst (λ (i : ℕ). slice_get nodes i ≡ Some node) own there in
     let can = c.requires node at in
     if_ok c.request_of.result _ _ c.request_of.ensures
     (λ o h.
