@@ -212,6 +212,35 @@ impl<'s> Node<'s> {
         self.duties.sent(request);
     }
 
+    /// The request that a submission of this participant wants over the contracts active at the cursor. `now` is the ledger time of
+    /// a submission that has none.
+    pub fn prepare(
+        &self,
+        alloc: Global,
+        what: &Submission,
+        now: u64,
+    ) -> Result<Request, SubmitFault>
+        requires valid { IsValid self.now.topology }
+        requires within { IsWithin self.now.topology self.now.packages self.now.me (offered_by self.now) what.now }
+        ensures paused { self.now.state.is_paused ≡ true → result ≡ Err SubmitFault.Paused }
+        ensures exact { Follows SubmitFault.Memory result (prepare_answer self.now what.now now) }
+        ensures wanted { (offered : Offered) → what.now.participant ≡ self.now.me → offered self.now.me (items_of self.now) ≡ offered_by self.now
+            → MatchResult result (λ request. prepare_over self.now.topology self.now.packages offered what.now (items_of self.now) now ≡ Some request)
+            (λ fault. fault ≢ SubmitFault.Memory → fault ≢ SubmitFault.Paused
+            → (prepare_over self.now.topology self.now.packages offered what.now (items_of self.now) now ≡ None)
+            × (why_over self.now.topology self.now.packages offered what.now (items_of self.now) now ≡ fault)) }
+        ensures sealed { IfOk result (λ request. (reading_of self.now).is_sealed request ≡ true) }
+        ensures sender { IfOk result (λ request. request.sender ≡ self.now.me) }
+        ensures command { IfOk result (λ request. request.command ≡ what.now.command) }
+        ensures plain { IfErr result HoldsNoMemory }
+    {
+        if self.is_paused {
+            return Err(SubmitFault::Paused);
+        }
+        let known = self.inbox.known();
+        prepare_request::prepare(alloc, self.setup, self.me, &known, what, now)
+    }
+
     /// The approved requests before the clean place, as they are opened to it.
     pub fn applied(&self, alloc: Global) -> Result<CommitList, AllocError>
         ensures { IfOk result (λ commits. commits ≡ node_log (params_of self.now) (items_of self.now)) }

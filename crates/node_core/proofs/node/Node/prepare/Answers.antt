@@ -1,0 +1,20 @@
+use Rattle.std.proofs.Common.{◌≡◌, sym, ap, ◌∙◌, subst}
+use Rattle.ledger_model.specs.Terms.{ParticipantId}
+use Rattle.prepare_request.specs.Machine.{Offered}
+use Rattle.node_core.specs.Participant.{Participant, items_of}
+use Rattle.node_core.specs.Preparing.{offered_by}
+use Rattle.node_core.proofs.Preparing.{WantedUnlessPaused, unless_paused}
+use Rattle.node_core.proofs.node.Node.prepare.Goals as goal
+
+pub returns-clause-wanted : goal.returns-clause-wanted
+returns-clause-wanted c =
+    let i = c.self.inside.inbox in
+    let inv = c.self.invariant in
+    let what = c.args.what.now in
+    subst (λ (p : Participant). (offered : Offered) → what.participant ≡ p.me → offered p.me (items_of p) ≡ offered_by p
+    → WantedUnlessPaused p.topology p.packages offered what (items_of p) c.args.now c.prepare.result) c.self.view_is
+    (λ offered own offers.
+    unless_paused c.self.inside.setup.now.topology i.topology c.self.inside.setup.now.checked i.packages offered what i.items c.args.now c.prepare.result
+    inv.2 inv.3
+    (c.prepare.ensures.machine offered i.items (own ∙ sym inv.0)
+    (ap (λ (me : ParticipantId). offered me i.items) inv.0 ∙ (offers ∙ sym c.known-known.ensures))))
