@@ -15,4 +15,6 @@ pub mod Jobs
 pub mod DecidedSince
 pub mod Approved
 pub mod ActiveRows
+pub mod AddedIds
 pub mod Told
+mod FirstVerdict

@@ -1,37 +1,124 @@
--- Verdicts stand behind their requests.
-use Rattle.std.proofs.Common.{◌≡◌, ℕ, zero, suc, ◌+◌, ◌<◌, ◌≤◌, List, [], ◌∷◌, Option, Some, None, drop, refl, sym, ap, ◌∙◌, arith, inl, inr}
-use Rattle.std.specs.Prelude.{nat_eq}
-use Rattle.std.proofs.lemmas.Bool.{cases_Bool, eqb-true}
-use Rattle.canton_model.specs.declared.decision.Decision.{Decision}
-use Rattle.canton_model.specs.declared.verdict.Verdict.{Verdict}
-use Rattle.canton_model.specs.Timeline.{decision_on, or_else, verdict_on}
-use Rattle.canton_model.specs.Inbox.{Item, moments, verdict_in}
-use Rattle.inbox_standing.specs.Order.{IsBelow, VerdictsBehind}
-use Rattle.node_inbox.specs.Items.{model_item, model_items}
+-- The ids of an inbox tell of its contracts, one item more.
+use Rattle.std.proofs.Common.{◌≡◌, ℕ, Bool, true, false, cond, if◌then◌else◌, List, [], ◌∷◌, ◌++◌, filter, Option, Some, None, is_some, inl, inr, refl, sym, ap, ◌∙◌, subst}
+use Rattle.std.specs.Prelude.{◌||◌, nat_le, Result, Ok, Err, OnOk, OnErr}
+use Rattle.ledger_terms.specs.declared.active_row.ActiveRow.{ActiveRow}
+use Rattle.ledger_terms.specs.declared.known.Known.{Known}
+use Rattle.ledger_terms.specs.declared.topology.Topology.{Topology}
+use Rattle.ledger_model.specs.Opening.{Shown}
+use Rattle.ledger_model.specs.Terms.{Hash, ParticipantId}
+use Rattle.ledger_model.proofs.Lists.{In, contains_from_In}
+use Rattle.canton_model.specs.Inbox.{Item, Told, received, verdict_in}
+use Rattle.canton_model.specs.Reading.{Reading}
+use Rattle.lang_eval.specs.Found.{Packages}
+use Rattle.contract_store.specs.Active.{active, active_rows, in_order, in_order_if, knowns}
+use Rattle.contract_store.specs.Rows.{row_of}
+use Rattle.contract_store.specs.Written.{written}
+use Rattle.contract_store.specs.declared.row.StoreRow.{StoreRow}
+use Rattle.sealed_form.specs.SealedReading.{sealed_reading}
+use Rattle.inbox_standing.specs.ChangeLists.{write_changes}
+use Rattle.inbox_standing.specs.Changes.{changes_in}
+use Rattle.inbox_standing.specs.Standing.{Stands}
+use Rattle.inbox_standing.specs.declared.change.Change.{Change}
+use Rattle.inbox_standing.proofs.Grown.{rows_same, rows_written}
+use Rattle.prepare_request.specs.Hosted.{AreTold, TellHosted, has_hosted_id, hosted_rows, is_among}
+use Rattle.node_inbox.specs.Added.{added_behind}
+use Rattle.node_inbox.specs.Coming.{IsTelling}
+use Rattle.node_inbox.specs.Items.{model_items}
+use Rattle.node_inbox.specs.Kept.{IsInbox}
+use Rattle.node_inbox.specs.Listed.{is_offered}
+use Rattle.node_inbox.specs.Offered.{offered}
+use Rattle.node_inbox.specs.Reads.{HasRead, IsUnread, item_with}
 use Rattle.node_inbox.specs.declared.kept_item.KeptItem.{KeptItem}
+use Rattle.node_inbox.specs.declared.telling.ComingVerdict.{ComingVerdict}
+use Rattle.node_inbox.proofs.AddedIds.{TellsOn, all_say, all_told}
 
-not_yet : (k j : ℕ) (o : Option Verdict) → j ≤ k → IsBelow j o → decision_on k o ≡ None
-not_yet k j None le h = refl
-not_yet k j (Some verdict) le h =
-    elim (cases_Bool (nat_eq verdict.request k)) [
-      | inl b ↦ let same = eqb-true verdict.request k b in absurd (omega arith)
-      | inr b ↦ rw b refl
-    ]
+module _ (topology : Topology) (packages : Packages) (me : ParticipantId) (old new : List KeptItem) (stands stands' : Stands)
+    (i : IsInbox topology packages me old stands) (ids : List Hash) where
+  abbrev reading : Reading
+  reading = sealed_reading topology packages
 
--- what stands before a request has no verdict on it
-verdict_from : (k n j : ℕ) (items : List Item) → j + n ≤ k → VerdictsBehind j items → verdict_on k (moments (drop n items)) ≡ verdict_on k (moments items)
-verdict_from k zero j items le h = refl
-verdict_from k (suc n) j [] le h = refl
-verdict_from k (suc n) j (item ∷ rest) le h =
-    verdict_from k n (suc j) rest (omega (arith, le)) h.1
-    ∙ sym (ap (λ (o : Option Decision). or_else o (verdict_on k (moments rest))) (not_yet k j (verdict_in item.content) (omega (arith, le)) h.0))
+  abbrev at_rows : List Hash → Stands → Type 0
+  at_rows known s = AreTold reading me known (s.store).rows
 
-dropped : (n : ℕ) (items : List KeptItem) → model_items (drop n items) ≡ drop n (model_items items)
-dropped zero items = refl
-dropped (suc n) [] = refl
-dropped (suc n) (item ∷ rest) = dropped n rest
+  -- nothing was read
+  pub told_unread : IsUnread topology packages me old new stands' → at_rows ids stands → at_rows ids stands'
+  told_unread u told =
+      subst (λ rows. AreTold reading me ids rows)
+      (i.follows.rows ∙ (ap (λ (items : List KeptItem). written (changes_in reading (model_items items)) []) (sym u.items) ∙ sym u.inbox.follows.rows)) told
 
-pub told_from : (k : ℕ) (items : List KeptItem) → VerdictsBehind 0 (model_items items)
-    → verdict_on k (moments (model_items (drop k items))) ≡ verdict_on k (moments (model_items items))
-told_from k items h =
-    ap (λ (its : List Item). verdict_on k (moments its)) (dropped k items) ∙ verdict_from k k 0 (model_items items) (omega arith) h
+  -- an item that is no verdict
+  pub told_same : (x : Item) → verdict_in x.content ≡ None → HasRead topology packages me old new stands' x → at_rows ids stands → at_rows ids stands'
+  told_same x none h told =
+      subst (λ rows. AreTold reading me ids rows)
+      (rows_same reading (model_items old) x (stands.store).rows none i.follows.rows
+      ∙ (ap (λ (items : List Item). written (changes_in reading items) []) (sym h.items) ∙ sym h.inbox.follows.rows)) told
+
+  -- a verdict
+  pub told_verdict : TellsOn reading me → (coming : ComingVerdict) (time : ℕ) (more : List Hash) → IsTelling reading (model_items old) coming.verdict coming
+      → HasRead topology packages me old new stands' (item_with time (Told coming.verdict)) → at_rows ids stands
+      → ((c : Hash) → is_among more c ≡ (is_among (added_behind reading me (stands.store).rows [] coming.changes.items) c || is_among ids c))
+      → at_rows more stands'
+  told_verdict on coming time more tells h told among =
+      subst (λ rows. AreTold reading me more rows)
+      (ap (λ (cs : List Change). write_changes coming.verdict.request cs (stands.store).rows) tells.changes_are
+      ∙ (rows_written reading (model_items old) (item_with time (Told coming.verdict)) coming.verdict (stands.store).rows refl i.follows.rows
+      ∙ (ap (λ (items : List Item). written (changes_in reading items) []) (sym h.items) ∙ sym h.inbox.follows.rows)))
+      (all_told reading me on coming.verdict.request (stands.store).rows (all_say (changes_in reading (model_items old)) (stands.store).rows i.follows.rows)
+      coming.changes.items (stands.store).rows ids [] more (λ c. or_nothing (is_some (row_of c (stands.store).rows))) told among)
+    where
+      or_nothing : (b : Bool) → b ≡ (b || false)
+      or_nothing true = refl
+      or_nothing false = refl
+
+  -- whether an item that is no verdict was read or not
+  pub told_anyway : {X E : Type 0} (r : Result X E) (x : Item) → verdict_in x.content ≡ None → OnOk r (HasRead topology packages me old new stands' x)
+      → OnErr r (IsUnread topology packages me old new stands') → at_rows ids stands → IsInbox topology packages me new stands' × at_rows ids stands'
+  told_anyway (Ok u) x none ok err told = (ok.inbox, told_same x none ok told)
+  told_anyway (Err e) x none ok err told = (err.inbox, told_unread err told)
+
+pub no_verdict : (o : Option Shown) → verdict_in (received o) ≡ None
+no_verdict None = refl
+no_verdict (Some shown) = refl
+
+-- ---- what is offered
+
+module _ (reading : Reading) (p : ParticipantId) (ids : List Hash) where
+  abbrev tells_of : ActiveRow → Type 0
+  tells_of a = is_among ids a.known.id ≡ is_offered reading p a
+
+  abbrev Agree : List ActiveRow → Type 0
+  Agree [] = Unit {0}
+  Agree (a ∷ rest) = tells_of a × Agree rest
+
+  agree_in_order : (a : ActiveRow) (rest : List ActiveRow) → tells_of a → Agree rest → Agree (in_order a rest)
+  agree_in_order a [] h hs = (h, tt)
+  agree_in_order a (b ∷ bs) h hs = by (nat_le a.created_at b.created_at) (agree_in_order a bs h hs.1)
+    where
+      by : (t : Bool) → Agree (in_order a bs) → Agree (if t then a ∷ b ∷ bs else b ∷ in_order a bs)
+      by true rest = (h, hs)
+      by false rest = (hs.0, rest)
+
+  agree_if : (o : Option ActiveRow) (rest : List ActiveRow) → ((a : ActiveRow) → o ≡ Some a → tells_of a) → Agree rest → Agree (in_order_if o rest)
+  agree_if None rest h hs = hs
+  agree_if (Some a) rest h hs = agree_in_order a rest (h a refl) hs
+
+  agree_rows : (rows : List StoreRow) → ((row : StoreRow) (a : ActiveRow) → In row rows → active row ≡ Some a → tells_of a) → Agree (active_rows rows)
+  agree_rows [] h = tt
+  agree_rows (row ∷ rows) h =
+      agree_if (active row) (active_rows rows) (λ a e. h row a (inl refl) e) (agree_rows rows (λ r a there e. h r a (inr there) e))
+
+  filter_agrees : (rest : List ActiveRow) → Agree rest → filter (has_hosted_id ids) (knowns rest) ≡ knowns (filter (is_offered reading p) rest)
+  filter_agrees [] h = refl
+  filter_agrees (a ∷ rest) h = by (is_among ids a.known.id) (is_offered reading p a) h.0 (filter_agrees rest h.1)
+    where
+      by : (s t : Bool) → s ≡ t → filter (has_hosted_id ids) (knowns rest) ≡ knowns (filter (is_offered reading p) rest)
+          → cond s (a.known ∷ filter (has_hosted_id ids) (knowns rest)) (filter (has_hosted_id ids) (knowns rest))
+          ≡ knowns (cond t (a ∷ filter (is_offered reading p) rest) (filter (is_offered reading p) rest))
+      by true true e k = ap (λ (l : List Known). a.known ∷ l) k
+      by false false e k = k
+      by true false e k = absurd (cc)
+      by false true e k = absurd (cc)
+
+  pub offered_is : (rows : List StoreRow) → TellHosted reading p ids rows → hosted_rows ids rows ≡ knowns (offered reading p rows)
+  offered_is rows tells =
+      filter_agrees (active_rows rows) (agree_rows rows (λ row a there e. tells row a (contains_from_In rows row there) e))

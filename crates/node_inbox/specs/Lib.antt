@@ -11,3 +11,5 @@ pub mod JobInput
 pub mod Approved
 pub mod Decisions
 pub mod Listed
+pub mod Offered
+pub mod Added

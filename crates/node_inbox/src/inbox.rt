@@ -2,9 +2,11 @@
 ghost use Rattle.std.specs.Prelude.{◌≡◌, ◌<◌, ◌^◌, ◌&&◌, ℕ, List, [], true, length, is_some, option_copied, IfOk, OnOk, OnErr};
 ghost use Rattle.canton_model.specs.declared.request.Request.{Request as RequestValue};
 ghost use Rattle.canton_model.specs.declared.message.Message.TheVariants.{Request as RequestMessage};
-ghost use Rattle.canton_model.specs.Inbox.{Nothing, clean, clean_time, is_decided_in, last_time, moments, node_active, node_log, received, shown_at};
+ghost use Rattle.canton_model.specs.Inbox.{Nothing, Told, clean, clean_time, is_decided_in, last_time, moments, node_active, node_log};
+ghost use Rattle.canton_model.specs.Inbox.{received, shown_at};
 ghost use Rattle.canton_model.specs.Timeline.{verdict_on};
 ghost use Rattle.world_model.specs.Node.{owed_at, owes_at};
+ghost use Rattle.contract_store.specs.Active.{knowns};
 ghost use Rattle.contract_store.specs.Rows.{status_in};
 ghost use Rattle.contract_store.specs.Stored.{is_held};
 ghost use Rattle.contract_store.specs.Written.{holding, written};
@@ -12,12 +14,16 @@ ghost use Rattle.canton_model.specs.Inbox.{is_locked_in_inbox, status_in_inbox};
 ghost use Rattle.inbox_standing.specs.Changes.{changes_in, pending_changes};
 ghost use Rattle.inbox_standing.specs.Requests.{outcome_received};
 ghost use Rattle.validate_job.specs.Owed.{owed_on_each};
+ghost use Rattle.prepare_request.specs.Hosted.{hosted_rows};
+ghost use Rattle.node_inbox.specs.Coming.{IsTelling};
 ghost use Rattle.node_inbox.specs.Decided.{is_closed};
 ghost use Rattle.node_inbox.specs.Entries.{item_from, told_if_received};
 ghost use Rattle.node_inbox.specs.InboxState.{begun, decided_since, params_of, reading_of, with_item};
+ghost use Rattle.node_inbox.specs.Offered.{offered};
 ghost use Rattle.node_inbox.specs.Reads.{item_with};
 
 use crate::active_rows::active_rows;
+use crate::added::{added_ids, put_ids};
 use crate::applied::applied;
 use crate::coming::coming;
 use crate::decided_since::decided_since;
@@ -26,7 +32,7 @@ use crate::items::{request_at, time_at};
 use crate::job::job;
 use crate::kept_item::KeptItem;
 use crate::putting::{put_nothing, put_request, put_verdict};
-use crate::telling::telling;
+use crate::telling::{ComingVerdict, telling};
 use blind_tree::laws::opened_views_are_filled;
 use canton_model::{Decision, Entry, Message, Outcome, Request, Verdict};
 use confirm_reply::Setup;
@@ -34,6 +40,8 @@ use contract_store::Store;
 use inbox_standing::Standing;
 use ledger_model::CommitList;
 use ledger_terms::{ActiveRowList, ParticipantId};
+use prepare_request::laws::ids_tell_after_each_change;
+use prepare_request::{HostedContracts, HostedIds};
 use std::alloc::{AllocError, Global};
 use std::marker::Model;
 use validate_job::ValidateJob;
@@ -45,6 +53,7 @@ pub struct Inbox<'s> {
     me: ParticipantId,
     items: Vec<KeptItem>,
     standing: Standing,
+    hosted: HostedIds,
 }
 
 impl<'s> Model for Inbox<'s> {
@@ -68,8 +77,11 @@ impl<'s> Model for Inbox<'s> {
     } };
 
     ghost use Rattle.node_inbox.specs.Kept.{IsInbox};
+    ghost use Rattle.sealed_form.specs.SealedReading.{sealed_reading};
+    ghost use Rattle.prepare_request.specs.Hosted.{AreTold};
 
-    ghost invariant = { λ i. IsInbox i.setup.now.topology i.setup.now.checked i.me i.items.items i.standing };
+    ghost invariant = { λ i. IsInbox i.setup.now.topology i.setup.now.checked i.me i.items.items i.standing
+        × AreTold (sealed_reading i.setup.now.topology i.setup.now.checked) i.me i.hosted.ids i.standing.store.rows };
 }
 
 impl<'s> Inbox<'s> {
@@ -82,6 +94,7 @@ impl<'s> Inbox<'s> {
             me,
             items: Vec::new(alloc),
             standing: Standing::new(alloc),
+            hosted: HostedIds::new(alloc),
         }
     }
 
@@ -143,16 +156,37 @@ impl<'s> Inbox<'s> {
             &self.standing,
             verdict,
         )? {
-            Some(coming) => put_verdict(
-                self.setup,
-                self.me,
-                &mut self.items,
-                &mut self.standing,
-                time,
-                coming,
-            ),
+            Some(coming) => self.put_verdict(time, coming),
             None => self.read_nothing(time),
         }
+    }
+
+    fn put_verdict(&mut self, time: u64, coming: ComingVerdict) -> Result<(), AllocError>
+        requires few { length self.old.items < 2 ^ 63 }
+        requires rises { last_time self.old.items < time }
+        requires coming { IsTelling (reading_of self.old) self.old.items coming.verdict coming }
+        ensures ok { OnOk result (self.new ≡ with_item self.old (item_with time (Told coming.verdict))) }
+        ensures err { OnErr result (self.new ≡ self.old) }
+    {
+        let ids = added_ids(
+            *self.items.allocator(),
+            self.setup,
+            self.me,
+            self.standing.store(),
+            coming.changes.as_slice(),
+        )?;
+        self.hosted.reserve(ids.as_slice().len())?;
+        put_verdict(
+            self.setup,
+            self.me,
+            &mut self.items,
+            &mut self.standing,
+            time,
+            coming,
+        )?;
+        ids_tell_after_each_change();
+        put_ids(&mut self.hosted, &ids);
+        Ok(())
     }
 
     /// Reads the next entry of the log. Takes all memory before it changes anything.
@@ -231,6 +265,18 @@ impl<'s> Inbox<'s> {
             ≡ is_locked_in_inbox (reading_of self.now) (params_of self.now) self.now.items (length self.now.items) c }
     {
         self.standing.store()
+    }
+
+    /// The contracts that the participant offers at the cursor: the active ones with a hosted stakeholder.
+    pub fn known(&self) -> HostedContracts<'_>
+        ensures { hosted_rows result.hosted.now.ids result.store.now.rows
+            ≡ knowns (offered (reading_of self.now) self.now.me (written (changes_in (reading_of self.now) self.now.items) [])) }
+    {
+        ids_tell_after_each_change();
+        HostedContracts {
+            store: self.standing.store(),
+            hosted: &self.hosted,
+        }
     }
 
     /// The first place at which a request was decided, and the cursor where it isn't. Goes through what was read from the request's

@@ -4,6 +4,7 @@
 
 mod actions;
 mod active_rows;
+mod added;
 mod applied;
 mod coming;
 mod confirmed;

@@ -3,7 +3,7 @@ use Rattle.canton_model.specs.Timeline.{verdict_on}
 use Rattle.canton_model.specs.Inbox.{moments}
 use Rattle.node_inbox.specs.Items.{model_items}
 use Rattle.node_inbox.specs.declared.kept_item.KeptItem.{KeptItem}
-use Rattle.node_inbox.proofs.Told.{told_from}
+use Rattle.node_inbox.proofs.FirstVerdict.{told_from}
 use Rattle.node_inbox.proofs.decision.decision_at.Goals as goal
 
 pub returns : goal.returns

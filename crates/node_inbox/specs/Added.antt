@@ -1,0 +1,35 @@
+-- The contracts with a hosted stakeholder that changes bring into a store.
+use Rattle.std.specs.Prelude.{Bool, true, false, List, [], ◌∷◌, ◌++◌, if◌then◌else◌, ◌&&◌, not}
+use Rattle.ledger_model.specs.Terms.{Hash, ParticipantId}
+use Rattle.ledger_model.specs.declared.status.Status.{Status}
+use Rattle.ledger_model.specs.declared.status.Status.TheVariants.{Unknown, Active, Consumed}
+use Rattle.canton_model.specs.Inbox.{is_stakeholder_hosted}
+use Rattle.canton_model.specs.Reading.{Reading}
+use Rattle.contract_store.specs.Rows.{status_in}
+use Rattle.contract_store.specs.declared.row.StoreRow.{StoreRow}
+use Rattle.prepare_request.specs.Hosted.{is_among}
+use Rattle.inbox_standing.specs.declared.change.Change.{Change}
+
+abbrev pub is_unknown : Status → Bool
+is_unknown Unknown = true
+is_unknown Active = false
+is_unknown Consumed = false
+
+-- the store doesn't know the contract and no change before is on it
+abbrev pub is_unheard : List StoreRow → (changed : List Hash) → Hash → Bool
+is_unheard rows changed id = is_unknown (status_in rows id) && not (is_among changed id)
+
+-- it creates one of these
+abbrev pub is_new : List StoreRow → (changed : List Hash) → Change → Bool
+is_new rows changed change = change.is_create && is_unheard rows changed change.known.id
+
+-- the id of the contract that a change brings, where it has a hosted stakeholder
+abbrev pub added_by : Reading → ParticipantId → List StoreRow → (changed : List Hash) → Change → List Hash
+added_by reading p rows changed change =
+    if is_new rows changed change && is_stakeholder_hosted reading p change.known.instance then change.known.id ∷ [] else []
+
+-- those of changes behind ones on these contracts
+abbrev pub added_behind : Reading → ParticipantId → List StoreRow → (changed : List Hash) → List Change → List Hash
+added_behind reading p rows changed [] = []
+added_behind reading p rows changed (change ∷ rest) =
+    added_by reading p rows changed change ++ added_behind reading p rows (change.known.id ∷ changed) rest
