@@ -14,7 +14,6 @@ use Rattle.world_model.specs.World.{Submit, happens, at_node, submit, submit_wan
 use Rattle.seq_log.specs.Sequenced.{Sequenced}
 use Rattle.node_core.specs.Participant.{Participant as NodeValue}
 use Rattle.ledger_terms.specs.Answers.{Follows}
-use Rattle.ledger_terms.specs.Topologies.{IsValid}
 use Rattle.ledger_terms.specs.declared.topology.Topology.{Topology}
 use Rattle.canton_model.proofs.LongerLogs.{genuine_take}
 use Rattle.lang_eval.specs.Found.{Packages}

@@ -10,8 +10,8 @@ ghost use Rattle.validate_job.specs.Outcome.{IsOutcome};
 ghost use Rattle.world_play.specs.Standing.{IsNodeOf};
 
 use node_core::Node;
-use validate_job::{Finished, ValidateJob};
 use std::alloc::{AllocError, Global};
+use validate_job::{Finished, ValidateJob};
 
 /// Checks all views of a job, one after another.
 pub fn run_job(job: ValidateJob<'_>) -> Result<Finished, AllocError>

@@ -8,10 +8,10 @@ ghost use Rattle.world_play.specs.Making.{AreNewNodes};
 ghost use Rattle.world_play.specs.Submitting.{AreSetUp};
 ghost use Rattle.world_play.specs.WorldOf.{IsWorldOf, world_of};
 
+use confirm_reply::Setup;
 use ledger_terms::ParticipantId;
 use log_row::LogRow;
 use mediator::Mediator;
-use confirm_reply::Setup;
 use node_core::Node;
 use seq_log::Sequencer;
 use std::alloc::{AllocError, Global};

@@ -1,7 +1,6 @@
 use Rattle.std.proofs.Common.{sym, subst}
 use Rattle.world_play.specs.declared.event.Event.{Event}
 use Rattle.world_play.specs.Becoming.{Becomes}
-use Rattle.ledger_terms.specs.declared.topology.Topology.{Topology}
 use Rattle.world_play.specs.Events.{CanHappen, event_of}
 use Rattle.world_play.proofs.Answered.{on_ok}
 use Rattle.world_play.proofs.happening.happen.Goals as goal

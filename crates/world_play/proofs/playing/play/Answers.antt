@@ -53,8 +53,7 @@ events-preserved c =
     let inv = c.events.invariant.1 in
     let at =
     subst (λ (xs : List Event). slice_get xs k ≡ Some e) c.as_slice-event-items.ensures
-    (item_at c.as_slice-event-items.result.now k e c.events-test.true ∙ ap Some (sym c.event-item.is)) in
-    (
+    (item_at c.as_slice-event-items.result.now k e c.events-test.true ∙ ap Some (sym c.event-item.is)) in (
       machine,
       played_on m c.args.events.now k e at c.events.world c.happen.new.world inv c.in_ok-happen.ensures.now
           (c.in_ok-happen.ensures.ok m inv.state inv.is (played_lawful m c.args.events.now machine k c.events.world inv)),
