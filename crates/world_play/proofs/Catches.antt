@@ -1,0 +1,74 @@
+-- Every participant reads to the end.
+use Rattle.std.proofs.Common.{◌≡◌, ℕ, suc, ◌+◌, List, [], ◌∷◌, length, map, Some, refl, sym, ap, ◌∙◌, arith, slice_set}
+use Rattle.std.specs.Prelude.{slice_get}
+use Rattle.std.proofs.lemmas.Option.{slice_get_within}
+use Rattle.world_model.specs.Messages.{Entry}
+use Rattle.world_model.specs.Machine.{Machine}
+use Rattle.world_model.specs.Mediator.{MediatorState}
+use Rattle.world_model.specs.Node.{NodeState}
+use Rattle.world_model.specs.Lawful.{Lawful}
+use Rattle.world_model.specs.Settling.{catch_each}
+use Rattle.world_model.specs.Turns.{caught_up}
+use Rattle.seq_log.specs.Sequenced.{Sequenced}
+use Rattle.node_core.specs.Participant.{Participant as NodeValue, with_state}
+use Rattle.world_play.specs.Reading.{IsReader, has_read}
+use Rattle.world_play.specs.Standing.{IsParticipant}
+use Rattle.world_play.specs.Worlds.{state_of, world_with, AreNodesOf}
+use Rattle.world_play.proofs.Each.{AreDone}
+use Rattle.world_play.proofs.Passing.{in_turn, nodes_then, lawful_then}
+use Rattle.world_play.proofs.Sends.{stays}
+use Rattle.world_play.proofs.Turns.{caught_is, reader_is}
+
+abbrev pub HasRead : Sequenced → ℕ → NodeValue → NodeValue → Type 0
+HasRead s i x y = y ≡ has_read x s.list
+
+pub reader_same : (x y : NodeValue) (log : List Entry) → IsReader x log y → y ≡ with_state x y.state
+reader_same x y log r = r.is ∙ ap (λ (u : NodeValue). with_state x u.state) (sym r.is)
+
+pub read_same : (x y : NodeValue) (log : List Entry) → y ≡ has_read x log → y ≡ with_state x y.state
+read_same x y log is = is ∙ ap (λ (u : NodeValue). with_state x u.state) (sym is)
+
+module _ (first : List NodeValue) (s : Sequenced) where
+  pub record AreReading (nodes : List NodeValue) : Type 0 where
+    pub nodes_of : (m : Machine) → AreNodesOf m first s → AreNodesOf m nodes s
+    pub lawful : (m : Machine) (now : ℕ) (state : MediatorState) → AreNodesOf m first s → Lawful m (world_with now state first s)
+        → Lawful m (world_with now state nodes s)
+
+  pub reading_starts : AreReading first
+  reading_starts = record { nodes_of = λ m a. a; lawful = λ m now state a l. l }
+
+  pub reading_on : (nodes : List NodeValue) (k : ℕ) → AreReading nodes → (node : NodeValue) → slice_get nodes k ≡ Some node → (node' : NodeValue)
+      → IsReader node s.list node' → AreReading (slice_set nodes k node')
+  reading_on nodes k r node at node' read =
+      let same = reader_same node node' s.list read in
+      let keeps : (m : Machine) (p : ℕ) → IsParticipant m p node s → IsParticipant m p node' s = λ m p given. reader_is m p node s given node' read in
+      record {
+        nodes_of = λ m a. nodes_then nodes s k node at node' s (stays s) same m (r.nodes_of m a);
+        lawful = λ m now state a l. lawful_then nodes s k node at node' s (stays s) same keeps m now state (r.nodes_of m a) (r.lawful m now state a l);
+      }
+
+each_is : (m : Machine) (log : List Entry) (p : ℕ) (xs ys : List NodeValue) → length ys ≡ length xs
+    → ((i : ℕ) (x y : NodeValue) → slice_get xs i ≡ Some x → slice_get ys i ≡ Some y → y.state ≡ caught_up m.reading (p + i) log x.state)
+    → map state_of ys ≡ catch_each m log p (map state_of xs)
+each_is m log p [] [] long h = refl
+each_is m log p [] (y ∷ ys) long h = absurd (omega (arith, long))
+each_is m log p (x ∷ xs) [] long h = absurd (omega (arith, long))
+each_is m log p (x ∷ xs) (y ∷ ys) long h =
+    let z : p + 0 ≡ p = omega arith in
+    let head : y.state ≡ caught_up m.reading p log x.state = h 0 x y refl refl ∙ ap (λ (n : ℕ). caught_up m.reading n log x.state) z in
+    let rest =
+    each_is m log (suc p) xs ys (omega (arith, long))
+    (λ i u v a b.
+    let n : p + suc i ≡ suc p + i = omega arith in h (suc i) u v a b ∙ ap (λ (j : ℕ). caught_up m.reading j log u.state) n) in
+    ap (λ (t : NodeState). t ∷ map state_of ys) head ∙ ap (λ (ts : List NodeState). caught_up m.reading p log x.state ∷ ts) rest
+
+pub caught_states : (first : List NodeValue) (s : Sequenced) (nodes : List NodeValue) (k : ℕ) → AreDone (HasRead s) first nodes k → k ≡ length nodes
+    → (m : Machine) (now : ℕ) (state : MediatorState) → AreNodesOf m first s → Lawful m (world_with now state first s)
+    → map state_of nodes ≡ catch_each m s.list 0 (map state_of first)
+caught_states first s nodes k r end m now state a l =
+    each_is m s.list 0 first nodes r.long
+    (λ i x y at there.
+    let within = slice_get_within nodes i y there in
+    let z : i ≡ 0 + i = omega arith in
+    caught_is m i x s (in_turn first s i x at m now state a l) y (r.before i x y (omega (arith, within, end)) at there)
+    ∙ ap (λ (j : ℕ). caught_up m.reading j s.list x.state) z)

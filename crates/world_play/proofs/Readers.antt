@@ -1,0 +1,127 @@
+-- A participant that reads entry after entry.
+use Rattle.std.proofs.Common.{◌≡◌, ℕ, zero, suc, ◌+◌, ◌-◌, ◌<◌, ◌≤◌, List, [], ◌∷◌, ◌++◌, take, length, Some, refl, sym, ap, ◌∙◌, subst, arith, le_refl}
+use Rattle.std.specs.Prelude.{slice_get}
+use Rattle.std.proofs.lemmas.List.{take_all}
+use Rattle.canton_model.specs.Genuine.{Genuine}
+use Rattle.canton_model.specs.Inbox.{Item, inbox}
+use Rattle.canton_model.proofs.InboxGrows.{items_push}
+use Rattle.canton_model.proofs.LongerLogs.{genuine_take}
+use Rattle.world_model.specs.Messages.{Entry}
+use Rattle.world_model.specs.Node.{read_entry, with_items}
+use Rattle.world_model.proofs.NodeFacts.{inbox_length}
+use Rattle.world_model.proofs.Steps.{take_next, length_take}
+use Rattle.log_row.specs.LogPrefix.{LogPrefix}
+use Rattle.seq_log.specs.Sequenced.{Sequenced, prefix_of}
+use Rattle.seq_log.specs.Slips.{prefix_to}
+use Rattle.node_core.specs.Participant.{Participant as NodeValue, CanRead, reading_of, with_state}
+use Rattle.node_core.proofs.LogEnds.{before_last}
+use Rattle.world_play.specs.Reading.{Reads, IsReader, has_read}
+
+module _ {X : Type 0} where
+  -- the same beginning of a longer beginning
+  pub take_take : (n k : ℕ) (xs : List X) → n ≤ k → take n (take k xs) ≡ take n xs
+  take_take zero k xs le = refl
+  take_take (suc n) zero xs le = absurd (omega (arith, le))
+  take_take (suc n) (suc k) [] le = refl
+  take_take (suc n) (suc k) (x ∷ xs) le = ap (λ (ys : List X). x ∷ ys) (take_take n k xs (omega (arith, le)))
+
+  -- what stands at a place of it
+  pub stands : (k : ℕ) (xs : List X) → k < length xs → (x : X) × (slice_get xs k ≡ Some x) × (slice_get (take (k + 1) xs) k ≡ Some x)
+  stands k [] lt = absurd (omega (arith, lt))
+  stands zero (x ∷ xs) lt = (x, refl, refl)
+  stands (suc k) (x ∷ xs) lt =
+      let w = stands k xs (omega (arith, lt)) in
+      let one : suc k + 1 ≡ suc (k + 1) = omega arith in
+      (w.0, w.1, ap (λ (n : ℕ). slice_get (take n (x ∷ xs)) (suc k)) one ∙ w.2)
+
+module _ (first : NodeValue) (log : List Entry) where
+  pub begins : Reads first log → IsReader first log first
+  begins r =
+      record {
+        read = length (first.state).items;
+        from = le_refl (length (first.state).items);
+        within = r.within;
+        is = ap (λ (items : List Item). with_state first (with_items first.state items)) r.items;
+      }
+
+  pub cursor_is : (node : NodeValue) (r : IsReader first log node) → length (node.state).items ≡ r.read
+  cursor_is node r =
+      ap (λ (x : NodeValue). length (x.state).items) r.is
+      ∙ (inbox_length (reading_of first) first.me [] (take r.read log) ∙ length_take r.read log r.within)
+
+  module _ (reads : Reads first log) (node : NodeValue) (r : IsReader first log node) (k : ℕ) (at : k ≡ length (node.state).items) where
+    is_read : k ≡ r.read
+    is_read = at ∙ cursor_is node r
+
+    module _ (list : List Entry) (lt : k < length log) (is : list ≡ take (k + 1) log) where
+      next_long : length list ≡ length (node.state).items + 1
+      next_long =
+          let long = length_take (k + 1) log (omega (arith, lt)) in
+          let same = ap length is in omega (arith, at, long, same)
+
+      next_genuine : Genuine (reading_of node) (node.topology).params list
+      next_genuine =
+          subst (λ (x : NodeValue). Genuine (reading_of x) (x.topology).params list) (sym r.is)
+          (subst (Genuine (reading_of first) (first.topology).params) (sym is)
+          (genuine_take (reading_of first) (first.topology).params log (k + 1) reads.genuine))
+
+      before : take (length (node.state).items) list ≡ take r.read log
+      before =
+          ap (λ (n : ℕ). take n list) (cursor_is node r)
+          ∙ (ap (take r.read) is ∙ take_take r.read (k + 1) log (let e = is_read in omega (arith, e)))
+
+      next_read : (node.state).items ≡ inbox (reading_of node) node.me (take (length (node.state).items) list)
+      next_read =
+          subst (λ (x : NodeValue). (node.state).items ≡ inbox (reading_of x) x.me (take (length (node.state).items) list)) (sym r.is)
+          (ap (λ (x : NodeValue). (x.state).items) r.is ∙ ap (inbox (reading_of first) first.me) (sym before))
+
+      pub can_read : CanRead node list
+      can_read = record { cursor = next_long; genuine = next_genuine; before = next_read }
+
+      module _ (after : NodeValue)
+          (step : (front : List Entry) (e : Entry) → list ≡ front ++ e ∷ []
+          → after ≡ with_state node (read_entry (reading_of node) node.me node.state front e)) where
+        next : (e : Entry) × (slice_get log k ≡ Some e) × (slice_get (take (k + 1) log) k ≡ Some e)
+        next = stands k log lt
+
+        stepped : after ≡ with_state node (read_entry (reading_of node) node.me node.state (take (length (node.state).items) list) next.0)
+        stepped =
+            step (take (length (node.state).items) list) next.0
+            (before_last list (length (node.state).items) next.0 next_long
+            (ap (slice_get list) (sym at) ∙ (ap (λ (xs : List Entry). slice_get xs k) is ∙ next.2)))
+
+        pub reads_on : IsReader first log after
+        reads_on =
+            record {
+              read = suc r.read;
+              from = let f = r.from in omega arith;
+              within = let s = is_read in omega (arith, lt, s);
+              is =
+                  stepped
+                  ∙ (ap (λ (ys : List Entry). with_state node (read_entry (reading_of node) node.me node.state ys next.0)) before
+                  ∙ (ap (λ (x : NodeValue). with_state x (read_entry (reading_of x) x.me x.state (take r.read log) next.0)) r.is
+                  ∙ (ap (λ (items : List Item). with_state first (with_items first.state items))
+                  (sym (items_push (reading_of first) first.me [] (take r.read log) next.0))
+                  ∙ ap (has_read first) (sym (take_next r.read log next.0 (ap (slice_get log) (sym is_read) ∙ next.1))))));
+            }
+
+        after_long : length (after.state).items ≡ suc r.read
+        unfolding reads_on
+        after_long = cursor_is after reads_on
+
+        pub smaller : length log - length (after.state).items < length log - length (node.state).items
+        smaller = let a = after_long in let s = is_read in omega (arith, lt, s, at, a)
+
+  pub ends : (node : NodeValue) → IsReader first log node → length log ≤ length (node.state).items → node ≡ has_read first log
+  ends node r le =
+      let c = cursor_is node r in r.is ∙ ap (has_read first) (take_all r.read log (omega (arith, le, c)))
+
+-- a slip that was handed out
+pub slip_list : (s began : Sequenced) (slip : LogPrefix) (k : ℕ) → s ≡ began → slip ≡ prefix_to (prefix_of s) (k + 1) → slip.list ≡ take (k + 1) began.list
+slip_list s began slip k same is = ap (λ (t : LogPrefix). t.list) is ∙ ap (λ (q : Sequenced). take (k + 1) q.list) same
+
+pub place_within : (s began : Sequenced) (k : ℕ) → s ≡ began → k < length s.list → k < length began.list
+place_within s began k same lt = subst (λ (q : Sequenced). k < length q.list) same lt
+
+pub past_end : (s began : Sequenced) (k n : ℕ) → s ≡ began → k ≡ n → length s.list ≤ k → length began.list ≤ n
+past_end s began k n same at le = subst (λ (q : Sequenced). length q.list ≤ n) same (subst (λ (i : ℕ). length s.list ≤ i) at le)

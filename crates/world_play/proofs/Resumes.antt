@@ -1,0 +1,175 @@
+-- What is put back, and given back, place after place.
+use Rattle.std.proofs.Common.{◌≡◌, ℕ, zero, suc, ◌+◌, ◌<◌, Bool, true, false, List, [], ◌∷◌, take, length, map, Some, refl, sym, ap, ◌∙◌, subst}
+use Rattle.std.proofs.Common.{arith}
+use Rattle.std.specs.Prelude.{slice_get, is_some, nat_lt, ◌&&◌}
+use Rattle.std.proofs.lemmas.Bool.{and_parts, ltb-true}
+use Rattle.std.proofs.lemmas.Option.{slice_get_within}
+use Rattle.ledger_model.specs.Terms.{ParticipantId}
+use Rattle.canton_model.specs.Log.{Params, request_at, request_in}
+use Rattle.canton_model.specs.Reading.{Reading}
+use Rattle.world_model.specs.Messages.{Entry}
+use Rattle.world_model.specs.Machine.{Machine, GenuineLog}
+use Rattle.world_model.specs.Mediator.{MediatorState, give_back}
+use Rattle.world_model.specs.Node.{NodeState, owes_at, put_back}
+use Rattle.world_model.specs.Settled.{is_asked_in, is_due, is_undecided}
+use Rattle.world_model.specs.Settling.{resume_below, resumed, resume_each, return_below, returned}
+use Rattle.canton_model.specs.Inbox.{Item}
+use Rattle.world_model.specs.Lawful.{Lawful}
+use Rattle.world_model.proofs.NodeFacts.{owes_is}
+use Rattle.world_model.proofs.Steps.{mediator_has_back}
+use Rattle.mediator.specs.Kept.{Kept, Keeps}
+use Rattle.seq_log.specs.Sequenced.{Sequenced, IsFor}
+use Rattle.node_core.specs.Participant.{Participant as NodeValue, reading_of, with_state}
+use Rattle.world_play.specs.Standing.{IsMediator, IsParticipant}
+use Rattle.world_play.specs.Worlds.{state_of, world_with, AreNodesOf}
+use Rattle.world_play.proofs.Moved.{from_machine}
+use Rattle.world_play.proofs.Each.{AreDone}
+use Rattle.world_play.proofs.Passing.{in_turn}
+use Rattle.world_play.proofs.Turns.{cursor_of}
+
+-- a participant
+module _ (at : ℕ) (first : NodeValue) (s : Sequenced) where
+  pub record IsResumer (node : NodeValue) (k : ℕ) : Type 0 where
+    pub same : node ≡ with_state first node.state
+    pub items : (node.state).items ≡ (first.state).items
+    pub resumed_to : (m : Machine) → IsParticipant m at first s → node.state ≡ resume_below m s.list at first.state k
+
+  pub resumer_starts : IsResumer first 0
+  resumer_starts = record { same = refl; items = refl; resumed_to = λ m given. refl }
+
+  module _ (node : NodeValue) (k : ℕ) (r : IsResumer node k) (test : Bool)
+      (is : (m : Machine) → IsParticipant m at first s → test ≡ (is_due m s.list at k && nat_lt k (length (node.state).items))) where
+    holds : (m : Machine) → IsParticipant m at first s → (b : Bool) → test ≡ b
+        → (is_due m s.list at k && nat_lt k (length (resume_below m s.list at first.state k).items)) ≡ b
+    holds m given b t =
+        ap (λ (x : NodeState). is_due m s.list at k && nat_lt k (length x.items)) (sym (r.resumed_to m given)) ∙ (sym (is m given) ∙ t)
+
+    pub resumer_past : test ≡ false → IsResumer node (k + 1)
+    resumer_past no_test =
+        let one : suc k ≡ k + 1 = omega arith in
+        subst (IsResumer node) one
+        (record { same = r.same; items = r.items; resumed_to = λ m given. let h = holds m given false no_test in rw h (r.resumed_to m given) })
+
+    module _ (yes_test : test ≡ true) where
+      pub may_put_back : (m : Machine) → IsParticipant m at first s → owes_at (reading_of node) node.me (node.state).items k ≡ true
+      may_put_back m given =
+          let both = and_parts (is_due m s.list at k) _ (sym (is m given) ∙ yes_test) in
+          let within : k < length (node.state).items = ltb-true k (length (node.state).items) both.1 in
+          let long = ap length r.items in
+          let cursor = cursor_of m at first s given in
+          let read : k < given.read = omega (arith, within, long, cursor) in
+          let asked : is_asked_in m.reading at (request_at s.list k) ≡ true = (and_parts (is_asked_in m.reading at (request_at s.list k)) _ both.0).0 in
+          let owes : owes_at m.reading at (first.state).items k ≡ true =
+          ap (λ (items : List Item). owes_at m.reading at items k) (given.has).items
+          ∙ (owes_is m.reading at (take given.read s.list) k ∙ (ap (is_asked_in m.reading at) (request_taken s.list given.read k read) ∙ asked)) in
+          subst (λ (x : NodeValue). owes_at (reading_of x) x.me (node.state).items k ≡ true) (sym r.same)
+          (ap (λ (items : List Item). owes_at (reading_of first) first.me items k) r.items
+          ∙ from_machine m at first given.is (λ (q : Reading) (t : Params) (i : ParticipantId). owes_at q i (first.state).items k ≡ true) owes)
+        where
+          taken : (xs : List Entry) (n i : ℕ) → i < n → slice_get (take n xs) i ≡ slice_get xs i
+          taken xs zero i lt = absurd (omega (arith, lt))
+          taken [] (suc n) i lt = refl
+          taken (x ∷ xs) (suc n) zero lt = refl
+          taken (x ∷ xs) (suc n) (suc i) lt = taken xs n i (omega (arith, lt))
+
+          request_taken : (xs : List Entry) (n i : ℕ) → i < n → request_at (take n xs) i ≡ request_at xs i
+          request_taken xs n i lt = ap request_in (taken xs n i lt)
+
+      pub resumer_on : (after : NodeValue) → after ≡ with_state node (put_back node.state k) → IsResumer after (k + 1)
+      resumer_on after a =
+          let one : suc k ≡ k + 1 = omega arith in
+          let here : after ≡ with_state first (put_back node.state k) = a ∙ ap (λ (x : NodeValue). with_state x (put_back node.state k)) r.same in
+          subst (IsResumer after) one
+          (record {
+            same = here ∙ ap (λ (x : NodeValue). with_state first x.state) (sym here);
+            items = ap (λ (x : NodeValue). (x.state).items) here ∙ r.items;
+            resumed_to = λ m given.
+                let h = holds m given true yes_test in
+                rw h (ap (λ (x : NodeValue). x.state) here ∙ ap (λ (x : NodeState). put_back x k) (r.resumed_to m given));
+          })
+
+  pub resumer_ends : (node : NodeValue) (k : ℕ) → IsResumer node k → k ≡ length s.list → (m : Machine) → IsParticipant m at first s
+      → node.state ≡ resumed m s.list at first.state
+  resumer_ends node k r end m given = r.resumed_to m given ∙ ap (resume_below m s.list at first.state) end
+
+-- the mediator
+module _ (first : Kept) (s : Sequenced) where
+  pub record IsReturner (mediator : Kept) (k : ℕ) : Type 0 where
+    pub returned_to : (m : Machine) (state : MediatorState) (n : ℕ) → IsMediator m state n first s
+        → IsMediator m (return_below m.params s.list state k) n mediator s
+
+  pub returner_starts : IsReturner first 0
+  returner_starts = record { returned_to = λ m state n i. i }
+
+  module _ (mediator : Kept) (k : ℕ) (r : IsReturner mediator k) (test : Bool)
+      (is : (m : Machine) → IsFor m s → GenuineLog m s.list
+      → test ≡ (is_some (request_at s.list k) && (is_undecided m.params s.list k && nat_lt k mediator.cursor))) where
+    gives : (m : Machine) (state : MediatorState) (n : ℕ) → IsMediator m state n first s → (b : Bool) → test ≡ b
+        → (is_some (request_at s.list k) && (is_undecided m.params s.list k && nat_lt k (return_below m.params s.list state k).cursor)) ≡ b
+    gives m state n i b t =
+        let now = r.returned_to m state n i in
+        ap (λ (c : ℕ). is_some (request_at s.list k) && (is_undecided m.params s.list k && nat_lt k c)) (sym (now.keeps).cursor)
+        ∙ (sym (is m now.is_for (now.behind).genuine) ∙ t)
+
+    pub returner_past : test ≡ false → IsReturner mediator (k + 1)
+    returner_past no_test =
+        let one : suc k ≡ k + 1 = omega arith in
+        subst (IsReturner mediator) one
+        (record { returned_to = λ m state n i. let h = gives m state n i false no_test in rw h (r.returned_to m state n i) })
+
+    pub returner_on : test ≡ true → (after : Kept) → after.params ≡ mediator.params
+        → ((state : MediatorState) → Keeps mediator state → Keeps after (give_back state k)) → IsReturner after (k + 1)
+    returner_on yes_test after same step =
+        let one : suc k ≡ k + 1 = omega arith in
+        subst (IsReturner after) one
+        (record {
+          returned_to = λ m state n i.
+              let h = gives m state n i true yes_test in
+              let now = r.returned_to m state n i in
+              rw h (given_back m (return_below m.params s.list state k) n now);
+        })
+      where
+        given_back : (m : Machine) (state : MediatorState) (n : ℕ) → IsMediator m state n mediator s → IsMediator m (give_back state k) n after s
+        given_back m state n now =
+            record {
+              is_for = now.is_for;
+              behind = now.behind;
+              params = same ∙ now.params;
+              keeps = step state now.keeps;
+              within = now.within;
+              has = mediator_has_back m (take n s.list) state k now.has;
+            }
+
+  pub returner_ends : (mediator : Kept) (k : ℕ) → IsReturner mediator k → k ≡ length s.list → (m : Machine) (state : MediatorState) (n : ℕ)
+      → IsMediator m state n first s → IsMediator m (returned m.params s.list state) n mediator s
+  returner_ends mediator k r end m state n i =
+      subst (λ (j : ℕ). IsMediator m (return_below m.params s.list state j) n mediator s) end (r.returned_to m state n i)
+
+-- all participants
+abbrev pub Resumed : Sequenced → ℕ → NodeValue → NodeValue → Type 0
+Resumed s i x y = (y ≡ with_state x y.state) × ((m : Machine) → IsParticipant m i x s → y.state ≡ resumed m s.list i x.state)
+
+each_is : (m : Machine) (log : List Entry) (p : ℕ) (xs ys : List NodeValue) → length ys ≡ length xs
+    → ((i : ℕ) (x y : NodeValue) → slice_get xs i ≡ Some x → slice_get ys i ≡ Some y → y.state ≡ resumed m log (p + i) x.state)
+    → map state_of ys ≡ resume_each m log p (map state_of xs)
+each_is m log p [] [] long h = refl
+each_is m log p [] (y ∷ ys) long h = absurd (omega (arith, long))
+each_is m log p (x ∷ xs) [] long h = absurd (omega (arith, long))
+each_is m log p (x ∷ xs) (y ∷ ys) long h =
+    let z : p + 0 ≡ p = omega arith in
+    let head : y.state ≡ resumed m log p x.state = h 0 x y refl refl ∙ ap (λ (n : ℕ). resumed m log n x.state) z in
+    let rest =
+    each_is m log (suc p) xs ys (omega (arith, long))
+    (λ i u v a b.
+    let n : p + suc i ≡ suc p + i = omega arith in h (suc i) u v a b ∙ ap (λ (j : ℕ). resumed m log j u.state) n) in
+    ap (λ (t : NodeState). t ∷ map state_of ys) head ∙ ap (λ (ts : List NodeState). resumed m log p x.state ∷ ts) rest
+
+pub resumed_states : (first : List NodeValue) (s : Sequenced) (nodes : List NodeValue) (k : ℕ) → AreDone (Resumed s) first nodes k → k ≡ length nodes
+    → (m : Machine) (now : ℕ) (state : MediatorState) → AreNodesOf m first s → Lawful m (world_with now state first s)
+    → map state_of nodes ≡ resume_each m s.list 0 (map state_of first)
+resumed_states first s nodes k r end m now state a l =
+    each_is m s.list 0 first nodes r.long
+    (λ i x y at there.
+    let within = slice_get_within nodes i y there in
+    let z : i ≡ 0 + i = omega arith in
+    (r.before i x y (omega (arith, within, end)) at there).1 m (in_turn first s i x at m now state a l) ∙ ap (λ (j : ℕ). resumed m s.list j x.state) z)

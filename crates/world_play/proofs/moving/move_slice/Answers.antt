@@ -1,0 +1,58 @@
+use Rattle.std.proofs.Common.{List, map, ap, ◌∙◌, arith}
+use Rattle.std.specs.Prelude.{slice_index_or}
+use Rattle.world_model.specs.Node.{NodeState}
+use Rattle.world_play.specs.Worlds.{state_of, world_with}
+use Rattle.world_play.proofs.Answered.{on_ok, both_ok}
+use Rattle.world_play.proofs.Happened.{nobody, past}
+use Rattle.world_play.proofs.Passing.{item_at, in_turn, nodes_then, set_up_then, map_at, map_set, length_states}
+use Rattle.world_play.proofs.moving.move_slice.Goals as goal
+
+pub move_once-requires : goal.move_once-requires
+move_once-requires c =
+    let nodes = c.args.nodes.now in
+    let k = c.args.at in
+    let r = c.requires in (
+      r.0,
+      k,
+      in_turn nodes c.args.sequencer.now k (slice_index_or nodes k c.index-nodes-at.result) (item_at nodes k c.index-nodes-at.result c.if-at-nodes.true)
+          r.0 r.1 r.2 r.3 r.4,
+    )
+
+pub returns-then-at-nodes-clause-nodes : goal.returns-then-at-nodes-clause-nodes
+returns-then-at-nodes-clause-nodes c =
+    let nodes = c.args.nodes.now in
+    let k = c.args.at in
+    both_ok c.move_once.result _ _ _ c.move_once.ensures.on c.move_once.ensures.same
+    (λ on same m a.
+    nodes_then nodes c.args.sequencer.now k (slice_index_or nodes k c.index-nodes-at.result)
+    (item_at nodes k c.index-nodes-at.result c.if-at-nodes.true) c.move_once.new.node c.move_once.new.sequencer on same m a)
+
+pub returns-then-at-nodes-clause-set_up : goal.returns-then-at-nodes-clause-set_up
+returns-then-at-nodes-clause-set_up c =
+    let nodes = c.args.nodes.now in
+    let k = c.args.at in
+    on_ok c.move_once.result _ _ c.move_once.ensures.same
+    (λ same topology packages u.
+    set_up_then nodes c.args.sequencer.now k (slice_index_or nodes k c.index-nodes-at.result)
+    (item_at nodes k c.index-nodes-at.result c.if-at-nodes.true) c.move_once.new.node same topology packages u)
+
+pub returns-then-at-nodes-clause-ok : goal.returns-then-at-nodes-clause-ok
+returns-then-at-nodes-clause-ok c =
+    let nodes = c.args.nodes.now in
+    let k = c.args.at in
+    let s = c.args.sequencer.now in
+    let node = slice_index_or nodes k c.index-nodes-at.result in
+    let at = item_at nodes k c.index-nodes-at.result c.if-at-nodes.true in
+    let node' = c.move_once.new.node in
+    let s' = c.move_once.new.sequencer in
+    on_ok c.move_once.result _ _ c.move_once.ensures.ok
+    (λ ok m now state a l.
+    ap (λ (ns : List NodeState). record { log = s'.list; now = now; mediator = state; nodes = ns }) (map_set nodes k node')
+    ∙ ok m k (in_turn nodes s k node at m now state a l) now state (map state_of nodes) (map_at nodes k node at))
+
+pub returns-clause-ok : goal.returns-clause-ok
+returns-clause-ok c = λ m now state a l.
+    let nodes = c.args.nodes.now in
+    let k = c.args.at in
+    nobody m (world_with now state nodes c.args.sequencer.now) k c.args.action
+    (past (map state_of nodes) k (let long = length_states nodes in let out = c.if-at-nodes.false in omega (arith, long, out)))

@@ -1,0 +1,70 @@
+use Rattle.std.proofs.Common.{◌≡◌, List, Some, sym, ap, ◌∙◌, subst}
+use Rattle.std.specs.Prelude.{slice_get}
+use Rattle.world_model.proofs.HeadlineFacts.{headline}
+use Rattle.world_play.specs.declared.event.Event.{Event}
+use Rattle.world_play.specs.Events.{CanHappen}
+use Rattle.world_play.specs.Machines.{machine_of}
+use Rattle.world_play.proofs.Passing.{item_at}
+use Rattle.world_play.proofs.Plays.{each_of, played_lawful, played_on, within}
+use Rattle.world_play.proofs.playing.play.Goals as goal
+
+pub happen-requires-clause-now : goal.happen-requires-clause-now
+happen-requires-clause-now c =
+    let t = c.args.setup.now.topology in
+    let p = c.args.setup.now.checked in
+    let m = machine_of t p c.args.capacity in
+    let k = c.events.event-index in
+    let e = c.event-item.result in
+    let at =
+    subst (λ (xs : List Event). slice_get xs k ≡ Some e) c.as_slice-event-items.ensures
+    (item_at c.as_slice-event-items.result.now k e c.events-test.true ∙ ap Some (sym c.event-item.is)) in
+    within m c.args.events.now k e at c.events.world c.events.invariant.1 c.requires.time
+
+pub happen-requires-clause-lawful : goal.happen-requires-clause-lawful
+happen-requires-clause-lawful c =
+    let t = c.args.setup.now.topology in
+    let p = c.args.setup.now.checked in
+    let m = machine_of t p c.args.capacity in (
+      m,
+      c.events.invariant.1.state,
+      c.events.invariant.1.is,
+      played_lawful m c.args.events.now c.events.invariant.0 c.events.event-index c.events.world c.events.invariant.1,
+    )
+
+pub happen-requires-clause-within : goal.happen-requires-clause-within
+happen-requires-clause-within c =
+    let t = c.args.setup.now.topology in
+    let p = c.args.setup.now.checked in
+    let k = c.events.event-index in
+    let e = c.event-item.result in
+    let at =
+    subst (λ (xs : List Event). slice_get xs k ≡ Some e) c.as_slice-event-items.ensures
+    (item_at c.as_slice-event-items.result.now k e c.events-test.true ∙ ap Some (sym c.event-item.is)) in
+    (t, p, c.events.invariant.2, each_of (CanHappen t p) c.args.events.now k e c.requires.within at)
+
+pub events-preserved : goal.events-preserved
+events-preserved c =
+    let t = c.args.setup.now.topology in
+    let p = c.args.setup.now.checked in
+    let m = machine_of t p c.args.capacity in
+    let machine = c.events.invariant.0 in
+    let k = c.events.event-index in
+    let e = c.event-item.result in
+    let inv = c.events.invariant.1 in
+    let at =
+    subst (λ (xs : List Event). slice_get xs k ≡ Some e) c.as_slice-event-items.ensures
+    (item_at c.as_slice-event-items.result.now k e c.events-test.true ∙ ap Some (sym c.event-item.is)) in (
+      machine,
+      played_on m c.args.events.now k e at c.events.world c.happen.new.world inv c.in_ok-happen.ensures.now
+          (c.in_ok-happen.ensures.ok m inv.state inv.is (played_lawful m c.args.events.now machine k c.events.world inv)),
+      c.in_ok-happen.ensures.set_up t p c.events.invariant.2,
+    )
+
+pub returns-clause-headline : goal.returns-clause-headline
+returns-clause-headline c =
+    let t = c.args.setup.now.topology in
+    let p = c.args.setup.now.checked in
+    let m = machine_of t p c.args.capacity in
+    let machine = c.events.invariant.0 in
+    headline m.reading m.params (c.events.world.sequencer).list machine.is_reading
+    (played_lawful m c.args.events.now machine c.events.event-index c.events.world c.events.invariant.1).genuine

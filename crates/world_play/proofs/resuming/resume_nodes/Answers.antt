@@ -1,0 +1,18 @@
+use Rattle.std.proofs.Common.{◌≡◌, List, map, rules, sym, subst}
+use Rattle.std.proofs.lemmas.List.{with_items_is, places}
+use Rattle.world_model.specs.Lawful.{Lawful}
+use Rattle.world_model.specs.Settling.{resume_each}
+use Rattle.node_core.specs.Participant.{Participant as NodeValue}
+use Rattle.world_play.specs.Worlds.{state_of, world_with, AreNodesOf}
+use Rattle.world_play.proofs.resuming.resume_nodes.Goals as goal
+
+pub returns-clause-resumed : goal.returns-clause-resumed
+returns-clause-resumed c = λ m now state a l.
+    let at = sym c.as_mut_slice.ensures.value in
+    let s = c.args.sequencer.now in
+    let new = c.resume_nodes_slice.new.nodes in
+    let all = with_items_is c.args.nodes.now new (search (rules, places)) in
+    subst (λ (xs : List NodeValue). map state_of xs ≡ resume_each m s.list 0 (map state_of (c.args.nodes.now).items)) (sym all)
+    (subst (λ (xs : List NodeValue). map state_of new ≡ resume_each m s.list 0 (map state_of xs)) c.as_mut_slice.ensures.value
+    (c.resume_nodes_slice.ensures.resumed m now state (subst (λ (xs : List NodeValue). AreNodesOf m xs s) at a)
+    (subst (λ (xs : List NodeValue). Lawful m (world_with now state xs s)) at l)))

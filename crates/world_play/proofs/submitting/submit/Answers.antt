@@ -1,0 +1,40 @@
+use Rattle.std.proofs.Common.{◌≡◌, List, Some, map, sym, ap, ◌∙◌, subst}
+use Rattle.std.specs.Prelude.{slice_get}
+use Rattle.world_model.specs.Messages.{Entry}
+use Rattle.world_model.specs.World.{submit_wanted}
+use Rattle.node_core.specs.Participant.{Participant as NodeValue}
+use Rattle.world_play.specs.Submitting.{wanted_of}
+use Rattle.world_play.specs.Worlds.{state_of}
+use Rattle.world_play.specs.WorldOf.{world_of}
+use Rattle.world_play.proofs.Submits.{can_prepare, submits}
+use Rattle.world_play.proofs.submitting.submit.Goals as goal
+
+pub returns-in_ok-hand_in_request-clause-ok : goal.returns-in_ok-hand_in_request-clause-ok
+returns-in_ok-hand_in_request-clause-ok c = λ m state is.
+    let world = c.args.world.now in
+    let what = c.args.what.now in
+    let nodes = (world.nodes).items in
+    let ask =
+    sym (c.in_ok-request.ensures
+    ∙ ap (λ (xs : List NodeValue). wanted_of what world.now (slice_get xs what.participant)) c.as_slice.ensures.value) ∙ c.in-Some.is in
+    ap (λ (xs : List Entry). record { log = xs; now = world.now; mediator = state; nodes = map state_of nodes })
+    (c.in_ok-hand_in_request.ensures.ok m world.now (is.nodes).is_for)
+    ∙ (ap (submit_wanted m (world_of state world)) (sym ask) ∙ submits m world.now state nodes world.sequencer what is.nodes)
+
+pub returns-in_default-clause-ok : goal.returns-in_default-clause-ok
+returns-in_default-clause-ok c = λ m state is.
+    let world = c.args.world.now in
+    let what = c.args.what.now in
+    let nodes = (world.nodes).items in
+    let ask =
+    sym (c.in_ok-request.ensures
+    ∙ ap (λ (xs : List NodeValue). wanted_of what world.now (slice_get xs what.participant)) c.as_slice.ensures.value) ∙ c.in_default.is in
+    ap (submit_wanted m (world_of state world)) (sym ask) ∙ submits m world.now state nodes world.sequencer what is.nodes
+
+pub wanted-requires : goal.wanted-requires
+wanted-requires c = λ node at.
+    let world = c.args.world.now in
+    let w = c.requires.within in
+    let r = c.requires.lawful in
+    can_prepare r.0 world.now r.1 (world.nodes).items world.sequencer c.args.what.now (r.2).nodes r.3 w.0 w.1 w.2 w.3 node
+    (subst (λ (xs : List NodeValue). slice_get xs c.args.what.now.participant ≡ Some node) c.as_slice.ensures.value at)

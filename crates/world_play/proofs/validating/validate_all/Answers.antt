@@ -1,0 +1,48 @@
+use Rattle.std.proofs.Common.{refl, sym, subst}
+use Rattle.world_model.specs.Lawful.{NodeHas}
+use Rattle.node_core.specs.Participant.{Participant}
+use Rattle.world_play.proofs.Jobs.{left_claimed, may_finish, owed_then, goes_on, smaller, done_all}
+use Rattle.world_play.proofs.validating.validate_all.Goals as goal
+
+pub returns-in_err-finished-clause-has : goal.returns-in_err-finished-clause-has
+returns-in_err-finished-clause-has c =
+    (left_claimed c.args.node.now c.jobs.node c.jobs.invariant (c.in-Some.job.given).place (sym (rw c.in-Some.is at c.in_ok-job.ensures.place))
+    c.claim_job.new.self (rw c.in-Some.is at c.in_ok-job.ensures.some)).has
+
+pub jobs-smaller : goal.jobs-smaller
+jobs-smaller c =
+    smaller c.args.node.now c.jobs.node c.jobs.invariant (c.in-Some.job.given).place (sym (rw c.in-Some.is at c.in_ok-job.ensures.place))
+    c.claim_job.new.self (rw c.in-Some.is at c.in_ok-job.ensures.some) c.in-Some.job.given c.in_ok-finished.finished c.in_ok-finished.ensures refl
+    (rw c.in-Some.is at c.in_ok-job.ensures.verdicts) c.finish_job.new.self c.finish_job.result c.finish_job.ensures.decided c.finish_job.ensures.ok
+
+pub jobs-preserved : goal.jobs-preserved
+jobs-preserved c =
+    goes_on c.args.node.now c.jobs.node c.jobs.invariant (c.in-Some.job.given).place (sym (rw c.in-Some.is at c.in_ok-job.ensures.place))
+    c.claim_job.new.self (rw c.in-Some.is at c.in_ok-job.ensures.some) c.in-Some.job.given c.in_ok-finished.finished c.in_ok-finished.ensures refl
+    (rw c.in-Some.is at c.in_ok-job.ensures.verdicts) c.finish_job.new.self c.finish_job.result c.finish_job.ensures.decided c.finish_job.ensures.ok
+
+pub returns-clause-ok : goal.returns-clause-ok
+returns-clause-ok c =
+    done_all c.args.node.now c.jobs.node c.claim_job.new.self c.jobs.invariant (sym (rw c.in_default.is at c.in_ok-job.ensures.place))
+    (rw c.in_default.is at c.in_ok-job.ensures.none)
+
+pub returns-in_err-job-clause-has : goal.returns-in_err-job-clause-has
+returns-in_err-job-clause-has c = λ m p read is h.
+    subst (λ (x : Participant). NodeHas m p read x.state) (sym c.in_err-job.ensures.err) ((c.jobs.invariant.kept).has m p read is h)
+
+pub returns-clause-has : goal.returns-clause-has
+returns-clause-has c = λ m p read is h.
+    subst (λ (x : Participant). NodeHas m p read x.state) (sym (rw c.in_default.is at c.in_ok-job.ensures.none))
+    ((c.jobs.invariant.kept).has m p read is h)
+
+pub finish_job-requires-clause-unfinished : goal.finish_job-requires-clause-unfinished
+finish_job-requires-clause-unfinished c =
+    may_finish c.args.node.now c.jobs.node c.jobs.invariant (c.in-Some.job.given).place (sym (rw c.in-Some.is at c.in_ok-job.ensures.place))
+    c.claim_job.new.self (rw c.in-Some.is at c.in_ok-job.ensures.some) c.in-Some.job.given c.in_ok-finished.finished c.in_ok-finished.ensures refl
+    (rw c.in-Some.is at c.in_ok-job.ensures.verdicts)
+
+pub finish_job-requires-clause-verdicts : goal.finish_job-requires-clause-verdicts
+finish_job-requires-clause-verdicts c =
+    owed_then c.args.node.now c.jobs.node c.jobs.invariant (c.in-Some.job.given).place (sym (rw c.in-Some.is at c.in_ok-job.ensures.place))
+    c.claim_job.new.self (rw c.in-Some.is at c.in_ok-job.ensures.some) c.in-Some.job.given c.in_ok-finished.finished c.in_ok-finished.ensures refl
+    (rw c.in-Some.is at c.in_ok-job.ensures.verdicts)

@@ -1,0 +1,54 @@
+-- Events in the words of the world model.
+use Rattle.std.specs.Prelude.{◌+◌, ℕ, List, [], ◌∷◌, map}
+use Rattle.ledger_terms.specs.declared.topology.Topology.{Topology}
+use Rattle.lang_eval.specs.Found.{Packages}
+use Rattle.world_model.specs.World as w
+use Rattle.world_play.specs.declared.event.Event.{Event}
+use Rattle.world_play.specs.declared.event.Event.TheVariants.{Advance, Submit, NodeRead, Validate, Reply, LoseReply, MediatorRead, GiveVerdict}
+use Rattle.world_play.specs.declared.event.Event.TheVariants.{LoseVerdict, Pause}
+use Rattle.world_play.specs.Submitting.{CanSubmit}
+
+abbrev pub event_of : Event → w.Event
+event_of (Advance by) = w.Advance by
+event_of (Submit what) = w.Submit what
+event_of (NodeRead node) = w.NodeRead node
+event_of (Validate node) = w.Validate node
+event_of (Reply node) = w.Reply node
+event_of (LoseReply node) = w.LoseReply node
+event_of MediatorRead = w.MediatorRead
+event_of GiveVerdict = w.GiveVerdict
+event_of LoseVerdict = w.LoseVerdict
+event_of (Pause node paused) = w.Pause node paused
+
+abbrev pub events_of : List Event → List w.Event
+events_of events = map event_of events
+
+-- by how much time moves on
+abbrev pub advance_of : Event → ℕ
+advance_of (Advance by) = by
+advance_of (Submit what) = 0
+advance_of (NodeRead node) = 0
+advance_of (Validate node) = 0
+advance_of (Reply node) = 0
+advance_of (LoseReply node) = 0
+advance_of MediatorRead = 0
+advance_of GiveVerdict = 0
+advance_of LoseVerdict = 0
+advance_of (Pause node paused) = 0
+
+abbrev pub advance_in : List Event → ℕ
+advance_in [] = 0
+advance_in (event ∷ rest) = advance_of event + advance_in rest
+
+-- a submission is within the topology
+abbrev pub CanHappen : Topology → Packages → Event → Type 0
+CanHappen topology packages (Advance by) = Unit {0}
+CanHappen topology packages (Submit what) = CanSubmit topology packages what
+CanHappen topology packages (NodeRead node) = Unit {0}
+CanHappen topology packages (Validate node) = Unit {0}
+CanHappen topology packages (Reply node) = Unit {0}
+CanHappen topology packages (LoseReply node) = Unit {0}
+CanHappen topology packages MediatorRead = Unit {0}
+CanHappen topology packages GiveVerdict = Unit {0}
+CanHappen topology packages LoseVerdict = Unit {0}
+CanHappen topology packages (Pause node paused) = Unit {0}

@@ -1,0 +1,12 @@
+pub mod Reading
+pub mod Standing
+pub mod Worlds
+pub mod WorldOf
+pub mod Scans
+pub mod Machines
+pub mod Making
+pub mod Moves
+pub mod Decides
+pub mod Submitting
+pub mod Events
+pub mod Becoming

@@ -1,0 +1,53 @@
+-- What the parts of a synchroniser stand for in the world of its machine.
+use Rattle.std.specs.Prelude.{◌≡◌, ◌≤◌, ◌++◌, ℕ, List, length, take}
+use Rattle.ledger_model.specs.Terms.{ParticipantId}
+use Rattle.canton_model.specs.Genuine.{IsReading}
+use Rattle.world_model.specs.Messages.{Entry}
+use Rattle.world_model.specs.Machine.{Machine}
+use Rattle.world_model.specs.Locks.{SequencerBehind}
+use Rattle.world_model.specs.Mediator.{MediatorState}
+use Rattle.world_model.specs.Lawful.{NodeHas, MediatorHas}
+use Rattle.mediator.specs.Kept.{Kept, Keeps}
+use Rattle.seq_log.specs.Sequenced.{Sequenced, IsFor}
+use Rattle.node_core.specs.Participant.{Participant as NodeValue, reading_of}
+use Rattle.world_play.specs.Machines.{wanted_request}
+
+-- it is participant p of the machine
+pub record IsNodeOf (m : Machine) (p : ParticipantId) (node : NodeValue) : Type 0 where
+  pub reading : reading_of node ≡ m.reading
+  pub params : (node.topology).params ≡ m.params
+  pub me : node.me ≡ p
+  pub prepares : m.prepare ≡ wanted_request node.topology node.packages
+
+-- participant p has read a beginning of a genuine log
+pub record IsParticipant (m : Machine) (p : ParticipantId) (node : NodeValue) (sequencer : Sequenced) : Type 0 where
+  pub is_reading : IsReading m.reading
+  pub is_for : IsFor m sequencer
+  pub behind : SequencerBehind m sequencer.list
+  pub is : IsNodeOf m p node
+  pub read : ℕ
+  pub within : read ≤ length sequencer.list
+  pub has : NodeHas m p (take read sequencer.list) node.state
+
+-- the log of a sequencer goes on, and nothing else of it changes
+pub record GoesOn (before after : Sequenced) : Type 0 where
+  pub row : after.row ≡ before.row
+  pub capacity : after.capacity ≡ before.capacity
+  pub params : after.params ≡ before.params
+  pub more : List Entry
+  pub is_more : after.list ≡ before.list ++ more
+
+-- The mediator has read n entries of a genuine log, and keeps this state.
+pub record IsMediator (m : Machine) (state : MediatorState) (n : ℕ) (mediator : Kept) (sequencer : Sequenced) : Type 0 where
+  pub is_for : IsFor m sequencer
+  pub behind : SequencerBehind m sequencer.list
+  pub params : mediator.params ≡ m.params
+  pub keeps : Keeps mediator state
+  pub within : n ≤ length sequencer.list
+  pub has : MediatorHas m (take n sequencer.list) state
+
+-- the mediator keeps this state, and has read all of the log
+pub record HasAll (m : Machine) (state : MediatorState) (mediator : Kept) (log : List Entry) : Type 0 where
+  pub params : mediator.params ≡ m.params
+  pub keeps : Keeps mediator state
+  pub has : MediatorHas m log state

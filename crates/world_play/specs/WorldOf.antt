@@ -1,0 +1,14 @@
+-- The value of a synchroniser, as a world of its machine.
+use Rattle.world_model.specs.Machine.{Machine}
+use Rattle.world_model.specs.Mediator.{MediatorState}
+use Rattle.world_model.specs.World.{World as WorldState}
+use Rattle.world_play.specs.declared.world.World.{World}
+use Rattle.world_play.specs.Worlds.{world_with, AreNodesOf, IsMediatorOf}
+
+-- the world, where the mediator keeps this state
+abbrev pub world_of : MediatorState → World → WorldState
+world_of state world = world_with world.now state (world.nodes).items world.sequencer
+
+pub record IsWorldOf (m : Machine) (state : MediatorState) (world : World) : Type 0 where
+  pub nodes : AreNodesOf m (world.nodes).items world.sequencer
+  pub mediator : IsMediatorOf m state world.mediator

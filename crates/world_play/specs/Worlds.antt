@@ -1,0 +1,30 @@
+-- What a synchroniser stands for, as a world of its machine.
+use Rattle.std.specs.Prelude.{◌≡◌, ℕ, List, Some, map, slice_get}
+use Rattle.ledger_model.specs.Terms.{ParticipantId}
+use Rattle.canton_model.specs.Genuine.{IsReading}
+use Rattle.world_model.specs.Machine.{Machine}
+use Rattle.world_model.specs.Mediator.{MediatorState}
+use Rattle.world_model.specs.Node.{NodeState}
+use Rattle.world_model.specs.World.{World}
+use Rattle.mediator.specs.Kept.{Kept, Keeps}
+use Rattle.seq_log.specs.Sequenced.{Sequenced, IsFor}
+use Rattle.node_core.specs.Participant.{Participant as NodeValue}
+use Rattle.world_play.specs.Standing.{IsNodeOf}
+
+abbrev pub state_of : NodeValue → NodeState
+state_of node = node.state
+
+-- the world of these parts, where the mediator keeps this state
+abbrev pub world_with : (now : ℕ) → MediatorState → List NodeValue → Sequenced → World
+world_with now mediator nodes sequencer = record { log = sequencer.list; now = now; mediator = mediator; nodes = map state_of nodes }
+
+-- the nodes are the machine's participants, in order
+pub record AreNodesOf (m : Machine) (nodes : List NodeValue) (sequencer : Sequenced) : Type 0 where
+  pub is_reading : IsReading m.reading
+  pub is_for : IsFor m sequencer
+  pub node : (p : ParticipantId) (node : NodeValue) → slice_get nodes p ≡ Some node → IsNodeOf m p node
+
+-- the mediator is the machine's, and keeps this state
+pub record IsMediatorOf (m : Machine) (state : MediatorState) (mediator : Kept) : Type 0 where
+  pub params : mediator.params ≡ m.params
+  pub keeps : Keeps mediator state

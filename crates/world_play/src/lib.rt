@@ -1,0 +1,27 @@
+//! The world of one synchroniser: its sequencer, its mediator and its participants, and the calls that move it.
+#![tactic(auto)]
+
+mod among;
+mod catching_up;
+mod deciding;
+mod event;
+mod handing_in;
+mod happening;
+mod mediating;
+mod moving;
+mod pass;
+mod playing;
+mod reading;
+mod resuming;
+mod scanning;
+mod sending;
+mod settling;
+mod submitting;
+mod turn;
+mod validating;
+mod world;
+
+pub use event::{Event, EventList};
+pub use playing::play;
+pub use settling::settle;
+pub use world::{NodeList, World};

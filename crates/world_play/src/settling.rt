@@ -1,0 +1,69 @@
+//! How a synchroniser settles.
+ghost use Rattle.std.specs.Prelude.{◌≡◌, ℕ, OnOk};
+ghost use Rattle.world_model.specs.Machine.{Machine};
+ghost use Rattle.world_model.specs.Mediator.{MediatorState};
+ghost use Rattle.world_model.specs.Lawful.{Lawful};
+ghost use Rattle.world_model.specs.Settled.{Settled, left, passes};
+ghost use Rattle.world_model.specs.Settling.{WorldReady};
+ghost use Rattle.world_play.specs.Standing.{GoesOn};
+ghost use Rattle.world_play.specs.WorldOf.{IsWorldOf, world_of};
+
+use crate::pass::pass;
+use crate::resuming::resume;
+use crate::world::World;
+use ledger_terms::{ParticipantId, ParticipantIdList};
+use std::alloc::{AllocError, Global};
+
+// Passes, until one appends nothing.
+fn pass_until_settled(
+    alloc: Global,
+    world: &mut World<'_>,
+    paused: &[ParticipantId],
+    hold_verdicts: bool,
+) -> Result<(), AllocError>
+    requires { (m : Machine) × (state : MediatorState) × IsWorldOf m state world.old × WorldReady m paused.now (world_of state world.old) }
+    ensures on { GoesOn world.old.sequencer world.new.sequencer }
+    ensures now { world.new.now ≡ world.old.now }
+    ensures lawful { (m : Machine) (state : MediatorState) → IsWorldOf m state world.old → Lawful m (world_of state world.old)
+        → (after : MediatorState) × IsWorldOf m after world.new × Lawful m (world_of after world.new) }
+    ensures passes { OnOk result ((m : Machine) (state : MediatorState) → IsWorldOf m state world.old
+        → WorldReady m paused.now (world_of state world.old)
+        → (world.new.sequencer).list
+        ≡ passes m world.old.now paused.now hold_verdicts (left m.hosts (world.old.sequencer).list) (world.old.sequencer).list) }
+    ensures settled { OnOk result ((m : Machine) (state : MediatorState) → IsWorldOf m state world.old
+        → WorldReady m paused.now (world_of state world.old) → Settled m paused.now hold_verdicts (world.new.sequencer).list) }
+{
+    'passes: loop {
+        let before = world.sequencer.len();
+        pass(alloc, world, paused, hold_verdicts)?;
+        if world.sequencer.len() == before {
+            return Ok(());
+        }
+    }
+}
+
+/// First what was lost, or claimed and left, comes again: each participant puts back each request that it has read, is undecided
+/// and lacks its response, and the mediator is given back its verdict on each undecided request that it has read. Then come
+/// passes until one appends nothing. In a pass each participant that isn't paused, in order, reads to the end, finishes its jobs
+/// and sends its responses, and then the mediator reads to the end and, unless `hold_verdicts`, hands in its verdicts. A message
+/// that stands in the log already, or comes too late, is dropped. After want of memory the log has gone on.
+pub fn settle(
+    alloc: Global,
+    world: &mut World<'_>,
+    paused: &ParticipantIdList,
+    hold_verdicts: bool,
+) -> Result<(), AllocError>
+    requires lawful { (m : Machine) × (state : MediatorState) × IsWorldOf m state world.old × Lawful m (world_of state world.old) }
+    ensures on { GoesOn world.old.sequencer world.new.sequencer }
+    ensures now { world.new.now ≡ world.old.now }
+    ensures lawful { (m : Machine) (state : MediatorState) → IsWorldOf m state world.old → Lawful m (world_of state world.old)
+        → (after : MediatorState) × IsWorldOf m after world.new × Lawful m (world_of after world.new) }
+    ensures passes { OnOk result ((m : Machine) (state : MediatorState) → IsWorldOf m state world.old → Lawful m (world_of state world.old)
+        → (world.new.sequencer).list
+        ≡ passes m world.old.now paused.now hold_verdicts (left m.hosts (world.old.sequencer).list) (world.old.sequencer).list) }
+    ensures settled { OnOk result ((m : Machine) (state : MediatorState) → IsWorldOf m state world.old → Lawful m (world_of state world.old)
+        → Settled m paused.now hold_verdicts (world.new.sequencer).list) }
+{
+    resume(world);
+    pass_until_settled(alloc, world, paused.as_slice(), hold_verdicts)
+}

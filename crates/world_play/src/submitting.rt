@@ -1,0 +1,84 @@
+//! How submissions and Ticks come into the log.
+ghost use Rattle.std.specs.Prelude.{◌≡◌, ◌≢◌, ◌+◌, ◌≤◌, ◌^◌, Err, Some, slice_get, IfOk, OnOk};
+ghost use Rattle.std.specs.Result.{result_ok};
+ghost use Rattle.ledger_terms.specs.declared.topology.Topology.{Topology};
+ghost use Rattle.lang_eval.specs.Found.{Packages};
+ghost use Rattle.world_model.specs.Machine.{Machine};
+ghost use Rattle.world_model.specs.Mediator.{MediatorState};
+ghost use Rattle.world_model.specs.Lawful.{Lawful};
+ghost use Rattle.world_model.specs.World.{Advance, Submit, happens};
+ghost use Rattle.prepare_request.specs.declared.submit_fault.SubmitFault.TheVariants as SubmitFault;
+ghost use Rattle.node_core.specs.Participant.{Participant};
+ghost use Rattle.world_play.specs.Submitting.{AreSetUp, CanPrepare, CanSubmit, wanted_of};
+ghost use Rattle.world_play.specs.WorldOf.{IsWorldOf, world_of};
+
+use crate::handing_in::hand_in_request;
+use crate::world::World;
+use canton_model::{Message, Request};
+use ledger_terms::Submission;
+use node_core::{Node, SubmitFault};
+use std::alloc::{AllocError, Global};
+
+// The request of an answer, and none where one is refused.
+fn request_of(answer: Result<Request, SubmitFault>) -> Result<Option<Request>, AllocError>
+    ensures { IfOk result (λ request. (request ≡ result_ok answer) × (answer ≢ Err SubmitFault.Memory)) }
+{
+    match answer {
+        Ok(request) => Ok(Some(request)),
+        Err(SubmitFault::Memory) => Err(AllocError),
+        Err(_) => Ok(None),
+    }
+}
+
+// The request that a submission wants, where its participant is there and isn't paused.
+fn wanted(
+    alloc: Global,
+    nodes: &[Node<'_>],
+    what: &Submission,
+    now: u64,
+) -> Result<Option<Request>, AllocError>
+    requires { (node : Participant) → slice_get nodes.now what.now.participant ≡ Some node → CanPrepare node what.now }
+    ensures { IfOk result (λ request. request ≡ wanted_of what.now now (slice_get nodes.now what.now.participant)) }
+{
+    let at = what.participant.0 as usize;
+    if at >= nodes.len() {
+        return Ok(None);
+    }
+    request_of(nodes[at].prepare(alloc, what, now))
+}
+
+/// A participant that isn't paused hands in the request of a submission, where it wants one.
+pub fn submit(alloc: Global, world: &mut World<'_>, what: &Submission) -> Result<(), AllocError>
+    requires lawful { (m : Machine) × (state : MediatorState) × IsWorldOf m state world.old × Lawful m (world_of state world.old) }
+    requires within { (topology : Topology) × (packages : Packages) × AreSetUp topology packages (world.old.nodes).items
+        × CanSubmit topology packages what.now }
+    ensures now { world.new.now ≡ world.old.now }
+    ensures nodes { world.new.nodes ≡ world.old.nodes }
+    ensures is { (m : Machine) (state : MediatorState) → IsWorldOf m state world.old → IsWorldOf m state world.new }
+    ensures ok { OnOk result ((m : Machine) (state : MediatorState) → IsWorldOf m state world.old
+        → world_of state world.new ≡ happens m (world_of state world.old) (Submit what.now)) }
+{
+    if let Some(request) = wanted(alloc, world.nodes.as_slice(), what, world.now)? {
+        hand_in_request(&mut world.sequencer, request)?;
+    }
+    Ok(())
+}
+
+/// Time moves on, and a Tick tells of it.
+pub fn advance(world: &mut World<'_>, by: u64) -> Result<(), AllocError>
+    requires { world.old.now + by ≤ 10 ^ 16 }
+    ensures now { world.new.now ≡ world.old.now + by }
+    ensures nodes { world.new.nodes ≡ world.old.nodes }
+    ensures is { (m : Machine) (state : MediatorState) → IsWorldOf m state world.old → IsWorldOf m state world.new }
+    ensures ok { OnOk result ((m : Machine) (state : MediatorState) → IsWorldOf m state world.old
+        → world_of state world.new ≡ happens m (world_of state world.old) (Advance by)) }
+{
+    if by == 0 {
+        return Ok(());
+    }
+    world.now += by;
+    match world.sequencer.append(Message::Tick, world.now) {
+        Ok(_) => Ok(()),
+        Err(_) => Err(AllocError),
+    }
+}

@@ -1,0 +1,36 @@
+//! A participant's turn in a pass.
+ghost use Rattle.std.specs.Prelude.{◌≡◌, ℕ, length, OnOk};
+ghost use Rattle.ledger_model.specs.Terms.{ParticipantId};
+ghost use Rattle.world_model.specs.Machine.{Machine};
+ghost use Rattle.world_model.specs.Lawful.{NodeHas};
+ghost use Rattle.world_model.specs.Settled.{append_each};
+ghost use Rattle.world_model.specs.Turns.{turn_messages};
+ghost use Rattle.node_core.specs.Participant.{with_state};
+ghost use Rattle.world_play.specs.Standing.{GoesOn, IsParticipant};
+
+use crate::reading::read_to_end;
+use crate::sending::send_all;
+use crate::validating::validate_all;
+use node_core::Node;
+use seq_log::Sequencer;
+use std::alloc::{AllocError, Global};
+
+/// The participant reads to the end, finishes its jobs in order of place and sends its responses in order.
+pub fn take_turn(
+    alloc: Global,
+    node: &mut Node<'_>,
+    sequencer: &mut Sequencer<'_>,
+) -> Result<(), AllocError>
+    requires { (m : Machine) × (p : ParticipantId) × IsParticipant m p node.old sequencer.old }
+    ensures on { GoesOn sequencer.old sequencer.new }
+    ensures same { node.new ≡ with_state node.old node.new.state }
+    ensures keeps { (m : Machine) (p : ParticipantId) → IsParticipant m p node.old sequencer.old → IsParticipant m p node.new sequencer.new }
+    ensures sends { OnOk result ((m : Machine) (p : ParticipantId) (now : ℕ) → IsParticipant m p node.old sequencer.old
+        → sequencer.new.list ≡ append_each m now sequencer.old.list (turn_messages m p sequencer.old.list node.old.state)) }
+    ensures has { OnOk result ((m : Machine) (p : ParticipantId) → IsParticipant m p node.old sequencer.old
+        → NodeHas m p sequencer.old.list node.new.state) }
+{
+    read_to_end(node, sequencer)?;
+    validate_all(alloc, node)?;
+    send_all(alloc, node, sequencer)
+}

@@ -1,0 +1,44 @@
+//! How a participant checks what it owes verdicts to.
+ghost use Rattle.std.specs.Prelude.{◌≡◌, ◌<◌, ℕ, List, length, IfOk, OnOk};
+ghost use Rattle.ledger_model.specs.Terms.{ParticipantId};
+ghost use Rattle.world_model.specs.Machine.{Machine};
+ghost use Rattle.world_model.specs.Messages.{Entry};
+ghost use Rattle.world_model.specs.Lawful.{NodeHas};
+ghost use Rattle.world_model.specs.Turns.{validate_below};
+ghost use Rattle.node_core.specs.Participant.{reading_of, with_state};
+ghost use Rattle.validate_job.specs.Outcome.{IsOutcome};
+ghost use Rattle.world_play.specs.Standing.{IsNodeOf};
+
+use node_core::Node;
+use std::alloc::{AllocError, Global};
+use validate_job::{Finished, ValidateJob};
+
+/// Checks all views of a job, one after another.
+pub fn run_job(job: ValidateJob<'_>) -> Result<Finished, AllocError>
+    requires { 0 < job.left }
+    ensures { IfOk result (IsOutcome job.entry.given) }
+{
+    let mut job = job;
+    'views: loop {
+        if let Some(finished) = job.check_next()? {
+            return Ok(finished);
+        }
+    }
+}
+
+/// The participant claims and finishes its jobs, one after another. After want of memory a job may be left claimed.
+pub fn validate_all(alloc: Global, node: &mut Node<'_>) -> Result<(), AllocError>
+    ensures same { node.new ≡ with_state node.old node.new.state }
+    ensures items { (node.new.state).items ≡ (node.old.state).items }
+    ensures has { (m : Machine) (p : ParticipantId) (read : List Entry) → IsNodeOf m p node.old → NodeHas m p read node.old.state
+        → NodeHas m p read node.new.state }
+    ensures ok { OnOk result (node.new.state
+        ≡ validate_below (reading_of node.old) (node.old.topology).params node.old.me node.old.state (length (node.old.state).items)) }
+{
+    'jobs: while let Some(job) = node.claim_job(alloc)? {
+        let finished = run_job(job)?;
+        // nothing was read since the claim, so its request isn't decided
+        let _ = node.finish_job(finished);
+    }
+    Ok(())
+}
