@@ -1,4 +1,4 @@
-use Rattle.std.proofs.Common.{◌≡◌, drop}
+use Rattle.std.proofs.Common.{drop}
 use Rattle.std.specs.List.{AllByRecursion}
 use Rattle.validate_job.specs.Owed.{CanCheck}
 use Rattle.check_cases.proofs.jobs.can_check_all.Given as goal
