@@ -4,6 +4,7 @@
 mod choices;
 mod forms;
 mod iou;
+mod laws;
 mod names;
 mod numbers;
 mod packages;
@@ -12,6 +13,7 @@ mod submissions;
 mod topology;
 
 pub use iou::iou_package;
+pub use laws::generated_scripts_are_accepted;
 pub use packages::generated_packages;
 pub use script::generate;
 pub use submissions::{generated_debts, generated_transfers};
