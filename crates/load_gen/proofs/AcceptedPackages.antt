@@ -1,8 +1,8 @@
 -- The packages of a generated script are within their limits, and name no party.
-use Rattle.std.proofs.Common.{◌≤◌, List, [], ◌∷◌, refl, arith}
+use Rattle.std.proofs.Common.{◌≤◌, [], ◌∷◌, refl, arith}
 use Rattle.std.specs.Prelude.{All}
 use Rattle.std.specs.List.{AllByRecursion}
-use Rattle.ledger_terms.specs.Packages.{ChoiceForm, TemplateForm, PackageForm}
+use Rattle.ledger_terms.specs.Packages.{PackageForm}
 use Rattle.ledger_terms.specs.Syntax.{ExprForm}
 use Rattle.script_read.specs.Accepted.{IsShort}
 use Rattle.script_read.specs.PackageLimits.{expr_depth, literals_in, IsSmallExpr, exprs_in_choice, IsSmallChoice, exprs_in_template, IsSmallTemplate, AreSmall, AreAccepted}

@@ -1,5 +1,5 @@
 -- The rounds of a generated script are within their limits, and name participants and parties of its topology.
-use Rattle.std.proofs.Common.{◌≡◌, ℕ, zero, suc, ◌+◌, ◌*◌, ◌<◌, ◌≤◌, ◌^◌, true, List, [], ◌∷◌, length, refl, arith}
+use Rattle.std.proofs.Common.{ℕ, zero, suc, ◌+◌, ◌*◌, ◌<◌, ◌≤◌, ◌^◌, true, List, [], ◌∷◌, refl, arith}
 use Rattle.std.specs.Prelude.{map, pos, codes}
 use Rattle.std.specs.List.{AllByRecursion, range_with_len}
 use Rattle.std.proofs.lemmas.Bool.{and_from}
@@ -16,7 +16,6 @@ use Rattle.lang_eval.specs.HandedIn.{parties_in_commands}
 use Rattle.lang_read.specs.Parties.{is_hosted}
 use Rattle.script_read.specs.Accepted.{IsTemplate, IsReference, IsArg, IsCommand, AreCommands}
 use Rattle.script_read.specs.Kept.{IsSubmission, IsRound, AreRounds, IsAccepted}
-use Rattle.script_read.specs.declared.round.Round.{Round}
 use Rattle.script_read.proofs.Lists.{all_of}
 use Rattle.load_gen.specs.Generated.{round_of, generated}
 use Rattle.load_gen.specs.Iou.{iou_template_name, transfer_name}
