@@ -28,13 +28,19 @@ pub(crate) fn put_round(
 }
 
 fn head_text(alloc: Global, round: &Round) -> Result<String, AllocError> {
-    let verdicts = if round.hold_verdicts { "held" } else { "given" };
-    format!(in alloc;
-        "advance {} paused {} verdicts {verdicts} submits {}",
-        round.advance,
-        round.paused.len(),
-        round.submits.len()
-    )
+    let submits = round.submits.len();
+    let paused = round.paused.len();
+    if round.hold_verdicts {
+        format!(in alloc;
+            "advance {} paused {paused} verdicts held submits {submits}",
+            round.advance
+        )
+    } else {
+        format!(in alloc;
+            "advance {} paused {paused} verdicts given submits {submits}",
+            round.advance
+        )
+    }
 }
 
 /// All of a few submissions, or the last of many.
@@ -54,27 +60,34 @@ fn put_submission(
     submission: &Submission,
     out: &mut String,
 ) -> Result<(), AllocError> {
-    let sender = sender_of(topology, submission);
-    let requesters = names_text(alloc, submission.act_as.as_slice())?;
+    let sender = sender_text(alloc, topology, submission)?;
+    let requesters = requesters_text(alloc, submission)?;
     let what = what_text(alloc, &submission.what)?;
     put_line(
         out,
-        &[
-            match &sender {
-                Some(name) => name.as_str(),
-                None => "nobody",
-            },
-            submission.command.as_str(),
-            "as",
-            requesters.as_str(),
-            if submission.ledger_time.is_some() {
-                "timed"
-            } else {
-                "now"
-            },
-            what.as_str(),
-        ],
+        &[sender.as_str(), "as", requesters.as_str(), what.as_str()],
     )
+}
+
+/// The participant and the command id.
+fn sender_text(
+    alloc: Global,
+    topology: &Topology,
+    submission: &Submission,
+) -> Result<String, AllocError> {
+    match sender_of(topology, submission) {
+        Some(name) => format!(in alloc; "{name} {}", submission.command),
+        None => "nobody".to_string(alloc),
+    }
+}
+
+/// The requesters, and whether there is a ledger time.
+fn requesters_text(alloc: Global, submission: &Submission) -> Result<String, AllocError> {
+    let requesters = names_text(alloc, submission.act_as.as_slice())?;
+    match submission.ledger_time {
+        Some(time) => format!(in alloc; "{requesters} at {time}"),
+        None => format!(in alloc; "{requesters} now"),
+    }
 }
 
 fn what_text(alloc: Global, what: &What) -> Result<String, AllocError> {
