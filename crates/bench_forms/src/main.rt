@@ -1,20 +1,24 @@
 //! Work to take the time of. `hash N` makes N hashes of strings of 200 bytes, each from the one before, and writes the last.
 //! `wire N` encodes N actions into one buffer, decodes them and encodes them again, and writes how many bytes they took, how
 //! many actions were decoded, and whether their bytes are the same again. `blind N` makes and verifies the four trees of a
-//! transfer N times, and writes how many hashes were made and how many trees were verified. `script N` reads standard input N
-//! times as a script, and writes how many bytes it has and how many submissions, or its fault. `json N` reads it N times as a
-//! JSON value and no more.
+//! transfer N times, and writes how many hashes were made and how many trees were verified. `request N` makes the request of that
+//! transfer N times from its command, and writes how many bytes the requests have and how many hashes they took; `strings N`
+//! makes as many hashes of as long strings and nothing else. `script N` reads standard input N times as a script, and writes how
+//! many bytes it has and how many submissions, or its fault. `json N` reads it N times as a JSON value and no more.
 #![tactic(auto)]
 
 mod actions;
 mod hashes;
+mod requests;
 mod scripts;
+mod strings;
 mod transfer;
 mod trees;
 mod work;
 
 use crate::actions::round_trip;
 use crate::hashes::last_of;
+use crate::requests::{hash_strings, make_requests};
 use crate::scripts::{Found, read_often, read_source};
 use crate::trees::make_and_verify;
 use crate::work::Work;
@@ -60,6 +64,14 @@ fn run(rt: &impl Print, alloc: Global, work: Work, count: u32) -> io::Result<()>
         Work::Blind => {
             let made = make_and_verify(alloc, count)?;
             println!(rt; "{} hashes, {} verified", made.hashes, made.verified)
+        }
+        Work::Request => {
+            let sent = make_requests(alloc, count)?;
+            println!(rt; "{} bytes, {} hashes", sent.bytes, sent.hashes)
+        }
+        Work::Strings => {
+            let hashes = hash_strings(alloc, count)?;
+            println!(rt; "{hashes} hashes alone")
         }
         Work::Script | Work::Json => Ok(()),
     }

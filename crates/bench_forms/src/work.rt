@@ -6,6 +6,8 @@ pub(crate) enum Work {
     Hash,
     Wire,
     Blind,
+    Request,
+    Strings,
     Script,
     Json,
 }
@@ -17,6 +19,8 @@ impl Work {
             "hash" => Some(Work::Hash),
             "wire" => Some(Work::Wire),
             "blind" => Some(Work::Blind),
+            "request" => Some(Work::Request),
+            "strings" => Some(Work::Strings),
             "script" => Some(Work::Script),
             "json" => Some(Work::Json),
             _ => None,

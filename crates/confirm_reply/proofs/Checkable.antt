@@ -25,11 +25,11 @@ root_in (Root act below others) c (inl same) = inl same
 root_in (Root act below others) c (inr i) = inr (in_append_right (preorder below) (preorder others) c (root_in others c i))
 
 -- a tree's root and what stands directly below it are in the forest
-record IsOf (f : Actions) (t : Tree) : Type 0 where
-  act : In t.0 (preorder f)
-  children : (c : Act) → In c (roots_of t.1) → In c (preorder f)
+pub record IsOf (f : Actions) (t : Tree) : Type 0 where
+  pub act : In t.0 (preorder f)
+  pub children : (c : Act) → In c (roots_of t.1) → In c (preorder f)
 
-tree_of_in : (f : Actions) (t : Tree) → In t (trees_of f) → IsOf f t
+pub tree_of_in : (f : Actions) (t : Tree) → In t (trees_of f) → IsOf f t
 tree_of_in NoRoots t i = absurd i
 tree_of_in (Root act below others) t (inl same) =
     subst (λ (x : Tree). IsOf (Root act below others) x) same (record {
@@ -44,12 +44,12 @@ tree_of_in (Root act below others) t (inr i) =
           record { act = inr (in_append_right (preorder below) (preorder others) t.0 r.act); children = λ c j. inr (in_append_right (preorder below) (preorder others) c (r.children c j)) }
     ]
 
-in_from_get : (ts : List Tree) (n : ℕ) (t : Tree) → slice_get ts n ≡ Some t → In t ts
+pub in_from_get : (ts : List Tree) (n : ℕ) (t : Tree) → slice_get ts n ≡ Some t → In t ts
 in_from_get [] n t e = absurd (none-some t e)
 in_from_get (x ∷ ts) zero t e = inl (same_Some x t e)
 in_from_get (x ∷ ts) (suc n) t e = inr (in_from_get ts n t e)
 
-all_from_each : {X : Type 0} (P : X → Type 0) (xs : List X) → ((x : X) → In x xs → P x) → All P xs
+pub all_from_each : {X : Type 0} (P : X → Type 0) (xs : List X) → ((x : X) → In x xs → P x) → All P xs
 all_from_each P [] each = All-nil P
 all_from_each P (x ∷ xs) each = All-cons P x xs (each x (inl refl)) (all_from_each P xs (λ y i. each y (inr i)))
 

@@ -1,7 +1,7 @@
 mod Stakeholders
 mod Conformance
 mod Located
-mod Placed
+pub mod Placed
 mod Trying
 mod ShownAt
 mod Verdicts
@@ -10,7 +10,7 @@ mod CoreSteps
 mod FindSteps
 mod Gathering
 mod NumberSteps
-mod Checked
-mod Checkable
-mod FactsAt
+pub mod Checked
+pub mod Checkable
+pub mod FactsAt
 mod Sure

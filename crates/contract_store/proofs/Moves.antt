@@ -1,5 +1,5 @@
 -- Holds that move towards the start of the vector, and what one released takes from their number.
-use Rattle.std.proofs.Common.{◌≡◌, ℕ, zero, suc, ◌+◌, ◌<◌, ◌≤◌, Bool, true, false, cond, List, [], ◌∷◌, ◌++◌, length, map, filter, set, take, drop}
+use Rattle.std.proofs.Common.{◌≡◌, ℕ, zero, suc, ◌+◌, ◌<◌, ◌≤◌, Bool, true, false, cond, List, [], ◌∷◌, ◌++◌, length, map, set, take, drop}
 use Rattle.std.proofs.Common.{Option, Some, None, is_some, refl, sym, ap, ◌∙◌, subst, arith, nat_eq}
 use Rattle.std.specs.Prelude.{IsSome, slice_get, if◌then◌else◌}
 use Rattle.std.specs.Str.{bytes_eq}
@@ -10,7 +10,7 @@ use Rattle.contract_store.specs.declared.hold.Hold.{Hold}
 use Rattle.contract_store.specs.declared.hold.KeptHold.{KeptHold}
 use Rattle.contract_store.specs.declared.keys.Behind.{Behind}
 use Rattle.contract_store.specs.Leads.{hold_behind}
-use Rattle.contract_store.specs.Chains.{Link, Chains}
+use Rattle.contract_store.specs.Chains.{Link}
 use Rattle.contract_store.specs.Holds.{link_on, link_at, holds_of, LeadsToHolds}
 use Rattle.contract_store.specs.Moved.{among, HalfMoved, Moving}
 use Rattle.contract_store.proofs.Maps.{same_bytes, equal_bytes}

@@ -1,5 +1,6 @@
 //! The active contracts, by the chain of a salt.
-ghost use Rattle.std.specs.Prelude.{◌≡◌, ◌==◌, ◌<◌, ◌≤◌, ℕ, List, None, Some, find, map, option_map, option_copied, is_some, IsTrue, IsFalse};
+ghost use Rattle.std.specs.Prelude.{◌≡◌, ◌<◌, ◌&&◌, if◌then◌else◌};
+ghost use Rattle.std.specs.Prelude.{None, Some, map, option_map, option_copied};
 ghost use Rattle.std.specs.Prelude.{slice_get, vec_len};
 ghost use Rattle.std.specs.Str.{bytes_eq};
 ghost use Rattle.indexmap.specs.IndexMap.{get};
@@ -9,6 +10,7 @@ ghost use Rattle.contract_store.specs.KeptRows.{rows_of, salt_link};
 ghost use Rattle.contract_store.specs.Active.{active, sooner, earliest, active_at};
 ghost use Rattle.contract_store.specs.declared.row.KeptRow.{KeptRow};
 
+use crate::contract_test::ContractTest;
 use crate::lookup::salt_behind;
 use crate::row::{KeptRow, StoreRow};
 use indexmap::IndexMap;
@@ -41,6 +43,24 @@ fn sooner(kept: &Vec<KeptRow>, at: usize, best: Option<usize>) -> Option<usize>
         (None, _) => best,
         (Some(_), None) => Some(at),
         (Some(here), Some(there)) => { if here <= there { Some(at) } else { best } }
+    }
+}
+
+// The same where the contract of the row passes the test, and else the best so far.
+fn sooner_passing<T: ContractTest>(
+    kept: &Vec<KeptRow>,
+    test: &T,
+    at: usize,
+    best: Option<usize>,
+) -> Option<usize>
+    requires { at < vec_len kept.now }
+    ensures { (k : KeptRow) → slice_get kept.now.items at ≡ Some k → active_at kept.now.items result
+        ≡ (if T.passes test.now k.row.known then sooner (active k.row) (active_at kept.now.items best) else active_at kept.now.items best) }
+{
+    if test.passes(&kept[at].row.known) {
+        sooner(kept, at, best)
+    } else {
+        best
     }
 }
 
@@ -78,19 +98,21 @@ fn known_at(kept: &Vec<KeptRow>, best: Option<usize>) -> Option<&Known>
     }
 }
 
-/// The first active contract with a salt, in order of creation.
-pub fn first_with_salt<'a>(
+/// The first active contract with a salt that passes the test, in order of creation.
+pub fn first_with_salt<'a, T: ContractTest>(
     kept: &'a Vec<KeptRow>,
     salts: &IndexMap<Hash, Option<usize>>,
     salt: &Hash,
+    test: &T,
 ) -> Option<&'a Known>
     requires { Chains bytes_eq (map salt_link kept.now.items) (λ c. salt_behind (get bytes_eq salts.now c)) }
-    ensures { option_copied result ≡ option_map (λ a. a.known) (earliest (λ k. bytes_eq k.salt salt.now) (rows_of kept.now.items)) }
+    ensures { option_copied result ≡ option_map (λ a. a.known)
+        (earliest (λ k. T.passes test.now k && bytes_eq k.salt salt.now) (rows_of kept.now.items)) }
 {
     let mut best = None;
     let mut cursor = salt_behind(salts, salt);
     'back: while let Some(at) = cursor {
-        best = sooner(kept, at, best);
+        best = sooner_passing(kept, test, at, best);
         cursor = before_row(kept, at);
     }
     known_at(kept, best)

@@ -3,6 +3,7 @@
 
 mod active;
 mod compact;
+mod contract_test;
 mod hold;
 mod holds;
 mod keys;
@@ -13,6 +14,7 @@ mod row;
 mod rows;
 mod store;
 
+pub use contract_test::ContractTest;
 pub use hold::{HashList, Hold};
 pub use ledger_model::Status;
 pub use row::StoreRow;

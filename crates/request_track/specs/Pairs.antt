@@ -93,3 +93,12 @@ late_tracked time (Some t) = is_undecided t.outcome && nat_lt t.decision time
 
 abbrev pub is_late : ℕ → List Pair → ℕ → Bool
 is_late time ps place = late_tracked time (tracked_at ps place)
+
+-- the first of these places, where it is late
+abbrev pub late_first : ℕ → List Pair → List ℕ → Option ℕ
+late_first time ps [] = None
+late_first time ps (place ∷ places) = if is_late time ps place then Some place else None
+
+-- the least undecided place, where it is late
+abbrev pub first_late : ℕ → List Pair → Option ℕ
+first_late time ps = late_first time ps (undecided_of ps)

@@ -5,6 +5,7 @@ ghost use Rattle.request_track.specs.Expiring.{Expiring};
 ghost use Rattle.indexmap.specs.IndexMap.{spare};
 ghost use Rattle.canton_model.specs.declared.outcome.Outcome.TheVariants.{Undecided, Expired};
 ghost use Rattle.request_track.specs.Pairs.{Pair, Apart, tracked_at, outcome_at, settled, expired, clean_of, undecided_of, late_tracked, is_late};
+ghost use Rattle.request_track.specs.Pairs.{late_first, first_late};
 
 use crate::pairs::{push_pair, settle_pair, tracked};
 use crate::places::{first_or, insert_if, remove_if};
@@ -63,6 +64,22 @@ fn is_late(tracked: &Option<Tracked>, time: u64) -> bool
     match tracked {
         Some(found) => is_undecided(found.outcome) && found.decision < time,
         None => false,
+    }
+}
+
+// The first of the undecided places, where it is late.
+fn late_first(pairs: &IndexMap<u64, Tracked>, undecided: &Vec<u64>, time: u64) -> Option<u64>
+    ensures { result ≡ late_first time pairs.now.entries undecided.now.items }
+{
+    match undecided.first() {
+        Some(place) => {
+            if is_late(&tracked(pairs, *place), time) {
+                Some(*place)
+            } else {
+                None
+            }
+        }
+        None => None,
     }
 }
 
@@ -185,6 +202,13 @@ impl Tracker {
             Some(found) => Some(found.outcome),
             None => None,
         }
+    }
+
+    /// The least place of an undecided request, where its decision time is below the time.
+    pub fn first_late(&self, time: u64) -> Option<u64>
+        ensures { result ≡ first_late time self.now.pairs }
+    {
+        late_first(&self.pairs, &self.undecided, time)
     }
 
     /// One entry more is read.

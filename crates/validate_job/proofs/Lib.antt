@@ -1,2 +1,2 @@
 mod OpenedViews
-mod OwedAt
+pub mod OwedAt

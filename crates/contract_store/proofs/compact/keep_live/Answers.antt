@@ -1,4 +1,4 @@
-use Rattle.std.proofs.Common.{refl, arith, ◌∙◌, ◌≡◌, ◌≤◌, sym, ap, length, nat_eq}
+use Rattle.std.proofs.Common.{refl, arith, ◌∙◌, ◌≤◌, ap, length, nat_eq}
 use Rattle.std.specs.Str.{bytes_eq}
 use Rattle.std.proofs.lemmas.Grind.{common_steps}
 use Rattle.indexmap.specs.IndexMap.{get}

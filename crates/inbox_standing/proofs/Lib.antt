@@ -1,0 +1,12 @@
+pub mod Tests
+pub mod Late
+pub mod PlacedBelow
+pub mod Expiry
+pub mod Written
+pub mod Room
+pub mod Tracked
+pub mod Order
+pub mod Outcomes
+pub mod Grown
+pub mod Followed
+pub mod Told

@@ -1,0 +1,48 @@
+-- What an inbox's requests do to contracts: the changes of those that are approved, and of those that aren't decided.
+use Rattle.std.specs.Prelude.{ℕ, zero, suc, Bool, List, [], ◌∷◌, ◌++◌, Option, Some, None, if◌then◌else◌, ◌&&◌, not, is_some, map, filter, length}
+use Rattle.ledger_terms.specs.declared.act.Act.{Act}
+use Rattle.ledger_model.specs.Forest.{acts}
+use Rattle.canton_model.specs.Log.{Params}
+use Rattle.canton_model.specs.declared.verdict.Verdict.{Verdict}
+use Rattle.canton_model.specs.Reading.{Reading}
+use Rattle.canton_model.specs.Timeline.{is_approval, verdict_on}
+use Rattle.canton_model.specs.Inbox.{Item, moments, opened_at, verdict_in, is_decided_in}
+use Rattle.contract_store.specs.Below.{at_place}
+use Rattle.contract_store.specs.Written.{Placed}
+
+-- the authentic actions that are opened of the request at a place
+abbrev pub authentic_at : Reading → List Item → ℕ → List Act
+authentic_at reading items m = filter reading.is_authentic (acts (opened_at items m))
+
+-- no verdict on its request stands among these items, and it approves
+abbrev pub approves_first : List Item → Verdict → Bool
+approves_first before verdict = not (is_some (verdict_on verdict.request (moments before))) && is_approval (Some verdict.decision)
+
+-- what is done to contracts where this verdict is read after these items
+abbrev pub changes_of_verdict : Reading → List Item → Option Verdict → List Placed
+changes_of_verdict reading before None = []
+changes_of_verdict reading before (Some verdict) =
+    if approves_first before verdict then map (at_place verdict.request) (authentic_at reading before verdict.request) else []
+
+-- what the request of a verdict does, where this verdict is read after these items
+abbrev pub acts_of_verdict : Reading → List Item → Verdict → List Act
+acts_of_verdict reading items verdict = if approves_first items verdict then authentic_at reading items verdict.request else []
+
+abbrev pub changes_after : Reading → (before : List Item) → List Item → List Placed
+changes_after reading before [] = []
+changes_after reading before (item ∷ rest) =
+    changes_of_verdict reading before (verdict_in item.content) ++ changes_after reading (before ++ item ∷ []) rest
+
+-- the authentic opened actions of the approved requests, in the order in which their verdicts were read
+abbrev pub changes_in : Reading → List Item → List Placed
+changes_in reading items = changes_after reading [] items
+
+-- the actions of the requests below a place that a test keeps, in order of place
+abbrev pub placed_below : (ℕ → Bool) → (ℕ → List Act) → ℕ → List Placed
+placed_below keeps f zero = []
+placed_below keeps f (suc k) = placed_below keeps f k ++ (if keeps k then map (at_place k) (f k) else [])
+
+-- the authentic opened actions of the requests that aren't decided over the inbox, in order of place
+abbrev pub pending_changes : Reading → Params → List Item → List Placed
+pending_changes reading params items =
+    placed_below (λ m. not (is_decided_in params items m (length items))) (authentic_at reading items) (length items)

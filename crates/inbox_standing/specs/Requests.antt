@@ -1,0 +1,37 @@
+-- What a participant tracks of the requests that it received.
+use Rattle.std.specs.Prelude.{ℕ, suc, ◌+◌, ◌-◌, ◌^◌, List, [], ◌∷◌, Option, option_map, if◌then◌else◌, min}
+use Rattle.ledger_model.specs.Opening.{Shown}
+use Rattle.canton_model.specs.Log.{Params}
+use Rattle.canton_model.specs.Timeline.{Moment, kind_of, outcome_of}
+use Rattle.canton_model.specs.Inbox.{Item, moments, is_received, shown_at, outcome_in}
+use Rattle.canton_model.specs.declared.outcome.Outcome.{Outcome}
+use Rattle.request_track.specs.Pairs.{Pair}
+use Rattle.request_track.specs.declared.tracked.Tracked.{Tracked}
+
+-- a time as it can be told
+abbrev pub told_time : ℕ → ℕ
+told_time time = min time (2 ^ 64 - 1)
+
+abbrev pub decision_after : Params → (time : ℕ) → ℕ
+decision_after params time = time + params.response_timeout + params.reaction_timeout
+
+-- what is tracked of the request at a place, which came at that time
+abbrev pub tracked_of : Params → List Moment → (place time : ℕ) → Tracked
+tracked_of params moments place time =
+    record { decision = told_time (decision_after params time); outcome = kind_of (outcome_of moments place (decision_after params time)) }
+
+-- of items the first of which stands at a place
+abbrev pub pairs_from : Params → List Moment → ℕ → List Item → List Pair
+pairs_from params moments k [] = []
+pairs_from params moments k (item ∷ rest) =
+    if is_received item.content
+    then (k, tracked_of params moments k item.time) ∷ pairs_from params moments (suc k) rest
+    else pairs_from params moments (suc k) rest
+
+-- the requests that were received, each with its decision time and what became of it over the inbox
+abbrev pub pairs_in : Params → List Item → List Pair
+pairs_in params items = pairs_from params (moments items) 0 items
+
+-- what became of the request that was received at a place
+abbrev pub outcome_received : Params → List Item → ℕ → Option Outcome
+outcome_received params items place = option_map (λ (shown : Shown). kind_of (outcome_in params items place)) (shown_at items place)

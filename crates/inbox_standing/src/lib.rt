@@ -1,0 +1,11 @@
+//! What a participant keeps beside its inbox: a store of contracts with the holds on them, and the requests that it received. Both
+//! follow the inbox item by item.
+#![tactic(auto)]
+
+mod change;
+mod passing;
+mod standing;
+mod writing;
+
+pub use change::Change;
+pub use standing::Standing;

@@ -1,0 +1,95 @@
+-- A verdict is put behind the items that were read.
+use Rattle.std.proofs.Common.{◌≡◌, ℕ, ◌+◌, ◌-◌, ◌^◌, ◌<◌, ◌≤◌, true, false, List, [], ◌∷◌, ◌++◌, length, Option, Some, None, is_some, refl, sym, ap, ◌∙◌, subst, inl, inr}
+use Rattle.std.specs.Prelude.{IfSome, IfNone, Result, Ok, Err, OnErr, if◌then◌else◌}
+use Rattle.std.proofs.lemmas.Bool.{cases_lt}
+use Rattle.std.proofs.lemmas.Option.{slice_get_past}
+use Rattle.ledger_terms.specs.declared.topology.Topology.{Topology}
+use Rattle.ledger_model.specs.Terms.{ParticipantId}
+use Rattle.canton_model.specs.declared.decision.Decision.{Decision}
+use Rattle.canton_model.specs.declared.outcome.Outcome.{Outcome as Kind}
+use Rattle.canton_model.specs.declared.verdict.Verdict.{Verdict}
+use Rattle.canton_model.specs.Timeline.{Decided, kind_of, verdict_on}
+use Rattle.canton_model.specs.Inbox.{Item, Told, last_time, moments, shown_at, shown_in}
+use Rattle.canton_model.specs.Reading.{Reading}
+use Rattle.lang_eval.specs.Found.{Packages}
+use Rattle.request_track.specs.Pairs.{expired}
+use Rattle.sealed_form.specs.SealedReading.{sealed_reading}
+use Rattle.inbox_standing.specs.ChangeLists.{write_changes}
+use Rattle.inbox_standing.specs.Standing.{Follows, Stands}
+use Rattle.inbox_standing.specs.Steps.{HoldsFollow}
+use Rattle.inbox_standing.specs.declared.change.Change.{Change}
+use Rattle.inbox_standing.proofs.Followed.{follows_later, follows_verdict}
+use Rattle.node_inbox.specs.Coming.{IsTelling}
+use Rattle.node_inbox.specs.Items.{model_items}
+use Rattle.node_inbox.specs.Kept.{IsInbox}
+use Rattle.node_inbox.specs.Reads.{HasRead, IsSettled, item_with}
+use Rattle.node_inbox.specs.declared.kept_item.KeptContent.TheVariants as kept
+use Rattle.node_inbox.specs.declared.kept_item.KeptItem.{KeptItem}
+use Rattle.node_inbox.specs.declared.telling.ComingVerdict.{ComingVerdict}
+use Rattle.node_inbox.proofs.Put.{has_read}
+
+pub on_err : {X E P : Type 0} (r : Result X E) → P → OnErr r P
+on_err (Ok x) p = tt
+on_err (Err e) p = p
+
+-- what is shown stands within the inbox
+pub shown_within : (items : List Item) (k : ℕ) → is_some (shown_at items k) ≡ true → k < length items
+shown_within items k e = elim (cases_lt k (length items)) [
+  | inl lt ↦ lt
+  | inr past ↦ absurd (let none : is_some (shown_at items k) ≡ false = ap (λ (o : Option Item). is_some (shown_in o)) (slice_get_past items k past) in
+      let no : true ≡ false = sym e ∙ none in cc)
+]
+
+module _ (topology : Topology) (packages : Packages) (me : ParticipantId) (old : List KeptItem) (coming : ComingVerdict) (time : ℕ)
+    (tells : IsTelling (sealed_reading topology packages) (model_items old) coming.verdict coming) where
+  abbrev reading : Reading
+  reading = sealed_reading topology packages
+
+  abbrev v : Verdict
+  v = coming.verdict
+
+  abbrev x : Item
+  x = item_with time (Told coming.verdict)
+
+  follows : (stands mid after stands' : Stands) → IsInbox topology packages me old stands → time ≤ 2 ^ 64 - 1
+      → (mid.store).rows ≡ (stands.store).rows → (mid.tracking).pairs ≡ expired time (stands.tracking).pairs
+      → HoldsFollow (stands.tracking).pairs (mid.tracking).pairs (stands.store).holds (mid.store).holds
+      → (mid.tracking).cursor ≡ (stands.tracking).cursor
+      → stands'.store ≡ after.store → (stands'.tracking).pairs ≡ (after.tracking).pairs → (stands'.tracking).cursor ≡ (after.tracking).cursor + 1
+      → (w : Option Decision) → verdict_on v.request (moments (model_items old)) ≡ w
+      → IfSome (if is_some w then None else Some (kind_of (Decided v.decision))) (λ o. IsSettled mid after v.request o coming.changes.items)
+      → IfNone (if is_some w then None else Some (kind_of (Decided v.decision))) (after ≡ mid)
+      → Follows reading topology.params (model_items old ++ x ∷ []) stands'
+  follows stands mid after stands' i fits rows pairs holds cursor store' pairs' cursor' (Some d) told some none =
+      let same : after ≡ mid = none in
+      let rows2 : (stands'.store).rows ≡ (stands.store).rows = ap (λ s. s.rows) store' ∙ ap (λ (s : Stands). (s.store).rows) same ∙ rows in
+      let pairs2 : (stands'.tracking).pairs ≡ (mid.tracking).pairs = pairs' ∙ ap (λ (s : Stands). (s.tracking).pairs) same in
+      let holds2 : (stands'.store).holds ≡ (mid.store).holds = ap (λ s. s.holds) store' ∙ ap (λ (s : Stands). (s.store).holds) same in
+      let held : HoldsFollow (stands.tracking).pairs (stands'.tracking).pairs (stands.store).holds (mid.store).holds =
+      subst (λ ps. HoldsFollow (stands.tracking).pairs ps (stands.store).holds (mid.store).holds) (sym pairs2) holds in
+      let at : (after.tracking).cursor ≡ (stands.tracking).cursor = ap (λ (s : Stands). (s.tracking).cursor) same ∙ cursor in
+      follows_later reading topology.params (model_items old) x v d stands stands' refl refl told fits i.follows rows2 (pairs2 ∙ pairs)
+      (λ f n e. holds2 ∙ held f n e) (cursor' ∙ ap (λ (n : ℕ). n + 1) at)
+  follows stands mid after stands' i fits rows pairs holds cursor store' pairs' cursor' None first some none =
+      let s : IsSettled mid after v.request (kind_of (Decided v.decision)) coming.changes.items = some in
+      follows_verdict reading topology.params (model_items old) x v stands mid stands' refl refl first fits i.order i.follows rows pairs holds
+      (ap (λ t. t.rows) store' ∙ s.rows ∙ ap (λ (cs : List Change). write_changes v.request cs (mid.store).rows) tells.changes_are)
+      (ap (λ t. t.holds) store' ∙ s.holds)
+      (pairs' ∙ s.pairs)
+      (cursor' ∙ ap (λ (n : ℕ). n + 1) (s.cursor ∙ cursor))
+
+  pub read_verdict : (new : List KeptItem) (stands mid after stands' : Stands) → IsInbox topology packages me old stands
+      → last_time (model_items old) < time → time ≤ 2 ^ 64 - 1
+      → (mid.store).rows ≡ (stands.store).rows → (mid.tracking).pairs ≡ expired time (stands.tracking).pairs
+      → HoldsFollow (stands.tracking).pairs (mid.tracking).pairs (stands.store).holds (mid.store).holds
+      → (mid.tracking).cursor ≡ (stands.tracking).cursor
+      → stands'.store ≡ after.store → (stands'.tracking).pairs ≡ (after.tracking).pairs → (stands'.tracking).cursor ≡ (after.tracking).cursor + 1
+      → IfSome coming.first (λ o. IsSettled mid after v.request o coming.changes.items) → IfNone coming.first (after ≡ mid)
+      → new ≡ old ++ record { time = time; content = kept.Told coming.verdict } ∷ []
+      → HasRead topology packages me old new stands' (item_with time (Told coming.verdict))
+  read_verdict new stands mid after stands' i later fits rows pairs holds cursor store' pairs' cursor' some none put =
+      has_read topology packages me old new (record { time = time; content = kept.Told coming.verdict }) stands stands' i later
+      (shown_within (model_items old) v.request tells.received) tt
+      (follows stands mid after stands' i fits rows pairs holds cursor store' pairs' cursor' (verdict_on v.request (moments (model_items old))) refl
+      (subst (λ (w : Option Kind). IfSome w (λ o. IsSettled mid after v.request o coming.changes.items)) tells.first_is some)
+      (subst (λ (w : Option Kind). IfNone w (after ≡ mid)) tells.first_is none)) put

@@ -1,0 +1,28 @@
+-- What the approved requests of an inbox open.
+use Rattle.std.specs.Prelude.{◌≡◌, ℕ, Bool, true, false, List, Option, Some, None, if◌then◌else◌}
+use Rattle.ledger_model.specs.Forest.{Forest, NoRoots}
+use Rattle.ledger_terms.specs.declared.act.Act.{Act}
+use Rattle.canton_model.specs.Inbox.{Item, moments, opened_at}
+use Rattle.canton_model.specs.Log.{Params}
+use Rattle.canton_model.specs.Timeline.{is_approved_in}
+use Rattle.canton_model.specs.declared.outcome.Outcome.{Outcome}
+use Rattle.canton_model.specs.declared.outcome.Outcome.TheVariants.{Undecided, Approved, Rejected, TimedOut, Expired}
+use Rattle.request_track.specs.Pairs.{outcome_at}
+use Rattle.inbox_standing.specs.Requests.{outcome_received}
+use Rattle.inbox_standing.specs.Standing.{Stands}
+
+-- what is tracked of each request is what became of it
+abbrev pub TellsOutcomes : Params → List Item → Stands → Type 0
+TellsOutcomes params items stands = (k : ℕ) → outcome_at (stands.tracking).pairs k ≡ outcome_received params items k
+
+abbrev pub is_approved : Option Outcome → Bool
+is_approved None = false
+is_approved (Some Undecided) = false
+is_approved (Some Approved) = true
+is_approved (Some Rejected) = false
+is_approved (Some TimedOut) = false
+is_approved (Some Expired) = false
+
+-- the trees of the request at a place, where it is approved
+abbrev pub approved_at : List Item → ℕ → Forest Act
+approved_at items k = if is_approved_in k (moments items) then opened_at items k else NoRoots

@@ -1,0 +1,17 @@
+-- Where a request is decided among items that come one after another.
+use Rattle.std.specs.Prelude.{ℕ, suc, List, [], ◌∷◌, if◌then◌else◌, is_some, nat_lt}
+use Rattle.canton_model.specs.Inbox.{Item, verdict_in}
+use Rattle.canton_model.specs.Timeline.{decision_on}
+
+-- Of items the first of which stands at place k and none before which decides: the request at place m is decided at the
+-- first that comes after its decision time, and behind the first that is a verdict on it.
+abbrev pub decided_from : (time m k : ℕ) → List Item → ℕ
+decided_from time m k [] = k
+decided_from time m k (item ∷ rest) =
+    if nat_lt time item.time
+    then k
+    else if is_some (decision_on m (verdict_in item.content)) then suc k else decided_from time m (suc k) rest
+
+-- No item in front of the request's place decides it, where there is one at that place.
+abbrev pub start_of : (count place : ℕ) → ℕ
+start_of count place = if nat_lt place count then place else 0

@@ -1,0 +1,13 @@
+pub mod InboxState
+pub mod Entries
+pub mod Items
+pub mod Kept
+pub mod Acts
+pub mod Coming
+pub mod Decided
+pub mod Reads
+pub mod Confirmed
+pub mod JobInput
+pub mod Approved
+pub mod Decisions
+pub mod Listed

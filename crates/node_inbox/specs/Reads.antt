@@ -1,0 +1,42 @@
+-- One item more.
+use Rattle.std.specs.Prelude.{◌≡◌, ℕ, ◌++◌, ◌∷◌, [], List, map}
+use Rattle.ledger_terms.specs.declared.topology.Topology.{Topology}
+use Rattle.ledger_model.specs.Terms.{ParticipantId}
+use Rattle.canton_model.specs.Inbox.{Content, Item}
+use Rattle.lang_eval.specs.Found.{Packages}
+use Rattle.canton_model.specs.declared.outcome.Outcome.{Outcome as Kind}
+use Rattle.contract_store.specs.Holds.{released}
+use Rattle.contract_store.specs.Stored.{Stored}
+use Rattle.request_track.specs.Pairs.{settled}
+use Rattle.inbox_standing.specs.ChangeLists.{write_changes}
+use Rattle.inbox_standing.specs.Standing.{Stands}
+use Rattle.inbox_standing.specs.declared.change.Change.{Change}
+use Rattle.node_inbox.specs.Acts.{fact_in}
+use Rattle.node_inbox.specs.declared.kept_item.KeptRequest.{KeptRequest}
+use Rattle.node_inbox.specs.declared.kept_item.KeptItem.{KeptItem}
+use Rattle.node_inbox.specs.Items.{model_items}
+use Rattle.node_inbox.specs.Kept.{IsInbox}
+
+abbrev pub item_with : (time : ℕ) → Content → Item
+item_with time content = record { time = time; content = content }
+
+-- it is an inbox, with this item behind those that it had
+pub record HasRead (topology : Topology) (packages : Packages) (me : ParticipantId) (old new : List KeptItem) (stands : Stands) (item : Item) : Type 0 where
+  pub inbox : IsInbox topology packages me new stands
+  pub items : model_items new ≡ model_items old ++ item ∷ []
+
+-- it is an inbox, with the items that it had
+pub record IsUnread (topology : Topology) (packages : Packages) (me : ParticipantId) (old new : List KeptItem) (stands : Stands) : Type 0 where
+  pub inbox : IsInbox topology packages me new stands
+  pub items : new ≡ old
+
+-- with what a store says of the contracts
+abbrev pub kept_with : KeptRequest → Stored → KeptRequest
+kept_with kept store = record kept { facts = map (fact_in store) kept.facts }
+
+-- the request at a place got the outcome, holds nothing any more, and made these changes
+pub record IsSettled (old new : Stands) (place : ℕ) (outcome : Kind) (changes : List Change) : Type 0 where
+  pub rows : (new.store).rows ≡ write_changes place changes (old.store).rows
+  pub holds : (new.store).holds ≡ released place (old.store).holds
+  pub pairs : (new.tracking).pairs ≡ settled place outcome (old.tracking).pairs
+  pub cursor : (new.tracking).cursor ≡ (old.tracking).cursor

@@ -1,0 +1,75 @@
+//! What comes of an entry before it is read: all that takes memory.
+ghost use Rattle.std.specs.Prelude.{◌≡◌, true, All, None, IfNone, IfOk, IfSome};
+ghost use Rattle.ledger_terms.specs.declared.act.Act.{Act as ActValue};
+ghost use Rattle.ledger_model.specs.Forest.{acts};
+ghost use Rattle.ledger_model.specs.Terms.{instance_of};
+ghost use Rattle.wire_form.specs.Spellable.{IsSpellableInstance};
+ghost use Rattle.view_split.specs.Placed.{shown_by};
+ghost use Rattle.sealed_form.specs.SealedForm.{opened_in, opened_to};
+ghost use Rattle.sealed_form.specs.SealedReading.{sealed_reading};
+ghost use Rattle.node_inbox.specs.Coming.{AreParts, IsComing};
+
+use crate::actions::{acts_of, blank_facts, changed_ids, roots_of};
+use crate::confirmed::confirmed;
+use crate::kept_item::KeptRequest;
+use crate::opening::{envelope_to, hash_of, opened_of, tree_in};
+use blind_tree::OpenedTree;
+use canton_model::Request;
+use confirm_reply::{IdFactsList, Setup};
+use ledger_terms::{Exact, HashList, ParticipantId};
+use std::alloc::{AllocError, Global};
+
+/// A request that comes, with the contracts that it will hold.
+#[derive(Drop)]
+pub struct ComingRequest {
+    pub kept: KeptRequest,
+    pub ids: HashList,
+}
+
+// What is made of what is opened.
+fn parts_of(alloc: Global, tree: &OpenedTree) -> Result<(IdFactsList, HashList), AllocError>
+    requires { All (λ (act : ActValue). IsSpellableInstance (instance_of act.action)) (acts (shown_by tree.now).roots) }
+    ensures { IfOk result (λ parts. AreParts tree.now parts.0 parts.1) }
+{
+    let roots = roots_of(alloc, &tree.views)?;
+    let found = acts_of(alloc, &roots)?;
+    let facts = blank_facts(alloc, found.as_slice())?;
+    let ids = changed_ids(alloc, found.as_slice())?;
+    Ok((facts, ids))
+}
+
+/// What comes of a request, and none exactly where nothing is opened to the participant.
+pub fn coming(
+    alloc: Global,
+    setup: &Setup,
+    me: ParticipantId,
+    request: &Request,
+) -> Result<Option<ComingRequest>, AllocError>
+    requires { (sealed_reading setup.now.topology setup.now.checked).is_sealed request.now ≡ true }
+    ensures none { IfOk result (λ o. IfNone o (opened_to me request.now ≡ None)) }
+    ensures some { IfOk result (λ o. IfSome o (λ coming. IsComing setup.now.topology setup.now.checked me coming)) }
+    ensures shown { IfOk result (λ o. IfSome o (λ coming. opened_to me request.now ≡ opened_in (coming.kept).bytes)) }
+{
+    let Some(envelope) = envelope_to(me, request.envelopes.as_slice()) else {
+        return Ok(None);
+    };
+    let Some(tree) = tree_in(alloc, envelope.as_slice())? else {
+        return Ok(None);
+    };
+    let Some(opened) = opened_of(alloc, &tree)? else {
+        return Ok(None);
+    };
+    let root = hash_of(alloc, &tree)?;
+    let bytes = envelope.copied()?;
+    let views = confirmed(alloc, &setup.topology, me, &opened)?;
+    let (facts, ids) = parts_of(alloc, &opened)?;
+    let kept = KeptRequest {
+        sender: request.sender,
+        command: request.command,
+        root,
+        bytes,
+        views,
+        facts,
+    };
+    Ok(Some(ComingRequest { kept, ids }))
+}

@@ -1,0 +1,78 @@
+//! When a request was decided.
+ghost use Rattle.std.specs.Prelude.{◌≡◌, ◌+◌, ◌<◌, ◌≤◌, ◌^◌, drop, is_some, nat_lt, length};
+ghost use Rattle.canton_model.specs.Inbox.{verdict_in};
+ghost use Rattle.canton_model.specs.Timeline.{decision_on};
+ghost use Rattle.inbox_standing.specs.Order.{IsInOrder};
+ghost use Rattle.node_inbox.specs.Decisions.{decided_from, start_of};
+ghost use Rattle.node_inbox.specs.InboxState.{decided_since};
+ghost use Rattle.node_inbox.specs.Items.{model_content, model_items};
+
+use crate::items::time_at;
+use crate::kept_item::{KeptContent, KeptItem};
+use ledger_terms::Params;
+
+fn is_later(time: u64, wait: u64, more: u64, later: u64) -> bool
+    ensures { result ≡ nat_lt (time + wait + more) later }
+{
+    more < later.saturating_sub(time).saturating_sub(wait)
+}
+
+// Whether a verdict on the request at a place came.
+fn is_verdict_on(content: &KeptContent, place: u64) -> bool
+    ensures { result ≡ is_some (decision_on place (verdict_in (model_content content.now))) }
+{
+    match content {
+        KeptContent::Told(verdict) => verdict.request == place,
+        KeptContent::Received(_) => false,
+        KeptContent::Nothing => false,
+    }
+}
+
+// The place from which on items can decide the request at a place.
+fn start_of(items: &[KeptItem], place: u64) -> u64
+    ensures start { result ≡ start_of (length items.now) place }
+    ensures within { result ≤ length items.now }
+{
+    if place < items.len() as u64 { place } else { 0 }
+}
+
+fn items_from(items: &[KeptItem], start: u64) -> &[KeptItem]
+    requires { start ≤ length items.now }
+    ensures { result.now ≡ drop start items.now }
+{
+    &items[start as usize..]
+}
+
+// Where the request at a place, which came at that time, is decided among items the first of which stands at `start`.
+fn decided_among(params: &Params, items: &[KeptItem], place: u64, time: u64, start: u64) -> u64
+    requires { start + length items.now < 2 ^ 64 }
+    ensures { result ≡ decided_from (time + params.now.response_timeout + params.now.reaction_timeout) place start (model_items items.now) }
+{
+    let mut k = start;
+    'items: for item in items {
+        if is_later(
+            time,
+            params.response_timeout,
+            params.reaction_timeout,
+            item.time,
+        ) {
+            return k;
+        }
+        k += 1;
+        if is_verdict_on(&item.content, place) {
+            return k;
+        }
+    }
+    k
+}
+
+/// The first place at which the request at a place was decided, and the number of items where it was at none. Goes through the
+/// items from the request's place on.
+pub fn decided_since(params: &Params, items: &[KeptItem], place: u64) -> u64
+    requires { IsInOrder (model_items items.now) }
+    ensures { result ≡ decided_since params.now (model_items items.now) place }
+{
+    let start = start_of(items, place);
+    let rest = items_from(items, start);
+    decided_among(params, rest, place, time_at(items, place), start)
+}

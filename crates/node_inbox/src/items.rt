@@ -1,0 +1,37 @@
+//! Items by their places.
+ghost use Rattle.std.specs.Prelude.{◌≡◌, option_copied, slice_get};
+ghost use Rattle.canton_model.specs.Inbox.{item_time, last_time};
+ghost use Rattle.node_inbox.specs.Items.{model_items};
+ghost use Rattle.node_inbox.specs.Kept.{kept_at, request_in};
+
+use crate::kept_item::{KeptContent, KeptItem, KeptRequest};
+
+fn request_in(content: &KeptContent) -> Option<&KeptRequest>
+    ensures { option_copied result ≡ request_in content.now }
+{
+    match content {
+        KeptContent::Received(kept) => Some(kept),
+        KeptContent::Told(_) => None,
+        KeptContent::Nothing => None,
+    }
+}
+
+/// The request that was received at a place.
+pub fn request_at(items: &[KeptItem], place: u64) -> Option<&KeptRequest>
+    ensures { option_copied result ≡ kept_at items.now place }
+{
+    match items.get(place as usize) {
+        Some(item) => request_in(&item.content),
+        None => None,
+    }
+}
+
+/// The time of the item at a place, and 0 where there is none.
+pub fn time_at(items: &[KeptItem], place: u64) -> u64
+    ensures { result ≡ item_time (slice_get (model_items items.now) place) }
+{
+    match items.get(place as usize) {
+        Some(item) => item.time,
+        None => 0,
+    }
+}

@@ -1,0 +1,75 @@
+//! The check that a participant owes to a request.
+ghost use Rattle.std.specs.Prelude.{◌≡◌, ◌<◌, true, IfOk, IsSome, length};
+ghost use Rattle.sealed_form.specs.SealedForm.{opened_in};
+ghost use Rattle.sealed_form.specs.SealedReading.{sealed_reading};
+ghost use Rattle.world_model.specs.Node.{owed_at, owes_at};
+ghost use Rattle.validate_job.specs.Owed.{owed_on_each};
+ghost use Rattle.node_inbox.specs.Items.{model_items};
+ghost use Rattle.node_inbox.specs.JobInput.{IsInputOf};
+ghost use Rattle.node_inbox.specs.Kept.{AreKept};
+
+use crate::items::{request_at, time_at};
+use crate::kept_item::{KeptItem, KeptRequest};
+use crate::opening::open;
+use confirm_reply::{CheckInput, IdFactsList, Setup};
+use ledger_terms::{Exact, ParticipantId};
+use std::alloc::{AllocError, Global};
+use validate_job::ValidateJob;
+
+fn copy_facts(alloc: Global, facts: &IdFactsList) -> Result<IdFactsList, AllocError>
+    ensures { IfOk result (λ copy. copy ≡ facts.now) }
+{
+    let mut copy = IdFactsList::new(alloc);
+    for fact in facts.as_slice() {
+        copy.push(*fact)?;
+    }
+    Ok(copy)
+}
+
+// What the request is checked by. Opens the envelope again.
+fn input_of<'s>(
+    alloc: Global,
+    setup: &'s Setup,
+    me: ParticipantId,
+    time: u64,
+    kept: &KeptRequest,
+) -> Result<CheckInput<'s>, AllocError>
+    requires { IsSome (opened_in kept.now.bytes) }
+    ensures { IfOk result (λ input. IsInputOf setup.entry me time kept.now input) }
+{
+    let Some(tree) = open(alloc, kept.bytes.as_slice())? else {
+        unreachable!()
+    };
+    let facts = copy_facts(alloc, &kept.facts)?;
+    Ok(CheckInput {
+        setup,
+        me,
+        time,
+        tree,
+        facts,
+    })
+}
+
+/// The check that the participant owes to the request at a place, by what it had read when it had read that.
+pub fn job<'s>(
+    alloc: Global,
+    setup: &'s Setup,
+    me: ParticipantId,
+    items: &[KeptItem],
+    place: u64,
+) -> Result<ValidateJob<'s>, AllocError>
+    requires kept { AreKept setup.now.topology setup.now.checked me items.now }
+    requires owes { owes_at (sealed_reading setup.now.topology setup.now.checked) me (model_items items.now) place ≡ true }
+    ensures place { IfOk result (λ job. job.given.place ≡ place) }
+    ensures left { IfOk result (λ job. job.left ≡ length job.given.views) }
+    ensures some { IfOk result (λ job. 0 < job.left) }
+    ensures owed { IfOk result (λ job. owed_on_each job.given.input job.given.views
+        ≡ owed_at (sealed_reading setup.now.topology setup.now.checked) setup.now.topology.params me (model_items items.now) place) }
+{
+    let Some(kept) = request_at(items, place) else {
+        unreachable!()
+    };
+    let input = input_of(alloc, setup, me, time_at(items, place), kept)?;
+    let views = kept.views.copied()?;
+    Ok(ValidateJob::new(input, place, views))
+}

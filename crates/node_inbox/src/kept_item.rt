@@ -1,0 +1,32 @@
+//! The items of an inbox.
+use canton_model::Verdict;
+use confirm_reply::IdFactsList;
+use ledger_terms::{Bytes, Hash, Name, ParticipantId, PathList};
+
+/// What a participant keeps of a request that it received: who sent it, the name that the sender gave the command, the hash of its
+/// tree and the envelope's bytes. Beside these are the paths of the views that the participant confirms, and what it knew of
+/// the contracts in what is opened when it had read the request.
+#[derive(Drop)]
+pub struct KeptRequest {
+    pub sender: ParticipantId,
+    pub command: Name,
+    pub root: Hash,
+    pub bytes: Bytes,
+    pub views: PathList,
+    pub facts: IdFactsList,
+}
+
+/// What an entry is to the participant: a request of which it is a recipient, a verdict on such a request, or nothing.
+#[derive(Drop)]
+pub enum KeptContent {
+    Received(KeptRequest),
+    Told(Verdict),
+    Nothing,
+}
+
+/// What a participant has of one entry of the log. `time` is the entry's, in microseconds.
+#[derive(Drop)]
+pub struct KeptItem {
+    pub time: u64,
+    pub content: KeptContent,
+}

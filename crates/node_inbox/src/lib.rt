@@ -1,0 +1,23 @@
+//! One participant's inbox, with what is kept beside it: a store of contracts, the requests that it received, and what its checks
+//! will need, so that no question goes through the whole inbox.
+#![tactic(auto)]
+
+mod actions;
+mod active_rows;
+mod applied;
+mod coming;
+mod confirmed;
+mod decided_since;
+mod facts;
+mod hosting;
+mod inbox;
+mod items;
+mod job;
+mod kept_item;
+pub mod laws;
+mod opening;
+mod putting;
+mod telling;
+
+pub use inbox::Inbox;
+pub use kept_item::{KeptContent, KeptItem, KeptRequest};

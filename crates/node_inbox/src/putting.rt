@@ -1,0 +1,169 @@
+//! One item is put behind those that were read, and what is kept beside them follows.
+ghost use Rattle.std.specs.Prelude.{◌≡◌, ◌++◌, ◌∷◌, ◌<◌, ◌^◌, [], length, IfNone, IfSome, OnErr, OnOk, vec_len, vec_capacity};
+ghost use Rattle.canton_model.specs.Inbox.{Told, Nothing, last_time};
+ghost use Rattle.inbox_standing.specs.Requests.{decision_after, told_time};
+ghost use Rattle.node_inbox.specs.Coming.{IsComing, IsTelling};
+ghost use Rattle.node_inbox.specs.Items.{model_content, model_items};
+ghost use Rattle.node_inbox.specs.Kept.{IsInbox};
+ghost use Rattle.inbox_standing.specs.Room.{HasRoom};
+ghost use Rattle.node_inbox.specs.Reads.{HasRead, IsSettled, IsUnread, item_with, kept_with};
+ghost use Rattle.node_inbox.specs.declared.kept_item.KeptContent.TheVariants as Content;
+ghost use Rattle.sealed_form.specs.SealedReading.{sealed_reading};
+
+use crate::coming::ComingRequest;
+use crate::facts::filled;
+use crate::kept_item::{KeptContent, KeptItem, KeptRequest};
+use crate::telling::ComingVerdict;
+use canton_model::Outcome;
+use confirm_reply::Setup;
+use inbox_standing::{Change, Standing};
+use ledger_terms::{Params, ParticipantId};
+use std::alloc::AllocError;
+
+// The decision time of a request, or the greatest time that can be told.
+fn decision_of(params: &Params, time: u64) -> u64
+    ensures { result ≡ told_time (decision_after params.now time) }
+{
+    time.saturating_add(params.response_timeout)
+        .saturating_add(params.reaction_timeout)
+}
+
+// Puts an item into the room that is there.
+fn put(items: &mut Vec<KeptItem>, item: KeptItem)
+    requires { vec_len items.old < vec_capacity items.old }
+    ensures { items.new.items ≡ items.old.items ++ item ∷ [] }
+{
+    items.push(item).unwrap();
+}
+
+/// Nothing for the participant.
+pub fn put_nothing(
+    setup: &Setup,
+    me: ParticipantId,
+    items: &mut Vec<KeptItem>,
+    standing: &mut Standing,
+    time: u64,
+) -> Result<(), AllocError>
+    requires few { length items.old.items < 2 ^ 63 }
+    requires rises { last_time (model_items items.old.items) < time }
+    requires inbox { IsInbox setup.now.topology setup.now.checked me items.old.items standing.old }
+    ensures ok { OnOk result (HasRead setup.now.topology setup.now.checked me items.old.items items.new.items standing.new (item_with time Nothing)) }
+    ensures err { OnErr result (IsUnread setup.now.topology setup.now.checked me items.old.items items.new.items standing.new) }
+{
+    items.reserve(1)?;
+    standing.pass(time);
+    standing.advance();
+    put(
+        items,
+        KeptItem {
+            time,
+            content: KeptContent::Nothing,
+        },
+    );
+    Ok(())
+}
+
+/// A request of which the participant is a recipient.
+pub fn put_request(
+    setup: &Setup,
+    me: ParticipantId,
+    items: &mut Vec<KeptItem>,
+    standing: &mut Standing,
+    time: u64,
+    coming: ComingRequest,
+) -> Result<(), AllocError>
+    requires few { length items.old.items < 2 ^ 63 }
+    requires rises { last_time (model_items items.old.items) < time }
+    requires inbox { IsInbox setup.now.topology setup.now.checked me items.old.items standing.old }
+    requires coming { IsComing setup.now.topology setup.now.checked me coming }
+    ensures ok { OnOk result (HasRead setup.now.topology setup.now.checked me items.old.items items.new.items standing.new
+        (item_with time (model_content (Content.Received coming.kept)))) }
+    ensures err { OnErr result (IsUnread setup.now.topology setup.now.checked me items.old.items items.new.items standing.new) }
+{
+    let ComingRequest { kept, ids } = coming;
+    items.reserve(1)?;
+    standing.begin(decision_of(&setup.topology.params, time), &ids)?;
+    let place = standing.cursor();
+    standing.pass(time);
+    let kept = with_facts(kept, standing);
+    standing.hold(place, &ids);
+    standing.advance();
+    put(
+        items,
+        KeptItem {
+            time,
+            content: KeptContent::Received(kept),
+        },
+    );
+    Ok(())
+}
+
+// A request with the facts on its contracts as they stand.
+fn with_facts(kept: KeptRequest, standing: &Standing) -> KeptRequest
+    ensures { result ≡ kept_with kept standing.now.store }
+{
+    let KeptRequest {
+        sender,
+        command,
+        root,
+        bytes,
+        views,
+        facts,
+    } = kept;
+    KeptRequest {
+        sender,
+        command,
+        root,
+        bytes,
+        views,
+        facts: filled(standing.store(), facts),
+    }
+}
+
+/// A verdict on a request that was received.
+pub fn put_verdict(
+    setup: &Setup,
+    me: ParticipantId,
+    items: &mut Vec<KeptItem>,
+    standing: &mut Standing,
+    time: u64,
+    coming: ComingVerdict,
+) -> Result<(), AllocError>
+    requires few { length items.old.items < 2 ^ 63 }
+    requires rises { last_time (model_items items.old.items) < time }
+    requires inbox { IsInbox setup.now.topology setup.now.checked me items.old.items standing.old }
+    requires coming { IsTelling (sealed_reading setup.now.topology setup.now.checked) (model_items items.old.items) coming.verdict coming }
+    ensures ok { OnOk result (HasRead setup.now.topology setup.now.checked me items.old.items items.new.items standing.new
+        (item_with time (Told coming.verdict))) }
+    ensures err { OnErr result (IsUnread setup.now.topology setup.now.checked me items.old.items items.new.items standing.new) }
+{
+    let ComingVerdict {
+        verdict,
+        first,
+        changes,
+    } = coming;
+    items.reserve(1)?;
+    standing.make_room(&changes)?;
+    standing.pass(time);
+    settle_if(standing, verdict.request, first, changes);
+    standing.advance();
+    put(
+        items,
+        KeptItem {
+            time,
+            content: KeptContent::Told(verdict),
+        },
+    );
+    Ok(())
+}
+
+// The request at a place is settled, where there is an outcome.
+fn settle_if(standing: &mut Standing, place: u64, outcome: Option<Outcome>, changes: Vec<Change>)
+    requires { HasRoom standing.old.store.ready standing.old.store.spare changes.items }
+    ensures some { IfSome outcome (λ o. IsSettled standing.old standing.new place o changes.items) }
+    ensures none { IfNone outcome (standing.new ≡ standing.old) }
+{
+    if let Some(outcome) = outcome {
+        standing.settle(place, outcome, changes);
+    }
+}

@@ -1,0 +1,130 @@
+//! What comes of a verdict before it is read.
+ghost use Rattle.std.specs.Prelude.{◌≡◌, IfOk, IfNone, IfSome, None, Some, [], if◌then◌else◌};
+ghost use Rattle.canton_model.specs.Inbox.{shown_at};
+ghost use Rattle.canton_model.specs.Timeline.{is_approval, Decided, kind_of};
+ghost use Rattle.interpret.specs.Ids.{is_authentic};
+ghost use Rattle.ledger_model.specs.Forest.{acts};
+ghost use Rattle.view_split.specs.Placed.{shown_by};
+ghost use Rattle.sealed_form.specs.SealedReading.{sealed_reading};
+ghost use Rattle.inbox_standing.specs.ChangeLists.{changes_of};
+ghost use Rattle.node_inbox.specs.Coming.{IsTelling, changes_opened, is_told};
+ghost use Rattle.node_inbox.specs.Items.{model_items};
+ghost use Rattle.node_inbox.specs.Kept.{IsInbox};
+
+use crate::actions::{acts_of, changes_of, roots_of};
+use crate::items::request_at;
+use crate::kept_item::KeptItem;
+use crate::opening::open;
+use canton_model::{Decision, Outcome, Verdict};
+use confirm_reply::Setup;
+use inbox_standing::{Change, Standing};
+use ledger_terms::ParticipantId;
+use std::alloc::{AllocError, Global};
+
+/// A verdict that comes on a request that was received: the outcome by it, where it is the first on its request, and what it then
+/// changes.
+#[derive(Drop)]
+pub struct ComingVerdict {
+    pub verdict: Verdict,
+    pub first: Option<Outcome>,
+    pub changes: Vec<Change>,
+}
+
+fn outcome_by(decision: &Decision) -> Outcome
+    ensures { result ≡ kind_of (Decided decision.now) }
+{
+    match decision {
+        Decision::Approved => Outcome::Approved,
+        Decision::Rejected { .. } => Outcome::Rejected,
+        Decision::TimedOut { .. } => Outcome::TimedOut,
+    }
+}
+
+fn is_approval(decision: &Decision) -> bool
+    ensures { result ≡ is_approval (Some decision.now) }
+{
+    match decision {
+        Decision::Approved => true,
+        Decision::Rejected { .. } => false,
+        Decision::TimedOut { .. } => false,
+    }
+}
+
+// Whether a verdict came on the request.
+fn is_told(outcome: Option<Outcome>) -> bool
+    ensures { result ≡ is_told outcome }
+{
+    match outcome {
+        Some(Outcome::Undecided) => false,
+        Some(Outcome::Approved) => true,
+        Some(Outcome::Rejected) => true,
+        Some(Outcome::TimedOut) => true,
+        Some(Outcome::Expired) => false,
+        None => false,
+    }
+}
+
+fn copy_of(verdict: &Verdict) -> Result<Verdict, AllocError>
+    ensures { IfOk result (λ copy. copy ≡ verdict.now) }
+{
+    let copy = verdict.clone()?;
+    Ok(copy)
+}
+
+// The changes among the authentic actions that bytes open.
+fn changes_opened(alloc: Global, bytes: &[u8]) -> Result<Vec<Change>, AllocError>
+    ensures { IfOk result (λ changes. changes.items ≡ changes_opened bytes.now) }
+{
+    match open(alloc, bytes)? {
+        Some(tree) => {
+            let roots = roots_of(alloc, &tree.views)?;
+            let found = acts_of(alloc, &roots)?;
+            changes_of(alloc, found.as_slice())
+        }
+        None => Ok(Vec::new(alloc)),
+    }
+}
+
+// What a first verdict changes.
+fn changes_by(alloc: Global, decision: &Decision, bytes: &[u8]) -> Result<Vec<Change>, AllocError>
+    ensures { IfOk result (λ changes. changes.items ≡ (if is_approval (Some decision.now) then changes_opened bytes.now else [])) }
+{
+    if is_approval(decision) {
+        changes_opened(alloc, bytes)
+    } else {
+        Ok(Vec::new(alloc))
+    }
+}
+
+/// What comes of a verdict, and none exactly where its request wasn't received.
+pub fn telling(
+    alloc: Global,
+    setup: &Setup,
+    me: ParticipantId,
+    items: &[KeptItem],
+    standing: &Standing,
+    verdict: &Verdict,
+) -> Result<Option<ComingVerdict>, AllocError>
+    requires { IsInbox setup.now.topology setup.now.checked me items.now standing.now }
+    ensures none { IfOk result (λ o. IfNone o (shown_at (model_items items.now) verdict.now.request ≡ None)) }
+    ensures some { IfOk result (λ o. IfSome o (λ coming.
+        IsTelling (sealed_reading setup.now.topology setup.now.checked) (model_items items.now) verdict.now coming)) }
+{
+    let Some(kept) = request_at(items, verdict.request) else {
+        return Ok(None);
+    };
+    let told = copy_of(verdict)?;
+    if is_told(standing.outcome(verdict.request)) {
+        return Ok(Some(ComingVerdict {
+            verdict: told,
+            first: None,
+            changes: Vec::new(alloc),
+        }));
+    }
+    let changes = changes_by(alloc, &verdict.decision, kept.bytes.as_slice())?;
+    Ok(Some(ComingVerdict {
+        verdict: told,
+        first: Some(outcome_by(&verdict.decision)),
+        changes,
+    }))
+}

@@ -1,0 +1,5 @@
+pub mod Prepared
+pub mod Within
+pub mod Causes
+pub mod Hosted
+pub mod Machine

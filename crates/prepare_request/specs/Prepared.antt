@@ -1,0 +1,127 @@
+-- The request that a submission wants, or why it wants none.
+use Rattle.std.specs.Prelude.{ℕ, not, List, [], Option, Some, None, find, slice_get, Result, Ok, Err}
+use Rattle.ledger_terms.specs.Answers.{◌>>=◌}
+use Rattle.ledger_terms.specs.Hosting.{hosts_at}
+use Rattle.ledger_terms.specs.Trees.{Actions}
+use Rattle.ledger_terms.specs.declared.host.Host.{Host}
+use Rattle.ledger_terms.specs.declared.known.Known.{Known}
+use Rattle.ledger_terms.specs.declared.seed_of.SeedOf.{SeedOf}
+use Rattle.ledger_terms.specs.declared.submission.Submission.{Submission}
+use Rattle.ledger_terms.specs.declared.topology.Topology.{Topology}
+use Rattle.ledger_terms.specs.declared.tx.Tx.{Tx}
+use Rattle.ledger_terms.specs.declared.what.What.{What}
+use Rattle.ledger_terms.specs.declared.what.What.TheVariants.{Commands, Prepared}
+use Rattle.canton_model.specs.declared.request.Request.{Request}
+use Rattle.lang_eval.specs.Found.{Packages}
+use Rattle.lang_eval.specs.Parts.{PartyNames}
+use Rattle.interpret.specs.Filled.{filling}
+use Rattle.interpret.specs.Ids.{Hash, root_seed}
+use Rattle.interpret.specs.Interpreted.{interp}
+use Rattle.interpret.specs.declared.command_fault.CommandFault.{CommandFault}
+use Rattle.interpret.specs.declared.command_fault.CommandFault.TheVariants.{Memory as CommandMemory}
+use Rattle.view_split.specs.Faults.{views_of_tx}
+use Rattle.view_split.specs.declared.split_fault.SplitFault.{SplitFault}
+use Rattle.view_split.specs.declared.split_fault.SplitFault.TheVariants.{NoRoles, Memory as SplitMemory}
+use Rattle.view_split.specs.declared.views.Views.{Views}
+use Rattle.sealed_form.specs.SealedForm.{Whole, request_of}
+use Rattle.sealed_form.specs.Submission.{whole_with_seed}
+use Rattle.prepare_request.specs.declared.submit_fault.SubmitFault.{SubmitFault}
+use Rattle.prepare_request.specs.declared.submit_fault.SubmitFault.TheVariants.{NotHosted, Command, Split, Memory}
+
+-- ---- the transaction
+
+abbrev pub name_of : Option Host → List ℕ
+name_of None = []
+name_of (Some host) = host.name
+
+-- the name of the participant at an index
+abbrev pub name_at : Topology → ℕ → List ℕ
+name_at topology p = name_of (slice_get topology.hosts p)
+
+-- the seed that a prepared tree borrows, else its own
+abbrev pub borrowed_or : Option SeedOf → Hash → Hash
+borrowed_or None own = own
+borrowed_or (Some other) own = root_seed other.participant other.command
+
+-- where a participant's own seed for the command is this one
+abbrev pub seed_of_what : What → Hash → Hash
+seed_of_what (Commands commands) own = own
+seed_of_what (Prepared borrowed roots) own = borrowed_or borrowed own
+
+-- The seed of the transaction: that of the participant's command, or the one that a prepared tree borrows.
+abbrev pub seed_for : Topology → (me : ℕ) → Submission → Hash
+seed_for topology me what = seed_of_what what.what (root_seed (name_at topology me) what.command)
+
+-- what commands ask for, or a prepared tree with its seeds and ids
+abbrev pub actions_of : Packages → List Known → Hash → PartyNames → What → Result Actions CommandFault
+actions_of packages known seed act_as (Commands commands) = interp packages known seed act_as commands
+actions_of packages known seed act_as (Prepared borrowed roots) = filling known seed roots
+
+abbrev pub actions_for : Topology → Packages → (me : ℕ) → List Known → Submission → Result Actions CommandFault
+actions_for topology packages me known what = actions_of packages known (seed_for topology me what) what.act_as what.what
+
+-- the submission's own ledger time, else that of its round
+abbrev pub time_or : Option ℕ → (now : ℕ) → ℕ
+time_or None now = now
+time_or (Some time) now = time
+
+-- the transaction of these root actions
+abbrev pub tx_for : Topology → (me : ℕ) → Submission → (now : ℕ) → Actions → Tx
+tx_for topology me what now roots =
+    record { act_as = what.act_as; ledger_time = time_or what.ledger_time now; seed = seed_for topology me what; roots = roots }
+
+-- ---- the request
+
+abbrev pub whole_for : Topology → (me : ℕ) → Tx → Whole
+whole_for topology me tx = whole_with_seed (name_at topology me) tx
+
+abbrev pub request_with : Topology → Packages → (sender : ℕ) (command : List ℕ) → Whole → Request
+request_with topology packages sender command whole =
+    request_of topology packages sender whole.sender command whole.salts whole.transaction
+
+-- the sealed form of a transaction
+abbrev pub request_for : Topology → Packages → (me : ℕ) (command : List ℕ) → Tx → Request
+request_for topology packages me command tx = request_with topology packages me command (whole_for topology me tx)
+
+-- ---- its faults
+
+-- the first requester that the participant doesn't host
+abbrev pub first_unhosted : Topology → (me : ℕ) → PartyNames → Option (List ℕ)
+first_unhosted topology me act_as = find (λ party. not (hosts_at topology.hosts me party)) act_as
+
+abbrev pub unless_unhosted : Option (List ℕ) → Result Request SubmitFault → Result Request SubmitFault
+unless_unhosted None answer = answer
+unless_unhosted (Some party) answer = Err (NotHosted party)
+
+abbrev pub tx_where_wanted : Topology → (me : ℕ) → Submission → (now : ℕ) → Result Actions CommandFault → Result Tx SubmitFault
+tx_where_wanted topology me what now (Ok roots) = Ok (tx_for topology me what now roots)
+tx_where_wanted topology me what now (Err fault) = Err (Command fault)
+
+-- the transaction that the submission wants
+abbrev pub wanted_tx : Topology → Packages → (me : ℕ) → List Known → Submission → (now : ℕ) → Result Tx SubmitFault
+wanted_tx topology packages me known what now = tx_where_wanted topology me what now (actions_for topology packages me known what)
+
+abbrev pub where_split : Result Views SplitFault → Request → Result Request SubmitFault
+where_split (Ok views) request = Ok request
+where_split (Err fault) request = Err (Split fault)
+
+abbrev pub sealed_if_split : Topology → Packages → (me : ℕ) (command : List ℕ) → Tx → Result Request SubmitFault
+sealed_if_split topology packages me command tx = where_split (views_of_tx packages tx) (request_for topology packages me command tx)
+
+-- The requesters are tried first, then the commands or the prepared tree, then the roles of what they give. The contracts that
+-- are known are those that the participant offers.
+abbrev pub prepared : Topology → Packages → (me : ℕ) → List Known → Submission → (now : ℕ) → Result Request SubmitFault
+prepared topology packages me known what now =
+    unless_unhosted (first_unhosted topology me what.act_as)
+    (wanted_tx topology packages me known what now >>= sealed_if_split topology packages me what.command)
+
+-- ---- faults of the calls below
+
+-- want of memory is always Memory itself
+abbrev pub of_command : CommandFault → SubmitFault
+of_command CommandMemory = Memory
+of_command fault = Command fault
+
+abbrev pub of_split : SplitFault → SubmitFault
+of_split (NoRoles path) = Split (NoRoles path)
+of_split SplitMemory = Memory
