@@ -1,5 +1,5 @@
 """Writes the inputs and the expected outputs of crates/tree_cases, crates/request_cases, crates/form_cases,
-crates/check_cases and crates/run_cases from the tables of this folder.
+crates/check_cases, crates/load_cases and crates/run_cases from the tables of this folder.
 
 What a table says of a case by hand is compared with what is computed here, where both are there.
 """
@@ -9,10 +9,11 @@ import os
 import check_cases
 import form_cases
 import language
+import load_cases
 import request_cases
 import tree_cases
 from tables import bytes as byte_tables
-from tables import checks, expressions, package_faults, requests, runs, script_faults, transactions
+from tables import checks, expressions, package_faults, requests, runs, script_faults, transactions, words
 
 CRATES = os.path.join(os.path.dirname(os.path.dirname(os.path.abspath(__file__))), 'crates')
 
@@ -112,6 +113,20 @@ def call_rows(word, called, calls):
         yield '%s %s' % (word, words), [line]
 
 
+def word_rows():
+    for bars, worked in words.WORDS:
+        yield 'words' + bars, ['words' + bars, agreed(bars, load_cases.job_line(bars.split('|')[1:]), worked)]
+
+
+def generated_rows():
+    for count, seed, worked in words.GENERATED:
+        name = 'gen %d %d' % (count, seed)
+        lines = [name] + list(load_cases.script_lines(count, seed))
+        for line in worked:
+            agreed('%s has the line %s' % (name, line), line in lines, True)
+        yield name, lines
+
+
 def run_rows():
     for name, words, source, take, put, status, line, text in runs.cases():
         lines = ['run ' + name, 'status %d' % status] + ([] if line is None else [line])
@@ -140,6 +155,7 @@ def main():
         ('Views', view_rows()), ('Jobs', job_rows()),
         ('Trackers', call_rows('tracker', check_cases.Tracker(), checks.TRACKERS)),
         ('Stores', call_rows('store', check_cases.Store(), checks.STORES))])
+    write('load_cases', [('Words', word_rows()), ('Generated scripts', generated_rows())])
     write('run_cases', [('Whole runs', run_rows())])
 
 
