@@ -1,10 +1,10 @@
 #!/usr/bin/env python3
-"""Gives old names their new ones: docs/renames.py [--try] [FOLDER]
+"""Gives old names their new ones: docs/renames.py [--try] FOLDER
 
 Drafts that were written before the renaming pass are brought up to its names by this. The pairs below are words of code,
 definitions and proofs (never of comments, texts or documents), each with the crates in which the old word had the meaning that
-is renamed; no crate named means all. Folders of proofs and files of definitions are moved with their words. FOLDER is the root
-of a tree with a folder `crates`; the default is this one. --try prints what a word would clash with and changes nothing.
+is renamed; no crate named means all. Folders of proofs and files of definitions are moved with their words. FOLDER is the root of a
+draft's tree with a folder `crates`; this repository has its new names. --try prints what a word would clash with and changes nothing.
 """
 import os
 import re
@@ -93,7 +93,9 @@ def module_paths(text, inside):
 def main():
     words = [word for word in sys.argv[1:] if word != '--try']
     tries = '--try' in sys.argv
-    root = os.path.join(words[0] if words else os.path.dirname(os.path.dirname(os.path.abspath(__file__))), 'crates')
+    if len(words) != 1:
+        sys.exit(__doc__)
+    root = os.path.join(words[0], 'crates')
     for crate in sorted(os.listdir(root)):
         pairs = [(old, new) for old, new, where in WORDS if not where or crate in where.split()]
         top = os.path.join(root, crate)
