@@ -4,3 +4,4 @@ pub mod Completion
 pub mod Kept
 pub mod Answers
 pub mod Preparing
+pub mod Views

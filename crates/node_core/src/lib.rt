@@ -8,9 +8,13 @@ mod decisions;
 mod duties;
 pub mod laws;
 mod node;
+mod node_view;
 mod outbox;
+mod submit_result;
 
 pub use cancelled::Cancelled;
 pub use completion::Completion;
 pub use node::Node;
+pub use node_view::{NodeView, NodeViewList};
 pub use prepare_request::SubmitFault;
+pub use submit_result::{SubmitResult, SubmitResultList};

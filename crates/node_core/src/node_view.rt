@@ -1,0 +1,36 @@
+//! What a participant knows at its clean place.
+ghost use Rattle.std.specs.Prelude.{◌≡◌, IfOk};
+ghost use Rattle.node_core.specs.Views.{view_of};
+
+use crate::node::Node;
+use ledger_model::CommitList;
+use ledger_terms::{ActiveRowList, ListOf};
+use std::alloc::{AllocError, Global};
+
+/// What a participant knows at its clean place: the parts that it sees of the commits before it, those without an action
+/// left out, and the active contracts in order of creation.
+#[derive(Drop)]
+pub struct NodeView {
+    pub clean: u64,
+    /// The time of the entry before the clean place, in microseconds, or 0.
+    pub clean_time: u64,
+    pub commits: CommitList,
+    pub active: ActiveRowList,
+}
+
+/// The views of the participants, in order of the topology.
+pub type NodeViewList = ListOf<NodeView>;
+
+impl NodeView {
+    /// What a participant knows over what it has read. Opens each approved request again.
+    pub fn of(alloc: Global, node: &Node<'_>) -> Result<NodeView, AllocError>
+        ensures { IfOk result (λ view. view ≡ view_of node.now) }
+    {
+        Ok(NodeView {
+            clean: node.clean(),
+            clean_time: node.clean_time(),
+            commits: node.applied(alloc)?,
+            active: node.active(alloc)?,
+        })
+    }
+}
