@@ -10,3 +10,5 @@ pub mod Decides
 pub mod Submitting
 pub mod Events
 pub mod Becoming
+pub mod Results
+pub mod Flags

@@ -9,7 +9,9 @@ use Rattle.inbox_standing.specs.Changes.{changes_in}
 use Rattle.world_model.specs.Messages.{Request}
 use Rattle.world_model.specs.Machine.{Machine}
 use Rattle.sealed_form.specs.SealedReading.{sealed_reading}
-use Rattle.prepare_request.specs.Machine.{Offered, machine_over, prepare_over}
+use Rattle.prepare_request.specs.Machine.{Offered, machine_over, prepare_over, why_over}
+use Rattle.prepare_request.specs.declared.submit_fault.SubmitFault.{SubmitFault}
+use Rattle.world_model.specs.Rounds.{Why}
 use Rattle.node_core.specs.Preparing.{offered}
 
 -- what a participant with these items offers: the contracts at its cursor
@@ -24,3 +26,7 @@ wanted_request topology packages = prepare_over topology packages (offered_in to
 -- sealed requests are read and prepared, and there is a participant for each host
 abbrev pub machine_of : Topology → Packages → (capacity : ℕ) → Machine
 machine_of topology packages capacity = machine_over topology packages capacity (offered_in topology packages)
+
+-- why a submission wants no request, where it wants none
+abbrev pub why_of : Topology → Packages → Why SubmitFault
+why_of topology packages = why_over topology packages (offered_in topology packages)

@@ -1,0 +1,33 @@
+-- Results of submissions, in the words of the world model.
+use Rattle.std.specs.Prelude.{List, map}
+use Rattle.std.specs.List.{zip}
+use Rattle.ledger_terms.specs.declared.submission.Submission.{Submission}
+use Rattle.prepare_request.specs.Causes.{HoldsNoMemory}
+use Rattle.prepare_request.specs.declared.submit_fault.SubmitFault.{SubmitFault}
+use Rattle.prepare_request.specs.declared.submit_fault.SubmitFault.TheVariants.{Paused, NotHosted, Command, Split, Duplicate, LogFull, Memory}
+use Rattle.node_core.specs.declared.submit_result.SubmitResult.{SubmitResult}
+use Rattle.node_core.specs.declared.submit_result.SubmitResult.TheVariants.{Sent, Refused}
+use Rattle.world_model.specs.Rounds as w
+
+-- what is said of a submission that wants no request is its own fault
+abbrev pub fault_of : SubmitFault → w.SubmitFault SubmitFault
+fault_of Paused = w.Paused
+fault_of (NotHosted party) = w.Unwanted (NotHosted party)
+fault_of (Command fault) = w.Unwanted (Command fault)
+fault_of (Split fault) = w.Unwanted (Split fault)
+fault_of (Duplicate place) = w.Duplicate place
+fault_of (LogFull reserved need) = w.LogFull reserved need
+fault_of Memory = w.Unwanted Memory
+
+abbrev pub result_of : SubmitResult → w.SubmitResult SubmitFault
+result_of (Sent place read_to) = w.Sent place read_to
+result_of (Refused fault read_to) = w.Refused (fault_of fault) read_to
+
+-- submissions with their results
+abbrev pub results_of : List Submission → List SubmitResult → w.Results SubmitFault
+results_of submits results = zip submits (map result_of results)
+
+-- it doesn't say that memory was wanting
+abbrev pub IsPlainResult : SubmitResult → Type 0
+IsPlainResult (Sent place read_to) = Unit {0}
+IsPlainResult (Refused fault read_to) = HoldsNoMemory fault
