@@ -1,5 +1,5 @@
 -- Results of submissions, in the words of the world model.
-use Rattle.std.specs.Prelude.{List, map}
+use Rattle.std.specs.Prelude.{◌≢◌, List, map}
 use Rattle.std.specs.List.{zip}
 use Rattle.ledger_terms.specs.declared.submission.Submission.{Submission}
 use Rattle.prepare_request.specs.Causes.{HoldsNoMemory}
@@ -27,7 +27,7 @@ result_of (Refused fault read_to) = w.Refused (fault_of fault) read_to
 abbrev pub results_of : List Submission → List SubmitResult → w.Results SubmitFault
 results_of submits results = zip submits (map result_of results)
 
--- it doesn't say that memory was wanting
+-- it isn't want of memory, and doesn't hold one
 abbrev pub IsPlainResult : SubmitResult → Type 0
 IsPlainResult (Sent place read_to) = Unit {0}
-IsPlainResult (Refused fault read_to) = HoldsNoMemory fault
+IsPlainResult (Refused fault read_to) = (fault ≢ Memory) × HoldsNoMemory fault
