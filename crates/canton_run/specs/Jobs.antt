@@ -1,0 +1,40 @@
+-- What each job runs and writes.
+use Rattle.std.specs.Prelude.{◌≡◌, ℕ, ◌≤◌, List, Option, Ok, length}
+use Rattle.std.specs.Io.KnownBytes.{Consumes, IsAtEnd, Keeps}
+use Rattle.cli_words.specs.declared.job.Job.{Job}
+use Rattle.cli_words.specs.declared.job.Job.TheVariants.{Gen, Run}
+use Rattle.ledger_terms.specs.declared.limits.TheConstants.{MOST_PLACES, MOST_SCRIPT_BYTES}
+use Rattle.load_gen.specs.Generated.{generated}
+use Rattle.node_core.specs.Views.{views_over}
+use Rattle.node_core.specs.declared.node_view.NodeView.{NodeView}
+use Rattle.report_text.specs.Report.{report_of}
+use Rattle.report_text.specs.Totals.{summary_of}
+use Rattle.script_read.specs.Script.{script_in}
+use Rattle.script_read.specs.declared.script.Script.{Script}
+use Rattle.canton_run.specs.declared.finish.Finish.{Finish}
+use Rattle.canton_run.specs.Run.{params_of, reading_for}
+
+-- the bytes that the source gave, which was read to its end, within the limit
+abbrev pub ReadWhole : Option (List ℕ) → Option (List ℕ) → List ℕ → Type 0
+ReadWhole left left' bytes = Consumes left left' bytes × IsAtEnd left' × (length bytes ≤ MOST_SCRIPT_BYTES)
+
+-- the script of the source, or the generated one, for which nothing is read
+abbrev pub GivesScript : Job → Option (List ℕ) → Option (List ℕ) → Script → Type 0
+GivesScript (Run workers log) left left' script = (bytes : List ℕ) × ReadWhole left left' bytes × (script_in bytes ≡ Ok script)
+GivesScript (Gen count seed workers) left left' script = Keeps left left' × (script ≡ generated seed count)
+
+-- how many places of the log the requests may need
+abbrev pub capacity_of : Job → ℕ
+capacity_of (Run workers log) = log
+capacity_of (Gen count seed workers) = MOST_PLACES
+
+-- what each participant knows at its clean place over the whole log
+abbrev pub views_in : Script → Finish → List NodeView
+views_in script finish = views_over (reading_for script) (params_of script) finish.log (length (script.topology).hosts)
+
+-- the report of a run, or its summary
+abbrev pub text_of : Job → Script → Finish → List ℕ
+text_of (Run workers log) script finish =
+    report_of script.topology script.rounds finish.log finish.results (views_in script finish)
+text_of (Gen count seed workers) script finish =
+    summary_of script.topology finish.log finish.results (views_in script finish)
