@@ -1,4 +1,5 @@
 pub mod Levels
 pub mod Escapes
 pub mod Zipped
+pub mod FirstVerdicts
 pub mod OneMore
