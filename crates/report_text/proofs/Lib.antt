@@ -1,5 +1,4 @@
 pub mod Levels
 pub mod Escapes
 pub mod Zipped
-pub mod FirstVerdicts
 pub mod OneMore

@@ -1,5 +1,5 @@
 -- One entry more of a log that is read.
-use Rattle.std.proofs.Common.{◌≡◌, ℕ, ◌+◌, ◌<◌, ◌||◌, false, List, [], ◌∷◌, ◌++◌, length, get_or, take, max, nat_lt, Option, None, refl, ap, ◌∙◌, sym, arith}
+use Rattle.std.proofs.Common.{◌≡◌, ℕ, ◌+◌, ◌<◌, ◌||◌, false, List, [], ◌∷◌, ◌++◌, length, get_or, take, max, nat_lt, Option, Some, None, refl, ap, ◌∙◌, sym, arith}
 use Rattle.std.specs.Prelude.{option_copied}
 use Rattle.std.specs.Borrow.{Bor}
 use Rattle.std.specs.List.{list_any}
@@ -12,11 +12,14 @@ use Rattle.canton_model.specs.declared.entry.Entry.{Entry}
 use Rattle.canton_model.specs.Timeline.{Moment, moment_of, timeline_of, decision_on, or_else, verdict_on, is_past}
 use Rattle.canton_model.proofs.Decided.{verdict_on_append}
 use Rattle.report_text.specs.Decided.{Decides}
-use Rattle.report_text.proofs.FirstVerdicts.{or_none}
 
 -- what a loop has taken out of a list, with the next
 pub take-item : {A : Type 0} → (items xs : List A) (i : ℕ) (x : A) → items ≡ xs → i < length items → x ≡ get_or items i x → take (i + 1) xs ≡ take i xs ++ x ∷ []
 take-item items xs i x same within is = rw (← same) (take_more items i x within ∙ ap (λ z. take i items ++ z ∷ []) (sym is))
+
+or_none : {X : Type 0} → (o : Option X) → or_else o None ≡ o
+or_none None = refl
+or_none (Some x) = refl
 
 timeline-append : (front back : List Entry) → timeline_of (front ++ back) ≡ timeline_of front ++ timeline_of back
 timeline-append [] back = refl
