@@ -82,8 +82,8 @@ impl<'l> Outcomes<'l> {
         let mut verdicts = IndexMap::new(alloc);
         let mut latest = 0;
         'entries: for entry in log.as_slice() {
-            keep_first(&mut verdicts, &entry.message)?;
             latest = later(latest, entry.time);
+            keep_first(&mut verdicts, &entry.message)?;
         }
         Ok(Outcomes {
             log,
