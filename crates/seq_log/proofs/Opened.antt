@@ -6,9 +6,9 @@ use Rattle.std.specs.List.{filter, list_any}
 use Rattle.std.proofs.lemmas.Bool.{cases_Bool, ltb-false, le-ltb}
 use Rattle.std.proofs.lemmas.List.{length-map, take_all}
 use Rattle.canton_model.specs.Log.{Params, FollowsTime, TimesFrom, decision_time_of, request_at, request_in, request_of, time_of, verdict_of}
-use Rattle.canton_model.specs.Timeline.{decision_on, is_past, or_else, timeline_of, verdict_on}
+use Rattle.canton_model.specs.Timeline.{Moment, decision_on, is_past, moment_of, or_else, timeline_of, verdict_on}
 use Rattle.canton_model.proofs.Decided.{rising}
-use Rattle.world_model.specs.Messages.{Entry, Message, RequestMessage, ResponseMessage, VerdictMessage, Tick}
+use Rattle.world_model.specs.Messages.{Entry, Message, RequestMessage, ResponseMessage, VerdictMessage, Tick, Request}
 use Rattle.world_model.specs.Sequencing.{first_from, is_verdict_on, last_time, last_time_from}
 use Rattle.world_model.specs.Settled.{is_undecided}
 use Rattle.world_model.proofs.Completeness.{below_last}
@@ -63,11 +63,11 @@ past_any d (e ∷ list) = ap (λ (b : Bool). nat_lt d e.time || b) (past_any d l
 undecided_is : (params : Params) (list : List Entry) (j : ℕ)
     → is_undecided params list j ≡ not (has_verdict j list || has_later (decision_time_of params list j) list)
 undecided_is params list j =
-    let long : length (timeline_of list) ≡ length list = length-map _ list in
+    let long : length (timeline_of list) ≡ length list = length-map list moment_of in
     let d = decision_time_of params list j in
-    ap (λ xs. not (is_some (verdict_on j xs) || is_past d (take (length list + 1) (timeline_of list))))
-    (take_all (timeline_of list) (length list) (omega (arith, long)))
-    ∙ (ap (λ xs. not (is_some (verdict_on j (timeline_of list)) || is_past d xs)) (take_all (timeline_of list) (length list + 1) (omega (arith, long)))
+    ap (λ (xs : List Moment). not (is_some (verdict_on j xs) || is_past d (take (length list + 1) (timeline_of list))))
+    (take_all (length list) (timeline_of list) (omega (arith, long)))
+    ∙ (ap (λ (xs : List Moment). not (is_some (verdict_on j (timeline_of list)) || is_past d xs)) (take_all (length list + 1) (timeline_of list) (omega (arith, long)))
     ∙ (ap (λ (b : Bool). not (b || is_past d (timeline_of list))) (verdict_any j list)
     ∙ ap (λ (b : Bool). not (has_verdict j list || b)) (past_any d list)))
 
@@ -103,9 +103,9 @@ module _ (params : Params) (list : List Entry) (times : TimesFrom 0 list) where
 
   pub stays_open : (time i k : ℕ) → i ≤ k → k < length list → nat_lt (decision_time_of params list i) time ≡ false
       → nat_lt (decision_time_of params list k) time ≡ false
-  stays_open time i k le lt open =
+  stays_open time i k le lt within =
       let up = decisions_rise i k le lt in
-      let not_past = ltb-false (decision_time_of params list i) time open in
+      let not_past = ltb-false (decision_time_of params list i) time within in
       le-ltb (decision_time_of params list k) time (omega (arith, up, not_past))
 
 module _ (params : Params) (list : List Entry) (e : Entry) (times : TimesFrom 0 list) (follows : FollowsTime e.message (last_time list) e.time) where
@@ -119,7 +119,7 @@ module _ (params : Params) (list : List Entry) (e : Entry) (times : TimesFrom 0 
   open_on k lt =
       let d = decision_time_of params after k in
       let r = is_some (request_at list k) in
-      ap (λ o. is_some o && is_undecided params after k) (request_grown list (e ∷ []) k lt)
+      ap (λ (o : Option Request). is_some o && is_undecided params after k) (request_grown list (e ∷ []) k lt)
       ∙ (ap (λ (b : Bool). r && b) (undecided_is params after k)
       ∙ (ap (λ (b : Bool). r && not (b || has_later d after)) (any_more (λ (x : Entry). is_verdict_on k x.message) list e)
       ∙ (ap (λ (b : Bool). r && not ((has_verdict k list || is_verdict_on k e.message) || b)) (any_more (λ (x : Entry). nat_lt d x.time) list e)
@@ -137,7 +137,7 @@ module _ (params : Params) (list : List Entry) (e : Entry) (times : TimesFrom 0 
       let end = last_more list e in
       let none_later : has_later d after ≡ false =
       sym (past_any d after) ∙ below_last 0 after d (times_more list e times follows) (omega (arith, time, end)) in
-      ap (λ o. is_some (request_in o) && is_undecided params after n) last
+      ap (λ (o : Option Entry). is_some (request_in o) && is_undecided params after n) last
       ∙ (ap (λ (b : Bool). is_some (request_of e.message) && b) (undecided_is params after n)
       ∙ (ap (λ (b : Bool). is_some (request_of e.message) && not (has_verdict n after || b)) none_later
       ∙ (ap (λ (b : Bool). is_some (request_of e.message) && not (b || false)) (any_more (λ (x : Entry). is_verdict_on n x.message) list e)
@@ -154,32 +154,10 @@ module _ (params : Params) (list : List Entry) (e : Entry) (times : TimesFrom 0 
       no_verdict v n (VerdictMessage x) = refl
       no_verdict v n Tick = refl
 
-  pub opened_more : (decided : Bool) → decided ≡ has_verdict (length list) list → (before expired : List ℕ) → before ≡ open_requests params list
-      → expired ≡ after_front late before
-      → filter (λ k. not (is_verdict_on k e.message)) expired ++ place_if (is_some (request_of e.message) && not decided) (length list)
-      ≡ open_requests params after
-  opened_more decided is before expired was gone =
-      let n = length list in
-      let long : length after ≡ suc n = length-append list (e ∷ []) ∙ omega arith in
-      let all = times_more list e times follows in
-      let waiting : expired ≡ places_below (λ k. is_open params list k && not (late k)) n =
-      gone
-      ∙ (ap (after_front late) was
-      ∙ (front_filtered late 0 (places_below (is_open params list) n) n (places_rise (is_open params list) n)
-      (λ i k le lt. stays_open params after all e.time i k le (omega (arith, lt, long)))
-      ∙ filtered (is_open params list) (λ k. not (late k)) n)) in
-      let kept : filter (λ k. not (is_verdict_on k e.message)) expired ≡ places_below (is_open params after) n =
-      ap (filter (λ k. not (is_verdict_on k e.message))) waiting
-      ∙ (filtered (λ k. is_open params list k && not (late k)) (λ k. not (is_verdict_on k e.message)) n
-      ∙ sym (same_places (is_open params after) _ n open_on)) in
-      ap (λ (xs : List ℕ). xs ++ place_if (is_some (request_of e.message) && not decided) n) kept
-      ∙ (ap (λ (b : Bool). places_below (is_open params after) n ++ place_if (is_some (request_of e.message) && not b) n) is
-      ∙ (ap (λ (b : Bool). places_below (is_open params after) n ++ place_if b n) (sym open_here) ∙ ap (places_below (is_open params after)) (sym long)))
-
-  -- the places that are left rise
-  pub expired_rises : (before expired : List ℕ) → before ≡ open_requests params list → expired ≡ after_front late before
+  -- those that are left once late ones went
+  pub left_open : (before expired : List ℕ) → before ≡ open_requests params list → expired ≡ after_front late before
       → expired ≡ places_below (λ k. is_open params list k && not (late k)) (length list)
-  expired_rises before expired was gone =
+  left_open before expired was gone =
       let n = length list in
       let long : length after ≡ suc n = length-append list (e ∷ []) ∙ omega arith in
       let all = times_more list e times follows in
@@ -188,3 +166,19 @@ module _ (params : Params) (list : List Entry) (e : Entry) (times : TimesFrom 0 
       ∙ (front_filtered late 0 (places_below (is_open params list) n) n (places_rise (is_open params list) n)
       (λ i k le lt. stays_open params after all e.time i k le (omega (arith, lt, long)))
       ∙ filtered (is_open params list) (λ k. not (late k)) n))
+
+  pub opened_more : (decided : Bool) → decided ≡ has_verdict (length list) list → (before expired : List ℕ) → before ≡ open_requests params list
+      → expired ≡ after_front late before
+      → filter (λ k. not (is_verdict_on k e.message)) expired ++ place_if (is_some (request_of e.message) && not decided) (length list)
+      ≡ open_requests params after
+  opened_more decided is before expired was gone =
+      let n = length list in
+      let long : length after ≡ suc n = length-append list (e ∷ []) ∙ omega arith in
+      let waiting = left_open before expired was gone in
+      let kept : filter (λ k. not (is_verdict_on k e.message)) expired ≡ places_below (is_open params after) n =
+      ap (filter (λ k. not (is_verdict_on k e.message))) waiting
+      ∙ (filtered (λ k. is_open params list k && not (late k)) (λ k. not (is_verdict_on k e.message)) n
+      ∙ sym (same_places (is_open params after) _ n open_on)) in
+      ap (λ (xs : List ℕ). xs ++ place_if (is_some (request_of e.message) && not decided) n) kept
+      ∙ (ap (λ (b : Bool). places_below (is_open params after) n ++ place_if (is_some (request_of e.message) && not b) n) is
+      ∙ (ap (λ (b : Bool). places_below (is_open params after) n ++ place_if b n) (sym open_here) ∙ ap (places_below (is_open params after)) (sym long)))

@@ -9,6 +9,7 @@ use Rattle.std.proofs.lemmas.Option.{none-some, same_Some}
 use Rattle.canton_model.specs.Log.{request_of}
 use Rattle.world_model.specs.Messages.{Message, RequestMessage, ResponseMessage, VerdictMessage, Tick}
 use Rattle.world_model.specs.Sequencing.{is_verdict_on}
+use Rattle.world_model.proofs.Grown.{snoc_cases}
 use Rattle.seq_log.specs.OpenRequests.{RisesBetween, after_front, begins_with, place_if, places_below, unless_front}
 
 -- bounds
@@ -122,3 +123,18 @@ none_yet r (x ∷ xs) (suc at) k none there other =
 pub kept_by : (xs : List ℕ) (message : Message) → ((k : ℕ) → is_verdict_on k message ≡ false) → filter (λ k. not (is_verdict_on k message)) xs ≡ xs
 kept_by [] message no_verdict = refl
 kept_by (x ∷ xs) message no_verdict = let e = no_verdict x in rw e (ap (λ (ys : List ℕ). x ∷ ys) (kept_by xs message no_verdict))
+
+-- what stands among the places that pass a test
+pub place_passes : (test : ℕ → Bool) (n at k : ℕ) → slice_get (places_below test n) at ≡ Some k → (test k ≡ true) × (k < n)
+place_passes test zero at k there = absurd (none-some k there)
+place_passes test (suc n) at k there = by (test n) refl there
+  where
+    by : (b : Bool) → test n ≡ b → slice_get (places_below test n ++ place_if b n) at ≡ Some k → (test k ≡ true) × (k < suc n)
+    by true is here =
+        elim (snoc_cases (places_below test n) n at k here) [
+          | inl h ↦ let p = place_passes test n at k h.1 in let lt = p.1 in (p.0, omega (arith, lt))
+          | inr h ↦ let same : n ≡ k = h.1 in (ap test (sym same) ∙ is, omega (arith, same))
+        ]
+    by false is here =
+        let p = place_passes test n at k (ap (λ (xs : List ℕ). slice_get xs at) (sym (append-nil (places_below test n))) ∙ here) in
+        let lt = p.1 in (p.0, omega (arith, lt))

@@ -15,5 +15,5 @@ pub record IsIndexOf (index : LogIndex) (list : List Entry) : Type 0 where
   pub leads : Leads list (λ (key : Key). get key_eq index.places key)
   pub reserved : index.reserved ≡ s.reserved list
   pub last : index.last ≡ s.last_time list
-  pub open : index.open.places.items ≡ open_requests index.params list
+  pub open_places : index.open_requests.places.items ≡ open_requests index.params list
   pub times : TimesFrom 0 list

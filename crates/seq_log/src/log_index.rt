@@ -31,7 +31,7 @@ pub struct LogIndex {
     pub params: Params,
     pub capacity: u64,
     pub places: IndexMap<Key, u64>,
-    pub open: OpenRequests,
+    pub open_requests: OpenRequests,
     pub reserved: u64,
     pub last: u64,
 }
@@ -108,10 +108,10 @@ impl LogIndex {
         ensures made { (self.new.params ≡ self.old.params) × (self.new.capacity ≡ self.old.capacity) }
         ensures numbers { (self.new.reserved ≡ self.old.reserved) × (self.new.last ≡ self.old.last) }
         ensures room { OnOk result (0 < spare self.new.places) }
-        ensures open { OnOk result (deque_len self.new.open.places < deque_capacity self.new.open.places) }
+        ensures open_room { OnOk result (deque_len self.new.open_requests.places < deque_capacity self.new.open_requests.places) }
     {
         self.places.reserve(1)?;
-        self.open.reserve()
+        self.open_requests.reserve()
     }
 
     /// Notes one more entry, in the room that is there.
@@ -124,7 +124,7 @@ impl LogIndex {
         time: u64,
     )
         requires room { 0 < spare self.old.places }
-        requires open { deque_len self.old.open.places < deque_capacity self.old.open.places }
+        requires open_room { deque_len self.old.open_requests.places < deque_capacity self.old.open_requests.places }
         requires within { self.old.reserved + need ≤ self.old.capacity }
         ensures kept { (t : LogPrefix) (list : List Entry) (e : Entry) → Holds t slips.now.items → t.list ≡ list ++ e ∷ [] → IsIndexOf self.old list
             → length list ≡ place → key ≡ key_of e.message → need ≡ s.need_of e.message → time ≡ e.time → FollowsTime e.message self.old.last e.time
@@ -132,9 +132,9 @@ impl LogIndex {
         ensures made { (self.new.params ≡ self.old.params) × (self.new.capacity ≡ self.old.capacity) }
         ensures numbers { (self.new.reserved ≡ self.old.reserved + need) × (self.new.last ≡ time) }
     {
-        self.open.expire(slips, &self.params, time);
+        self.open_requests.expire(slips, &self.params, time);
         let is_decided = self.has_verdict(place);
-        self.open.follow(key, place, is_decided);
+        self.open_requests.follow(key, place, is_decided);
         put_place(&mut self.places, key, place);
         self.reserved += need;
         self.last = time;

@@ -58,7 +58,7 @@ fn make_room(slips: &mut Vec<Slip<'_>>, index: &mut LogIndex) -> Result<(), Allo
     ensures made { (index.new.params ≡ index.old.params) × (index.new.capacity ≡ index.old.capacity) }
     ensures numbers { (index.new.reserved ≡ index.old.reserved) × (index.new.last ≡ index.old.last) }
     ensures room { OnOk result ((vec_len slips.new < vec_capacity slips.new) × (0 < spare index.new.places)) }
-    ensures open { OnOk result (deque_len index.new.open.places < deque_capacity index.new.open.places) }
+    ensures open_room { OnOk result (deque_len index.new.open_requests.places < deque_capacity index.new.open_requests.places) }
 {
     slips.reserve(1)?;
     index.reserve()
@@ -83,7 +83,7 @@ impl<'r> Sequencer<'r> {
                 params,
                 capacity,
                 places: IndexMap::new(alloc),
-                open: OpenRequests {
+                open_requests: OpenRequests {
                     places: VecDeque::new(alloc),
                 },
                 reserved: 0,
@@ -154,7 +154,7 @@ impl<'r> Sequencer<'r> {
     pub fn open_requests(&self) -> &VecDeque<u64>
         ensures { result.now.items ≡ open_requests self.now.params self.now.list }
     {
-        &self.index.open.places
+        &self.index.open_requests.places
     }
 
     /// Whether a response of the participant to the request at a place stands in the log.

@@ -173,14 +173,14 @@ module _ (first : Kept) (s : Sequenced) where
   pub returner_starts : IsReturner first []
   returner_starts = record { returned_to = λ m state n i. i }
 
-  module _ (mediator : Kept) (places : List ℕ) (r : IsReturner mediator places) (k : ℕ) (open : is_open s.params s.list k ≡ true) where
+  module _ (mediator : Kept) (places : List ℕ) (r : IsReturner mediator places) (k : ℕ) (stays : is_open s.params s.list k ≡ true) where
     gives : (m : Machine) (state : MediatorState) (n : ℕ) → IsMediator m state n first s → (b : Bool) → nat_lt k mediator.cursor ≡ b
         → (is_some (request_at s.list k)
         && (is_undecided m.params s.list k && nat_lt k (fold (return_at m.params s.list) state places).cursor)) ≡ b
     gives m state n i b t =
         let now = r.returned_to m state n i in
-        let open' : is_open m.params s.list k ≡ true = ap (λ (q : Params). is_open q s.list k) (now.is_for).params ∙ open in
-        let both = and_parts (is_some (request_at s.list k)) (is_undecided m.params s.list k) open' in
+        let now_open : is_open m.params s.list k ≡ true = ap (λ (q : Params). is_open q s.list k) (now.is_for).params ∙ stays in
+        let both = and_parts (is_some (request_at s.list k)) (is_undecided m.params s.list k) now_open in
         rw (both.0, both.1) (ap (nat_lt k) (sym (now.keeps).cursor) ∙ t)
 
     pub returner_past : nat_lt k mediator.cursor ≡ false → IsReturner mediator (places ++ k ∷ [])

@@ -40,7 +40,7 @@ fn resume_node(node: &mut Node<'_>, sequencer: &mut Sequencer<'_>, at: usize)
     ensures resumed { (m : Machine) → IsParticipant m at node.old sequencer.old
         → node.new.state ≡ resumed m sequencer.old.list at node.old.state }
 {
-    'open: for number in 0..sequencer.open_requests().len() {
+    'places: for number in 0..sequencer.open_requests().len() {
         let place = sequencer.open_requests()[number];
         if must_resume(node, sequencer, place, at) {
             node.put_back(place);
@@ -84,7 +84,7 @@ fn resume_mediator(mediator: &mut Mediator, sequencer: &Sequencer<'_>)
     ensures returned { (m : Machine) (state : MediatorState) (n : ℕ) → IsMediator m state n mediator.old sequencer.now
         → IsMediator m (returned m.params sequencer.now.list state) n mediator.new sequencer.now }
 {
-    'open: for number in 0..sequencer.open_requests().len() {
+    'places: for number in 0..sequencer.open_requests().len() {
         let place = sequencer.open_requests()[number];
         if place < mediator.cursor() {
             mediator.give_back(place);
