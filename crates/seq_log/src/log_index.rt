@@ -132,8 +132,8 @@ impl LogIndex {
         ensures made { (self.new.params ≡ self.old.params) × (self.new.capacity ≡ self.old.capacity) }
         ensures numbers { (self.new.reserved ≡ self.old.reserved + need) × (self.new.last ≡ time) }
     {
-        self.open_requests.expire(slips, &self.params, time);
         let is_decided = self.has_verdict(place);
+        self.open_requests.expire(slips, &self.params, time);
         self.open_requests.follow(key, place, is_decided);
         put_place(&mut self.places, key, place);
         self.reserved += need;
