@@ -134,7 +134,7 @@ impl LogIndex {
     {
         let is_decided = self.has_verdict(place);
         self.open_requests.expire(slips, &self.params, time);
-        self.open_requests.follow(key, place, is_decided);
+        self.open_requests.follow(&key, place, is_decided);
         put_place(&mut self.places, key, place);
         self.reserved += need;
         self.last = time;

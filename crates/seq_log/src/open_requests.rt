@@ -59,6 +59,15 @@ impl OpenRequests {
         }
     }
 
+    fn add_unless(&mut self, is_decided: bool, place: u64)
+        requires room { deque_len self.old.places < deque_capacity self.old.places }
+        ensures { self.new.places.items ≡ self.old.places.items ++ place_if (not is_decided) place }
+    {
+        if !is_decided {
+            self.places.push_back_reserved(place);
+        }
+    }
+
     /// Makes room for one more.
     pub fn reserve(&mut self) -> Result<(), AllocError>
         ensures places { self.new.places.items ≡ self.old.places.items }
@@ -69,20 +78,17 @@ impl OpenRequests {
 
     /// Follows the entry at `place`, whose message has this key: a verdict decides its request, and a request is open unless a verdict
     /// on it stands before it.
-    pub fn follow(&mut self, key: Option<Key>, place: u64, is_decided: bool)
+    pub fn follow(&mut self, key: &Option<Key>, place: u64, is_decided: bool)
         requires room { deque_len self.old.places < deque_capacity self.old.places }
-        ensures { (message : Message) (low high : ℕ) → key ≡ key_of message → RisesBetween low self.old.places.items high
+        ensures { (message : Message) (low high : ℕ) → key.now ≡ key_of message → RisesBetween low self.old.places.items high
             → self.new.places.items ≡ filter (λ k. not (is_verdict_on k message)) self.old.places.items
             ++ place_if (is_some (request_of message) && not is_decided) place }
     {
         match key {
-            Some(Key::Request(_, _)) => {
-                if !is_decided {
-                    self.places.push_back_reserved(place);
-                }
-            }
-            Some(Key::Verdict(request)) => self.decide(request),
-            _ => {}
+            Some(Key::Request(_, _)) => self.add_unless(is_decided, place),
+            Some(Key::Verdict(request)) => self.decide(*request),
+            Some(Key::Response(_, _)) => {}
+            None => {}
         }
     }
 }
