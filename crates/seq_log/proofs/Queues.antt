@@ -1,13 +1,12 @@
 -- Rising lists of places.
 use Rattle.std.proofs.Common.{◌≡◌, ℕ, zero, suc, ◌+◌, ◌<◌, ◌≤◌, Bool, true, false, not, List, [], ◌∷◌, ◌++◌, take, drop, length, Some, slice_get}
-use Rattle.std.proofs.Common.{refl, sym, ap, ◌∙◌, inl, inr, arith, nat_eq, append-nil}
-use Rattle.std.specs.Prelude.{◌&&◌, ◌||◌, is_some}
+use Rattle.std.proofs.Common.{refl, sym, ap, ◌∙◌, subst, inl, inr, arith, nat_eq, append-nil}
+use Rattle.std.specs.Prelude.{◌&&◌, slice_index_or}
 use Rattle.std.specs.List.{filter, list_any}
-use Rattle.std.proofs.lemmas.Bool.{cases_Bool, eq-eqb, eqb-true}
+use Rattle.std.proofs.lemmas.Bool.{cases_Bool, eq-eqb, eqb-true, or_parts}
 use Rattle.std.proofs.lemmas.List.Elements.{filter-append}
 use Rattle.std.proofs.lemmas.Option.{none-some, same_Some}
-use Rattle.canton_model.specs.Log.{request_of}
-use Rattle.world_model.specs.Messages.{Message, RequestMessage, ResponseMessage, VerdictMessage, Tick}
+use Rattle.world_model.specs.Messages.{Message}
 use Rattle.world_model.specs.Sequencing.{is_verdict_on}
 use Rattle.world_model.proofs.Grown.{snoc_cases}
 use Rattle.seq_log.specs.OpenRequests.{RisesBetween, after_front, begins_with, place_if, places_below, unless_front}
@@ -23,11 +22,13 @@ rises_to low (x ∷ xs) high more h le = (h.0, rises_to (suc x) xs high more h.1
 
 pub places_rise : (test : ℕ → Bool) (n : ℕ) → RisesBetween 0 (places_below test n) n
 places_rise test zero = omega arith
-places_rise test (suc k) = by (test k)
+places_rise test (suc k) = by (test k) (places_rise test k)
   where
-    by : (b : Bool) → RisesBetween 0 (places_below test k ++ place_if b k) (suc k)
-    by true = rises_on 0 (places_below test k) k (suc k) (places_rise test k) (omega arith)
-    by false = rw (append-nil (places_below test k)) (rises_to 0 (places_below test k) k (suc k) (places_rise test k) (omega arith))
+    by : (b : Bool) → RisesBetween 0 (places_below test k) k → RisesBetween 0 (places_below test k ++ place_if b k) (suc k)
+    by true rises = rises_on 0 (places_below test k) k (suc k) rises (omega arith)
+    by false rises =
+        subst (λ (xs : List ℕ). RisesBetween 0 xs (suc k)) (sym (append-nil (places_below test k)))
+        (rises_to 0 (places_below test k) k (suc k) rises (omega arith))
 
 -- tests
 pub same_places : (f g : ℕ → Bool) (n : ℕ) → ((k : ℕ) → k < n → f k ≡ g k) → places_below f n ≡ places_below g n
@@ -51,7 +52,8 @@ filtered f test (suc k) =
 all_kept : (test : ℕ → Bool) (low : ℕ) (xs : List ℕ) (high : ℕ) → RisesBetween low xs high → ((k : ℕ) → low ≤ k → k < high → test k ≡ true) → filter test xs ≡ xs
 all_kept test low [] high h all = refl
 all_kept test low (x ∷ xs) high h all =
-    let within : x < high = below (suc x) xs high h.1 in
+    let up = below (suc x) xs high h.1 in
+    let within : x < high = omega (arith, up) in
     let here : test x ≡ true = all x h.0 within in
     let low_is = h.0 in
     rw here (ap (λ (ys : List ℕ). x ∷ ys) (all_kept test (suc x) xs high h.1 (λ k le lt. all k (omega (arith, le, low_is)) lt)))
@@ -78,6 +80,12 @@ pub front_ends : (test : ℕ → Bool) (xs : List ℕ) → begins_with test xs �
 front_ends test [] h = refl
 front_ends test (x ∷ xs) h = rw h refl
 
+-- what an index reads
+pub item_at : (xs : List ℕ) (at x : ℕ) → at < length xs → slice_get xs at ≡ Some (slice_index_or xs at x)
+item_at [] at x lt = absurd (omega (arith, lt))
+item_at (y ∷ ys) zero x lt = refl
+item_at (y ∷ ys) (suc at) x lt = item_at ys at x (omega (arith, lt))
+
 -- one place goes
 others : (r low : ℕ) (xs : List ℕ) (high : ℕ) → RisesBetween low xs high → r < low → filter (λ k. not (nat_eq r k)) xs ≡ xs
 others r low xs high h lt = all_kept (λ k. not (nat_eq r k)) low xs high h (λ k le below. ap not (apart r k (omega (arith, le, lt))))
@@ -93,31 +101,26 @@ one_gone r low (x ∷ xs) high zero h none found =
     let e : nat_eq r x ≡ true = eq-eqb r x (sym same) in
     rw e (sym (others r (suc x) xs high h.1 (omega (arith, same))))
 one_gone r low (x ∷ xs) high (suc at) h none found =
-    elim (cases_Bool (nat_eq r x)) [
-      | inl b ↦ let no : true ≡ false = rw b at none in absurd (cc)
-      | inr b ↦
-          let later : list_any (nat_eq r) (take at xs) ≡ false = rw b at none in
-          rw b (ap (λ (ys : List ℕ). x ∷ ys) (one_gone r (suc x) xs high at h.1 later found))
-    ]
+    let apart = or_parts (nat_eq r x) (list_any (nat_eq r) (take at xs)) none in
+    let here = apart.0 in
+    rw here (ap (λ (ys : List ℕ). x ∷ ys) (one_gone r (suc x) xs high at h.1 apart.1 found))
 
 pub none_gone : (r : ℕ) (xs : List ℕ) → list_any (nat_eq r) xs ≡ false → xs ≡ filter (λ k. not (nat_eq r k)) xs
 none_gone r [] none = refl
 none_gone r (x ∷ xs) none =
-    elim (cases_Bool (nat_eq r x)) [
-      | inl b ↦ let no : true ≡ false = rw b at none in absurd (cc)
-      | inr b ↦ let later : list_any (nat_eq r) xs ≡ false = rw b at none in rw b (ap (λ (ys : List ℕ). x ∷ ys) (none_gone r xs later))
-    ]
+    let apart = or_parts (nat_eq r x) (list_any (nat_eq r) xs) none in
+    let here = apart.0 in
+    rw here (ap (λ (ys : List ℕ). x ∷ ys) (none_gone r xs apart.1))
 
 pub none_yet : (r : ℕ) (xs : List ℕ) (at k : ℕ) → list_any (nat_eq r) (take at xs) ≡ false → slice_get xs at ≡ Some k → nat_eq r k ≡ false
     → list_any (nat_eq r) (take (suc at) xs) ≡ false
 none_yet r [] at k none there other = refl
 none_yet r (x ∷ xs) zero k none there other =
-    let e : nat_eq r x ≡ false = ap (nat_eq r) (same_Some x k there) ∙ other in rw e refl
+    let here : nat_eq r x ≡ false = ap (nat_eq r) (same_Some x k there) ∙ other in rw here refl
 none_yet r (x ∷ xs) (suc at) k none there other =
-    elim (cases_Bool (nat_eq r x)) [
-      | inl b ↦ let no : true ≡ false = rw b at none in absurd (cc)
-      | inr b ↦ let later : list_any (nat_eq r) (take at xs) ≡ false = rw b at none in rw b (none_yet r xs at k later there other)
-    ]
+    let apart = or_parts (nat_eq r x) (list_any (nat_eq r) (take at xs)) none in
+    let here = apart.0 in
+    rw here (none_yet r xs at k apart.1 there other)
 
 -- a message that is no verdict
 pub kept_by : (xs : List ℕ) (message : Message) → ((k : ℕ) → is_verdict_on k message ≡ false) → filter (λ k. not (is_verdict_on k message)) xs ≡ xs
@@ -127,14 +130,15 @@ kept_by (x ∷ xs) message no_verdict = let e = no_verdict x in rw e (ap (λ (ys
 -- what stands among the places that pass a test
 pub place_passes : (test : ℕ → Bool) (n at k : ℕ) → slice_get (places_below test n) at ≡ Some k → (test k ≡ true) × (k < n)
 place_passes test zero at k there = absurd (none-some k there)
-place_passes test (suc n) at k there = by (test n) refl there
+place_passes test (suc n) at k there = by (test n) refl (place_passes test n at k) there
   where
-    by : (b : Bool) → test n ≡ b → slice_get (places_below test n ++ place_if b n) at ≡ Some k → (test k ≡ true) × (k < suc n)
-    by true is here =
+    by : (b : Bool) → test n ≡ b → (slice_get (places_below test n) at ≡ Some k → (test k ≡ true) × (k < n))
+        → slice_get (places_below test n ++ place_if b n) at ≡ Some k → (test k ≡ true) × (k < suc n)
+    by true is before here =
         elim (snoc_cases (places_below test n) n at k here) [
-          | inl h ↦ let p = place_passes test n at k h.1 in let lt = p.1 in (p.0, omega (arith, lt))
+          | inl h ↦ let p = before h.1 in let lt = p.1 in (p.0, omega (arith, lt))
           | inr h ↦ let same : n ≡ k = h.1 in (ap test (sym same) ∙ is, omega (arith, same))
         ]
-    by false is here =
-        let p = place_passes test n at k (ap (λ (xs : List ℕ). slice_get xs at) (sym (append-nil (places_below test n))) ∙ here) in
+    by false is before here =
+        let p = before (ap (λ (xs : List ℕ). slice_get xs at) (sym (append-nil (places_below test n))) ∙ here) in
         let lt = p.1 in (p.0, omega (arith, lt))

@@ -1,5 +1,5 @@
 //! The requests that are undecided in the whole log.
-ghost use Rattle.std.specs.Prelude.{◌≡◌, ◌+◌, ◌<◌, ◌≤◌, ◌^◌, ◌&&◌, ◌++◌, ◌∷◌, [], ℕ, not, filter, is_some, length, nat_eq, nat_lt, OnOk};
+ghost use Rattle.std.specs.Prelude.{◌≡◌, ◌+◌, ◌<◌, ◌≤◌, ◌^◌, ◌&&◌, ◌++◌, ◌∷◌, [], ℕ, true, not, filter, is_some, length, nat_eq, nat_lt, OnOk};
 ghost use Rattle.std.specs.VecDeque.{deque_len, deque_capacity};
 ghost use Rattle.canton_model.specs.Log.{decision_time_of, request_of};
 ghost use Rattle.log_row.specs.LogPrefix.{LogPrefix};
@@ -25,7 +25,8 @@ pub struct OpenRequests {
 impl OpenRequests {
     // The first one's decision time lies before this time.
     fn begins_past(&self, slips: &Vec<Slip<'_>>, params: &Params, time: u64) -> bool
-        ensures { (t : LogPrefix) → Holds t slips.now.items
+        ensures some { result ≡ true → 0 < deque_len self.now.places }
+        ensures past { (t : LogPrefix) → Holds t slips.now.items
             → result ≡ begins_with (λ k. nat_lt (decision_time_of params.now t.list k) time) self.now.places.items }
     {
         match self.places.front() {

@@ -43,11 +43,12 @@ module _ {X : Type 0} (step : X → ℕ → X) (test : ℕ → Bool) (rest : (x 
 
   open_only : (x : X) (n : ℕ) → fold step x (places_below test n) ≡ all_below x n
   open_only x zero = refl
-  open_only x (suc k) = by (test k) refl
+  open_only x (suc k) = by (test k) refl (open_only x k)
     where
-      by : (b : Bool) → test k ≡ b → fold step x (places_below test k ++ place_if b k) ≡ step (all_below x k) k
-      by true is = fold_on step x (places_below test k) k ∙ ap (λ (y : X). step y k) (open_only x k)
-      by false is = ap (fold step x) (append-nil (places_below test k)) ∙ (open_only x k ∙ sym (rest (all_below x k) k is))
+      by : (b : Bool) → test k ≡ b → fold step x (places_below test k) ≡ all_below x k
+          → fold step x (places_below test k ++ place_if b k) ≡ step (all_below x k) k
+      by true is before = fold_on step x (places_below test k) k ∙ ap (λ (y : X). step y k) before
+      by false is before = ap (fold step x) (append-nil (places_below test k)) ∙ (before ∙ sym (rest (all_below x k) k is))
 
 not_asked : (reading : Reading) (p : ParticipantId) (o : Option Request) (h u : Bool) → (is_some o && u) ≡ false
     → (is_asked_in reading p o && (not h && u)) ≡ false
