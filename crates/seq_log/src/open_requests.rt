@@ -1,5 +1,5 @@
 //! The requests that are undecided in the whole log.
-ghost use Rattle.std.specs.Prelude.{◌≡◌, ◌+◌, ◌<◌, ◌≤◌, ◌^◌, ◌&&◌, ◌++◌, ◌∷◌, [], ℕ, true, not, filter, is_some, length, nat_eq, nat_lt, OnOk};
+ghost use Rattle.std.specs.Prelude.{◌≡◌, ◌+◌, ◌<◌, ◌≤◌, ◌^◌, ◌&&◌, ◌++◌, ◌∷◌, [], ℕ, true, Some, not, filter, is_some, length, nat_eq, nat_lt, OnOk};
 ghost use Rattle.std.specs.VecDeque.{deque_len, deque_capacity};
 ghost use Rattle.canton_model.specs.Log.{decision_time_of, request_of};
 ghost use Rattle.log_row.specs.LogPrefix.{LogPrefix};
@@ -77,6 +77,19 @@ impl OpenRequests {
         self.places.reserve(1)
     }
 
+    fn follow_key(&mut self, key: &Key, place: u64, is_decided: bool)
+        requires room { deque_len self.old.places < deque_capacity self.old.places }
+        ensures { (message : Message) (low high : ℕ) → Some key.now ≡ key_of message → RisesBetween low self.old.places.items high
+            → self.new.places.items ≡ filter (λ k. not (is_verdict_on k message)) self.old.places.items
+            ++ place_if (is_some (request_of message) && not is_decided) place }
+    {
+        match key {
+            Key::Request(_, _) => self.add_unless(is_decided, place),
+            Key::Verdict(request) => self.decide(*request),
+            Key::Response(_, _) => {}
+        }
+    }
+
     /// Follows the entry at `place`, whose message has this key: a verdict decides its request, and a request is open unless a verdict
     /// on it stands before it.
     pub fn follow(&mut self, key: &Option<Key>, place: u64, is_decided: bool)
@@ -85,11 +98,8 @@ impl OpenRequests {
             → self.new.places.items ≡ filter (λ k. not (is_verdict_on k message)) self.old.places.items
             ++ place_if (is_some (request_of message) && not is_decided) place }
     {
-        match key {
-            Some(Key::Request(_, _)) => self.add_unless(is_decided, place),
-            Some(Key::Verdict(request)) => self.decide(*request),
-            Some(Key::Response(_, _)) => {}
-            None => {}
+        if let Some(key) = key {
+            self.follow_key(key, place, is_decided);
         }
     }
 }

@@ -1,8 +1,9 @@
 -- What is put back, and given back, open request after open request.
-use Rattle.std.proofs.Common.{◌≡◌, ℕ, zero, suc, ◌+◌, ◌<◌, Bool, true, false, not, List, [], ◌∷◌, ◌++◌, take, length, map, Option, Some, None, refl, sym, ap}
+use Rattle.std.proofs.Common.{◌≡◌, ℕ, zero, suc, ◌+◌, ◌<◌, ◌≤◌, Bool, true, false, not, List, [], ◌∷◌, ◌++◌, take, length, map, Option, Some, None, refl, sym, ap}
 use Rattle.std.proofs.Common.{◌∙◌, subst, inl, inr, arith, append-nil}
-use Rattle.std.specs.Prelude.{slice_get, is_some, nat_lt, ◌&&◌, fold}
+use Rattle.std.specs.Prelude.{slice_get, slice_index_or, is_some, nat_lt, ◌&&◌, fold}
 use Rattle.std.proofs.lemmas.Bool.{and_parts, cases_Bool, ltb-true}
+use Rattle.std.proofs.lemmas.List.{take_all}
 use Rattle.std.proofs.lemmas.Option.{slice_get_within}
 use Rattle.ledger_model.specs.Terms.{ParticipantId}
 use Rattle.canton_model.specs.Log.{Params, request_at, request_in}
@@ -17,16 +18,17 @@ use Rattle.world_model.specs.Settling.{resume_at, resume_below, resumed, resume_
 use Rattle.canton_model.specs.Inbox.{Item}
 use Rattle.world_model.specs.Lawful.{Lawful}
 use Rattle.world_model.proofs.NodeFacts.{owes_is}
-use Rattle.world_model.proofs.Steps.{mediator_has_back}
+use Rattle.world_model.proofs.Steps.{mediator_has_back, take_next}
 use Rattle.mediator.specs.Kept.{Kept, Keeps}
 use Rattle.seq_log.specs.OpenRequests.{is_open, open_requests, place_if, places_below}
 use Rattle.seq_log.specs.Sequenced.{Sequenced, IsFor}
+use Rattle.seq_log.proofs.Queues.{place_passes}
 use Rattle.node_core.specs.Participant.{Participant as NodeValue, reading_of, with_state}
 use Rattle.world_play.specs.Standing.{IsMediator, IsParticipant}
 use Rattle.world_play.specs.Worlds.{state_of, world_with, AreNodesOf}
 use Rattle.world_play.proofs.Moved.{from_machine}
 use Rattle.world_play.proofs.Each.{AreDone}
-use Rattle.world_play.proofs.Passing.{in_turn}
+use Rattle.world_play.proofs.Passing.{in_turn, item_at}
 use Rattle.world_play.proofs.Turns.{cursor_of}
 
 -- what is open is all that can be due
@@ -75,6 +77,22 @@ closed_returns params log mediator k closed = elim (cases_Bool (is_some (request
 -- the open requests of a sequencer
 abbrev pub open_of : Sequenced → List ℕ
 open_of s = open_requests s.params s.list
+
+pub open_at : (s q : Sequenced) → q ≡ s → (places : List ℕ) → places ≡ open_of q → (n k : ℕ) → n < length places
+    → k ≡ slice_index_or places n k → slice_get (open_of s) n ≡ Some k
+open_at s q same places is n k lt read =
+    ap (λ (xs : List ℕ). slice_get xs n) (sym (is ∙ ap open_of same)) ∙ (item_at places n k lt ∙ ap Some (sym read))
+
+pub open_passes : (s : Sequenced) (n k : ℕ) → slice_get (open_of s) n ≡ Some k → is_open s.params s.list k ≡ true
+open_passes s n k there = (place_passes (is_open s.params s.list) (length s.list) n k there).0
+
+pub one_more : (s : Sequenced) (n k : ℕ) → slice_get (open_of s) n ≡ Some k → take n (open_of s) ++ k ∷ [] ≡ take (n + 1) (open_of s)
+one_more s n k there =
+    let one : suc n ≡ n + 1 = omega arith in
+    sym (take_next n (open_of s) k there) ∙ ap (λ (i : ℕ). take i (open_of s)) one
+
+pub all_taken : (s : Sequenced) (n : ℕ) → length (open_of s) ≤ n → take n (open_of s) ≡ open_of s
+all_taken s n le = take_all n (open_of s) le
 
 resumed_open : (m : Machine) (s : Sequenced) → IsFor m s → (p : ParticipantId) (node : NodeState)
     → fold (resume_at m s.list p) node (open_requests s.params s.list) ≡ resumed m s.list p node
