@@ -2,7 +2,7 @@
 use Rattle.std.proofs.Common.{◌≡◌, ℕ, zero, suc, ◌+◌, ◌<◌, ◌≤◌, Bool, true, false, not, List, [], ◌∷◌, ◌++◌, take, length, map, Option, Some, None, refl, sym, ap}
 use Rattle.std.proofs.Common.{◌∙◌, subst, inl, inr, arith, append-nil}
 use Rattle.std.specs.Prelude.{slice_get, slice_index_or, is_some, nat_lt, ◌&&◌, fold}
-use Rattle.std.proofs.lemmas.Bool.{and_parts, cases_Bool, ltb-true}
+use Rattle.std.proofs.lemmas.Bool.{and_parts, cases_Bool, le-ltb, lt-ltb, ltb-true}
 use Rattle.std.proofs.lemmas.List.{take_all}
 use Rattle.std.proofs.lemmas.Option.{slice_get_within}
 use Rattle.ledger_model.specs.Terms.{ParticipantId}
@@ -31,26 +31,25 @@ use Rattle.world_play.proofs.Each.{AreDone}
 use Rattle.world_play.proofs.Passing.{in_turn, item_at}
 use Rattle.world_play.proofs.Turns.{cursor_of}
 
--- what is open is all that can be due
+-- a walk over all places that does nothing where a test fails is one over the places where it holds
 module _ {X : Type 0} (step : X → ℕ → X) where
   pub fold_on : (x : X) (xs : List ℕ) (k : ℕ) → fold step x (xs ++ k ∷ []) ≡ step (fold step x xs) k
   fold_on x [] k = refl
   fold_on x (i ∷ xs) k = fold_on (step x i) xs k
 
--- a walk over all places that does nothing where a test fails is one over the places where it holds
-module _ {X : Type 0} (step : X → ℕ → X) (test : ℕ → Bool) (rest : (x : X) (k : ℕ) → test k ≡ false → step x k ≡ x) where
-  all_below : X → ℕ → X
+  abbrev all_below : X → ℕ → X
   all_below x zero = x
   all_below x (suc k) = step (all_below x k) k
 
-  open_only : (x : X) (n : ℕ) → fold step x (places_below test n) ≡ all_below x n
-  open_only x zero = refl
-  open_only x (suc k) = by (test k) refl (open_only x k)
-    where
-      by : (b : Bool) → test k ≡ b → fold step x (places_below test k) ≡ all_below x k
-          → fold step x (places_below test k ++ place_if b k) ≡ step (all_below x k) k
-      by true is before = fold_on step x (places_below test k) k ∙ ap (λ (y : X). step y k) before
-      by false is before = ap (fold step x) (append-nil (places_below test k)) ∙ (before ∙ sym (rest (all_below x k) k is))
+open_only : {X : Type 0} (step : X → ℕ → X) (test : ℕ → Bool) → ((x : X) (k : ℕ) → test k ≡ false → step x k ≡ x) → (x : X) (n : ℕ)
+    → fold step x (places_below test n) ≡ all_below step x n
+open_only step test rest x zero = refl
+open_only {X} step test rest x (suc k) = by (test k) refl (open_only step test rest x k)
+  where
+    by : (b : Bool) → test k ≡ b → fold step x (places_below test k) ≡ all_below step x k
+        → fold step x (places_below test k ++ place_if b k) ≡ step (all_below step x k) k
+    by true is before = fold_on step x (places_below test k) k ∙ ap (λ (y : X). step y k) before
+    by false is before = ap (fold step x) (append-nil (places_below test k)) ∙ (before ∙ sym (rest (all_below step x k) k is))
 
 not_asked : (reading : Reading) (p : ParticipantId) (o : Option Request) (h u : Bool) → (is_some o && u) ≡ false
     → (is_asked_in reading p o && (not h && u)) ≡ false
@@ -83,6 +82,13 @@ pub open_at : (s q : Sequenced) → q ≡ s → (places : List ℕ) → places �
 open_at s q same places is n k lt read =
     ap (λ (xs : List ℕ). slice_get xs n) (sym (is ∙ ap open_of same)) ∙ (item_at places n k lt ∙ ap Some (sym read))
 
+pub within_open : (s q : Sequenced) → q ≡ s → (first now : List ℕ) → first ≡ open_of s → now ≡ open_of q → (n end long : ℕ) → n < end → end ≡ long
+    → long ≡ length first → n < length now
+within_open s q same first now was is n end long lt ends fits =
+    let a = ap length was in
+    let b = ap length is in
+    let c = ap (λ (x : Sequenced). length (open_of x)) same in omega (arith, lt, ends, fits, a, b, c)
+
 pub open_passes : (s : Sequenced) (n k : ℕ) → slice_get (open_of s) n ≡ Some k → is_open s.params s.list k ≡ true
 open_passes s n k there = (place_passes (is_open s.params s.list) (length s.list) n k there).0
 
@@ -100,7 +106,7 @@ resumed_open m s f p node =
     ap (λ (q : Params). fold (resume_at m s.list p) node (open_requests q s.list)) (sym f.params)
     ∙ (open_only (resume_at m s.list p) (is_open m.params s.list) (closed_rests m s.list p) node (length s.list) ∙ below (length s.list))
   where
-    below : (n : ℕ) → all_below (resume_at m s.list p) (is_open m.params s.list) (closed_rests m s.list p) node n ≡ resume_below m s.list p node n
+    below : (n : ℕ) → all_below (resume_at m s.list p) node n ≡ resume_below m s.list p node n
     below zero = refl
     below (suc k) = ap (λ (x : NodeState). resume_at m s.list p x k) (below k)
 
@@ -110,8 +116,7 @@ returned_open m s f mediator =
     ap (λ (q : Params). fold (return_at m.params s.list) mediator (open_requests q s.list)) (sym f.params)
     ∙ (open_only (return_at m.params s.list) (is_open m.params s.list) (closed_returns m.params s.list) mediator (length s.list) ∙ below (length s.list))
   where
-    below : (n : ℕ) → all_below (return_at m.params s.list) (is_open m.params s.list) (closed_returns m.params s.list) mediator n
-        ≡ return_below m.params s.list mediator n
+    below : (n : ℕ) → all_below (return_at m.params s.list) mediator n ≡ return_below m.params s.list mediator n
     below zero = refl
     below (suc k) = ap (λ (x : MediatorState). return_at m.params s.list x k) (below k)
 
@@ -202,19 +207,19 @@ module _ (first : Kept) (s : Sequenced) where
         let both = and_parts (is_some (request_at s.list k)) (is_undecided m.params s.list k) now_open in
         rw (both.0, both.1) (ap (nat_lt k) (sym (now.keeps).cursor) ∙ t)
 
-    pub returner_past : nat_lt k mediator.cursor ≡ false → IsReturner mediator (places ++ k ∷ [])
-    returner_past no_test =
+    pub returner_past : mediator.cursor ≤ k → IsReturner mediator (places ++ k ∷ [])
+    returner_past past =
         record {
           returned_to = λ m state n i.
-              let h = gives m state n i false no_test in rw (fold_on (return_at m.params s.list) state places k, h) (r.returned_to m state n i);
+              let h = gives m state n i false (le-ltb k mediator.cursor past) in rw (fold_on (return_at m.params s.list) state places k, h) (r.returned_to m state n i);
         }
 
-    pub returner_on : nat_lt k mediator.cursor ≡ true → (after : Kept) → after.params ≡ mediator.params
+    pub returner_on : k < mediator.cursor → (after : Kept) → after.params ≡ mediator.params
         → ((state : MediatorState) → Keeps mediator state → Keeps after (give_back state k)) → IsReturner after (places ++ k ∷ [])
-    returner_on yes_test after same step =
+    returner_on read after same step =
         record {
           returned_to = λ m state n i.
-              let h = gives m state n i true yes_test in
+              let h = gives m state n i true (lt-ltb k mediator.cursor read) in
               let now = r.returned_to m state n i in
               rw (fold_on (return_at m.params s.list) state places k, h) (given_back m (fold (return_at m.params s.list) state places) n now);
         }

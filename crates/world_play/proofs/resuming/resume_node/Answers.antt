@@ -1,4 +1,4 @@
-use Rattle.std.proofs.Common.{◌≡◌, ◌+◌, ◌<◌, ◌≤◌, ◌++◌, ◌∷◌, [], ℕ, List, Bool, length, take, sym, ap, ◌∙◌, subst, arith}
+use Rattle.std.proofs.Common.{◌≡◌, ◌+◌, ◌<◌, ◌≤◌, ◌++◌, ◌∷◌, [], ℕ, List, Bool, true, length, take, sym, ap, ◌∙◌, subst, arith}
 use Rattle.std.specs.Prelude.{nat_lt, ◌&&◌}
 use Rattle.world_model.specs.Machine.{Machine, GenuineLog}
 use Rattle.world_model.specs.Settled.{is_due}
@@ -6,29 +6,31 @@ use Rattle.seq_log.specs.OpenRequests.{is_open}
 use Rattle.seq_log.specs.Sequenced.{Sequenced, IsFor}
 use Rattle.node_core.specs.Participant.{Participant as NodeValue}
 use Rattle.world_play.specs.Standing.{IsParticipant}
-use Rattle.world_play.proofs.Resumes.{IsResumer, all_taken, may_put_back, one_more, open_at, open_of, open_passes, resumer_on, resumer_past, resumer_ends}
+use Rattle.world_play.proofs.Resumes.{IsResumer, all_taken, may_put_back, one_more, open_at, open_of, open_passes, within_open, resumer_on, resumer_past, resumer_ends}
 use Rattle.world_play.proofs.resuming.resume_node.Goals as goal
 use Rattle.world_play.proofs.resuming.resume_node.Goals.{then-must_resume, else-must_resume}
 
 pub index-place-requires : goal.index-place-requires
 index-place-requires c =
-    let inside = c.places-test.true in
-    let end = c.len-number-end.ensures in
-    let before = c.open_requests-number-end.result.now.ok.0 in
-    let now = c.open_requests-place.result.now.ok.0 in
-    let was = ap length c.open_requests-number-end.ensures in
-    let is = ap length c.open_requests-place.ensures in
-    let same = ap (λ (q : Sequenced). length (open_of q)) c.places.invariant.0 in
-    omega (arith, inside, end, before, now, was, is, same)
+    let s = c.args.sequencer.now in
+    let inv = c.places.invariant in
+    let within =
+    within_open s c.places.sequencer inv.0 c.open_requests.result.now.items c.open_requests-in-places.result.now.items c.open_requests.ensures
+    c.open_requests-in-places.ensures c.places.number c.len-number-end.result _ c.places-test.true c.len-number-end.ensures c.open_requests.result.now.ok.0 in
+    let fits = c.open_requests-in-places.result.now.ok.0 in
+    omega (arith, within, fits)
 
 pub must_resume-requires : goal.must_resume-requires
 must_resume-requires c =
     let s = c.args.sequencer.now in
     let inv = c.places.invariant in
     let place = c.index-place.result.now in
+    let within =
+    within_open s c.places.sequencer inv.0 c.open_requests.result.now.items c.open_requests-in-places.result.now.items c.open_requests.ensures
+    c.open_requests-in-places.ensures c.places.number c.len-number-end.result _ c.places-test.true c.len-number-end.ensures c.open_requests.result.now.ok.0 in
     let there =
-    open_at s c.places.sequencer inv.0 c.open_requests-place.result.now.items c.open_requests-place.ensures c.places.number place
-    (let lt = c.index-place.requires in let fits = c.open_requests-place.result.now.ok.0 in omega (arith, lt, fits)) c.index-place.ensures in
+    open_at s c.places.sequencer inv.0 c.open_requests-in-places.result.now.items c.open_requests-in-places.ensures c.places.number place
+    within c.index-place.ensures in
     subst (λ (q : Sequenced). is_open q.params q.list place ≡ true) (sym inv.0) (open_passes s c.places.number place there)
 
 pub put_back-requires : goal.put_back-requires
@@ -53,9 +55,12 @@ places-preserved c =
     let places = take number (open_of s) in
     let inv = c.places.invariant in
     let place = c.index-place.result.now in
+    let within =
+    within_open s c.places.sequencer inv.0 c.open_requests.result.now.items c.open_requests-in-places.result.now.items c.open_requests.ensures
+    c.open_requests-in-places.ensures c.places.number c.len-number-end.result _ c.places-test.true c.len-number-end.ensures c.open_requests.result.now.ok.0 in
     let there =
-    open_at s c.places.sequencer inv.0 c.open_requests-place.result.now.items c.open_requests-place.ensures number place
-    (let lt = c.index-place.requires in let fits = c.open_requests-place.result.now.ok.0 in omega (arith, lt, fits)) c.index-place.ensures in
+    open_at s c.places.sequencer inv.0 c.open_requests-in-places.result.now.items c.open_requests-in-places.ensures number place
+    within c.index-place.ensures in
     let more = one_more s number place there in
     let test : (m : Machine) → IsParticipant m at first s
         → c.must_resume.result ≡ (is_due m s.list at place && nat_lt place (length (node.state).items)) =
@@ -81,8 +86,8 @@ returns-clause-resumed c = λ m given.
     let s = c.args.sequencer.now in
     let out = c.places-test.false in
     let end = c.len-number-end.ensures in
-    let before = c.open_requests-number-end.result.now.ok.0 in
-    let was = ap length c.open_requests-number-end.ensures in
+    let before = c.open_requests.result.now.ok.0 in
+    let was = ap length c.open_requests.ensures in
     let inv = c.places.invariant in
     resumer_ends c.args.at c.args.node.now s c.places.node (take c.places.number (open_of s)) inv.1
     (all_taken s c.places.number (omega (arith, out, end, before, was))) m given
