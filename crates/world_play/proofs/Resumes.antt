@@ -69,9 +69,9 @@ closed_rests m log p node k closed =
 closed_returns : (params : Params) (log : List Entry) (mediator : MediatorState) (k : ℕ) → is_open params log k ≡ false
     → return_at params log mediator k ≡ mediator
 closed_returns params log mediator k closed = elim (cases_Bool (is_some (request_at log k))) [
-    | inl r ↦ let no : is_undecided params log k ≡ false = rw r at closed in rw (r, no) refl
-    | inr r ↦ rw r refl
-  ]
+  | inl r ↦ let no : is_undecided params log k ≡ false = rw r at closed in rw (r, no) refl
+  | inr r ↦ rw r refl
+]
 
 -- the open requests of a sequencer
 abbrev pub open_of : Sequenced → List ℕ

@@ -63,7 +63,7 @@ places-preserved c =
     within c.index-place.ensures in
     let more = one_more s number place there in
     let test : (m : Machine) → IsParticipant m at first s
-        → c.must_resume.result ≡ (is_due m s.list at place && nat_lt place (length (node.state).items)) =
+    → c.must_resume.result ≡ (is_due m s.list at place && nat_lt place (length (node.state).items)) =
     λ m given.
     subst (λ (q : Sequenced). c.must_resume.result ≡ (is_due m q.list at place && nat_lt place (length (node.state).items))) inv.0
     (c.must_resume.ensures.test m given.is_reading (subst (IsFor m) (sym inv.0) given.is_for)
