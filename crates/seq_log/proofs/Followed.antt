@@ -1,5 +1,5 @@
 -- What the open requests become after a message of a key.
-use Rattle.std.proofs.Common.{◌≡◌, ℕ, Bool, true, false, not, List, [], ◌∷◌, ◌++◌, Some, None, refl, sym, ap, ◌∙◌, nat_eq, append-nil}
+use Rattle.std.proofs.Common.{◌≡◌, ℕ, Bool, false, not, List, [], ◌++◌, Some, None, refl, sym, ap, ◌∙◌, nat_eq, append-nil}
 use Rattle.std.specs.Prelude.{◌&&◌, is_some}
 use Rattle.std.specs.List.{filter}
 use Rattle.std.proofs.lemmas.Option.{none-some, same_Some}
@@ -9,7 +9,6 @@ use Rattle.world_model.specs.Messages.{Message, RequestMessage, ResponseMessage,
 use Rattle.world_model.specs.Sequencing.{is_verdict_on}
 use Rattle.seq_log.specs.Keys.{key_of}
 use Rattle.seq_log.specs.OpenRequests.{place_if}
-use Rattle.seq_log.specs.declared.key.Key.{Key}
 use Rattle.seq_log.specs.declared.key.Key.TheVariants.{Request, Response, Verdict}
 use Rattle.seq_log.proofs.Queues.{kept_by}
 
@@ -21,7 +20,8 @@ pub request_follows : (message : Message) (places : List ℕ) (decided : Bool) (
     → Some (Request sender command) ≡ key_of message → places ++ place_if (not decided) place ≡ followed message places decided place
 request_follows (RequestMessage q) places decided place sender command e =
     ap (λ (xs : List ℕ). xs ++ place_if (not decided) place) (sym (kept_by places (RequestMessage q) (λ k. refl)))
-request_follows (ResponseMessage r) places decided place sender command e = let no = same_Some (Request sender command) (Response r.from r.request) e in absurd (cc)
+request_follows (ResponseMessage r) places decided place sender command e =
+    let no = same_Some (Request sender command) (Response r.from r.request) e in absurd (cc)
 request_follows (VerdictMessage v) places decided place sender command e = let no = same_Some (Request sender command) (Verdict v.request) e in absurd (cc)
 request_follows Tick places decided place sender command e = absurd (none-some (Request sender command) (sym e))
 
@@ -42,7 +42,8 @@ kept message places no_verdict =
 
 pub response_follows : (message : Message) (places : List ℕ) (decided : Bool) (place : ℕ) (from : ParticipantId) (request : ℕ)
     → Some (Response from request) ≡ key_of message → places ≡ followed message places decided place
-response_follows (RequestMessage q) places decided place from request e = let no = same_Some (Response from request) (Request q.sender q.command) e in absurd (cc)
+response_follows (RequestMessage q) places decided place from request e =
+    let no = same_Some (Response from request) (Request q.sender q.command) e in absurd (cc)
 response_follows (ResponseMessage r) places decided place from request e = kept (ResponseMessage r) places (λ k. refl)
 response_follows (VerdictMessage v) places decided place from request e = let no = same_Some (Response from request) (Verdict v.request) e in absurd (cc)
 response_follows Tick places decided place from request e = absurd (none-some (Response from request) (sym e))

@@ -1,6 +1,6 @@
 -- One more entry, and the open requests.
 use Rattle.std.proofs.Common.{◌≡◌, ℕ, zero, suc, ◌+◌, ◌<◌, ◌≤◌, Bool, true, false, not, List, [], ◌∷◌, ◌++◌, length, Option, Some, None, slice_get}
-use Rattle.std.proofs.Common.{refl, sym, ap, ◌∙◌, subst, inl, inr, arith, length-append}
+use Rattle.std.proofs.Common.{refl, sym, ap, ◌∙◌, inl, inr, arith, length-append}
 use Rattle.std.specs.Prelude.{◌&&◌, ◌||◌, is_some, nat_lt, nat_eq, take}
 use Rattle.std.specs.List.{filter, list_any}
 use Rattle.std.proofs.lemmas.Bool.{cases_Bool, ltb-false, le-ltb}
@@ -12,7 +12,7 @@ use Rattle.world_model.specs.Messages.{Entry, Message, RequestMessage, ResponseM
 use Rattle.world_model.specs.Sequencing.{first_from, is_verdict_on, last_time, last_time_from}
 use Rattle.world_model.specs.Settled.{is_undecided}
 use Rattle.world_model.proofs.Completeness.{below_last}
-use Rattle.world_model.proofs.Grown.{slice_get_left, slice_get_last, request_grown, decision_time_grown}
+use Rattle.world_model.proofs.Grown.{slice_get_last, request_grown, decision_time_grown}
 use Rattle.seq_log.specs.OpenRequests.{after_front, is_open, open_requests, place_if, places_below}
 use Rattle.seq_log.proofs.Queues.{filtered, front_filtered, places_rise, same_places}
 use Rattle.seq_log.proofs.Sums.{last_more}
@@ -67,7 +67,8 @@ undecided_is params list j =
     let d = decision_time_of params list j in
     ap (λ (xs : List Moment). not (is_some (verdict_on j xs) || is_past d (take (length list + 1) (timeline_of list))))
     (take_all (length list) (timeline_of list) (omega (arith, long)))
-    ∙ (ap (λ (xs : List Moment). not (is_some (verdict_on j (timeline_of list)) || is_past d xs)) (take_all (length list + 1) (timeline_of list) (omega (arith, long)))
+    ∙ (ap (λ (xs : List Moment). not (is_some (verdict_on j (timeline_of list)) || is_past d xs))
+    (take_all (length list + 1) (timeline_of list) (omega (arith, long)))
     ∙ (ap (λ (b : Bool). not (b || is_past d (timeline_of list))) (verdict_any j list)
     ∙ ap (λ (b : Bool). not (has_verdict j list || b)) (past_any d list)))
 

@@ -1,5 +1,5 @@
 -- Rising lists of places.
-use Rattle.std.proofs.Common.{◌≡◌, ℕ, zero, suc, ◌+◌, ◌<◌, ◌≤◌, Bool, true, false, not, List, [], ◌∷◌, ◌++◌, take, drop, length, Some, slice_get}
+use Rattle.std.proofs.Common.{◌≡◌, ℕ, zero, suc, ◌<◌, ◌≤◌, Bool, true, false, not, List, [], ◌∷◌, ◌++◌, take, drop, length, Some, slice_get}
 use Rattle.std.proofs.Common.{refl, sym, ap, ◌∙◌, subst, inl, inr, arith, nat_eq, append-nil}
 use Rattle.std.specs.Prelude.{◌&&◌, slice_index_or}
 use Rattle.std.specs.List.{filter, list_any}
@@ -9,7 +9,7 @@ use Rattle.std.proofs.lemmas.Option.{none-some, same_Some}
 use Rattle.world_model.specs.Messages.{Message}
 use Rattle.world_model.specs.Sequencing.{is_verdict_on}
 use Rattle.world_model.proofs.Grown.{snoc_cases}
-use Rattle.seq_log.specs.OpenRequests.{RisesBetween, after_front, begins_with, place_if, places_below, unless_front}
+use Rattle.seq_log.specs.OpenRequests.{RisesBetween, after_front, begins_with, place_if, places_below}
 
 -- bounds
 pub rises_on : (low : ℕ) (xs : List ℕ) (k high : ℕ) → RisesBetween low xs k → k < high → RisesBetween low (xs ++ k ∷ []) high
@@ -49,7 +49,8 @@ filtered f test (suc k) =
     ∙ ap (λ (xs : List ℕ). places_below (λ i. f i && test i) k ++ xs) (filter_if test (f k) k))
 
 -- all from one that passes on
-all_kept : (test : ℕ → Bool) (low : ℕ) (xs : List ℕ) (high : ℕ) → RisesBetween low xs high → ((k : ℕ) → low ≤ k → k < high → test k ≡ true) → filter test xs ≡ xs
+all_kept : (test : ℕ → Bool) (low : ℕ) (xs : List ℕ) (high : ℕ) → RisesBetween low xs high
+    → ((k : ℕ) → low ≤ k → k < high → test k ≡ true) → filter test xs ≡ xs
 all_kept test low [] high h all = refl
 all_kept test low (x ∷ xs) high h all =
     let up = below (suc x) xs high h.1 in
@@ -69,7 +70,9 @@ front_filtered test low [] high h stays = refl
 front_filtered test low (x ∷ xs) high h stays =
     elim (cases_Bool (test x)) [
       | inl b ↦ rw b (front_filtered test (suc x) xs high h.1 stays)
-      | inr b ↦ rw b (ap (λ (ys : List ℕ). x ∷ ys) (sym (all_kept (λ k. not (test k)) (suc x) xs high h.1 (λ k le lt. ap not (stays x k (omega (arith, le)) lt b)))))
+      | inr b ↦
+          rw b (ap (λ (ys : List ℕ). x ∷ ys)
+          (sym (all_kept (λ k. not (test k)) (suc x) xs high h.1 (λ k le lt. ap not (stays x k (omega (arith, le)) lt b)))))
     ]
 
 -- one step of it

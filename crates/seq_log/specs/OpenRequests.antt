@@ -1,5 +1,5 @@
 -- The requests of a log that are undecided in the whole of it.
-use Rattle.std.specs.Prelude.{◌≡◌, ℕ, zero, suc, ◌≤◌, Bool, true, false, ◌&&◌, List, [], ◌∷◌, ◌++◌, Option, Some, None, length, is_some}
+use Rattle.std.specs.Prelude.{ℕ, zero, suc, ◌≤◌, Bool, true, false, ◌&&◌, List, [], ◌∷◌, ◌++◌, length, is_some}
 use Rattle.canton_model.specs.Log.{Params, request_at}
 use Rattle.world_model.specs.Messages.{Entry}
 use Rattle.world_model.specs.Settled.{is_undecided}

@@ -1,6 +1,6 @@
 -- What is put back, and given back, open request after open request.
-use Rattle.std.proofs.Common.{◌≡◌, ℕ, zero, suc, ◌+◌, ◌<◌, ◌≤◌, Bool, true, false, not, List, [], ◌∷◌, ◌++◌, take, length, map, Option, Some, None, refl, sym, ap}
-use Rattle.std.proofs.Common.{◌∙◌, subst, inl, inr, arith, append-nil}
+use Rattle.std.proofs.Common.{◌≡◌, ℕ, zero, suc, ◌+◌, ◌<◌, ◌≤◌, Bool, true, false, not, List, [], ◌∷◌, ◌++◌, take, length, map, Option, Some, None}
+use Rattle.std.proofs.Common.{refl, sym, ap, ◌∙◌, subst, inl, inr, arith, append-nil}
 use Rattle.std.specs.Prelude.{slice_get, slice_index_or, is_some, nat_lt, ◌&&◌, fold}
 use Rattle.std.proofs.lemmas.Bool.{and_parts, cases_Bool, le-ltb, lt-ltb, ltb-true}
 use Rattle.std.proofs.lemmas.List.{take_all}
@@ -69,9 +69,9 @@ closed_rests m log p node k closed =
 closed_returns : (params : Params) (log : List Entry) (mediator : MediatorState) (k : ℕ) → is_open params log k ≡ false
     → return_at params log mediator k ≡ mediator
 closed_returns params log mediator k closed = elim (cases_Bool (is_some (request_at log k))) [
-    | inl r ↦ let no : is_undecided params log k ≡ false = rw r at closed in rw (r, no) refl
-    | inr r ↦ rw r refl
-  ]
+  | inl r ↦ let no : is_undecided params log k ≡ false = rw r at closed in rw (r, no) refl
+  | inr r ↦ rw r refl
+]
 
 -- the open requests of a sequencer
 abbrev pub open_of : Sequenced → List ℕ
@@ -211,7 +211,8 @@ module _ (first : Kept) (s : Sequenced) where
     returner_past past =
         record {
           returned_to = λ m state n i.
-              let h = gives m state n i false (le-ltb k mediator.cursor past) in rw (fold_on (return_at m.params s.list) state places k, h) (r.returned_to m state n i);
+              let h = gives m state n i false (le-ltb k mediator.cursor past) in
+              rw (fold_on (return_at m.params s.list) state places k, h) (r.returned_to m state n i);
         }
 
     pub returner_on : k < mediator.cursor → (after : Kept) → after.params ≡ mediator.params

@@ -28,7 +28,8 @@ places-preserved c =
           subst (λ (x : Kept). IsReturner first s x (take (number + 1) (open_of s))) (sym w.mediator-is)
           (subst (λ (xs : List ℕ). IsReturner first s w.give_back.new.self xs) more
           (returner_on first s mediator places inv place stays
-          (let read = w.if-place-cursor.true in let at = c.cursor.ensures in omega (arith, read, at)) w.give_back.new.self w.give_back.ensures.params w.give_back.ensures.state))
+          (let read = w.if-place-cursor.true in let at = c.cursor.ensures in omega (arith, read, at)) w.give_back.new.self
+          w.give_back.ensures.params w.give_back.ensures.state))
       | else-place-cursor w ↦
           subst (λ (x : Kept). IsReturner first s x (take (number + 1) (open_of s))) (sym w.mediator-is)
           (subst (λ (xs : List ℕ). IsReturner first s mediator xs) more (returner_past first s mediator places inv place stays

@@ -6,7 +6,8 @@ use Rattle.seq_log.specs.OpenRequests.{is_open}
 use Rattle.seq_log.specs.Sequenced.{Sequenced, IsFor}
 use Rattle.node_core.specs.Participant.{Participant as NodeValue}
 use Rattle.world_play.specs.Standing.{IsParticipant}
-use Rattle.world_play.proofs.Resumes.{IsResumer, all_taken, may_put_back, one_more, open_at, open_of, open_passes, within_open, resumer_on, resumer_past, resumer_ends}
+use Rattle.world_play.proofs.Resumes.{IsResumer, all_taken, may_put_back, one_more, open_at, open_of, open_passes, within_open}
+use Rattle.world_play.proofs.Resumes.{resumer_on, resumer_past, resumer_ends}
 use Rattle.world_play.proofs.resuming.resume_node.Goals as goal
 use Rattle.world_play.proofs.resuming.resume_node.Goals.{then-must_resume, else-must_resume}
 
@@ -63,7 +64,7 @@ places-preserved c =
     within c.index-place.ensures in
     let more = one_more s number place there in
     let test : (m : Machine) → IsParticipant m at first s
-        → c.must_resume.result ≡ (is_due m s.list at place && nat_lt place (length (node.state).items)) =
+    → c.must_resume.result ≡ (is_due m s.list at place && nat_lt place (length (node.state).items)) =
     λ m given.
     subst (λ (q : Sequenced). c.must_resume.result ≡ (is_due m q.list at place && nat_lt place (length (node.state).items))) inv.0
     (c.must_resume.ensures.test m given.is_reading (subst (IsFor m) (sym inv.0) given.is_for)

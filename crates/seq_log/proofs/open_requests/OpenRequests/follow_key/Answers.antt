@@ -1,5 +1,5 @@
 use Rattle.std.proofs.Common.{Some, sym, ap, ◌∙◌}
-use Rattle.seq_log.proofs.Followed.{request_follows, verdict_follows, response_follows}
+use Rattle.seq_log.proofs.Followed.{request_follows, response_follows}
 use Rattle.seq_log.proofs.open_requests.OpenRequests.follow_key.Goals as goal
 
 pub returns-in-Request : goal.returns-in-Request
