@@ -1,6 +1,6 @@
 use Rattle.std.proofs.Common.{◌≡◌, ◌++◌, drop, string_bytes}
 use Rattle.report_text.specs.Outcomes.{outcome_lines}
-use Rattle.report_text.proofs.outcomes.put_outcomes.Given as goal
+use Rattle.report_text.proofs.outcome_lines.put_outcomes.Given as goal
 
 abbrev pub invariant-entries : goal.invariant-entries
 invariant-entries l =
