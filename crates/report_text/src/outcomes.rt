@@ -1,5 +1,5 @@
 //! What became of the requests of a whole log.
-ghost use Rattle.std.specs.Prelude.{◌≡◌, ◌+◌, ℕ, IfOk, OnOk, nat_eq, nat_lt, option_copied, slice_get};
+ghost use Rattle.std.specs.Prelude.{◌≡◌, ◌+◌, ℕ, IfOk, OnOk, max, nat_eq, nat_lt, option_copied, slice_get};
 ghost use Rattle.canton_model.specs.Log.{verdict_of, time_of, decision_time_of};
 ghost use Rattle.canton_model.specs.Timeline.{decision_on, or_else, verdict_on, is_past, timeline_of};
 ghost use Rattle.indexmap.specs.IndexMap.{get};
@@ -47,6 +47,12 @@ fn keep_first<'l>(
     Ok(())
 }
 
+fn later(time: u64, other: u64) -> u64
+    ensures { result ≡ max time other }
+{
+    if time < other { other } else { time }
+}
+
 /// The time of the entry at a place, or 0.
 fn time_at(log: &EntryList, place: usize) -> u64
     ensures { result ≡ time_of (slice_get log.now place) }
@@ -76,8 +82,8 @@ impl<'l> Outcomes<'l> {
         let mut verdicts = IndexMap::new(alloc);
         let mut latest = 0;
         'entries: for entry in log.as_slice() {
+            latest = later(latest, entry.time);
             keep_first(&mut verdicts, &entry.message)?;
-            latest = latest.max(entry.time);
         }
         Ok(Outcomes {
             log,
