@@ -42,14 +42,14 @@ abbrev pub KeepsFault : List (List ℕ) → Option (List ℕ) → Option (List �
 KeepsFault words left left' finish = AsksForRun words × ReadsFault left left' finish
 
 -- the bytes were taken: at most one past the limit, and that one exactly at status 6
-abbrev pub Takes : Option (List ℕ) → Option (List ℕ) → (status : ℕ) → List ℕ → Type 0
-Takes left left' status bytes =
+abbrev pub TakesAtMost : Option (List ℕ) → Option (List ℕ) → (status : ℕ) → List ℕ → Type 0
+TakesAtMost left left' status bytes =
     Consumes left left' bytes × (length bytes ≤ MOST_SCRIPT_BYTES + 1) × (status ≡ 6 ↔ (MOST_SCRIPT_BYTES < length bytes))
 
 -- At most one byte past the limit was taken, and that one exactly at status 6. Where the words don't ask for a run none was.
 abbrev pub TakesUpTo : List (List ℕ) → Option (List ℕ) → Option (List ℕ) → Finish → Type 0
 TakesUpTo words left left' finish =
-    (bytes : List ℕ) × Takes left left' finish.status bytes × (¬ AsksForRun words → bytes ≡ [])
+    (bytes : List ℕ) × TakesAtMost left left' finish.status bytes × (¬ AsksForRun words → bytes ≡ [])
 
 -- nothing was run and nothing was written
 abbrev pub RanNothing : Option (List ℕ) → Option (List ℕ) → Finish → Type 0

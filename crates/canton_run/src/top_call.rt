@@ -13,7 +13,7 @@ ghost use Rattle.script_read.specs.declared.script.Script.{Script};
 ghost use Rattle.canton_run.specs.Run.{IsRun};
 ghost use Rattle.canton_run.specs.Jobs.{ReadsScript, capacity_of, text_of, text_over};
 ghost use Rattle.canton_run.specs.Ends.{AsksForRun, HasScript, IsReadWhole, IsRunStatus, IsStatus, KeepsFault, NoReadFault};
-ghost use Rattle.canton_run.specs.Ends.{OffersScript, Ran, RanNothing, ReadsFault, Takes, TakesUpTo};
+ghost use Rattle.canton_run.specs.Ends.{OffersScript, Ran, RanNothing, ReadsFault, TakesAtMost, TakesUpTo};
 
 use crate::finish::{Finish, ended};
 use crate::played::Played;
@@ -101,19 +101,14 @@ fn carry_out<K: Sink>(alloc: Global, job: Job, script: Script, sink: &mut K) -> 
 }
 
 // Reads a script from the source and runs it.
-fn run_source<S: Source, K: Sink>(
-    alloc: Global,
-    job: Job,
-    source: &mut S,
-    sink: &mut K,
-) -> Finish
+fn run_source<S: Source, K: Sink>(alloc: Global, job: Job, source: &mut S, sink: &mut K) -> Finish
     requires room { capacity_of job ≤ MOST_PLACES }
     ensures status { IsRunStatus result.status }
     ensures script { result.status ≡ 3 → ReadsFault (S.left source.old) (S.left source.new) result }
     ensures kept { result.status ≢ 3 → result.fault ≡ None }
     ensures read { result.status ≡ 4 → Rose (S.faults source.old) (S.faults source.new) }
     ensures write { result.status ≡ 5 → Rose (K.faults sink.old) (K.faults sink.new) }
-    ensures taken { (bytes : List ℕ) × Takes (S.left source.old) (S.left source.new) result.status bytes }
+    ensures taken { (bytes : List ℕ) × TakesAtMost (S.left source.old) (S.left source.new) result.status bytes }
     ensures nothing { result.status ≢ 0 → result.status ≢ 5 → RanNothing (K.held sink.old) (K.held sink.new) result }
     ensures done { result.status ≡ 0 → (script : Script) × ReadsScript (S.left source.old) (S.left source.new) script
         × IsRun script (capacity_of job) result.log result.results result.ends

@@ -2,14 +2,13 @@
 //! mid-stream, a worked case of a log without room, and that a run succeeds where nothing is in its way. Nothing stands on this crate.
 #![tactic(auto)]
 
-mod surely;
-
 #[cfg(test)]
 mod appending;
 #[cfg(test)]
 mod empty_run;
 #[cfg(test)]
 mod reading;
+mod surely;
 #[cfg(test)]
 mod writing;
 

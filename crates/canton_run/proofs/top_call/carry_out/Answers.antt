@@ -11,6 +11,6 @@ written_of held held' bytes text e found = rw (← e) found
 pub returns-clause-cut : goal.returns-clause-cut
 returns-clause-cut g c at =
     elim c.match-write_all.branch [
-      in-Ok-write_all w ↦ search rules
-    | in-Err w ↦ written_of _ _ _ _ (search rules) w.in-Err.ensures.part.1
+      | in-Ok-write_all w ↦ search rules
+      | in-Err w ↦ written_of _ _ _ _ (search rules) w.in-Err.ensures.part.1
     ]
