@@ -18,6 +18,10 @@ use Rattle.canton_run.specs.Run.{IsRun}
 abbrev pub IsStatus : ℕ → Type 0
 IsStatus s = (s ≡ 0) ⊎ ((s ≡ 2) ⊎ ((s ≡ 3) ⊎ ((s ≡ 4) ⊎ ((s ≡ 5) ⊎ ((s ≡ 6) ⊎ (s ≡ 70))))))
 
+-- one of those that a run of the source's script may end with
+abbrev pub IsRunStatus : ℕ → Type 0
+IsRunStatus s = (s ≡ 0) ⊎ ((s ≡ 3) ⊎ ((s ≡ 4) ⊎ ((s ≡ 5) ⊎ ((s ≡ 6) ⊎ (s ≡ 70)))))
+
 -- the words ask for the run of a script
 abbrev pub AsksForRun : List (List ℕ) → Type 0
 AsksForRun words = (workers : ℕ) × (log : ℕ) × (job_of words ≡ Some (Run workers log))
@@ -29,25 +33,35 @@ Ran words left left' finish text =
     × IsRun script (capacity_of job) finish.log finish.results finish.ends × (text ≡ text_of job script finish)
 
 -- the source was read to its end within the limit, and the fault kept is that of its bytes
+abbrev pub ReadsFault : Option (List ℕ) → Option (List ℕ) → Finish → Type 0
+ReadsFault left left' finish =
+    (bytes : List ℕ) × (fault : ScriptFault) × ReadWhole left left' bytes × (script_in bytes ≡ Err fault) × (finish.fault ≡ Some fault)
+
+-- the words ask for a run, and the fault kept is that of the source's bytes
 abbrev pub KeepsFault : List (List ℕ) → Option (List ℕ) → Option (List ℕ) → Finish → Type 0
-KeepsFault words left left' finish =
-    (bytes : List ℕ) × (fault : ScriptFault) × AsksForRun words × ReadWhole left left' bytes × (script_in bytes ≡ Err fault)
-    × (finish.fault ≡ Some fault)
+KeepsFault words left left' finish = AsksForRun words × ReadsFault left left' finish
+
+-- the bytes were taken: at most one past the limit, and that one exactly at status 6
+abbrev pub TakesAtMost : Option (List ℕ) → Option (List ℕ) → (status : ℕ) → List ℕ → Type 0
+TakesAtMost left left' status bytes =
+    Consumes left left' bytes × (length bytes ≤ MOST_SCRIPT_BYTES + 1) × (status ≡ 6 ↔ (MOST_SCRIPT_BYTES < length bytes))
 
 -- At most one byte past the limit was taken, and that one exactly at status 6. Where the words don't ask for a run none was.
 abbrev pub TakesUpTo : List (List ℕ) → Option (List ℕ) → Option (List ℕ) → Finish → Type 0
 TakesUpTo words left left' finish =
-    (bytes : List ℕ) × Consumes left left' bytes × (length bytes ≤ MOST_SCRIPT_BYTES + 1) × (finish.status ≡ 6 ↔ (MOST_SCRIPT_BYTES < length bytes))
-    × (¬ AsksForRun words → bytes ≡ [])
+    (bytes : List ℕ) × TakesAtMost left left' finish.status bytes × (¬ AsksForRun words → bytes ≡ [])
 
 -- nothing was run and nothing was written
 abbrev pub RanNothing : Option (List ℕ) → Option (List ℕ) → Finish → Type 0
 RanNothing held held' finish = (finish.log ≡ []) × (finish.results ≡ []) × (finish.ends ≡ []) × Keeps held held'
 
--- the source, where the job needs one, gives a script within the limit
+-- the source gives a script within the limit
+abbrev pub OffersScript : Option (List ℕ) → Type 0
+OffersScript left = (bytes : List ℕ) × (script : Script) × (left ≡ Some bytes) × (length bytes ≤ MOST_SCRIPT_BYTES) × (script_in bytes ≡ Ok script)
+
+-- the same, where the job needs a source
 abbrev pub HasScript : Job → Option (List ℕ) → Type 0
-HasScript (Run workers log) left =
-    (bytes : List ℕ) × (script : Script) × (left ≡ Some bytes) × (length bytes ≤ MOST_SCRIPT_BYTES) × (script_in bytes ≡ Ok script)
+HasScript (Run workers log) left = OffersScript left
 HasScript (Gen count seed workers) left = Unit {0}
 
 -- the source's count didn't rise, where the job needs a source

@@ -1,16 +1,19 @@
 //! The top call: words, a source and a sink in, a status and what was run out.
-ghost use Rattle.std.specs.Prelude.{◌≡◌, ◌≢◌, ◌↔◌, ◌<◌, ◌≤◌, List, ℕ, Some, None, Ok, [], length, take, IsErr, IfOk};
+ghost use Rattle.std.specs.Prelude.{◌≡◌, ◌≢◌, ◌↔◌, ◌<◌, ◌≤◌, ◌*◌, List, ℕ, Some, None, Ok, [], length, take, IsErr, IfOk};
 ghost use Rattle.std.proofs.Common.{◌⊎◌};
 ghost use Rattle.std.specs.Io.KnownBytes.{Keeps, Appends};
 ghost use Rattle.cli_words.specs.Jobs.{job_of};
 ghost use Rattle.cli_words.specs.declared.job.Job.{Job};
 ghost use Rattle.cn_io.specs.Faults.{Rose};
-ghost use Rattle.ledger_terms.specs.declared.limits.TheConstants.{MOST_PLACES};
+ghost use Rattle.ledger_terms.specs.declared.limits.TheConstants.{MOST_PLACES, MOST_SUBMISSIONS};
+ghost use Rattle.load_gen.specs.Generated.{generated};
 ghost use Rattle.script_read.specs.Kept.{IsAccepted};
 ghost use Rattle.script_read.specs.Script.{script_in};
+ghost use Rattle.script_read.specs.declared.script.Script.{Script};
 ghost use Rattle.canton_run.specs.Run.{IsRun};
-ghost use Rattle.canton_run.specs.Jobs.{capacity_of, text_of};
-ghost use Rattle.canton_run.specs.Ends.{AsksForRun, HasScript, IsReadWhole, IsStatus, KeepsFault, NoReadFault, Ran, RanNothing, TakesUpTo};
+ghost use Rattle.canton_run.specs.Jobs.{ReadsScript, capacity_of, text_of, text_over};
+ghost use Rattle.canton_run.specs.Ends.{AsksForRun, HasScript, IsReadWhole, IsRunStatus, IsStatus, KeepsFault, NoReadFault};
+ghost use Rattle.canton_run.specs.Ends.{OffersScript, Ran, RanNothing, ReadsFault, TakesAtMost, TakesUpTo};
 
 use crate::finish::{Finish, ended};
 use crate::played::Played;
@@ -20,7 +23,7 @@ use cn_io::{ReadFault, Sink, Source, read_all, write_all};
 use confirm_reply::Setup;
 use ledger_terms::limits::{MOST_PLACES, MOST_SCRIPT_BYTES};
 use ledger_terms::{Text, Topology};
-use load_gen::generate;
+use load_gen::{generate, generated_scripts_are_accepted};
 use report_text::{report, summary};
 use script_read::{RoundList, Script, ScriptFault, read_script};
 use std::alloc::{AllocError, Global};
@@ -42,8 +45,16 @@ fn text_of(
     topology: &Topology,
     rounds: &RoundList,
     played: &Played,
-) -> Result<Text, AllocError> {
-    let Played { log, results, views, .. } = played;
+) -> Result<Text, AllocError>
+    ensures { IfOk result (λ text. text
+        ≡ text_over job topology.now rounds.now played.now.log played.now.results played.now.views) }
+{
+    let Played {
+        log,
+        results,
+        views,
+        ..
+    } = played;
     match job {
         Job::Run { .. } => report(alloc, topology, rounds, log, results, views),
         Job::Gen { .. } => summary(alloc, topology, log, results, views),
@@ -90,12 +101,28 @@ fn carry_out<K: Sink>(alloc: Global, job: Job, script: Script, sink: &mut K) -> 
 }
 
 // Reads a script from the source and runs it.
-fn run_source<S: Source, K: Sink>(
-    alloc: Global,
-    job: Job,
-    source: &mut S,
-    sink: &mut K,
-) -> Finish {
+fn run_source<S: Source, K: Sink>(alloc: Global, job: Job, source: &mut S, sink: &mut K) -> Finish
+    requires room { capacity_of job ≤ MOST_PLACES }
+    ensures status { IsRunStatus result.status }
+    ensures script { result.status ≡ 3 → ReadsFault (S.left source.old) (S.left source.new) result }
+    ensures kept { result.status ≢ 3 → result.fault ≡ None }
+    ensures read { result.status ≡ 4 → Rose (S.faults source.old) (S.faults source.new) }
+    ensures write { result.status ≡ 5 → Rose (K.faults sink.old) (K.faults sink.new) }
+    ensures taken { (bytes : List ℕ) × TakesAtMost (S.left source.old) (S.left source.new) result.status bytes }
+    ensures nothing { result.status ≢ 0 → result.status ≢ 5 → RanNothing (K.held sink.old) (K.held sink.new) result }
+    ensures done { result.status ≡ 0 → (script : Script) × ReadsScript (S.left source.old) (S.left source.new) script
+        × IsRun script (capacity_of job) result.log result.results result.ends
+        × Appends (K.held sink.old) (K.held sink.new) (text_of job script result) }
+    ensures cut { result.status ≡ 5 → (script : Script) × ReadsScript (S.left source.old) (S.left source.new) script
+        × IsRun script (capacity_of job) result.log result.results result.ends
+        × (K.room sink.old < length (text_of job script result))
+        × ((n : ℕ) × Appends (K.held sink.old) (K.held sink.new) (take n (text_of job script result))) }
+    ensures count { (S.faults source.old ≤ S.faults source.new) × (K.faults sink.old ≤ K.faults sink.new) }
+    ensures faulty { (bytes : List ℕ) → S.left source.old ≡ Some bytes → IsReadWhole result.status
+        → (result.status ≡ 3 ↔ IsErr (script_in bytes)) }
+    ensures complete { OffersScript (S.left source.old) → ¬ Rose (S.faults source.old) (S.faults source.new)
+        → ¬ Rose (K.faults sink.old) (K.faults sink.new) → (result.status ≡ 0) ⊎ (result.status ≡ 70) }
+{
     match read_all(alloc, source, MOST_SCRIPT_BYTES) {
         Ok(bytes) => match read_script(alloc, bytes.as_slice()) {
             Ok(script) => carry_out(alloc, job, script, sink),
@@ -109,7 +136,20 @@ fn run_source<S: Source, K: Sink>(
 }
 
 // Runs a generated script. Nothing is read.
-fn run_generated<K: Sink>(alloc: Global, count: u32, seed: u64, job: Job, sink: &mut K) -> Finish {
+fn run_generated<K: Sink>(alloc: Global, count: u32, seed: u64, job: Job, sink: &mut K) -> Finish
+    requires few { 2 * count ≤ MOST_SUBMISSIONS }
+    requires room { capacity_of job ≤ MOST_PLACES }
+    ensures status { (result.status ≡ 0) ⊎ ((result.status ≡ 5) ⊎ (result.status ≡ 70)) }
+    ensures fault { result.fault ≡ None }
+    ensures memory { result.status ≡ 70 → RanNothing (K.held sink.old) (K.held sink.new) result }
+    ensures ran { result.status ≢ 70 → IsRun (generated seed count) (capacity_of job) result.log result.results result.ends }
+    ensures done { result.status ≡ 0 → Appends (K.held sink.old) (K.held sink.new) (text_of job (generated seed count) result) }
+    ensures cut { result.status ≡ 5 → (n : ℕ) × Appends (K.held sink.old) (K.held sink.new) (take n (text_of job (generated seed count) result)) }
+    ensures rose { result.status ≡ 5 → Rose (K.faults sink.old) (K.faults sink.new) }
+    ensures sure { result.status ≡ 5 → K.room sink.old < length (text_of job (generated seed count) result) }
+    ensures count { K.faults sink.old ≤ K.faults sink.new }
+{
+    generated_scripts_are_accepted();
     match generate(alloc, count, seed) {
         Ok(script) => carry_out(alloc, job, script, sink),
         Err(_) => ended(alloc, 70, None),

@@ -2,6 +2,8 @@
 use Rattle.std.proofs.Common.{◌≡◌, ℕ, suc, ◌+◌, List, [], ◌∷◌, length, map, Some, refl, sym, ap, ◌∙◌, arith, slice_set}
 use Rattle.std.specs.Prelude.{slice_get}
 use Rattle.std.proofs.lemmas.Option.{slice_get_within}
+use Rattle.ledger_terms.specs.declared.topology.Topology.{Topology}
+use Rattle.lang_eval.specs.Found.{Packages}
 use Rattle.world_model.specs.Messages.{Entry}
 use Rattle.world_model.specs.Machine.{Machine}
 use Rattle.world_model.specs.Mediator.{MediatorState}
@@ -15,7 +17,8 @@ use Rattle.world_play.specs.Reading.{IsReader, has_read}
 use Rattle.world_play.specs.Standing.{IsParticipant}
 use Rattle.world_play.specs.Worlds.{state_of, world_with, AreNodesOf}
 use Rattle.world_play.proofs.Each.{AreDone}
-use Rattle.world_play.proofs.Passing.{in_turn, nodes_then, lawful_then}
+use Rattle.world_play.specs.Submitting.{AreSetUp}
+use Rattle.world_play.proofs.Passing.{in_turn, nodes_then, lawful_then, set_up_then}
 use Rattle.world_play.proofs.Sends.{stays}
 use Rattle.world_play.proofs.Turns.{caught_is, reader_is}
 
@@ -33,9 +36,10 @@ module _ (first : List NodeValue) (s : Sequenced) where
     pub nodes_of : (m : Machine) → AreNodesOf m first s → AreNodesOf m nodes s
     pub lawful : (m : Machine) (now : ℕ) (state : MediatorState) → AreNodesOf m first s → Lawful m (world_with now state first s)
         → Lawful m (world_with now state nodes s)
+    pub set_up : (topology : Topology) (packages : Packages) → AreSetUp topology packages first → AreSetUp topology packages nodes
 
   pub reading_starts : AreReading first
-  reading_starts = record { nodes_of = λ m a. a; lawful = λ m now state a l. l }
+  reading_starts = record { nodes_of = λ m a. a; lawful = λ m now state a l. l; set_up = λ topology packages u. u }
 
   pub reading_on : (nodes : List NodeValue) (k : ℕ) → AreReading nodes → (node : NodeValue) → slice_get nodes k ≡ Some node → (node' : NodeValue)
       → IsReader node s.list node' → AreReading (slice_set nodes k node')
@@ -45,6 +49,7 @@ module _ (first : List NodeValue) (s : Sequenced) where
       record {
         nodes_of = λ m a. nodes_then nodes s k node at node' s (stays s) same m (r.nodes_of m a);
         lawful = λ m now state a l. lawful_then nodes s k node at node' s (stays s) same keeps m now state (r.nodes_of m a) (r.lawful m now state a l);
+        set_up = λ topology packages u. set_up_then nodes s k node at node' same topology packages (r.set_up topology packages u);
       }
 
 each_is : (m : Machine) (log : List Entry) (p : ℕ) (xs ys : List NodeValue) → length ys ≡ length xs

@@ -7,11 +7,14 @@ use Rattle.world_model.specs.Machine.{Machine}
 use Rattle.seq_log.specs.Sequenced.{Sequenced}
 use Rattle.node_core.specs.Participant.{Participant as NodeValue, with_state}
 use Rattle.world_play.specs.Standing.{IsNodeOf}
+use Rattle.ledger_terms.specs.declared.topology.Topology.{Topology}
+use Rattle.lang_eval.specs.Found.{Packages}
+use Rattle.world_play.specs.Submitting.{AreSetUp}
 use Rattle.world_play.specs.Worlds.{AreNodesOf}
 
 -- lists
 module _ {X : Type 0} where
-  item_of : (xs : List X) (k : ℕ) → k < length xs → (x : X) × (slice_get xs k ≡ Some x)
+  pub item_of : (xs : List X) (k : ℕ) → k < length xs → (x : X) × (slice_get xs k ≡ Some x)
   item_of [] k lt = absurd (omega (arith, lt))
   item_of (x ∷ xs) zero lt = (x, refl)
   item_of (x ∷ xs) (suc k) lt = item_of xs k (omega (arith, lt))
@@ -79,4 +82,18 @@ module _ (R : ℕ → NodeValue → NodeValue → Type 0) (first : List NodeValu
             let is = a.node p x.0 x.1 in
             subst (IsNodeOf m p) (sym (same p x.0 node (r.before p x.0 node (omega (arith, within, end)) x.1 there)))
             (record { reading = is.reading; params = is.params; me = is.me; prepares = is.prepares });
+      }
+
+  pub done_set_up : ((i : ℕ) (x y : NodeValue) → R i x y → y ≡ with_state x y.state) → (nodes : List NodeValue) (k : ℕ) → AreDone nodes k
+      → k ≡ length nodes → (topology : Topology) (packages : Packages) → AreSetUp topology packages first → AreSetUp topology packages nodes
+  done_set_up same nodes k r end topology packages u =
+      record {
+        many = r.long ∙ u.many;
+        each = λ p node there.
+            let within = slice_get_within nodes p node there in
+            let long = r.long in
+            let x = item_of first p (omega (arith, within, long)) in
+            let is = u.each p x.0 x.1 in
+            let kept = same p x.0 node (r.before p x.0 node (omega (arith, within, end)) x.1 there) in
+            (ap (λ (y : NodeValue). y.topology) kept ∙ is.0, ap (λ (y : NodeValue). y.packages) kept ∙ is.1);
       }

@@ -16,3 +16,9 @@ pub mod Makes
 pub mod Happened
 pub mod Submits
 pub mod Plays
+pub mod Flagged
+pub mod Begins
+pub mod OwnFaults
+pub mod Awake
+pub mod Asked
+pub mod InOrder

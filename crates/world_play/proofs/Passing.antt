@@ -56,7 +56,7 @@ set_same (y ∷ ys) (suc k) x = ap (λ (zs : List _). y ∷ zs) (set_same ys k x
 pub item_within : {k n m : ℕ} → k < n → m ≡ n → k < m
 item_within lt same = omega (arith, lt, same)
 
-set_at_cases : (nodes : List NodeValue) (k i : ℕ) (x y : NodeValue) → slice_get (slice_set nodes k x) i ≡ Some y
+pub set_at_cases : (nodes : List NodeValue) (k i : ℕ) (x y : NodeValue) → slice_get (slice_set nodes k x) i ≡ Some y
     → ((i ≡ k) × (x ≡ y)) ⊎ (slice_get nodes i ≡ Some y)
 set_at_cases [] k i x y e = inr e
 set_at_cases (z ∷ zs) zero zero x y e = inl (refl, same_Some x y e)
@@ -133,6 +133,7 @@ module _ (paused : List ParticipantId) (first : List NodeValue) (began_at : Sequ
     pub nodes_of : (m : Machine) → AreNodesOf m first began_at → AreNodesOf m nodes s
     pub lawful : (m : Machine) (now : ℕ) (state : MediatorState) → AreNodesOf m first began_at
         → Lawful m (world_with now state first began_at) → Lawful m (world_with now state nodes s)
+    pub set_up : (topology : Topology) (packages : Packages) → AreSetUp topology packages first → AreSetUp topology packages nodes
     pub passed : (m : Machine) (now : ℕ) (state : MediatorState) (began : List Entry) → AreNodesOf m first began_at
         → PassedTo m paused began 0 (world_with now state first began_at) → PassedTo m paused began k (world_with now state nodes s)
 
@@ -142,6 +143,7 @@ module _ (paused : List ParticipantId) (first : List NodeValue) (began_at : Sequ
         on = stays began_at;
         nodes_of = λ m a. a;
         lawful = λ m now state a l. l;
+        set_up = λ topology packages u. u;
         passed = λ m now state began a h. h;
       }
 
@@ -160,6 +162,9 @@ module _ (paused : List ParticipantId) (first : List NodeValue) (began_at : Sequ
       left_lawful m now state a l =
           lawful_then nodes s k node at node' s' on same keeps m now state (t.nodes_of m a) (t.lawful m now state a l)
 
+      pub left_set_up : (topology : Topology) (packages : Packages) → AreSetUp topology packages first → AreSetUp topology packages moved
+      left_set_up topology packages u = set_up_then nodes s k node at node' same topology packages (t.set_up topology packages u)
+
       pub left_on : GoesOn began_at s'
       left_on = goes_further began_at s s' t.on on
 
@@ -174,6 +179,7 @@ module _ (paused : List ParticipantId) (first : List NodeValue) (began_at : Sequ
               on = left_on;
               nodes_of = left_nodes;
               lawful = left_lawful;
+              set_up = left_set_up;
               passed = λ m now state began a h.
                   let w = world_with now state nodes s in
                   let done = t.passed m now state began a h in
@@ -196,6 +202,7 @@ module _ (paused : List ParticipantId) (first : List NodeValue) (began_at : Sequ
         on = t.on;
         nodes_of = t.nodes_of;
         lawful = t.lawful;
+        set_up = t.set_up;
         passed = λ m now state began a h. turn_skipped m paused began k (world_with now state nodes s) (t.passed m now state began a h) asleep;
       })
 

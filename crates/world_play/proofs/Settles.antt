@@ -2,6 +2,8 @@
 use Rattle.std.proofs.Common.{◌≡◌, ℕ, zero, suc, ◌<◌, Bool, List, [], ◌∷◌, ◌++◌, length, refl, sym, ap, ◌∙◌, subst, inl, inr, arith, append-nil}
 use Rattle.std.proofs.lemmas.List.{length-append}
 use Rattle.ledger_model.specs.Terms.{ParticipantId}
+use Rattle.ledger_terms.specs.declared.topology.Topology.{Topology}
+use Rattle.lang_eval.specs.Found.{Packages}
 use Rattle.world_model.specs.Messages.{Entry}
 use Rattle.world_model.specs.Machine.{Machine}
 use Rattle.world_model.specs.Mediator.{MediatorState}
@@ -13,6 +15,7 @@ use Rattle.world_model.proofs.WorldPasses.{one_pass_more, same_end}
 use Rattle.seq_log.specs.Sequenced.{Sequenced}
 use Rattle.world_play.specs.declared.world.World.{World}
 use Rattle.world_play.specs.Standing.{GoesOn}
+use Rattle.world_play.specs.Submitting.{AreSetUp}
 use Rattle.world_play.specs.WorldOf.{world_of, IsWorldOf}
 use Rattle.world_play.proofs.Passing.{length_states}
 use Rattle.world_play.proofs.Sends.{stays, goes_further}
@@ -23,6 +26,8 @@ module _ (paused : List ParticipantId) (held : Bool) (first : World) where
     pub now : world.now ≡ first.now
     pub lawful : (m : Machine) (state : MediatorState) → IsWorldOf m state first → Lawful m (world_of state first)
         → (after : MediatorState) × IsWorldOf m after world × Lawful m (world_of after world)
+    pub set_up : (topology : Topology) (packages : Packages) → AreSetUp topology packages (first.nodes).items
+        → AreSetUp topology packages (world.nodes).items
     pub passed : (m : Machine) (state : MediatorState) → IsWorldOf m state first → WorldReady m paused (world_of state first)
         → (after : MediatorState) × (n : ℕ) × IsWorldOf m after world × WorldReady m paused (world_of after world)
         × ((world.sequencer).list ≡ passes m first.now paused held n (first.sequencer).list)
@@ -33,12 +38,19 @@ module _ (paused : List ParticipantId) (held : Bool) (first : World) where
         on = stays first.sequencer;
         now = refl;
         lawful = λ m state is l. (state, is, l);
+        set_up = λ topology packages u. u;
         passed = λ m state is r. (state, zero, is, r, refl);
       }
 
   module _ (world : World) (p : IsPassing world) (next : World) (on : GoesOn world.sequencer next.sequencer) (same_now : next.now ≡ world.now)
       (lawful : (m : Machine) (state : MediatorState) → IsWorldOf m state world → Lawful m (world_of state world)
-      → (after : MediatorState) × IsWorldOf m after next × Lawful m (world_of after next)) where
+      → (after : MediatorState) × IsWorldOf m after next × Lawful m (world_of after next))
+      (set_up : (topology : Topology) (packages : Packages) → AreSetUp topology packages (world.nodes).items
+      → AreSetUp topology packages (next.nodes).items) where
+    pub left_set_up : (topology : Topology) (packages : Packages) → AreSetUp topology packages (first.nodes).items
+        → AreSetUp topology packages (next.nodes).items
+    left_set_up topology packages u = set_up topology packages (p.set_up topology packages u)
+
     pub left_on : GoesOn first.sequencer next.sequencer
     left_on = goes_further first.sequencer world.sequencer next.sequencer p.on on
 
@@ -66,6 +78,7 @@ module _ (paused : List ParticipantId) (held : Bool) (first : World) where
             on = left_on;
             now = left_now;
             lawful = left_lawful;
+            set_up = left_set_up;
             passed = λ m state is r.
                 let w = p.passed m state is r in
                 let n = stepped m state is r in

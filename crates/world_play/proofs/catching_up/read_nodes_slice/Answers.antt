@@ -30,6 +30,15 @@ returns-in_err-read_to_end-clause-nodes c =
     (reading_on c.args.nodes.now c.args.sequencer.now c.nodes.nodes k inv.1 node at c.read_to_end.new.node
     (subst (λ (q : Sequenced). IsReader node q.list c.read_to_end.new.node) inv.0 c.read_to_end.ensures.some)).nodes_of
 
+pub returns-in_err-read_to_end-clause-set_up : goal.returns-in_err-read_to_end-clause-set_up
+returns-in_err-read_to_end-clause-set_up c =
+    let inv = c.nodes.invariant in
+    let k = c.nodes.node-index in
+    let node = slice_index_or c.nodes.nodes k c.node-item.result in
+    let at = item_at c.nodes.nodes k c.node-item.result (item_within c.nodes-test.true c.nodes.auto.nodes) in
+    (reading_on c.args.nodes.now c.args.sequencer.now c.nodes.nodes k inv.1 node at c.read_to_end.new.node
+    (subst (λ (q : Sequenced). IsReader node q.list c.read_to_end.new.node) inv.0 c.read_to_end.ensures.some)).set_up
+
 pub returns-in_err-read_to_end-clause-lawful : goal.returns-in_err-read_to_end-clause-lawful
 returns-in_err-read_to_end-clause-lawful c =
     let inv = c.nodes.invariant in

@@ -3,6 +3,7 @@ use Rattle.std.proofs.lemmas.List.{with_items_is, places}
 use Rattle.world_model.specs.Lawful.{Lawful}
 use Rattle.world_model.specs.Settling.{PassedTo}
 use Rattle.node_core.specs.Participant.{Participant as NodeValue}
+use Rattle.world_play.specs.Submitting.{AreSetUp}
 use Rattle.world_play.specs.Worlds.{world_with, AreNodesOf}
 use Rattle.world_play.proofs.Answered.{on_ok}
 use Rattle.world_play.proofs.pass.take_turns.Goals as goal
@@ -46,3 +47,9 @@ returns-clause-ok c =
     subst (λ (xs : List NodeValue). PassedTo m c.args.paused.now began m.hosts (world_with now state xs c.take_turns_slice.new.sequencer)) (sym all)
     (ok m now state began (subst (λ (xs : List NodeValue). AreNodesOf m xs s) at a)
     (subst (λ (xs : List NodeValue). PassedTo m c.args.paused.now began 0 (world_with now state xs s)) at h)))
+
+pub returns-clause-set_up : goal.returns-clause-set_up
+returns-clause-set_up c = λ topology packages u.
+    let all = with_items_is c.args.nodes.now c.take_turns_slice.new.nodes (search (rules, places)) in
+    subst (λ (xs : List NodeValue). AreSetUp topology packages xs) (sym all)
+    (c.take_turns_slice.ensures.set_up topology packages (subst (λ (xs : List NodeValue). AreSetUp topology packages xs) (sym c.as_mut_slice.ensures.value) u))

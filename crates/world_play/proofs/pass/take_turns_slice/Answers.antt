@@ -3,7 +3,7 @@ use Rattle.std.specs.Prelude.{slice_index_or, slice_set}
 use Rattle.world_model.specs.Places.{has_place}
 use Rattle.seq_log.specs.Sequenced.{Sequenced}
 use Rattle.node_core.specs.Participant.{Participant as NodeValue}
-use Rattle.world_play.proofs.Passing.{IsTurning, item_at, item_within, set_same, in_turn, left_nodes, left_lawful, turning_on, turning_past, turning_ends}
+use Rattle.world_play.proofs.Passing.{IsTurning, item_at, item_within, set_same, in_turn, left_nodes, left_lawful, left_set_up, turning_on, turning_past, turning_ends}
 use Rattle.world_play.proofs.pass.take_turns_slice.Goals as goal
 use Rattle.world_play.proofs.pass.take_turns_slice.Goals.{then-not-is_among+in_ok-take_turn, else-not-is_among}
 
@@ -27,6 +27,12 @@ returns-in_err-take_turn-clause-nodes c =
 pub returns-in_err-take_turn-clause-lawful : goal.returns-in_err-take_turn-clause-lawful
 returns-in_err-take_turn-clause-lawful c =
     left_lawful c.args.paused.now c.args.nodes.now c.args.sequencer.now c.nodes.nodes c.nodes.sequencer c.nodes.node-index c.nodes.invariant.1
+    (slice_index_or c.nodes.nodes c.nodes.node-index c.node-item.result) (item_at c.nodes.nodes c.nodes.node-index c.node-item.result (item_within c.nodes-test.true c.nodes.auto.nodes))
+    c.take_turn.new.node c.take_turn.new.sequencer c.take_turn.ensures.on c.take_turn.ensures.same c.take_turn.ensures.keeps
+
+pub returns-in_err-take_turn-clause-set_up : goal.returns-in_err-take_turn-clause-set_up
+returns-in_err-take_turn-clause-set_up c =
+    left_set_up c.args.paused.now c.args.nodes.now c.args.sequencer.now c.nodes.nodes c.nodes.sequencer c.nodes.node-index c.nodes.invariant.1
     (slice_index_or c.nodes.nodes c.nodes.node-index c.node-item.result) (item_at c.nodes.nodes c.nodes.node-index c.node-item.result (item_within c.nodes-test.true c.nodes.auto.nodes))
     c.take_turn.new.node c.take_turn.new.sequencer c.take_turn.ensures.on c.take_turn.ensures.same c.take_turn.ensures.keeps
 

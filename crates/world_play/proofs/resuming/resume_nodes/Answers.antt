@@ -3,6 +3,7 @@ use Rattle.std.proofs.lemmas.List.{with_items_is, places}
 use Rattle.world_model.specs.Lawful.{Lawful}
 use Rattle.world_model.specs.Settling.{resume_each}
 use Rattle.node_core.specs.Participant.{Participant as NodeValue}
+use Rattle.world_play.specs.Submitting.{AreSetUp}
 use Rattle.world_play.specs.Worlds.{state_of, world_with, AreNodesOf}
 use Rattle.world_play.proofs.resuming.resume_nodes.Goals as goal
 
@@ -16,3 +17,9 @@ returns-clause-resumed c = λ m now state a l.
     (subst (λ (xs : List NodeValue). map state_of new ≡ resume_each m s.list 0 (map state_of xs)) c.as_mut_slice.ensures.value
     (c.resume_nodes_slice.ensures.resumed m now state (subst (λ (xs : List NodeValue). AreNodesOf m xs s) at a)
     (subst (λ (xs : List NodeValue). Lawful m (world_with now state xs s)) at l)))
+
+pub returns-clause-set_up : goal.returns-clause-set_up
+returns-clause-set_up c = λ topology packages u.
+    let all = with_items_is c.args.nodes.now c.resume_nodes_slice.new.nodes (search (rules, places)) in
+    subst (λ (xs : List NodeValue). AreSetUp topology packages xs) (sym all)
+    (c.resume_nodes_slice.ensures.set_up topology packages (subst (λ (xs : List NodeValue). AreSetUp topology packages xs) (sym c.as_mut_slice.ensures.value) u))

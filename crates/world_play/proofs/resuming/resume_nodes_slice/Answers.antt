@@ -4,7 +4,7 @@ use Rattle.world_model.specs.Settling.{resumed}
 use Rattle.seq_log.specs.Sequenced.{Sequenced}
 use Rattle.world_play.specs.Standing.{IsParticipant}
 use Rattle.world_play.proofs.Passing.{item_at, item_within, in_turn}
-use Rattle.world_play.proofs.Each.{first_at, done_on, done_nodes}
+use Rattle.world_play.proofs.Each.{first_at, done_on, done_nodes, done_set_up}
 use Rattle.world_play.proofs.Resumes.{Resumed, resumed_states}
 use Rattle.world_play.proofs.resuming.resume_nodes_slice.Goals as goal
 
@@ -53,3 +53,8 @@ pub returns-clause-resumed : goal.returns-clause-resumed
 returns-clause-resumed c = λ m now state a l.
     resumed_states c.args.nodes.now c.args.sequencer.now c.nodes.nodes c.nodes.node-index c.nodes.invariant.2
     (let ends = c.nodes.auto.node-index-end in let out = c.nodes-test.false in let same = c.nodes.auto.nodes in omega (arith, ends, out, same)) m now state a l
+
+pub returns-clause-set_up : goal.returns-clause-set_up
+returns-clause-set_up c =
+    done_set_up (Resumed c.args.sequencer.now) c.args.nodes.now (λ i x y d. d.0) c.nodes.nodes c.nodes.node-index c.nodes.invariant.2
+    (let ends = c.nodes.auto.node-index-end in let out = c.nodes-test.false in let same = c.nodes.auto.nodes in omega (arith, ends, out, same))
