@@ -1,13 +1,3 @@
-pub mod PlainLaws
-pub mod NoteRoles
-pub mod Conforming
-pub mod Sealed
-pub mod NoteTests
-pub mod Lawful
-pub mod NoteForms
-pub mod OneCreate
-pub mod OneRequest
-pub mod NoteRun
 pub mod Making
 pub mod SealedMade
 pub mod Told

@@ -1,10 +1,3 @@
-pub mod Note
-pub mod BuiltIn
-pub mod Plain
-pub mod PlainReading
-pub mod NoteRequest
-pub mod NoteForm
-pub mod NoteLog
 pub mod Made
 pub mod RequestedViews
 pub mod SealedRequests

@@ -1,46 +1,34 @@
-//! Laws of the plain form's reading, each the contract of a function with nothing to do.
-ghost use Rattle.std.specs.Prelude.{◌≡◌, ◌∷◌, [], List, ℕ};
-ghost use Rattle.ledger_terms.specs.declared.host.Host.{Host};
+//! Laws of requests in blinded envelopes, each the contract of a function with nothing to do.
+ghost use Rattle.std.specs.Prelude.{◌≡◌, ℕ, true, false, List, [], Some, None};
+ghost use Rattle.ledger_terms.specs.declared.topology.Topology.{Topology};
+ghost use Rattle.ledger_model.specs.Opening.{Transaction};
 ghost use Rattle.canton_model.specs.declared.request.Request.{Request};
-ghost use Rattle.ledger_terms.specs.declared.params.Params.{Params};
-ghost use Rattle.canton_model.specs.Checks.{verdicts_owed};
-ghost use Rattle.canton_model.specs.Genuine.{Genuine, IsReading, IsSealed, NoCollision};
-ghost use Rattle.canton_model.specs.Inbox.{inbox};
-ghost use Rattle.proto_model.specs.NoteForm.{note_form, note_request};
-ghost use Rattle.proto_model.specs.NoteLog.{approval, request_entry, note_log, sole_host, LeavesTime};
-ghost use Rattle.proto_model.specs.Plain.{IsPlain};
-ghost use Rattle.proto_model.specs.NoteRequest.{IsNoteRequest};
-ghost use Rattle.proto_model.specs.PlainReading.{plain_reading};
-ghost use Rattle.proto_model.specs.declared.plain_form.PlainForm.{PlainForm};
+ghost use Rattle.lang_eval.specs.Found.{Packages};
+ghost use Rattle.blind_tree.specs.Blind.{Salts, is_host_named};
+ghost use Rattle.blind_tree.specs.Recipients.{is_recipient};
+ghost use Rattle.blind_tree.specs.ShownViews.{roles_of_all};
+ghost use Rattle.blind_tree.specs.declared.tree.Tree.{Tree};
+ghost use Rattle.sealed_form.specs.SealedForm.{CanBeSealed, Whole, envelope_to, opened_to, request_of, tree_in, views_by};
+ghost use Rattle.proto_model.specs.RequestedViews.{ShowsNoContents, requested_views};
 
-/// The reading of plain envelopes is one: who confirms hosts, and its test of conformance decides conformance.
-pub fn plain_reading_is_reading()
-    ensures { (hosts : List Host) → IsReading (plain_reading hosts) }
+/// Nothing is opened to a participant without an envelope, and of a transaction's request only the sender and who sees a view
+/// gets one.
+pub fn nothing_is_opened_without_an_envelope()
+    ensures opened { (request : Request) (p : ℕ) → envelope_to p request.envelopes ≡ None → opened_to p request ≡ None }
+    ensures made { (topology : Topology) (packages : Packages) (sender : ℕ) (name command : List ℕ) (salts : Salts) (t : Transaction) (p : ℕ)
+        → is_host_named topology.hosts sender name ≡ true
+        → is_recipient topology.hosts (views_by packages t) sender p ≡ false
+        → envelope_to p (request_of topology packages sender name command salts t).envelopes ≡ None }
 {}
 
-/// A request of a note of a party to itself is sealed.
-pub fn note_requests_are_sealed()
-    ensures { (hosts : List Host) (request : Request) (form : PlainForm) (party : List ℕ)
-        → IsNoteRequest hosts request form party → IsSealed (plain_reading hosts) request }
-{}
-
-/// A note of a party to itself, requested of its one participant, is approved by it, and the log of request, response and
-/// verdict is genuine and doesn't collide.
-pub fn note_logs_are_genuine()
-    ensures approved { (name command party text : List ℕ) (params : Params)
-        → IsPlain (note_form name command party text 0) → LeavesTime params
-        → verdicts_owed (plain_reading (sole_host name party)) params 0
-        (inbox (plain_reading (sole_host name party)) 0 (request_entry (note_request 0 name command party text 0) ∷ [])) 0
-        ≡ approval }
-    ensures genuine { (name command party text : List ℕ) (params : Params)
-        → IsPlain (note_form name command party text 0) → LeavesTime params
-        → Genuine (plain_reading (sole_host name party)) params (note_log (note_request 0 name command party text 0)) }
-    ensures distinct { (name command party text : List ℕ) (params : Params)
-        → IsPlain (note_form name command party text 0) → LeavesTime params
-        → NoCollision (plain_reading (sole_host name party)) (note_log (note_request 0 name command party text 0)) }
-{}
-
-/// A log without entries is genuine.
-pub fn empty_logs_are_genuine()
-    ensures { (hosts : List Host) (params : Params) → Genuine (plain_reading hosts) params [] }
+/// The mediator's bytes tell the informees and confirmers of every view, and show neither contents nor who requests.
+pub fn the_mediator_is_told_who_sees_and_confirms()
+    ensures told { (topology : Topology) (packages : Packages) (sender : ℕ) (command : List ℕ) (whole : Whole)
+        → CanBeSealed topology packages sender whole
+        → requested_views (request_of topology packages sender whole.sender command whole.salts whole.transaction)
+        ≡ Some (record { sender = whole.sender; views = roles_of_all [] 0 (views_by packages whole.transaction) }) }
+    ensures no_contents { (topology : Topology) (packages : Packages) (sender : ℕ) (command : List ℕ) (whole : Whole) (tree : Tree)
+        → CanBeSealed topology packages sender whole
+        → tree_in (request_of topology packages sender whole.sender command whole.salts whole.transaction).mediator ≡ Some tree
+        → ShowsNoContents tree }
 {}

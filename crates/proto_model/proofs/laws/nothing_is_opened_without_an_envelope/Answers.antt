@@ -1,5 +1,5 @@
 use Rattle.proto_model.proofs.Told.{none_made, none_opened}
-use Rattle.proto_model.proofs.sealed_laws.nothing_is_opened_without_an_envelope.Goals as goal
+use Rattle.proto_model.proofs.laws.nothing_is_opened_without_an_envelope.Goals as goal
 
 pub returns-clause-opened : goal.returns-clause-opened
 returns-clause-opened c = none_opened

@@ -1,5 +1,5 @@
 use Rattle.proto_model.proofs.Told.{no_contents, roles_are_told}
-use Rattle.proto_model.proofs.sealed_laws.the_mediator_is_told_who_sees_and_confirms.Goals as goal
+use Rattle.proto_model.proofs.laws.the_mediator_is_told_who_sees_and_confirms.Goals as goal
 
 pub returns-clause-told : goal.returns-clause-told
 returns-clause-told c topology packages sender command whole can = roles_are_told topology packages sender command whole can
