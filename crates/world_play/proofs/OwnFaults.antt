@@ -45,7 +45,9 @@ module _ (topology : Topology) (packages : Packages) (me : ℕ) (known : List Kn
 
   own_prepared : OwnIfErr (prepared topology packages me known what now)
   own_prepared =
-      own_unless (first_unhosted topology me what.act_as) _ (own_wanted (actions_for topology packages me known what))
+      own_unless (first_unhosted topology me what.act_as)
+      (tx_where_wanted topology me what now (actions_for topology packages me known what) >>= sealed_if_split topology packages me what.command)
+      (own_wanted (actions_for topology packages me known what))
 
 -- the fault of a participant that isn't paused
 module _ (node : NodeValue) (what : Submission) (now : ℕ) (awake : (node.state).is_paused ≡ false) where
@@ -60,4 +62,4 @@ pub not_paused : (fault : SubmitFault) → IsOwn fault → fault ≢ Paused
 not_paused fault own same = differ (subst IsOwn same own)
   where
     differ : IsOwn Paused → ⊥
-    differ e = absurd e
+    differ e = absurd cc
