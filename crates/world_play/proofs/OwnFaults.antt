@@ -9,7 +9,6 @@ use Rattle.prepare_request.specs.Causes.{HasCause}
 use Rattle.prepare_request.specs.Prepared.{prepared}
 use Rattle.prepare_request.specs.declared.submit_fault.SubmitFault.{SubmitFault}
 use Rattle.prepare_request.specs.declared.submit_fault.SubmitFault.TheVariants.{Paused, NotHosted, Command, Split, Duplicate, LogFull, Memory}
-use Rattle.prepare_request.proofs.Wants.{caused}
 use Rattle.node_core.specs.Participant.{Participant as NodeValue}
 use Rattle.node_core.specs.Preparing.{offered_by, prepare_answer}
 use Rattle.world_play.specs.Results.{fault_of}
@@ -34,10 +33,11 @@ module _ (node : NodeValue) (what : Submission) (now : ℕ) (awake : (node.state
       → prepared node.topology node.packages node.me (offered_by node) what now ≡ Err fault
   prepared_is fault e = rw awake at e
 
-  pub own_fault : (fault : SubmitFault) → fault ≢ Memory → (fault ≢ Memory → prepare_answer node what now ≡ Err fault) → IsOwn fault
-  own_fault fault some exact =
-      own_of node.topology node.packages node.me (offered_by node) what now fault
-      (caused node.topology node.packages node.me (offered_by node) what now fault (prepared_is fault (exact some)))
+  pub own_fault : (fault : SubmitFault) → fault ≢ Memory → (fault ≢ Memory → prepare_answer node what now ≡ Err fault)
+      → (prepared node.topology node.packages node.me (offered_by node) what now ≡ Err fault
+      → HasCause node.topology node.packages node.me (offered_by node) what now fault) → IsOwn fault
+  own_fault fault some exact caused =
+      own_of node.topology node.packages node.me (offered_by node) what now fault (caused (prepared_is fault (exact some)))
 
 -- it isn't the pause
 pub not_paused : (fault : SubmitFault) → IsOwn fault → fault ≢ Paused

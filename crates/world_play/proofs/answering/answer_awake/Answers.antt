@@ -6,6 +6,7 @@ use Rattle.world_model.specs.Plain.{HandedIn}
 use Rattle.world_model.specs.Sequencing.{append_fault}
 use Rattle.seq_log.specs.Sequenced.{Sequenced, IsFor}
 use Rattle.node_core.specs.Participant.{Participant as NodeValue}
+use Rattle.node_core.specs.Preparing.{offered_by}
 use Rattle.node_core.specs.declared.submit_result.SubmitResult.TheVariants.{Refused}
 use Rattle.world_play.specs.Answering.{AnswersAwake}
 use Rattle.world_play.specs.Machines.{offered_in}
@@ -120,7 +121,9 @@ returns-in-Err-clause-answers c = λ m given.
     let fault = c.in-Err.fault in
     let own = (may_prepare node s after is c.requires.can.0 what c.requires.can.1).own in
     let awake : (after.state).is_paused ≡ false = ap (λ (x : NodeValue). (x.state).is_paused) is ∙ c.requires.awake in
-    let mine = own_fault after what c.args.now awake fault c.in-Err.some (rw c.in-Err.is at c.prepare.ensures.exact) in
+    let mine =
+    own_fault after what c.args.now awake fault c.in-Err.some (rw c.in-Err.is at c.prepare.ensures.exact)
+    (c.faults_have_causes.ensures after.topology after.packages after.me (offered_by after) what c.args.now fault) in
     let none =
     (rw c.in-Err.is at (c.prepare.ensures.wanted (offered_in after.topology after.packages) own refl)) c.in-Err.some (not_paused fault mine) in
     subst
