@@ -1,9 +1,10 @@
-use Rattle.std.proofs.Common.{◌≡◌, false, refl, sym, ap, ◌∙◌, subst}
+use Rattle.std.proofs.Common.{◌≡◌, ◌≢◌, false, rules, refl, sym, ap, ◌∙◌, subst}
 use Rattle.world_model.specs.Messages.{RequestMessage}
 use Rattle.world_model.specs.Fits.{MayStand}
 use Rattle.world_model.specs.Locks.{SequencerBehind}
 use Rattle.world_model.specs.Plain.{HandedIn}
 use Rattle.world_model.specs.Sequencing.{append_fault}
+use Rattle.prepare_request.specs.declared.submit_fault.SubmitFault.TheVariants as SubmitFault
 use Rattle.seq_log.specs.Sequenced.{Sequenced, IsFor}
 use Rattle.node_core.specs.Participant.{Participant as NodeValue}
 use Rattle.node_core.specs.Preparing.{offered_by}
@@ -111,6 +112,12 @@ returns-in-Err-clause-keeps c = λ m p given.
     subst (λ (q : Sequenced). IsParticipant m p after q) (sym c.read_to_end.ensures.same)
     (all_read m p c.args.node.now c.args.sequencer.now given after c.in_ok-read_to_end.ensures.ok)
 
+pub returns-in-Err-Memory-clause-keeps : goal.returns-in-Err-Memory-clause-keeps
+returns-in-Err-Memory-clause-keeps c = λ m p given.
+    let after = c.read_to_end.new.node in
+    subst (λ (q : Sequenced). IsParticipant m p after q) (sym c.read_to_end.ensures.same)
+    (all_read m p c.args.node.now c.args.sequencer.now given after c.in_ok-read_to_end.ensures.ok)
+
 pub returns-in-Err-clause-answers : goal.returns-in-Err-clause-answers
 returns-in-Err-clause-answers c = λ m given.
     let node = c.args.node.now in
@@ -121,11 +128,12 @@ returns-in-Err-clause-answers c = λ m given.
     let fault = c.in-Err.fault in
     let own = (may_prepare node s after is c.requires.can.0 what c.requires.can.1).own in
     let awake : (after.state).is_paused ≡ false = ap (λ (x : NodeValue). (x.state).is_paused) is ∙ c.requires.awake in
+    let some : fault ≢ SubmitFault.Memory = search rules in
     let mine =
-    own_fault after what c.args.now awake fault c.in-Err.some (rw c.in-Err.is at c.prepare.ensures.exact)
+    own_fault after what c.args.now awake fault some (rw c.in-Err.is at c.prepare.ensures.exact)
     (c.faults_have_causes.ensures after.topology after.packages after.me (offered_by after) what c.args.now fault) in
     let none =
-    (rw c.in-Err.is at (c.prepare.ensures.wanted (offered_in after.topology after.packages) own refl)) c.in-Err.some (not_paused fault mine) in
+    (rw c.in-Err.is at (c.prepare.ensures.wanted (offered_in after.topology after.packages) own refl)) some (not_paused fault mine) in
     subst
     (λ (q : Sequenced). AnswersAwake m node.topology node.packages c.args.now s.list what (Refused fault c.cursor.result) q.list)
     (sym c.read_to_end.ensures.same)
