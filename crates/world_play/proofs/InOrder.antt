@@ -4,7 +4,7 @@ use Rattle.std.proofs.Common.{append_assoc, append-nil, le_refl}
 use Rattle.std.specs.Prelude.{slice_get, All}
 use Rattle.std.proofs.lemmas.Option.{slice_get_within}
 use Rattle.std.proofs.lemmas.List.{length-append, take_all}
-use Rattle.std.proofs.lemmas.List.Elements.{All-append}
+use Rattle.std.proofs.lemmas.List.Elements.{All-nil, All-push}
 use Rattle.ledger_terms.specs.declared.submission.Submission.{Submission}
 use Rattle.ledger_terms.specs.declared.topology.Topology.{Topology}
 use Rattle.ledger_model.specs.Terms.{ParticipantId}
@@ -84,7 +84,7 @@ module _ (first : World) (submits : List Submission) (had : List SubmitResult) w
         answers = [];
         is_more = sym (append-nil had);
         many = refl;
-        plain = tt;
+        plain = All-nil IsPlainResult;
         submitted = λ m state topology packages round is l u p. refl;
       }
 
@@ -125,7 +125,7 @@ module _ (first : World) (submits : List Submission) (had : List SubmitResult) w
           answers = s.answers ++ answer ∷ [];
           is_more = is ∙ (ap (λ (xs : List SubmitResult). xs ++ answer ∷ []) s.is_more ∙ append_assoc had s.answers (answer ∷ []));
           many = let long = length-append s.answers (answer ∷ []) in let many = s.many in omega (arith, long, many);
-          plain = All-append IsPlainResult s.answers (answer ∷ []) s.plain (plain, tt);
+          plain = All-push IsPlainResult s.answers answer s.plain plain;
           submitted = next_submitted;
         }
 

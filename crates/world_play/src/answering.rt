@@ -19,6 +19,7 @@ use crate::reading::read_to_end;
 use canton_model::{Message, Request};
 use ledger_terms::Submission;
 use node_core::{Node, SubmitFault, SubmitResult};
+use prepare_request::laws::faults_have_causes;
 use seq_log::{AppendFault, AppendRefusal, Sequencer};
 use std::alloc::{AllocError, Global};
 
@@ -70,6 +71,8 @@ fn answer_awake(
     ensures answers { IfOk result (λ answer. (m : Machine) → IsParticipant m what.now.participant node.old sequencer.old
         → AnswersAwake m node.old.topology node.old.packages now sequencer.old.list what.now answer sequencer.new.list) }
 {
+    // the prover learns from this call that each fault has a cause in the submission
+    faults_have_causes();
     read_to_end(node, sequencer)?;
     match node.prepare(alloc, what, now) {
         Ok(request) => send(sequencer, request),
