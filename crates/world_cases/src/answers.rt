@@ -1,4 +1,8 @@
 //! Answers of cases.
+ghost use Rattle.std.specs.Prelude.{◌≤◌, All, length};
+ghost use Rattle.script_read.specs.Kept.{IsAccepted};
+ghost use Rattle.world_play.specs.Events.{CanHappen};
+
 use crate::case::Case;
 use crate::plan::{Plan, is_within_time, plan_of};
 use crate::playing::played;
@@ -25,7 +29,9 @@ fn told(alloc: Global, case: &Case<'_>) -> Result<String, AllocError> {
     }
 }
 
-fn told_of_script(alloc: Global, words: &str, script: Script) -> Result<String, AllocError> {
+fn told_of_script(alloc: Global, words: &str, script: Script) -> Result<String, AllocError>
+    requires { IsAccepted script }
+{
     let Script {
         topology,
         checked,
@@ -33,13 +39,16 @@ fn told_of_script(alloc: Global, words: &str, script: Script) -> Result<String, 
     } = script;
     let setup = Setup { topology, checked };
     let submissions = first_submissions(alloc, rounds);
-    match plan_of(alloc, &setup.topology, submissions, words)? {
+    match plan_of(alloc, &setup, submissions, words)? {
         Some(plan) => told_of_plan(alloc, &setup, &plan),
         None => "no events".to_string(alloc),
     }
 }
 
-fn told_of_plan(alloc: Global, setup: &Setup, plan: &Plan) -> Result<String, AllocError> {
+fn told_of_plan(alloc: Global, setup: &Setup, plan: &Plan) -> Result<String, AllocError>
+    requires hosts { length setup.now.topology.hosts ≤ 256 }
+    requires within { All (CanHappen setup.now.topology setup.now.checked) plan.now.events }
+{
     if !is_within_time(plan.events.as_slice()) {
         return "too late".to_string(alloc);
     }
