@@ -10,11 +10,7 @@ use ledger_terms::{ParticipantId, Submission, Topology};
 use world_play::Event;
 
 /// The event that a word says. A submission is taken from the front of those that are left.
-pub(crate) fn event_of(
-    setup: &Setup,
-    left: &mut Vec<Submission>,
-    word: &str,
-) -> Option<Event>
+pub(crate) fn event_of(setup: &Setup, left: &mut Vec<Submission>, word: &str) -> Option<Event>
     requires { All (CanSubmit setup.now.topology setup.now.checked) left.old.items }
     ensures event { IfSome result (CanHappen setup.now.topology setup.now.checked) }
     ensures left { All (CanSubmit setup.now.topology setup.now.checked) left.new.items }
