@@ -1,5 +1,5 @@
 """Writes the inputs and the expected outputs of crates/tree_cases, crates/request_cases, crates/form_cases,
-crates/check_cases, crates/load_cases and crates/run_cases from the tables of this folder.
+crates/check_cases, crates/load_cases, crates/run_cases and crates/world_cases from the tables of this folder.
 
 What a table says of a case by hand is compared with what is computed here, where both are there.
 """
@@ -12,8 +12,9 @@ import language
 import load_cases
 import request_cases
 import tree_cases
+import world_cases
 from tables import bytes as byte_tables
-from tables import checks, expressions, package_faults, requests, runs, script_faults, transactions, words
+from tables import checks, expressions, package_faults, requests, runs, script_faults, transactions, words, worlds
 
 CRATES = os.path.join(os.path.dirname(os.path.dirname(os.path.abspath(__file__))), 'crates')
 
@@ -133,6 +134,17 @@ def run_rows():
         yield 'run %s %d %d %s %s' % (name, take, put, words, source), lines + ['|' + written for written in text.splitlines()]
 
 
+def world_rows():
+    for name, script, words, worked in worlds.CASES:
+        lines = world_cases.case_lines(script, words)
+        if worked[0] is None:
+            said = worked[1:]
+            agreed('%s has the lines %s' % (name, said), any(lines[at:at + len(said)] == said for at in range(len(lines))), True)
+        else:
+            agreed(name, lines, worked)
+        yield 'play %s %s %s' % (name, words, compact(script)), ['%s %s' % (name, line) for line in lines]
+
+
 def write(crate, parts):
     """Writes the cases of a crate, each part below a heading that it writes again."""
     asked, answered = [], []
@@ -157,6 +169,7 @@ def main():
         ('Stores', call_rows('store', check_cases.Store(), checks.STORES))])
     write('load_cases', [('Words', word_rows()), ('Generated scripts', generated_rows())])
     write('run_cases', [('Whole runs', run_rows())])
+    write('world_cases', [('Events', world_rows())])
 
 
 if __name__ == '__main__':

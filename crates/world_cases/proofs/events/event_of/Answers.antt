@@ -1,0 +1,4 @@
+use Rattle.world_cases.proofs.events.event_of.Goals as goal
+
+pub returns-clause-event : goal.returns-clause-event
+returns-clause-event c = c.plain_event.ensures c.args.setup.now.topology c.args.setup.now.checked

@@ -1,0 +1,87 @@
+"""Events of a synchroniser, with the log or the whole report that they leave, worked out by hand from docs/PROTOCOL.md."""
+from tables.transactions import IOU, asked, create, does, exercise, fetch, iou, known, note, party, prepared, transfer
+
+ONE = [{"name": "P1", "parties": ["Alice"]}]
+THREE = [{"name": "P1", "parties": ["Bank"]}, {"name": "P2", "parties": ["Alice", "Bob"]}, {"name": "P3", "parties": ["Carol"]}]
+
+
+def script(participants, *submissions):
+    packages = [] if participants is ONE else [IOU]
+    return {"participants": participants, "packages": packages, "rounds": [{"submits": list(submissions)}]}
+
+
+def words(*parts):
+    return ','.join(parts)
+
+
+def answers(name, reads=1):
+    """A participant reads so many entries, checks what it is asked, and answers."""
+    return words(*['read:' + name] * reads, 'validate:' + name, 'reply:' + name)
+
+
+def decides(reads):
+    """The mediator reads so many entries, and gives its verdict."""
+    return words(*['mediator'] * reads, 'verdict')
+
+
+HI = asked("P1", "c1", ["Alice"], note("Alice", "Alice", "hi"))
+HELLO = asked("P1", "c2", ["Alice"], note("Alice", "Alice", "hello"))
+NOTE, TWO_NOTES = script(ONE, HI), script(ONE, HI, HELLO)
+NOTE_SENT = words('submit', answers('P1'), 'mediator', 'mediator')
+NOTE_LOG = ['0 1 request P1 c1 to P1', '1 2 response P1 for 0 0=approve', '2 3 verdict for 0 approved']
+NOTE_REPORT = ['entries 3'] + NOTE_LOG + [
+    'outcome 0 approved', 'participant P1 clean 3 time 3', 'commit 0', '  create Note.Note(Alice,Alice,"hi")',
+    'active 0 Note.Note(Alice,Alice,"hi")', 'end', 'consistent P1']
+
+# the Bank owes Alice 10, and P2 has read that it was approved
+C1 = asked("P1", "c1", ["Bank"], iou("Alice", 10))
+OWED = words('submit', answers('P1'), decides(2), *['read:P2'] * 3)
+OWED_LOG = ['0 1 request P1 c1 to P1 P2', '1 2 response P1 for 0 0=approve', '2 3 verdict for 0 approved']
+BOTH_ANSWER = words(OWED, 'submit', answers('P1', 3), answers('P2', 1), decides(4))
+
+
+def changed(amount):
+    return does(known("#P1:c1:0"), "Transfer", ["Alice"], iou("Carol", amount), args=[party("Carol")])
+
+
+TRANSFER = script(THREE, C1, asked("P2", "t1", ["Alice"], transfer(of='c1')))
+WRONG_CHILD = script(THREE, C1, prepared("P2", "w1", ["Alice"], changed(11)))
+USED_AFTER = script(THREE, C1, prepared("P2", "x1", ["Alice"], changed(10), fetch(known("#P1:c1:0"), ["Alice"])))
+TRANSIENT = script(
+    THREE, asked("P2", "n1", ["Alice"], note("Alice", "Carol", "a")),
+    asked("P2", "n2", ["Alice"], exercise("Note.Note", "#P2:n1:0", "Flash")))
+
+MOVED = ['commit 0', '  create Iou.Iou(Bank,Alice,10)', 'commit 3',
+         '  consume Iou.Iou(Bank,Alice,10) Transfer(Carol) by Alice = ()', '    create Iou.Iou(Bank,Carol,10)']
+
+# a name, the script, the events, and all lines or, behind None, some that follow one another
+CASES = [
+    ('lost-reply', NOTE, words('submit', 'read:P1', 'validate:P1', 'lose:P1', 'settle'), NOTE_REPORT),
+    ('lost-verdict', NOTE, words(NOTE_SENT, 'lose-verdict', 'verdict', 'settle'), NOTE_REPORT),
+    ('last-moment', NOTE, words(NOTE_SENT, 'advance:60000000', 'verdict'),
+     [None, '1 2 response P1 for 0 0=approve', '2 60000000 tick', '3 60000001 verdict for 0 approved', 'outcome 0 approved']),
+    ('too-late', NOTE, words(NOTE_SENT, 'advance:60000001', 'verdict'),
+     [None, '2 60000001 tick', 'outcome 0 undecided', 'participant P1 clean 0 time 0', 'end']),
+    ('expired', NOTE, words(NOTE_SENT, 'advance:60000001', 'verdict', 'advance:1'),
+     [None, '2 60000001 tick', '3 60000002 tick', 'outcome 0 expired', 'participant P1 clean 4 time 60000002', 'end']),
+    ('held-response', NOTE, words('submit', 'read:P1', *['validate:P1'] * 2, *['reply:P1', 'validate:P1'] * 2, decides(2), 'verdict'),
+     NOTE_REPORT),
+    ('pause', TWO_NOTES, words('pause:P1', 'submit', 'wake:P1', 'submit', 'pause:P1', answers('P1'), decides(2)),
+     [None, 'entries 3', '0 1 request P1 c2 to P1', '1 2 response P1 for 0 0=approve', '2 3 verdict for 0 approved', 'outcome 0 approved']),
+    ('inner-view', TRANSFER, BOTH_ANSWER, ['entries 7'] + OWED_LOG + [
+        '3 4 request P2 t1 to P1 P2 P3', '4 5 response P1 for 3 0=approve 0.0=approve', '5 6 response P2 for 3 0=approve',
+        '6 7 verdict for 3 approved', 'outcome 0 approved', 'outcome 3 approved', 'participant P1 clean 7 time 7'] + MOVED + [
+        'active 3 Iou.Iou(Bank,Carol,10)', 'participant P2 clean 7 time 7'] + MOVED + [
+        'participant P3 clean 7 time 7', 'commit 3', '  create Iou.Iou(Bank,Carol,10)', 'active 3 Iou.Iou(Bank,Carol,10)', 'end',
+        'consistent P1', 'consistent P2', 'consistent P3']),
+    ('wrong-child', WRONG_CHILD, BOTH_ANSWER, [None] + OWED_LOG + [
+        '3 4 request P2 w1 to P1 P2 P3', '4 5 response P1 for 3 0=NotConformant 0.0=approve', '5 6 response P2 for 3 0=NotConformant',
+        '6 7 verdict for 3 rejected P1 0 NotConformant']),
+    ('used-after', USED_AFTER, BOTH_ANSWER, [None] + OWED_LOG + [
+        '3 4 request P2 x1 to P1 P2 P3', '4 5 response P1 for 3 0=approve 0.0=approve 1=Unordered',
+        '5 6 response P2 for 3 0=approve 1=Unordered', '6 7 verdict for 3 rejected P1 1 Unordered']),
+    ('transient', TRANSIENT, words('submit', answers('P2'), decides(2), 'read:P2', 'read:P2', 'submit', answers('P2'), decides(3)), [
+        None, '0 1 request P2 n1 to P2 P3', '1 2 response P2 for 0 0=approve', '2 3 verdict for 0 approved',
+        '3 4 request P2 n2 to P2 P3', '4 5 response P2 for 3 0=approve 0.0=approve 0.1=approve', '5 6 verdict for 3 approved']),
+    ('another-word', NOTE, 'submit,wait', ['no events']),
+    ('most-time', NOTE, 'advance:9999999999999999,advance:2', ['too late'])]

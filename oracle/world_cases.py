@@ -1,0 +1,315 @@
+"""What crates/world_cases has to write: the report of a log that grows event by event, and what each participant has applied of it.
+
+All is worked out from the log and from how much of it each participant and the mediator have read.
+"""
+import check_cases
+import ledger
+import trees
+from language import Packages
+from terms import instance_text
+from tree_cases import path_text, transaction_of, tree_lines
+
+WAIT, SKEW, MOST_TIME = 30_000_000, 60_000_000, 10 ** 16
+
+
+class Request:
+    """A request: who sends it, its transaction and its views, and who confirms it."""
+
+    def __init__(self, world, submission, now, known):
+        self.world, self.submission = world, submission
+        self.sender, self.command = submission['participant'], submission['command']
+        self.ledger_time = submission.get('ledger_time', now)
+        _, self.by, self.roots = transaction_of(world.packages, known, submission)
+        self.views = list(trees.all_views(trees.split(world.packages, self.roots)))
+
+    def hosts(self, kind):
+        parties = {party for view in self.views for party in view[kind]}
+        return [h['name'] for h in self.world.hosts if set(h['parties']) & parties]
+
+    def recipients(self):
+        return [h['name'] for h in self.world.hosts if h['name'] == self.sender or h['name'] in self.hosts('informees')]
+
+    def seen(self, name):
+        """The topmost views that a participant sees."""
+        return trees.topmost([v for v in self.views if len(v['path']) == 1], self.world.parties(name))
+
+    def acts(self, name):
+        """The actions that a participant sees whose ids are right."""
+        for view in self.seen(name):
+            for _, node in ledger.preorder([view['nodes'][0]]):
+                action = node['action']
+                salt = node['seed'] if action['kind'] == 'create' else action['salt']
+                if ledger.contract_id(salt, action['instance']) == action['id']:
+                    yield node
+
+
+class Checked(check_cases.Check):
+    """The checks of a participant on the request at a place."""
+
+    def __init__(self, world, name, place):
+        request = world.log[place]['request']
+        self.packages, self.script, self.roots, self.by = world.packages, world.script, request.roots, request.by
+        self.host = next(h for h in world.hosts if h['name'] == name)
+        self.time, self.ledger_time = world.log[place]['time'], request.ledger_time
+        self.facts = world.facts(name, place)
+        seen = request.seen(name)
+        self.views = list(trees.all_views(seen))
+        self.acts = [n for v in seen for _, n in ledger.preorder([v['nodes'][0]])]
+        shown = name == request.sender or any(len(v['path']) == 1 for v in seen)
+        self.requesters = request.by if shown else None
+
+
+class World:
+    def __init__(self, script):
+        self.script, self.hosts, self.packages = script, script['participants'], Packages(script.get('packages', []))
+        self.log, self.now = [], 0
+        self.left = list(script['rounds'][0]['submits'])
+        self.paused, self.read, self.taken, self.outbox = set(), {}, {}, {}
+        for host in self.hosts:
+            self.read[host['name']], self.taken[host['name']], self.outbox[host['name']] = 0, set(), {}
+        self.told, self.given = 0, set()
+
+    def parties(self, name):
+        return next(h['parties'] for h in self.hosts if h['name'] == name)
+
+    # the log
+
+    def append(self, kind, time=None, **more):
+        self.log.append(dict(more, kind=kind, time=self.next_time() if time is None else time))
+
+    def next_time(self):
+        return (self.log[-1]['time'] if self.log else 0) + 1
+
+    def requests(self, end):
+        return [(k, e['request']) for k, e in enumerate(self.log[:end]) if e['kind'] == 'request']
+
+    def deadline(self, place):
+        return self.log[place]['time'] + self.script.get('response_timeout', WAIT)
+
+    def decision_time(self, place):
+        return self.deadline(place) + self.script.get('reaction_timeout', WAIT)
+
+    def verdict(self, place, end):
+        return next((e['decision'] for e in self.log[:end] if e['kind'] == 'verdict' and e['of'] == place), None)
+
+    def is_decided(self, place, end):
+        """By what stands before an end."""
+        return self.verdict(place, end) is not None or any(e['time'] > self.decision_time(place) for e in self.log[:end])
+
+    def response(self, name, place):
+        return next((e for e in self.log if e['kind'] == 'response' and e['by'] == name and e['of'] == place), None)
+
+    def hand_in(self, kind, place, **more):
+        """A response or a verdict, which is dropped where it stands already or comes too late."""
+        stands = self.response(more['by'], place) if kind == 'response' else self.verdict(place, len(self.log))
+        if stands is None and self.next_time() <= self.decision_time(place):
+            self.append(kind, of=place, **more)
+
+    # contracts
+
+    def approved(self, end, most):
+        """The requests before a place with an approving verdict before an end."""
+        return [(k, request) for k, request in self.requests(most) if self.verdict(k, end) == 'approved']
+
+    def status(self, name, most, end):
+        """Of each contract that a participant sees: who creates it at which place, and whether it is consumed."""
+        created, consumed = {}, set()
+        for place, request in self.approved(end, most):
+            for node in request.acts(name):
+                if node['action']['kind'] == 'create':
+                    created.setdefault(node['action']['id'], (place, node))
+                elif node['action'].get('consuming'):
+                    consumed.add(node['action']['id'])
+        return created, consumed
+
+    def facts(self, name, place):
+        """Status and hold of each contract at the place of a request."""
+        created, consumed = self.status(name, place, place)
+        facts = {cid: ('active', False) for cid in created}
+        facts.update((cid, ('consumed', False)) for cid in consumed)
+        for at, request in self.requests(place):
+            # the entry at the place itself may be past the decision time
+            if self.verdict(at, place) is None and self.log[place]['time'] <= self.decision_time(at):
+                for node in request.acts(name):
+                    if node['action']['kind'] == 'create' or node['action'].get('consuming'):
+                        cid = node['action']['id']
+                        facts[cid] = (facts.get(cid, ('unknown', False))[0], True)
+        return facts
+
+    def active(self, name, most, end):
+        created, consumed = self.status(name, most, end)
+        for cid, (place, node) in created.items():
+            instance = node['action']['instance']
+            if cid not in consumed and set(ledger.union(*self.packages.stakeholders(instance))) & set(self.parties(name)):
+                yield place, {'id': cid, 'salt': node['seed'], 'instance': instance}
+
+    # events
+
+    def submit(self):
+        submission = self.left.pop(0)
+        name = submission['participant']
+        if name in self.paused or not set(submission['act_as']) <= set(self.parties(name)):
+            return
+        try:
+            known = [contract for _, contract in self.active(name, self.read[name], self.read[name])]
+            request = Request(self, submission, self.now, known)
+        except (ledger.Refused, trees.NoViews):
+            return
+        if all((r.sender, r.command) != (request.sender, request.command) for _, r in self.requests(len(self.log))):
+            self.append('request', request=request)
+
+    def advance(self, by):
+        if by:
+            self.now += by
+            self.append('tick', max(self.now, self.next_time()))
+
+    def owed(self, name, end):
+        """The requests before an end, undecided there, whose views this participant is to confirm."""
+        return [k for k, r in self.requests(end) if name in r.hosts('confirmers') and not self.is_decided(k, end)]
+
+    def verdicts(self, name, place):
+        checked, parties = Checked(self, name, place), set(self.parties(name))
+        mine = [v['path'] for v in self.log[place]['request'].views if set(v['confirmers']) & parties]
+        return [(path_text(path), checked.verdict(path).split(' ')[0]) for path in mine]
+
+    def validate(self, name):
+        for place in self.owed(name, self.read[name]):
+            if place not in self.taken[name]:
+                self.taken[name].add(place)
+                self.outbox[name][place] = self.verdicts(name, place)
+                return
+
+    def reply(self, name, is_lost):
+        for place in sorted(self.outbox[name]):
+            if not self.is_decided(place, self.read[name]):
+                verdicts = self.outbox[name].pop(place)
+                if not is_lost:
+                    self.hand_in('response', place, by=name, verdicts=verdicts)
+                return
+
+    def decision(self, place, end):
+        """The mediator's decision by what stands before an end."""
+        missing = self.log[place]['request'].hosts('confirmers')
+        for entry in self.log[place + 1:end]:
+            if entry['time'] > self.deadline(place):
+                return 'timeout ' + ' '.join(missing)
+            if entry['kind'] == 'response' and entry['of'] == place and entry['by'] in missing:
+                missing.remove(entry['by'])
+                for path, verdict in entry['verdicts']:
+                    if verdict != 'approve':
+                        return 'rejected %s %s %s' % (entry['by'], path, verdict)
+                if not missing:
+                    return 'approved'
+        return None
+
+    def give(self, is_lost):
+        for place, _ in self.requests(self.told):
+            decision = self.decision(place, self.told)
+            if place not in self.given and decision is not None:
+                self.given.add(place)
+                if not is_lost:
+                    self.hand_in('verdict', place, decision=decision)
+                return
+
+    def read_next(self, cursors, name):
+        cursors[name] = min(cursors[name] + 1, len(self.log))
+
+    def happen(self, word):
+        verb, _, rest = word.partition(':')
+        if verb == 'advance':
+            self.advance(int(rest))
+        elif verb == 'mediator':
+            self.told = min(self.told + 1, len(self.log))
+        elif verb in ('pause', 'wake'):
+            (self.paused.add if verb == 'pause' else self.paused.discard)(rest)
+        elif verb == 'read':
+            self.read_next(self.read, rest)
+        elif verb == 'submit':
+            self.submit()
+        elif verb == 'validate':
+            self.validate(rest)
+        elif verb in ('reply', 'lose'):
+            self.reply(rest, verb == 'lose')
+        else:
+            self.give(verb == 'lose-verdict')
+
+    def settle(self):
+        """All that is due comes, until nothing more does."""
+        before = None
+        while before != len(self.log):
+            before = len(self.log)
+            for host in self.hosts:
+                name = host['name']
+                for place in self.owed(name, len(self.log)):
+                    self.hand_in('response', place, by=name, verdicts=self.verdicts(name, place))
+            end = len(self.log)
+            for place, _ in self.requests(end):
+                decision = self.decision(place, end)
+                if decision is not None:
+                    self.hand_in('verdict', place, decision=decision)
+
+    # the report
+
+    def entry_text(self, entry):
+        if entry['kind'] == 'request':
+            request = entry['request']
+            return 'request %s %s to %s' % (request.sender, request.command, ' '.join(request.recipients()))
+        if entry['kind'] == 'response':
+            return 'response %s for %d %s' % (entry['by'], entry['of'], ' '.join('%s=%s' % v for v in entry['verdicts']))
+        return 'tick' if entry['kind'] == 'tick' else 'verdict for %d %s' % (entry['of'], entry['decision'])
+
+    def outcome(self, place):
+        end = len(self.log)
+        return self.verdict(place, end) or ('expired' if self.is_decided(place, end) else 'undecided')
+
+    def report(self):
+        end = len(self.log)
+        yield 'entries %d' % end
+        for place, entry in enumerate(self.log):
+            yield '%d %d %s' % (place, entry['time'], self.entry_text(entry))
+        for place, _ in self.requests(end):
+            yield 'outcome %d %s' % (place, self.outcome(place))
+        for host in self.hosts:
+            yield from self.participant(host['name'])
+        yield 'end'
+        for host in self.hosts:
+            found = ledger.first_inconsistent([roots for _, roots in self.applied(host['name'])])
+            yield '%s %s' % ('consistent' if found is None else 'inconsistent', host['name'])
+
+    def clean(self, name):
+        end = len(self.log)
+        return min([k for k, r in self.requests(end) if name in r.recipients() and not self.is_decided(k, end)] + [end])
+
+    def applied(self, name):
+        for place, request in self.approved(len(self.log), self.clean(name)):
+            roots = ledger.projection(self.packages, request.roots, self.parties(name))
+            if roots:
+                yield place, roots
+
+    def participant(self, name):
+        clean = self.clean(name)
+        yield 'participant %s clean %d time %d' % (name, clean, self.log[clean - 1]['time'] if clean else 0)
+        for place, roots in self.applied(name):
+            yield 'commit %d' % place
+            yield from tree_lines(roots)
+        for place, contract in self.active(name, clean, len(self.log)):
+            yield 'active %d %s' % (place, instance_text(contract['instance']))
+
+
+WORDS = {'mediator', 'verdict', 'lose-verdict', 'submit', 'advance', 'read', 'validate', 'reply', 'lose', 'pause', 'wake'}
+
+
+def case_lines(script, words):
+    words = words.split(',')
+    settles = words[-1] == 'settle'
+    words = words[:-1] if settles else words
+    if not {word.partition(':')[0] for word in words} <= WORDS or words.count('submit') > len(script['rounds'][0]['submits']):
+        return ['no events']
+    if sum(int(word[8:]) for word in words if word.startswith('advance:')) > MOST_TIME:
+        return ['too late']
+    world = World(script)
+    for word in words:
+        world.happen(word)
+    if settles:
+        world.settle()
+    return list(world.report())
