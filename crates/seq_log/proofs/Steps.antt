@@ -3,7 +3,7 @@ use Rattle.std.proofs.Common.{◌≡◌, ℕ, ◌+◌, ◌≤◌, ◌^◌, List,
 use Rattle.std.specs.Prelude.{nat_lt}
 use Rattle.std.proofs.lemmas.Bool.{cases_Bool, ltb-false}
 use Rattle.std.proofs.lemmas.Option.{none-some}
-use Rattle.canton_model.specs.Log.{Params}
+use Rattle.canton_model.specs.Log.{FollowsTime, Params}
 use Rattle.world_model.specs.Messages.{Entry, Message, RequestMessage, ResponseMessage, VerdictMessage, Tick}
 use Rattle.world_model.specs.Machine.{Machine}
 use Rattle.world_model.specs.Fits.{MayStand}
@@ -55,6 +55,13 @@ time_within now (RequestMessage q) last long le h = omega arith
 time_within now (ResponseMessage r) last long le h = omega arith
 time_within now (VerdictMessage v) last long le h = omega arith
 time_within now Tick last long le h = omega arith
+
+-- the next entry's time follows the last one's
+pub follows_next : (now : ℕ) (message : Message) (last time : ℕ) → time ≡ next_time now message last → FollowsTime message last time
+follows_next now (RequestMessage q) last time is = is
+follows_next now (ResponseMessage r) last time is = is
+follows_next now (VerdictMessage v) last time is = is
+follows_next now Tick last time is = omega (arith, is)
 
 pub holds_after : (before after : LogPrefix) (slips new : List LogPrefix) (e : Entry) → Holds before slips → after ≡ extended before e
     → new ≡ slips ++ after ∷ [] → Holds after new

@@ -1,15 +1,19 @@
 -- What is kept beside a log, so that nothing of it is read again.
 use Rattle.std.specs.Prelude.{◌≡◌, List}
 use Rattle.indexmap.specs.IndexMap.{get}
+use Rattle.canton_model.specs.Log.{TimesFrom}
 use Rattle.world_model.specs.Messages.{Entry}
 use Rattle.world_model.specs.Sequencing as s
 use Rattle.seq_log.specs.Keys.{key_eq}
 use Rattle.seq_log.specs.Faults.{Leads}
+use Rattle.seq_log.specs.OpenRequests.{open_requests}
 use Rattle.seq_log.specs.declared.key.Key.{Key}
 use Rattle.seq_log.specs.declared.log_index.LogIndex.{LogIndex}
 
--- the index is that of the list
+-- the index is that of the list, whose times rise
 pub record IsIndexOf (index : LogIndex) (list : List Entry) : Type 0 where
-  pub leads : Leads list (λ (k : Key). get key_eq index.places k)
+  pub leads : Leads list (λ (key : Key). get key_eq index.places key)
   pub reserved : index.reserved ≡ s.reserved list
   pub last : index.last ≡ s.last_time list
+  pub open_places : index.open_requests.places.items ≡ open_requests index.params list
+  pub times : TimesFrom 0 list

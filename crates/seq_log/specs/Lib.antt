@@ -1,5 +1,6 @@
 pub mod Faults
 pub mod Indexed
 pub mod Keys
+pub mod OpenRequests
 pub mod Sequenced
 pub mod Slips

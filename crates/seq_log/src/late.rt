@@ -1,6 +1,6 @@
 //! When a message is too late, or too much.
-ghost use Rattle.std.specs.Prelude.{◌≡◌, ◌+◌, ◌<◌, ◌≤◌, ◌^◌, ℕ, slice_get};
-ghost use Rattle.canton_model.specs.Log.{time_of};
+ghost use Rattle.std.specs.Prelude.{◌≡◌, ◌+◌, ◌<◌, ◌≤◌, ◌^◌, ℕ, nat_lt, slice_get};
+ghost use Rattle.canton_model.specs.Log.{decision_time_of, time_of};
 ghost use Rattle.log_row.specs.LogPrefix.{LogPrefix};
 ghost use Rattle.world_model.specs.Sequencing as s;
 ghost use Rattle.seq_log.specs.Faults.{if_full};
@@ -40,6 +40,16 @@ pub fn if_late(
     } else {
         None
     }
+}
+
+/// Whether the decision time of the request at a place lies before this time.
+pub fn is_past(slips: &Vec<Slip<'_>>, params: &Params, place: u64, time: u64) -> bool
+    ensures { (t : LogPrefix) → Holds t slips.now.items → result ≡ nat_lt (decision_time_of params.now t.list place) time }
+{
+    let decision = entry_time(slips, place)
+        .saturating_add(params.response_timeout)
+        .saturating_add(params.reaction_timeout);
+    decision < time
 }
 
 /// Whether a request would spend more than the capacity.

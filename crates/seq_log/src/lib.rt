@@ -5,6 +5,7 @@ mod fault;
 mod key;
 mod late;
 mod log_index;
+mod open_requests;
 mod place;
 mod sequencer;
 

@@ -1,6 +1,10 @@
 //! What is kept beside the log.
 ghost use Rattle.std.specs.Prelude.{◌≡◌, ◌+◌, ◌<◌, ◌≤◌, ◌^◌, ◌++◌, ◌∷◌, [], ℕ, List, None, length, OnOk};
+ghost use Rattle.std.specs.List.{list_any};
+ghost use Rattle.std.specs.VecDeque.{deque_len, deque_capacity};
 ghost use Rattle.indexmap.specs.IndexMap.{spare};
+ghost use Rattle.canton_model.specs.Log.{FollowsTime};
+ghost use Rattle.canton_model.specs.Mediation.{has_responded};
 ghost use Rattle.log_row.specs.LogPrefix.{LogPrefix};
 ghost use Rattle.world_model.specs.Messages.{Entry};
 ghost use Rattle.world_model.specs.Sequencing as s;
@@ -13,19 +17,21 @@ ghost use Rattle.seq_log.specs.Slips.{Holds};
 use crate::fault::AppendFault;
 use crate::key::Key;
 use crate::late::{if_full, if_late};
-use crate::place::{place_of, put_place};
+use crate::open_requests::OpenRequests;
+use crate::place::{place_of, put_place, stands};
 use canton_model::Message;
 use indexmap::IndexMap;
-use ledger_terms::Params;
+use ledger_terms::{Params, ParticipantId};
 use log_row::Slip;
 use std::alloc::AllocError;
 
-/// The times and the capacity of a log, where its messages stand, what was spent, and the time of its last entry.
+/// The times and the capacity of a log, where its messages stand, its open requests, what was spent, and the time of its last entry.
 #[derive(Drop)]
 pub struct LogIndex {
     pub params: Params,
     pub capacity: u64,
     pub places: IndexMap<Key, u64>,
+    pub open_requests: OpenRequests,
     pub reserved: u64,
     pub last: u64,
 }
@@ -82,26 +88,53 @@ impl LogIndex {
         }
     }
 
-    /// Makes room for one more place.
+    /// Whether a response of the participant to the request at a place stands in the log.
+    pub fn has_response(&self, request: u64, from: ParticipantId) -> bool
+        ensures { (list : List Entry) → IsIndexOf self.now list → result ≡ has_responded request list from }
+    {
+        stands(&self.places, &Key::Response(from, request))
+    }
+
+    // Whether a verdict on the request at a place stands in the log.
+    fn has_verdict(&self, request: u64) -> bool
+        ensures { (list : List Entry) → IsIndexOf self.now list → result ≡ list_any (λ (e : Entry). s.is_verdict_on request e.message) list }
+    {
+        stands(&self.places, &Key::Verdict(request))
+    }
+
+    /// Makes room for one more place, and for one more open request.
     pub fn reserve(&mut self) -> Result<(), AllocError>
         ensures kept { (list : List Entry) → IsIndexOf self.old list → IsIndexOf self.new list }
         ensures made { (self.new.params ≡ self.old.params) × (self.new.capacity ≡ self.old.capacity) }
         ensures numbers { (self.new.reserved ≡ self.old.reserved) × (self.new.last ≡ self.old.last) }
         ensures room { OnOk result (0 < spare self.new.places) }
+        ensures open_room { OnOk result (deque_len self.new.open_requests.places < deque_capacity self.new.open_requests.places) }
     {
         self.places.reserve(1)?;
-        Ok(())
+        self.open_requests.reserve()
     }
 
     /// Notes one more entry, in the room that is there.
-    pub fn note(&mut self, key: Option<Key>, place: u64, need: u64, time: u64)
+    pub fn note(
+        &mut self,
+        slips: &Vec<Slip<'_>>,
+        key: Option<Key>,
+        place: u64,
+        need: u64,
+        time: u64,
+    )
         requires room { 0 < spare self.old.places }
+        requires open_room { deque_len self.old.open_requests.places < deque_capacity self.old.open_requests.places }
         requires within { self.old.reserved + need ≤ self.old.capacity }
-        ensures kept { (list : List Entry) (e : Entry) → IsIndexOf self.old list → length list ≡ place → key ≡ key_of e.message
-            → need ≡ s.need_of e.message → time ≡ e.time → s.first_from (s.is_same e.message) 0 list ≡ None → IsIndexOf self.new (list ++ e ∷ []) }
+        ensures kept { (t : LogPrefix) (list : List Entry) (e : Entry) → Holds t slips.now.items → t.list ≡ list ++ e ∷ [] → IsIndexOf self.old list
+            → length list ≡ place → key ≡ key_of e.message → need ≡ s.need_of e.message → time ≡ e.time → FollowsTime e.message self.old.last e.time
+            → s.first_from (s.is_same e.message) 0 list ≡ None → IsIndexOf self.new (list ++ e ∷ []) }
         ensures made { (self.new.params ≡ self.old.params) × (self.new.capacity ≡ self.old.capacity) }
         ensures numbers { (self.new.reserved ≡ self.old.reserved + need) × (self.new.last ≡ time) }
     {
+        let is_decided = self.has_verdict(place);
+        self.open_requests.expire(slips, &self.params, time);
+        self.open_requests.follow(&key, place, is_decided);
         put_place(&mut self.places, key, place);
         self.reserved += need;
         self.last = time;

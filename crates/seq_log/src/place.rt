@@ -1,5 +1,6 @@
 //! Where messages stand.
 ghost use Rattle.std.specs.Prelude.{◌≡◌, ◌+◌, ◌<◌, ◌^◌, ◌++◌, ◌∷◌, [], ℕ, List, None, Some, length, if◌then◌else◌};
+ghost use Rattle.std.specs.List.{list_any};
 ghost use Rattle.indexmap.specs.IndexMap.{get, spare};
 ghost use Rattle.world_model.specs.Messages.{Entry};
 ghost use Rattle.world_model.specs.Sequencing as s;
@@ -25,6 +26,13 @@ fn place_behind(places: &IndexMap<Key, u64>, key: &Key) -> Option<u64>
     ensures { result ≡ get key_eq places.now key.now }
 {
     places.get(key).copied()
+}
+
+/// Whether the message of this key stands in the log.
+pub fn stands(places: &IndexMap<Key, u64>, key: &Key) -> bool
+    ensures { (list : List Entry) → Leads list (λ k. get key_eq places.now k) → result ≡ list_any (λ (e : Entry). is_key key.now e.message) list }
+{
+    place_behind(places, key).is_some()
 }
 
 fn put(places: &mut IndexMap<Key, u64>, key: Key, place: u64)

@@ -1,7 +1,9 @@
 //! The log with what is kept beside it.
 ghost use Rattle.std.specs.Prelude.{◌≡◌, ◌+◌, ◌<◌, ◌≤◌, ◌^◌, ◌++◌, ◌∷◌, [], ℕ, List, None, Some, length, OnOk, OnErr, IfOk, IfErr, IfSome, IfNone};
 ghost use Rattle.std.specs.Prelude.{vec_len, vec_capacity};
+ghost use Rattle.std.specs.VecDeque.{deque_len, deque_capacity};
 ghost use Rattle.indexmap.specs.IndexMap.{spare};
+ghost use Rattle.canton_model.specs.Mediation.{has_responded};
 ghost use Rattle.log_row.specs.LogPrefix.{LogPrefix};
 ghost use Rattle.world_model.specs.Messages.{Entry};
 ghost use Rattle.world_model.specs.Machine.{Machine};
@@ -9,6 +11,7 @@ ghost use Rattle.world_model.specs.Sequencing as s;
 ghost use Rattle.world_model.specs.Fits.{MayStand};
 ghost use Rattle.world_model.specs.Locks.{SequencerBehind};
 ghost use Rattle.seq_log.specs.Indexed.{IsIndexOf};
+ghost use Rattle.seq_log.specs.OpenRequests.{open_requests};
 ghost use Rattle.seq_log.specs.Sequenced.{IsFor, prefix_of, cause_of};
 ghost use Rattle.seq_log.specs.Slips.{prefix_to};
 ghost use mathlib.Core.List.{IsPrefix};
@@ -16,11 +19,13 @@ ghost use mathlib.Core.List.{IsPrefix};
 use crate::fault::{AppendFault, AppendRefusal};
 use crate::key::key_of;
 use crate::log_index::{LogIndex, need_of, next_time};
+use crate::open_requests::OpenRequests;
 use canton_model::{Entry, Message};
 use indexmap::IndexMap;
-use ledger_terms::Params;
+use ledger_terms::{Params, ParticipantId};
 use log_row::{LogRow, Pen, Slip};
 use std::alloc::{AllocError, Global};
+use std::collections::VecDeque;
 use std::marker::Model;
 
 /// The writer of a log, which hands out a slip for each place.
@@ -46,13 +51,14 @@ impl<'r> Model for Sequencer<'r> {
         × (s.index.last ≤ 10 ^ 16 + length s.pen.list) };
 }
 
-// Room for one more slip and one more place.
+// Room for one more slip, one more place and one more open request.
 fn make_room(slips: &mut Vec<Slip<'_>>, index: &mut LogIndex) -> Result<(), AllocError>
     ensures slips { slips.new.items ≡ slips.old.items }
     ensures kept { (list : List Entry) → IsIndexOf index.old list → IsIndexOf index.new list }
     ensures made { (index.new.params ≡ index.old.params) × (index.new.capacity ≡ index.old.capacity) }
     ensures numbers { (index.new.reserved ≡ index.old.reserved) × (index.new.last ≡ index.old.last) }
     ensures room { OnOk result ((vec_len slips.new < vec_capacity slips.new) × (0 < spare index.new.places)) }
+    ensures open_room { OnOk result (deque_len index.new.open_requests.places < deque_capacity index.new.open_requests.places) }
 {
     slips.reserve(1)?;
     index.reserve()
@@ -77,6 +83,9 @@ impl<'r> Sequencer<'r> {
                 params,
                 capacity,
                 places: IndexMap::new(alloc),
+                open_requests: OpenRequests {
+                    places: VecDeque::new(alloc),
+                },
                 reserved: 0,
                 last: 0,
             },
@@ -111,7 +120,7 @@ impl<'r> Sequencer<'r> {
         match self.pen.publish(Entry { time, message }) {
             Ok(mut slip) => {
                 self.slips.push_reserved(slip.again());
-                self.index.note(key, place, need, time);
+                self.index.note(&self.slips, key, place, need, time);
                 Ok(slip)
             }
             Err(entry) => Err(AppendRefusal {
@@ -139,6 +148,20 @@ impl<'r> Sequencer<'r> {
         ensures { result ≡ length self.now.list }
     {
         self.pen.len()
+    }
+
+    /// The places of the requests that are undecided in the whole log, in rising order.
+    pub fn open_requests(&self) -> &VecDeque<u64>
+        ensures { result.now.items ≡ open_requests self.now.params self.now.list }
+    {
+        &self.index.open_requests.places
+    }
+
+    /// Whether a response of the participant to the request at a place stands in the log.
+    pub fn has_response(&self, request: u64, from: ParticipantId) -> bool
+        ensures { result ≡ has_responded request self.now.list from }
+    {
+        self.index.has_response(request, from)
     }
 
     /// The times that the log was made with.

@@ -1,14 +1,14 @@
 //! What was lost, or claimed and left, comes again.
-ghost use Rattle.std.specs.Prelude.{◌≡◌, ◌<◌, ◌&&◌, ℕ, length, map, is_some, nat_lt};
+ghost use Rattle.std.specs.Prelude.{◌≡◌, ◌&&◌, ℕ, true, length, map, nat_lt};
 ghost use Rattle.ledger_terms.specs.declared.topology.Topology.{Topology};
 ghost use Rattle.lang_eval.specs.Found.{Packages};
 ghost use Rattle.canton_model.specs.Genuine.{IsReading};
-ghost use Rattle.canton_model.specs.Log.{request_at};
 ghost use Rattle.world_model.specs.Machine.{Machine, GenuineLog};
 ghost use Rattle.world_model.specs.Mediator.{MediatorState};
 ghost use Rattle.world_model.specs.Lawful.{Lawful};
-ghost use Rattle.world_model.specs.Settled.{is_due, is_undecided};
+ghost use Rattle.world_model.specs.Settled.{is_due};
 ghost use Rattle.world_model.specs.Settling.{resume_each, resumed, resumed_world, returned};
+ghost use Rattle.seq_log.specs.OpenRequests.{is_open};
 ghost use Rattle.seq_log.specs.Sequenced.{IsFor};
 ghost use Rattle.node_core.specs.Participant.{with_state};
 ghost use Rattle.world_play.specs.Standing.{IsMediator, IsParticipant};
@@ -16,15 +16,15 @@ ghost use Rattle.world_play.specs.Submitting.{AreSetUp};
 ghost use Rattle.world_play.specs.Worlds.{AreNodesOf, state_of, world_with};
 ghost use Rattle.world_play.specs.WorldOf.{IsWorldOf, world_of};
 
-use crate::scanning::{is_due, is_request_at, is_undecided};
+use crate::scanning::is_due;
 use crate::world::{NodeList, World};
 use mediator::Mediator;
 use node_core::Node;
 use seq_log::Sequencer;
 
-// The participant with this index has read the request at a place, and owes a response to it.
+// The participant with this index has read the open request at a place, and owes a response to it.
 fn must_resume(node: &Node<'_>, sequencer: &mut Sequencer<'_>, place: u64, at: usize) -> bool
-    requires { place < length sequencer.old.list }
+    requires { is_open sequencer.old.params sequencer.old.list place ≡ true }
     ensures same { sequencer.new ≡ sequencer.old }
     ensures test { (m : Machine) → IsReading m.reading → IsFor m sequencer.old → GenuineLog m sequencer.old.list
         → result ≡ (is_due m sequencer.old.list at place && nat_lt place (length (node.now.state).items)) }
@@ -35,7 +35,7 @@ fn must_resume(node: &Node<'_>, sequencer: &mut Sequencer<'_>, place: u64, at: u
     is_due(sequencer, place, at)
 }
 
-// The participant with this index puts back each request that it has read and to which it owes a response.
+// The participant with this index puts back each open request that it has read and to which it owes a response.
 fn resume_node(node: &mut Node<'_>, sequencer: &mut Sequencer<'_>, at: usize)
     requires { (m : Machine) × IsParticipant m at node.old sequencer.old }
     ensures log { sequencer.new ≡ sequencer.old }
@@ -43,7 +43,8 @@ fn resume_node(node: &mut Node<'_>, sequencer: &mut Sequencer<'_>, at: usize)
     ensures resumed { (m : Machine) → IsParticipant m at node.old sequencer.old
         → node.new.state ≡ resumed m sequencer.old.list at node.old.state }
 {
-    'places: for place in 0..sequencer.len() {
+    'places: for number in 0..sequencer.open_requests().len() {
+        let place = sequencer.open_requests()[number];
         if must_resume(node, sequencer, place, at) {
             node.put_back(place);
         }
@@ -82,32 +83,15 @@ fn resume_nodes(nodes: &mut NodeList<'_>, sequencer: &mut Sequencer<'_>)
     resume_nodes_slice(nodes.as_mut_slice(), sequencer);
 }
 
-// A request that is undecided stands at a place, and the mediator has read it.
-fn must_return(mediator: &Mediator, sequencer: &mut Sequencer<'_>, place: u64) -> bool
-    requires { place < length sequencer.old.list }
-    ensures same { sequencer.new ≡ sequencer.old }
-    ensures test { (m : Machine) → IsFor m sequencer.old → GenuineLog m sequencer.old.list
-        → result ≡ (is_some (request_at sequencer.old.list place)
-        && (is_undecided m.params sequencer.old.list place && nat_lt place mediator.now.cursor)) }
+// The verdict on each open request that the mediator has read is given back to it.
+fn resume_mediator(mediator: &mut Mediator, sequencer: &Sequencer<'_>)
+    requires { (m : Machine) × (state : MediatorState) × (n : ℕ) × IsMediator m state n mediator.old sequencer.now }
+    ensures returned { (m : Machine) (state : MediatorState) (n : ℕ) → IsMediator m state n mediator.old sequencer.now
+        → IsMediator m (returned m.params sequencer.now.list state) n mediator.new sequencer.now }
 {
-    if place >= mediator.cursor() {
-        return false;
-    }
-    if !is_request_at(sequencer, place) {
-        return false;
-    }
-    is_undecided(sequencer, place)
-}
-
-// The verdict on each undecided request that the mediator has read is given back to it.
-fn resume_mediator(mediator: &mut Mediator, sequencer: &mut Sequencer<'_>)
-    requires { (m : Machine) × (state : MediatorState) × (n : ℕ) × IsMediator m state n mediator.old sequencer.old }
-    ensures log { sequencer.new ≡ sequencer.old }
-    ensures returned { (m : Machine) (state : MediatorState) (n : ℕ) → IsMediator m state n mediator.old sequencer.old
-        → IsMediator m (returned m.params sequencer.old.list state) n mediator.new sequencer.old }
-{
-    'places: for place in 0..sequencer.len() {
-        if must_return(mediator, sequencer, place) {
+    'places: for number in 0..sequencer.open_requests().len() {
+        let place = sequencer.open_requests()[number];
+        if place < mediator.cursor() {
             mediator.give_back(place);
         }
     }
@@ -127,5 +111,5 @@ pub fn resume(world: &mut World<'_>)
         → world_of (returned m.params (world.old.sequencer).list state) world.new ≡ resumed_world m (world_of state world.old) }
 {
     resume_nodes(&mut world.nodes, &mut world.sequencer);
-    resume_mediator(&mut world.mediator, &mut world.sequencer);
+    resume_mediator(&mut world.mediator, &world.sequencer);
 }

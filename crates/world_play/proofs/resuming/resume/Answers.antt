@@ -10,6 +10,6 @@ returns-clause-resumed c = λ m state is l.
     let world = c.args.world.now in
     let s = world.sequencer in
     let mediator = returned m.params s.list state in
-    ap (λ (q : Sequenced). world_with world.now mediator (c.resume_nodes.new.nodes).items q) (c.resume_mediator.ensures.log ∙ c.resume_nodes.ensures.log)
+    ap (λ (q : Sequenced). world_with world.now mediator (c.resume_nodes.new.nodes).items q) c.resume_nodes.ensures.log
     ∙ ap (λ (ns : List NodeState). record { log = s.list; now = world.now; mediator = mediator; nodes = ns })
     (c.resume_nodes.ensures.resumed m world.now state is.nodes l)

@@ -1,41 +1,50 @@
-use Rattle.std.proofs.Common.{◌≡◌, ◌+◌, sym, ◌∙◌, subst, arith}
-use Rattle.std.specs.Prelude.{is_some, nat_lt, ◌&&◌}
-use Rattle.canton_model.specs.Log.{request_at}
-use Rattle.world_model.specs.Machine.{GenuineLog}
-use Rattle.world_model.specs.Settled.{is_undecided}
+use Rattle.std.proofs.Common.{◌≡◌, ◌+◌, ◌<◌, ◌≤◌, ◌++◌, ◌∷◌, [], ℕ, List, Bool, length, take, refl, sym, ap, ◌∙◌, subst, arith}
+use Rattle.std.specs.Prelude.{nat_lt}
 use Rattle.mediator.specs.Kept.{Kept}
-use Rattle.seq_log.specs.Sequenced.{Sequenced, IsFor}
-use Rattle.world_play.proofs.Resumes.{IsReturner, returner_on, returner_past, returner_ends}
+use Rattle.seq_log.specs.OpenRequests.{is_open}
+use Rattle.world_play.proofs.Resumes.{IsReturner, all_taken, one_more, open_at, open_of, open_passes, within_open, returner_on, returner_past, returner_ends}
 use Rattle.world_play.proofs.resuming.resume_mediator.Goals as goal
-use Rattle.world_play.proofs.resuming.resume_mediator.Goals.{then-must_return, else-must_return}
+use Rattle.world_play.proofs.resuming.resume_mediator.Goals.{then-place-cursor, else-place-cursor}
 
 pub places-preserved : goal.places-preserved
 places-preserved c =
-    let inv = c.places.invariant in
-    let k = c.places.place in
-    let first = c.args.mediator.now in
     let s = c.args.sequencer.now in
-    let mediator = c.places.mediator in (
-      c.must_return.ensures.same ∙ inv.0,
-      elim c.if-must_return.branch [
-        | then-must_return w ↦
-            subst (λ (x : Kept). IsReturner first s x (k + 1)) (sym w.mediator-is)
-            (returner_on first s mediator k inv.1 c.must_return.result
-            (λ m f g.
-            subst (λ (q : Sequenced). c.must_return.result ≡ (is_some (request_at q.list k) && (is_undecided m.params q.list k && nat_lt k mediator.cursor)))
-            inv.0 (c.must_return.ensures.test m (subst (IsFor m) (sym inv.0) f) (subst (λ (q : Sequenced). GenuineLog m q.list) (sym inv.0) g)))
-            w.if-must_return.true w.give_back.new.self w.give_back.ensures.params w.give_back.ensures.state)
-        | else-must_return w ↦
-            subst (λ (x : Kept). IsReturner first s x (k + 1)) (sym w.mediator-is)
-            (returner_past first s mediator k inv.1 c.must_return.result
-            (λ m f g.
-            subst (λ (q : Sequenced). c.must_return.result ≡ (is_some (request_at q.list k) && (is_undecided m.params q.list k && nat_lt k mediator.cursor)))
-            inv.0 (c.must_return.ensures.test m (subst (IsFor m) (sym inv.0) f) (subst (λ (q : Sequenced). GenuineLog m q.list) (sym inv.0) g)))
-            w.if-must_return.false)
-      ],
-    )
+    let first = c.args.mediator.now in
+    let mediator = c.places.mediator in
+    let number = c.places.number in
+    let places = take number (open_of s) in
+    let inv = c.places.invariant in
+    let place = c.index-place.result.now in
+    let within =
+    within_open s s refl c.open_requests.result.now.items c.open_requests-in-places.result.now.items c.open_requests.ensures
+    c.open_requests-in-places.ensures c.places.number c.len-number-end.result _ c.places-test.true c.len-number-end.ensures c.open_requests.result.now.ok.0 in
+    let there =
+    open_at s s refl c.open_requests-in-places.result.now.items c.open_requests-in-places.ensures number place
+    within c.index-place.ensures in
+    let more = one_more s number place there in
+    let stays = open_passes s number place there in
+    elim c.if-place-cursor.branch [
+      | then-place-cursor w ↦
+          subst (λ (x : Kept). IsReturner first s x (take (number + 1) (open_of s))) (sym w.mediator-is)
+          (subst (λ (xs : List ℕ). IsReturner first s w.give_back.new.self xs) more
+          (returner_on first s mediator places inv place stays
+          (let read = w.if-place-cursor.true in let at = c.cursor.ensures in omega (arith, read, at)) w.give_back.new.self
+          w.give_back.ensures.params w.give_back.ensures.state))
+      | else-place-cursor w ↦
+          subst (λ (x : Kept). IsReturner first s x (take (number + 1) (open_of s))) (sym w.mediator-is)
+          (subst (λ (xs : List ℕ). IsReturner first s mediator xs) more (returner_past first s mediator places inv place stays
+          (let read = w.if-place-cursor.false in let at = c.cursor.ensures in omega (arith, read, at))))
+    ]
 
-pub returns-clause-returned : goal.returns-clause-returned
-returns-clause-returned c =
-    returner_ends c.args.mediator.now c.args.sequencer.now c.places.mediator c.places.place c.places.invariant.1
-    (let out = c.places-test.false in let end = c.places.auto.place-end in let is = c.len-place-end.ensures in omega (arith, out, end, is))
+pub returns : goal.returns
+returns c =
+    record {
+      returned = λ m state n is.
+          let s = c.args.sequencer.now in
+          let out = c.places-test.false in
+          let end = c.len-number-end.ensures in
+          let before = c.open_requests.result.now.ok.0 in
+          let was = ap length c.open_requests.ensures in
+          returner_ends c.args.mediator.now s c.places.mediator (take c.places.number (open_of s)) c.places.invariant
+          (all_taken s c.places.number (omega (arith, out, end, before, was))) m state n is;
+    }

@@ -1,6 +1,6 @@
-use Rattle.std.proofs.Common.{◌≡◌}
-use Rattle.world_play.proofs.Resumes.{IsReturner}
+use Rattle.std.proofs.Common.{take}
+use Rattle.world_play.proofs.Resumes.{IsReturner, open_of}
 use Rattle.world_play.proofs.resuming.resume_mediator.Given as goal
 
 abbrev pub invariant-places : goal.invariant-places
-invariant-places l = (l.sequencer ≡ l.fn.sequencer) × IsReturner l.fn.mediator l.fn.sequencer l.mediator l.place
+invariant-places l = IsReturner l.fn.mediator l.fn.sequencer l.mediator (take l.number (open_of l.fn.sequencer))

@@ -7,7 +7,7 @@ use Rattle.seq_log.specs.Sequenced.{Sequenced, IsFor, fault_if}
 use Rattle.world_model.specs.Machine.{Machine}
 use Rattle.world_model.specs.Fits.{MayStand}
 use Rattle.world_model.specs.Locks.{SequencerBehind}
-use Rattle.seq_log.proofs.Steps.{is_new, has_room, time_within, holds_after, entry_is, behind_after}
+use Rattle.seq_log.proofs.Steps.{is_new, has_room, follows_next, time_within, holds_after, entry_is, behind_after}
 use Rattle.seq_log.proofs.sequencer.Sequencer.append.Goals as goal
 
 pub invariant_of-self-in-Ok : goal.invariant_of-self-in-Ok
@@ -24,18 +24,21 @@ invariant_of-self-in-Ok c =
     c.push_reserved.ensures.items ∙ ap (λ l. l ++ c.again.result ∷ []) c.make_room.ensures.slips
     ∙ ap (λ s. slips ++ s ∷ []) (c.again.ensures.again ∙ e.1) in
     let list = ap (λ (t : LogPrefix). t.list) e.0 in
-    let kept =
-    c.note.ensures.kept pen.list entry (c.make_room.ensures.kept pen.list inv.1)
-    (sym c.len-place.ensures) c.key_of-key.ensures c.need_of-need.ensures refl (is_new index.capacity index.params pen.list message none) in
-    let room = has_room index.capacity index.params pen.list message (omega (arith, inv.2, (inv.1).reserved)) none in
-    let time = time_within c.args.now message index.last (length pen.list) c.requires inv.3 in
+    let holds = holds_after pen c.publish.new.self slips c.push_reserved.new.self.items entry inv.0 e.0 items in
     let numbers = c.note.ensures.numbers in
     let before = c.make_room.ensures.numbers in
+    let follows =
+    follows_next c.args.now message c.make_room.new.index.last c.next_time-time.result c.next_time-time.ensures in
+    let kept =
+    c.note.ensures.kept c.publish.new.self pen.list entry holds list (c.make_room.ensures.kept pen.list inv.1)
+    (sym c.len-place.ensures) c.key_of-key.ensures c.need_of-need.ensures refl follows (is_new index.capacity index.params pen.list message none) in
+    let room = has_room index.capacity index.params pen.list message (omega (arith, inv.2, (inv.1).reserved)) none in
+    let time = time_within c.args.now message index.last (length pen.list) c.requires inv.3 in
     let same = c.note.ensures.made.1 ∙ c.make_room.ensures.made.1 in
     let need = c.need_of-need.ensures in
     let long = ap length list in
     let now = ap (next_time c.args.now message) before.1 in (
-      holds_after pen c.publish.new.self slips c.push_reserved.new.self.items entry inv.0 e.0 items,
+      holds,
       subst (λ (l : List Entry). IsIndexOf c.note.new.self l) (sym list) kept,
       omega (arith, numbers.0, before.0, (inv.1).reserved, need, room, same),
       omega (arith, numbers.1, c.next_time-time.ensures, now, time, long, length-append pen.list (entry ∷ [])),

@@ -1,0 +1,4 @@
+use Rattle.seq_log.proofs.log_index.LogIndex.has_verdict.Goals as goal
+
+pub returns : goal.returns
+returns c = λ list is. c.stands.ensures list is.leads
