@@ -2,9 +2,11 @@
 import json
 
 from tables import script_faults
+from tables.transactions import IOU, PARTICIPANTS, asked, iou, note, prepared, transfer
 
 NOTE = '{"participants":[{"name":"P1","parties":["Alice"]}],"rounds":[%s]}'
 EMPTY = '{"participants":[{"name":"P1","parties":["Alice"]}],"rounds":[]}'
+HOSTS = PARTICIPANTS[:3]
 MOST_PIECE = 16
 
 
@@ -35,7 +37,101 @@ end
 
 NOTHING = 'entries 0\nparticipant P1 clean 0 time 0\nend\n'
 HI = script(submission('hi'))
-NOT_BUILT = 'canton_cli: script NotBuilt'
+USAGE = 'canton_cli: usage'
+
+TWO_NOTES = '''entries 6
+0 1 request P1 c1 to P1
+1 2 request P1 c2 to P1
+2 3 response P1 for 0 0=approve
+3 4 response P1 for 1 0=approve
+4 5 verdict for 0 approved
+5 6 verdict for 1 approved
+result 0 P1 c1 sent 0
+result 0 P1 c2 sent 1
+outcome 0 approved
+outcome 1 approved
+participant P1 clean 6 time 6
+commit 0
+  create Note.Note(Alice,Alice,"a")
+commit 1
+  create Note.Note(Alice,Alice,"b")
+active 0 Note.Note(Alice,Alice,"a")
+active 1 Note.Note(Alice,Alice,"b")
+end
+'''
+
+# the worked transfer of docs/PROTOCOL.md: a debt of Bank to Alice in a round, and its transfer to Carol in the next
+TRANSFER = json.dumps(
+    {"participants": HOSTS, "packages": [IOU], "rounds": [
+        {"submits": [asked('P1', 'c1', ['Bank'], iou('Alice', 10))]},
+        {"submits": [asked('P2', 't1', ['Alice'], transfer(of='c1'))]}]},
+    separators=(',', ':'))
+TRANSFERRED = '''entries 7
+0 1 request P1 c1 to P1 P2
+1 2 response P1 for 0 0=approve
+2 3 verdict for 0 approved
+3 4 request P2 t1 to P1 P2 P3
+4 5 response P1 for 3 0=approve 0.0=approve
+5 6 response P2 for 3 0=approve
+6 7 verdict for 3 approved
+result 0 P1 c1 sent 0
+result 1 P2 t1 sent 3
+outcome 0 approved
+outcome 3 approved
+participant P1 clean 7 time 7
+commit 0
+  create Iou.Iou(Bank,Alice,10)
+commit 3
+  consume Iou.Iou(Bank,Alice,10) Transfer(Carol) by Alice = ()
+    create Iou.Iou(Bank,Carol,10)
+active 3 Iou.Iou(Bank,Carol,10)
+participant P2 clean 7 time 7
+commit 0
+  create Iou.Iou(Bank,Alice,10)
+commit 3
+  consume Iou.Iou(Bank,Alice,10) Transfer(Carol) by Alice = ()
+    create Iou.Iou(Bank,Carol,10)
+participant P3 clean 7 time 7
+commit 3
+  create Iou.Iou(Bank,Carol,10)
+active 3 Iou.Iou(Bank,Carol,10)
+end
+'''
+
+# two requests over a log of four places, of which the first needs all
+FULL = json.dumps(
+    {"participants": HOSTS, "packages": [IOU], "rounds": [{"submits": [
+        prepared('P2', 'm1', ['Alice'], note('Alice', 'Alice', 'a'), iou('Alice', 5)),
+        asked('P2', 'm2', ['Alice'], note('Alice', 'Alice', 'b'))]}]},
+    separators=(',', ':'))
+IS_FULL = '''entries 4
+0 1 request P2 m1 to P1 P2
+1 2 response P1 for 0 1=NotAuthorised
+2 3 response P2 for 0 0=approve
+3 4 verdict for 0 rejected P1 1 NotAuthorised
+result 0 P2 m1 sent 0
+result 0 P2 m2 refused LogFull 4 3
+outcome 0 rejected P1 1 NotAuthorised
+participant P1 clean 4 time 4
+participant P2 clean 4 time 4
+participant P3 clean 4 time 4
+end
+'''
+
+# one generated debt and its transfer; the first amount of the seed 7 is 211
+ONE_DEBT = '''requests 2
+approved 2
+rejected 0
+timeout 0
+expired 0
+undecided 0
+refused 0
+active G1 1 amount 211
+active G2 0 amount 0
+active G3 1 amount 211
+active G4 0 amount 0
+end
+'''
 
 # a name, the words, the source, the calls at which taking and putting fail, and then the status, the line and the text
 RUNS = [
@@ -47,23 +143,36 @@ RUNS = [
     ('long', 'run', script(submission('x' * 256)), 0, 0, 0, None, report('x' * 256)),
     ('too-long-text', 'run', script(submission('x' * 257)), 0, 0, 3,
      'canton_cli: script Limit /rounds/0/submits/0/commands/0/create/fields/2', ''),
-    ('another-word', 'help', HI, 0, 0, 2, 'canton_cli: usage', ''),
-    ('two-words', 'run,run', HI, 0, 0, 2, 'canton_cli: usage', ''),
-    ('empty-word', '', HI, 0, 0, 2, 'canton_cli: usage', ''),
-    ('longer-word', 'runs', HI, 0, 0, 2, 'canton_cli: usage', ''),
+    ('two-notes', 'run', script(submission('a'), submission('b', 'c2')), 0, 0, 0, None, TWO_NOTES),
+    ('another-template', 'run', script(submission('a', template='Note.Other')), 0, 0, 0, None,
+     'entries 0\nresult 0 P1 c1 refused UnknownTemplate\nparticipant P1 clean 0 time 0\nend\n'),
+    ('two-participants', 'run', '{"participants":[{"name":"P1","parties":[]},{"name":"P2","parties":["A","B"]}],"skew":100000,"rounds":[]}',
+     0, 0, 0, None, 'entries 0\nparticipant P1 clean 0 time 0\nparticipant P2 clean 0 time 0\nend\n'),
+    ('transfer', 'run', TRANSFER, 0, 0, 0, None, TRANSFERRED),
+    ('another-word', 'help', HI, 0, 0, 2, USAGE, ''),
+    ('two-words', 'run,run', HI, 0, 0, 2, USAGE, ''),
+    ('empty-word', '', HI, 0, 0, 2, USAGE, ''),
+    ('longer-word', 'runs', HI, 0, 0, 2, USAGE, ''),
+    ('two-workers', 'run,--workers=2', EMPTY, 0, 0, 0, None, NOTHING),
+    ('nine-workers', 'run,--workers,9', EMPTY, 0, 0, 2, USAGE, ''),
+    ('log-of-no-place', 'run,--log,0', EMPTY, 0, 0, 2, USAGE, ''),
+    ('log-given-twice', 'run,--log,5,--log,5', EMPTY, 0, 0, 2, USAGE, ''),
+    ('log-of-four-places', 'run,--log,4', FULL, 0, 0, 0, None, IS_FULL),
+    ('log-of-two-places', 'run,--log,2', HI, 0, 0, 0, None,
+     'entries 0\nresult 0 P1 c1 refused LogFull 0 3\nparticipant P1 clean 0 time 0\nend\n'),
+    ('one-debt', 'gen,1,7', '', 0, 0, 0, None, ONE_DEBT),
+    # nothing is taken from the source
+    ('one-debt-from-no-source', 'gen,--workers,1,1,7', HI, 1, 0, 0, None, ONE_DEBT),
+    ('one-debt-half-written', 'gen,1,7', '', 0, 3, 5, 'canton_cli: write fault', ONE_DEBT[:2 * MOST_PIECE]),
+    ('count-without-seed', 'gen,1', '', 0, 0, 2, USAGE, ''),
+    ('log-of-a-generated-script', 'gen,1,7,--log,5', '', 0, 0, 2, USAGE, ''),
     ('first-take-fails', 'run', HI, 1, 0, 4, 'canton_cli: read fault', ''),
     ('third-take-fails', 'run', HI, 3, 0, 4, 'canton_cli: read fault', ''),
     ('first-put-fails', 'run', HI, 0, 1, 5, 'canton_cli: write fault', ''),
     ('second-put-fails', 'run', HI, 0, 2, 5, 'canton_cli: write fault', report('hi')[:MOST_PIECE]),
     ('fourth-put-fails', 'run', HI, 0, 4, 5, 'canton_cli: write fault', report('hi')[:3 * MOST_PIECE]),
     ('put-of-a-fault', 'run', '{', 0, 1, 3, 'canton_cli: script NotJson', ''),
-    ('nothing', 'run', '', 0, 0, 3, 'canton_cli: script NotJson', ''),
-    ('two-parties', 'run', '{"participants":[{"name":"P1","parties":["Alice","Bob"]}],"rounds":[]}', 0, 0, 3, NOT_BUILT, ''),
-    ('two-participants', 'run', '{"participants":[{"name":"P1","parties":[]},{"name":"P2","parties":[]}],"rounds":[]}', 0, 0, 3,
-     NOT_BUILT, ''),
-    ('two-notes', 'run', script(submission('a'), submission('b', 'c2')), 0, 0, 3, NOT_BUILT, ''),
-    ('another-template', 'run', script(submission('a', template='Note.Other')), 0, 0, 3, NOT_BUILT, ''),
-    ('skew', 'run', '{"participants":[{"name":"P1","parties":[]}],"skew":100000,"rounds":[]}', 0, 0, 3, NOT_BUILT, '')]
+    ('nothing', 'run', '', 0, 0, 3, 'canton_cli: script NotJson', '')]
 
 
 def line_of(fault):

@@ -1,7 +1,8 @@
 //! A Canton synchroniser with its participants in one process: reads a script and writes the report of its run.
 #![tactic(auto)]
 
-use canton_run::{Finish, WordList, ended, line, run, status_without_words, words_after_name};
+use canton_run::{Finish, ended, line, run, status_without_words, words_after_name};
+use cli_words::WordList;
 use cn_io::{ReadSource, WriteSink};
 use std::alloc::Global;
 use std::process::ExitCode;

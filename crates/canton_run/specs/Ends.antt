@@ -1,55 +1,73 @@
 -- How a run may end.
-use Rattle.std.specs.Prelude.{◌≡◌, ◌≢◌, ◌↔◌, ℕ, ◌+◌, ◌≤◌, ◌<◌, true, List, [], length, Option, Some, Ok, Err}
+use Rattle.std.specs.Prelude.{◌≡◌, ◌≢◌, ◌↔◌, ℕ, ◌+◌, ◌≤◌, ◌<◌, List, [], length, Option, Some, Ok, Err}
 use Rattle.std.proofs.Common.{◌⊎◌}
-use Rattle.std.specs.Io.KnownBytes.{Consumes, Keeps, IsAtEnd}
-use Rattle.script_read.specs.declared.script_fault.ScriptFault.{ScriptFault}
-use Rattle.report_text.specs.Report.{report_of}
-use Rattle.canton_run.specs.declared.finish.Finish.{Finish}
-use Rattle.canton_run.specs.declared.script.Script.{Script}
-use Rattle.canton_run.specs.Script.{script_of}
-use Rattle.canton_run.specs.Play.{views_of}
-use Rattle.canton_run.specs.Run.{IsRun, hosts_of, params_of}
-use Rattle.canton_run.specs.Words.{are_run}
+use Rattle.std.specs.Io.KnownBytes.{Consumes, Keeps}
+use Rattle.cli_words.specs.Jobs.{job_of}
+use Rattle.cli_words.specs.declared.job.Job.{Job}
+use Rattle.cli_words.specs.declared.job.Job.TheVariants.{Gen, Run}
+use Rattle.cn_io.specs.Faults.{Rose}
 use Rattle.ledger_terms.specs.declared.limits.TheConstants.{MOST_SCRIPT_BYTES}
+use Rattle.script_read.specs.Script.{script_in}
+use Rattle.script_read.specs.declared.script.Script.{Script}
+use Rattle.script_read.specs.declared.script_fault.ScriptFault.{ScriptFault}
+use Rattle.canton_run.specs.declared.finish.Finish.{Finish}
+use Rattle.canton_run.specs.Jobs.{GivesScript, ReadWhole, capacity_of, text_of}
+use Rattle.canton_run.specs.Run.{IsRun}
 
 -- one of the statuses
 abbrev pub IsStatus : ℕ → Type 0
 IsStatus s = (s ≡ 0) ⊎ ((s ≡ 2) ⊎ ((s ≡ 3) ⊎ ((s ≡ 4) ⊎ ((s ≡ 5) ⊎ ((s ≡ 6) ⊎ (s ≡ 70))))))
 
--- the bytes that the source gave, which was read to its end, within the limit
-abbrev pub ReadWhole : Option (List ℕ) → Option (List ℕ) → List ℕ → Type 0
-ReadWhole left left' bytes = Consumes left left' bytes × IsAtEnd left' × (length bytes ≤ MOST_SCRIPT_BYTES)
+-- one of those that a run of the source's script may end with
+abbrev pub IsRunStatus : ℕ → Type 0
+IsRunStatus s = (s ≡ 0) ⊎ ((s ≡ 3) ⊎ ((s ≡ 4) ⊎ ((s ≡ 5) ⊎ ((s ≡ 6) ⊎ (s ≡ 70)))))
 
--- the report of a script's run, with what each participant knows at its clean place
-abbrev pub report_text_of : Script → Finish → List ℕ
-report_text_of script finish =
-    report_of script.setup.topology script.rounds finish.log finish.results (views_of (hosts_of script) (params_of script) finish.log)
+-- the words ask for the run of a script
+abbrev pub AsksForRun : List (List ℕ) → Type 0
+AsksForRun words = (workers : ℕ) × (log : ℕ) × (job_of words ≡ Some (Run workers log))
 
--- the script of the bytes was run, and the text is its report
+-- the script of the words' job was run, and the text is its report or its summary
 abbrev pub Ran : List (List ℕ) → Option (List ℕ) → Option (List ℕ) → Finish → List ℕ → Type 0
 Ran words left left' finish text =
-    (bytes : List ℕ) × (script : Script) × (are_run words ≡ true) × ReadWhole left left' bytes × (script_of bytes ≡ Ok script)
-    × IsRun script finish.log finish.results × (text ≡ report_text_of script finish)
+    (job : Job) × (script : Script) × (job_of words ≡ Some job) × GivesScript job left left' script
+    × IsRun script (capacity_of job) finish.log finish.results finish.ends × (text ≡ text_of job script finish)
 
 -- the source was read to its end within the limit, and the fault kept is that of its bytes
-abbrev pub KeepsFault : List (List ℕ) → Option (List ℕ) → Option (List ℕ) → Finish → Type 0
-KeepsFault words left left' finish =
-    (bytes : List ℕ) × (fault : ScriptFault) × (are_run words ≡ true) × ReadWhole left left' bytes × (script_of bytes ≡ Err fault)
-    × (finish.fault ≡ Some fault)
+abbrev pub ReadsFault : Option (List ℕ) → Option (List ℕ) → Finish → Type 0
+ReadsFault left left' finish =
+    (bytes : List ℕ) × (fault : ScriptFault) × ReadWhole left left' bytes × (script_in bytes ≡ Err fault) × (finish.fault ≡ Some fault)
 
--- At most one byte past the limit was taken, and that one exactly at status 6. Without the word run none was.
+-- the words ask for a run, and the fault kept is that of the source's bytes
+abbrev pub KeepsFault : List (List ℕ) → Option (List ℕ) → Option (List ℕ) → Finish → Type 0
+KeepsFault words left left' finish = AsksForRun words × ReadsFault left left' finish
+
+-- the bytes were taken: at most one past the limit, and that one exactly at status 6
+abbrev pub TakesAtMost : Option (List ℕ) → Option (List ℕ) → (status : ℕ) → List ℕ → Type 0
+TakesAtMost left left' status bytes =
+    Consumes left left' bytes × (length bytes ≤ MOST_SCRIPT_BYTES + 1) × (status ≡ 6 ↔ (MOST_SCRIPT_BYTES < length bytes))
+
+-- At most one byte past the limit was taken, and that one exactly at status 6. Where the words don't ask for a run none was.
 abbrev pub TakesUpTo : List (List ℕ) → Option (List ℕ) → Option (List ℕ) → Finish → Type 0
 TakesUpTo words left left' finish =
-    (bytes : List ℕ) × Consumes left left' bytes × (length bytes ≤ MOST_SCRIPT_BYTES + 1) × (finish.status ≡ 6 ↔ (MOST_SCRIPT_BYTES < length bytes))
-    × (are_run words ≢ true → bytes ≡ [])
+    (bytes : List ℕ) × TakesAtMost left left' finish.status bytes × (¬ AsksForRun words → bytes ≡ [])
 
 -- nothing was run and nothing was written
 abbrev pub RanNothing : Option (List ℕ) → Option (List ℕ) → Finish → Type 0
-RanNothing held held' finish = (finish.log ≡ []) × (finish.results ≡ []) × Keeps held held'
+RanNothing held held' finish = (finish.log ≡ []) × (finish.results ≡ []) × (finish.ends ≡ []) × Keeps held held'
 
 -- the source gives a script within the limit
-abbrev pub HasScript : Option (List ℕ) → Type 0
-HasScript left = (bytes : List ℕ) × (script : Script) × (left ≡ Some bytes) × (length bytes ≤ MOST_SCRIPT_BYTES) × (script_of bytes ≡ Ok script)
+abbrev pub OffersScript : Option (List ℕ) → Type 0
+OffersScript left = (bytes : List ℕ) × (script : Script) × (left ≡ Some bytes) × (length bytes ≤ MOST_SCRIPT_BYTES) × (script_in bytes ≡ Ok script)
+
+-- the same, where the job needs a source
+abbrev pub HasScript : Job → Option (List ℕ) → Type 0
+HasScript (Run workers log) left = OffersScript left
+HasScript (Gen count seed workers) left = Unit {0}
+
+-- the source's count didn't rise, where the job needs a source
+abbrev pub NoReadFault : Job → (before after : ℕ) → Type 0
+NoReadFault (Run workers log) before after = ¬ Rose before after
+NoReadFault (Gen count seed workers) before after = Unit {0}
 
 -- no take failed, the source was not too long and memory was found
 abbrev pub IsReadWhole : ℕ → Type 0

@@ -1,8 +1,5 @@
-pub mod FirstForm
-pub mod Script
-pub mod Play
-pub mod Run
-pub mod FirstScript
-pub mod Words
-pub mod Ends
 pub mod Lines
+pub mod Answered
+pub mod Run
+pub mod Jobs
+pub mod Ends

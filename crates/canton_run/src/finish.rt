@@ -1,29 +1,32 @@
 //! How a run ended.
 ghost use Rattle.std.specs.Prelude.{◌≡◌, []};
 
-use plain_node::SubmitResultList;
-use proto_model::EntryList;
+use canton_model::EntryList;
+use ledger_terms::U64List;
+use node_core::SubmitResultList;
 use script_read::ScriptFault;
 use std::alloc::Global;
 
-/// How a run ended: its status, the script's fault at status 3, and the log and the answers to the submissions at statuses 0
-/// and 5, where the script was run.
+/// How a run ended: its status, the script's fault at status 3, and, at statuses 0 and 5, where the script was run, the log, the
+/// results of the submissions in script order, and the length of the log at the end of each round.
 #[derive(Drop)]
 pub struct Finish {
     pub status: u8,
     pub fault: Option<ScriptFault>,
     pub log: EntryList,
     pub results: SubmitResultList,
+    pub ends: U64List,
 }
 
 /// An end before anything was run.
 pub fn ended(alloc: Global, status: u8, fault: Option<ScriptFault>) -> Finish
-    ensures { (result.status ≡ status) × (result.fault ≡ fault) × (result.log ≡ []) × (result.results ≡ []) }
+    ensures { (result.status ≡ status) × (result.fault ≡ fault) × (result.log ≡ []) × (result.results ≡ []) × (result.ends ≡ []) }
 {
     Finish {
         status,
         fault,
         log: EntryList::new(alloc),
         results: SubmitResultList::new(alloc),
+        ends: U64List::new(alloc),
     }
 }

@@ -2,17 +2,18 @@
 #![tactic(auto)]
 
 mod finish;
-mod first_form;
 mod lines;
-mod mediation;
-mod play;
+mod log_copy;
 mod played;
-mod prepare;
-mod script;
+mod rounds;
+mod script_run;
 mod top_call;
+mod views;
 mod words;
 
 pub use finish::{Finish, ended};
 pub use lines::line;
+pub use played::Played;
+pub use script_run::run_script;
 pub use top_call::run;
-pub use words::{WordList, status_without_words, words_after_name};
+pub use words::{status_without_words, words_after_name};

@@ -1,48 +1,90 @@
 //! The top call: words, a source and a sink in, a status and what was run out.
-ghost use Rattle.std.specs.Prelude.{◌≡◌, ◌≢◌, ◌↔◌, ◌<◌, ◌≤◌, List, ℕ, Some, None, Ok, true, [], length, take, IsErr};
+ghost use Rattle.std.specs.Prelude.{◌≡◌, ◌≢◌, ◌↔◌, ◌<◌, ◌≤◌, ◌*◌, List, ℕ, Some, None, Ok, [], length, take, IsErr, IfOk};
 ghost use Rattle.std.proofs.Common.{◌⊎◌};
 ghost use Rattle.std.specs.Io.KnownBytes.{Keeps, Appends};
+ghost use Rattle.cli_words.specs.Jobs.{job_of};
+ghost use Rattle.cli_words.specs.declared.job.Job.{Job};
 ghost use Rattle.cn_io.specs.Faults.{Rose};
-ghost use Rattle.canton_run.specs.Script.{script_of};
-ghost use Rattle.canton_run.specs.FirstScript.{IsFirst};
+ghost use Rattle.ledger_terms.specs.declared.limits.TheConstants.{MOST_PLACES, MOST_SUBMISSIONS};
+ghost use Rattle.load_gen.specs.Generated.{generated};
+ghost use Rattle.script_read.specs.Kept.{IsAccepted};
+ghost use Rattle.script_read.specs.Script.{script_in};
+ghost use Rattle.script_read.specs.declared.script.Script.{Script};
 ghost use Rattle.canton_run.specs.Run.{IsRun};
-ghost use Rattle.canton_run.specs.Words.{are_run};
-ghost use Rattle.canton_run.specs.Ends.{IsStatus, Ran, KeepsFault, TakesUpTo, RanNothing, HasScript, IsReadWhole, report_text_of};
+ghost use Rattle.canton_run.specs.Jobs.{ReadsScript, capacity_of, text_of, text_over};
+ghost use Rattle.canton_run.specs.Ends.{AsksForRun, HasScript, IsReadWhole, IsRunStatus, IsStatus, KeepsFault, NoReadFault};
+ghost use Rattle.canton_run.specs.Ends.{OffersScript, Ran, RanNothing, ReadsFault, TakesAtMost, TakesUpTo};
 
 use crate::finish::{Finish, ended};
-use crate::play::play;
-use crate::script::{Script, read_script};
-use crate::words::{WordList, are_run};
+use crate::played::Played;
+use crate::script_run::run_script;
+use cli_words::{Job, WordList, WordsFault, read_words};
 use cn_io::{ReadFault, Sink, Source, read_all, write_all};
-use ledger_terms::limits::MOST_SCRIPT_BYTES;
-use report_text::report;
-use script_read::ScriptFault;
-use std::alloc::Global;
+use confirm_reply::Setup;
+use ledger_terms::limits::{MOST_PLACES, MOST_SCRIPT_BYTES};
+use ledger_terms::{Text, Topology};
+use load_gen::{generate, generated_scripts_are_accepted};
+use report_text::{report, summary};
+use script_read::{RoundList, Script, ScriptFault, read_script};
+use std::alloc::{AllocError, Global};
 
-/// Runs the script and writes its report. The text is made whole before anything of it is written.
-fn carry_out<K: Sink>(alloc: Global, script: &Script, sink: &mut K) -> Finish
-    requires { IsFirst script.now }
+// How many places of the log the requests of a job may need.
+fn capacity_of(job: Job) -> u64
+    ensures { result ≡ capacity_of job }
+{
+    match job {
+        Job::Run { log, .. } => log,
+        Job::Gen { .. } => MOST_PLACES as u64,
+    }
+}
+
+// The text that a job writes.
+fn text_of(
+    alloc: Global,
+    job: Job,
+    topology: &Topology,
+    rounds: &RoundList,
+    played: &Played,
+) -> Result<Text, AllocError>
+    ensures { IfOk result (λ text. text
+        ≡ text_over job topology.now rounds.now played.now.log played.now.results played.now.views) }
+{
+    let Played {
+        log,
+        results,
+        views,
+        ..
+    } = played;
+    match job {
+        Job::Run { .. } => report(alloc, topology, rounds, log, results, views),
+        Job::Gen { .. } => summary(alloc, topology, log, results, views),
+    }
+}
+
+/// Runs the script and writes the text of the job. The text is made whole before anything of it is written.
+fn carry_out<K: Sink>(alloc: Global, job: Job, script: Script, sink: &mut K) -> Finish
+    requires accepted { IsAccepted script }
+    requires room { capacity_of job ≤ MOST_PLACES }
     ensures status { (result.status ≡ 0) ⊎ ((result.status ≡ 5) ⊎ (result.status ≡ 70)) }
     ensures fault { result.fault ≡ None }
     ensures memory { result.status ≡ 70 → RanNothing (K.held sink.old) (K.held sink.new) result }
-    ensures ran { result.status ≢ 70 → IsRun script.now result.log result.results }
-    ensures done { result.status ≡ 0 → Appends (K.held sink.old) (K.held sink.new) (report_text_of script.now result) }
-    ensures cut { result.status ≡ 5 → (n : ℕ) × Appends (K.held sink.old) (K.held sink.new) (take n (report_text_of script.now result)) }
+    ensures ran { result.status ≢ 70 → IsRun script (capacity_of job) result.log result.results result.ends }
+    ensures done { result.status ≡ 0 → Appends (K.held sink.old) (K.held sink.new) (text_of job script result) }
+    ensures cut { result.status ≡ 5 → (n : ℕ) × Appends (K.held sink.old) (K.held sink.new) (take n (text_of job script result)) }
     ensures rose { result.status ≡ 5 → Rose (K.faults sink.old) (K.faults sink.new) }
-    ensures sure { result.status ≡ 5 → K.room sink.old < length (report_text_of script.now result) }
+    ensures sure { result.status ≡ 5 → K.room sink.old < length (text_of job script result) }
     ensures count { K.faults sink.old ≤ K.faults sink.new }
 {
-    let Ok(played) = play(alloc, script) else {
+    let Script {
+        topology,
+        checked,
+        rounds,
+    } = script;
+    let setup = Setup { topology, checked };
+    let Ok(played) = run_script(alloc, &setup, &rounds, capacity_of(job)) else {
         return ended(alloc, 70, None);
     };
-    let Ok(text) = report(
-        alloc,
-        &script.setup.topology,
-        &script.rounds,
-        &played.log,
-        &played.results,
-        &played.views,
-    ) else {
+    let Ok(text) = text_of(alloc, job, &setup.topology, &rounds, &played) else {
         return ended(alloc, 70, None);
     };
     let status = match write_all(sink, text.as_str().as_bytes()) {
@@ -54,10 +96,68 @@ fn carry_out<K: Sink>(alloc: Global, script: &Script, sink: &mut K) -> Finish
         fault: None,
         log: played.log,
         results: played.results,
+        ends: played.ends,
     }
 }
 
-/// Runs the words: reads a script from the source and writes the report of its run to the sink.
+// Reads a script from the source and runs it.
+fn run_source<S: Source, K: Sink>(alloc: Global, job: Job, source: &mut S, sink: &mut K) -> Finish
+    requires room { capacity_of job ≤ MOST_PLACES }
+    ensures status { IsRunStatus result.status }
+    ensures script { result.status ≡ 3 → ReadsFault (S.left source.old) (S.left source.new) result }
+    ensures kept { result.status ≢ 3 → result.fault ≡ None }
+    ensures read { result.status ≡ 4 → Rose (S.faults source.old) (S.faults source.new) }
+    ensures write { result.status ≡ 5 → Rose (K.faults sink.old) (K.faults sink.new) }
+    ensures taken { (bytes : List ℕ) × TakesAtMost (S.left source.old) (S.left source.new) result.status bytes }
+    ensures nothing { result.status ≢ 0 → result.status ≢ 5 → RanNothing (K.held sink.old) (K.held sink.new) result }
+    ensures done { result.status ≡ 0 → (script : Script) × ReadsScript (S.left source.old) (S.left source.new) script
+        × IsRun script (capacity_of job) result.log result.results result.ends
+        × Appends (K.held sink.old) (K.held sink.new) (text_of job script result) }
+    ensures cut { result.status ≡ 5 → (script : Script) × ReadsScript (S.left source.old) (S.left source.new) script
+        × IsRun script (capacity_of job) result.log result.results result.ends
+        × (K.room sink.old < length (text_of job script result))
+        × ((n : ℕ) × Appends (K.held sink.old) (K.held sink.new) (take n (text_of job script result))) }
+    ensures count { (S.faults source.old ≤ S.faults source.new) × (K.faults sink.old ≤ K.faults sink.new) }
+    ensures faulty { (bytes : List ℕ) → S.left source.old ≡ Some bytes → IsReadWhole result.status
+        → (result.status ≡ 3 ↔ IsErr (script_in bytes)) }
+    ensures complete { OffersScript (S.left source.old) → ¬ Rose (S.faults source.old) (S.faults source.new)
+        → ¬ Rose (K.faults sink.old) (K.faults sink.new) → (result.status ≡ 0) ⊎ (result.status ≡ 70) }
+{
+    match read_all(alloc, source, MOST_SCRIPT_BYTES) {
+        Ok(bytes) => match read_script(alloc, bytes.as_slice()) {
+            Ok(script) => carry_out(alloc, job, script, sink),
+            Err(ScriptFault::Memory) => ended(alloc, 70, None),
+            Err(fault) => ended(alloc, 3, Some(fault)),
+        },
+        Err(ReadFault::Failed) => ended(alloc, 4, None),
+        Err(ReadFault::TooLong) => ended(alloc, 6, None),
+        Err(ReadFault::Memory) => ended(alloc, 70, None),
+    }
+}
+
+// Runs a generated script. Nothing is read.
+fn run_generated<K: Sink>(alloc: Global, count: u32, seed: u64, job: Job, sink: &mut K) -> Finish
+    requires few { 2 * count ≤ MOST_SUBMISSIONS }
+    requires room { capacity_of job ≤ MOST_PLACES }
+    ensures status { (result.status ≡ 0) ⊎ ((result.status ≡ 5) ⊎ (result.status ≡ 70)) }
+    ensures fault { result.fault ≡ None }
+    ensures memory { result.status ≡ 70 → RanNothing (K.held sink.old) (K.held sink.new) result }
+    ensures ran { result.status ≢ 70 → IsRun (generated seed count) (capacity_of job) result.log result.results result.ends }
+    ensures done { result.status ≡ 0 → Appends (K.held sink.old) (K.held sink.new) (text_of job (generated seed count) result) }
+    ensures cut { result.status ≡ 5 → (n : ℕ) × Appends (K.held sink.old) (K.held sink.new) (take n (text_of job (generated seed count) result)) }
+    ensures rose { result.status ≡ 5 → Rose (K.faults sink.old) (K.faults sink.new) }
+    ensures sure { result.status ≡ 5 → K.room sink.old < length (text_of job (generated seed count) result) }
+    ensures count { K.faults sink.old ≤ K.faults sink.new }
+{
+    generated_scripts_are_accepted();
+    match generate(alloc, count, seed) {
+        Ok(script) => carry_out(alloc, job, script, sink),
+        Err(_) => ended(alloc, 70, None),
+    }
+}
+
+/// Does what the words ask for: reads a script from the source, runs it and writes the report to the sink; or runs a generated
+/// script and writes the summary. So far the work is done by one thread, whatever the number of workers.
 pub fn run<S: Source, K: Sink>(
     alloc: Global,
     words: &WordList,
@@ -65,7 +165,7 @@ pub fn run<S: Source, K: Sink>(
     sink: &mut K,
 ) -> Finish
     ensures status { IsStatus result.status }
-    ensures words { result.status ≢ 70 → (result.status ≡ 2 ↔ are_run words.now ≢ true) }
+    ensures words { result.status ≢ 70 → (result.status ≡ 2 ↔ job_of words.now ≡ None) }
     ensures script { result.status ≡ 3 → KeepsFault words.now (S.left source.old) (S.left source.new) result }
     ensures kept { result.status ≢ 3 → result.fault ≡ None }
     ensures read { result.status ≡ 4 → Rose (S.faults source.old) (S.faults source.new) }
@@ -77,23 +177,18 @@ pub fn run<S: Source, K: Sink>(
     ensures cut { result.status ≡ 5 → (text : List ℕ) × Ran words.now (S.left source.old) (S.left source.new) result text
         × (K.room sink.old < length text) × ((n : ℕ) × Appends (K.held sink.old) (K.held sink.new) (take n text)) }
     ensures count { (S.faults source.old ≤ S.faults source.new) × (K.faults sink.old ≤ K.faults sink.new) }
-    ensures faulty { (bytes : List ℕ) → S.left source.old ≡ Some bytes → are_run words.now ≡ true → IsReadWhole result.status
-        → (result.status ≡ 3 ↔ IsErr (script_of bytes)) }
-    ensures complete { are_run words.now ≡ true → HasScript (S.left source.old)
-        → ¬ Rose (S.faults source.old) (S.faults source.new) → ¬ Rose (K.faults sink.old) (K.faults sink.new)
+    ensures faulty { (bytes : List ℕ) → S.left source.old ≡ Some bytes → AsksForRun words.now → IsReadWhole result.status
+        → (result.status ≡ 3 ↔ IsErr (script_in bytes)) }
+    ensures complete { (job : Job) → job_of words.now ≡ Some job → HasScript job (S.left source.old)
+        → NoReadFault job (S.faults source.old) (S.faults source.new) → ¬ Rose (K.faults sink.old) (K.faults sink.new)
         → (result.status ≡ 0) ⊎ (result.status ≡ 70) }
 {
-    if !are_run(words) {
-        return ended(alloc, 2, None);
-    }
-    match read_all(alloc, source, MOST_SCRIPT_BYTES) {
-        Ok(bytes) => match read_script(alloc, bytes.as_slice()) {
-            Ok(script) => carry_out(alloc, &script, sink),
-            Err(ScriptFault::Memory) => ended(alloc, 70, None),
-            Err(fault) => ended(alloc, 3, Some(fault)),
+    match read_words(alloc, words) {
+        Ok(job) => match job {
+            Job::Run { .. } => run_source(alloc, job, source, sink),
+            Job::Gen { count, seed, .. } => run_generated(alloc, count, seed, job, sink),
         },
-        Err(ReadFault::Failed) => ended(alloc, 4, None),
-        Err(ReadFault::TooLong) => ended(alloc, 6, None),
-        Err(ReadFault::Memory) => ended(alloc, 70, None),
+        Err(WordsFault::Usage) => ended(alloc, 2, None),
+        Err(WordsFault::Memory) => ended(alloc, 70, None),
     }
 }

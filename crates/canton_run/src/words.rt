@@ -1,14 +1,11 @@
 //! The words of the command line.
-ghost use Rattle.std.specs.Prelude.{◌≡◌, ◌≢◌, ◌↔◌, ◌∷◌, [], IfOk, codes, drop, map, string_bytes};
+ghost use Rattle.std.specs.Prelude.{◌≡◌, ◌≢◌, ◌↔◌, IfOk, drop, map, string_bytes};
 ghost use Rattle.std.specs.declared.io.ErrorKind.TheVariants.{InvalidData};
-ghost use Rattle.canton_run.specs.Words.{are_run};
 
-use ledger_terms::{ListOf, Text};
+use cli_words::WordList;
+use ledger_terms::Text;
 use std::alloc::{AllocError, Global};
 use std::io::ErrorKind;
-
-/// Words, without the program's name.
-pub type WordList = ListOf<Text>;
 
 /// The words that stand after the program's name.
 pub fn words_after_name(alloc: Global, all: &[String]) -> Result<WordList, AllocError>
@@ -32,15 +29,5 @@ pub fn status_without_words(why: ErrorKind) -> u8
     match why {
         ErrorKind::InvalidData => 2,
         _ => 70,
-    }
-}
-
-/// Whether the words are the single word `run`, which is all that is accepted today.
-pub fn are_run(words: &WordList) -> bool
-    ensures { result ≡ are_run words.now }
-{
-    match words.as_slice() {
-        [word] => word.as_str() == "run",
-        _ => false,
     }
 }

@@ -1,7 +1,8 @@
 //! Jobs from what is given.
-ghost use Rattle.std.specs.Prelude.{◌≡◌};
+ghost use Rattle.std.specs.Prelude.{◌≡◌, ◌≤◌, IfSome};
 ghost use Rattle.cli_words.specs.Command.{matches_given};
 ghost use Rattle.cli_words.specs.Jobs.{number_or, run_of, gen_of, job_by};
+ghost use Rattle.cli_words.specs.Within.{IsWithin};
 
 use crate::job::Job;
 use crate::limits::{MOST_COUNT, MOST_SEED, MOST_WORKERS};
@@ -11,7 +12,8 @@ use ledger_terms::limits::MOST_PLACES;
 
 /// How many workers there are.
 fn workers_of(given: &ArgMatches<'_>) -> Option<u32>
-    ensures { result ≡ number_or 0 0 MOST_WORKERS (matches_given given.now).workers }
+    ensures number { result ≡ number_or 0 0 MOST_WORKERS (matches_given given.now).workers }
+    ensures within { IfSome result (λ n. n ≤ MOST_WORKERS) }
 {
     let workers = number_or(0, 0, MOST_WORKERS, given.get_str("workers"))?;
     Some(workers as u32)
@@ -20,7 +22,8 @@ fn workers_of(given: &ArgMatches<'_>) -> Option<u32>
 /// A run of the source's script.
 #[tactic(auto, unfolding(crate::specs::Jobs::run_of))]
 fn run_of(given: &ArgMatches<'_>) -> Option<Job>
-    ensures { result ≡ run_of (matches_given given.now) }
+    ensures job { result ≡ run_of (matches_given given.now) }
+    ensures within { IfSome result IsWithin }
 {
     if given.get_str("count").is_some() || given.get_str("seed").is_some() {
         return None;
@@ -34,7 +37,8 @@ fn run_of(given: &ArgMatches<'_>) -> Option<Job>
 /// A run of a generated script.
 #[tactic(auto, unfolding(crate::specs::Jobs::gen_of))]
 fn gen_of(given: &ArgMatches<'_>) -> Option<Job>
-    ensures { result ≡ gen_of (matches_given given.now) }
+    ensures job { result ≡ gen_of (matches_given given.now) }
+    ensures within { IfSome result IsWithin }
 {
     if given.get_str("log").is_some() {
         return None;
@@ -51,7 +55,8 @@ fn gen_of(given: &ArgMatches<'_>) -> Option<Job>
 
 /// The job of a command.
 pub(crate) fn job_by(command: &str, given: &ArgMatches<'_>) -> Option<Job>
-    ensures { result ≡ job_by command.now (matches_given given.now) }
+    ensures job { result ≡ job_by command.now (matches_given given.now) }
+    ensures within { IfSome result IsWithin }
 {
     if command == "run" {
         run_of(given)

@@ -25,7 +25,7 @@ fn is_number(text: &str) -> bool
 #[tactic(auto, unfolding(crate::specs::Jobs::number_in))]
 fn number_in(low: u64, high: u64, text: &str) -> Option<u64>
     ensures number { result ≡ number_in low high text.now }
-    ensures within { IfSome result (λ n. n ≤ high) }
+    ensures within { IfSome result (λ n. (low ≤ n) × (n ≤ high)) }
 {
     if !is_number(text) {
         return None;
@@ -41,6 +41,7 @@ pub(crate) fn number_or(default: u64, low: u64, high: u64, text: Option<&str>) -
     requires { default ≤ high }
     ensures number { result ≡ number_or default low high (text_now text.entry) }
     ensures within { IfSome result (λ n. n ≤ high) }
+    ensures least { low ≤ default → IfSome result (λ n. low ≤ n) }
 {
     match text {
         Some(text) => number_in(low, high, text),
@@ -51,7 +52,7 @@ pub(crate) fn number_or(default: u64, low: u64, high: u64, text: Option<&str>) -
 /// The number of an argument that may not.
 pub(crate) fn number_of(low: u64, high: u64, text: Option<&str>) -> Option<u64>
     ensures number { result ≡ number_of low high (text_now text.entry) }
-    ensures within { IfSome result (λ n. n ≤ high) }
+    ensures within { IfSome result (λ n. (low ≤ n) × (n ≤ high)) }
 {
     number_in(low, high, text?)
 }

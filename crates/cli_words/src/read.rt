@@ -1,7 +1,8 @@
 //! Words as a job.
-ghost use Rattle.std.specs.Prelude.{◌≡◌, map, Some, None, IfOk, Err};
+ghost use Rattle.std.specs.Prelude.{◌≡◌, ◌≢◌, ◌↔◌, map, Some, None, IfOk, Err};
 ghost use Rattle.cli_words.specs.Arguments.{AreUtf8};
 ghost use Rattle.cli_words.specs.Jobs.{job_of};
+ghost use Rattle.cli_words.specs.Within.{IsWithin};
 
 use crate::arguments::read_arguments;
 use crate::job::Job;
@@ -30,7 +31,8 @@ fn texts_of(alloc: Global, words: &[Text]) -> Result<Vec<&str>, AllocError>
 #[tactic(auto, unfolding(crate::specs::Jobs::job_of))]
 pub fn read_words(alloc: Global, words: &WordList) -> Result<Job, WordsFault>
     ensures job { IfOk result (λ job. job_of words.now ≡ Some job) }
-    ensures usage { result ≡ Err WordsFault.Usage → job_of words.now ≡ None }
+    ensures within { IfOk result IsWithin }
+    ensures usage { result ≢ Err WordsFault.Memory → (result ≡ Err WordsFault.Usage ↔ job_of words.now ≡ None) }
 {
     let Some((command, others)) = words.as_slice().split_first() else {
         return Err(WordsFault::Usage);

@@ -1,3 +1,4 @@
 pub mod Levels
 pub mod Escapes
 pub mod Zipped
+pub mod OneMore

@@ -1,20 +1,11 @@
 -- The words of the faults. Want of memory has none, since no result of a run holds it.
 use Rattle.std.specs.Prelude.{ℕ, List, [], codes}
-use Rattle.lang_eval.specs.declared.eval_fault.EvalFault.{EvalFault}
-use Rattle.lang_eval.specs.declared.eval_fault.EvalFault.TheVariants.{Overflow, Assert, Ensure, NoSignatory, TooLarge, Memory as EvalMemory}
+use Rattle.lang_eval.specs.FaultNames.{eval_fault_name}
 use Rattle.interpret.specs.declared.command_fault.CommandFault.{CommandFault}
 use Rattle.interpret.specs.declared.command_fault.CommandFault.TheVariants.{UnknownTemplate, UnknownChoice, BadArgs, ContractUnknown, Eval}
 use Rattle.interpret.specs.declared.command_fault.CommandFault.TheVariants.{TooDeep, TooMany, Unauthorised, TooBig, Memory as CommandMemory}
 use Rattle.view_split.specs.declared.split_fault.SplitFault.{SplitFault}
 use Rattle.view_split.specs.declared.split_fault.SplitFault.TheVariants.{NoRoles, Memory as SplitMemory}
-
-abbrev pub eval_fault_name : EvalFault → List ℕ
-eval_fault_name Overflow = codes "Overflow"
-eval_fault_name Assert = codes "Assert"
-eval_fault_name Ensure = codes "Ensure"
-eval_fault_name NoSignatory = codes "NoSignatory"
-eval_fault_name TooLarge = codes "TooLarge"
-eval_fault_name EvalMemory = []
 
 abbrev pub command_fault_name : CommandFault → List ℕ
 command_fault_name (UnknownTemplate root) = codes "UnknownTemplate"

@@ -3,6 +3,7 @@ pub mod Values
 pub mod Actions
 pub mod Entries
 pub mod Results
+pub mod Decided
 pub mod Outcomes
 pub mod Participants
 pub mod Report

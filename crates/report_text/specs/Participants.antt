@@ -4,7 +4,7 @@ use Rattle.std.specs.List.{flat_map}
 use Rattle.ledger_terms.specs.declared.host.Host.{Host}
 use Rattle.ledger_terms.specs.declared.active_row.ActiveRow.{ActiveRow}
 use Rattle.ledger_model.specs.declared.commit.Commit.{Commit}
-use Rattle.plain_node.specs.declared.node_view.NodeView.{NodeView}
+use Rattle.node_core.specs.declared.node_view.NodeView.{NodeView}
 use Rattle.report_text.specs.Values.{instance_text}
 use Rattle.report_text.specs.Actions.{tree_lines}
 

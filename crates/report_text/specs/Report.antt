@@ -1,17 +1,17 @@
 -- The text of a run.
 use Rattle.std.specs.Prelude.{ℕ, List, ◌++◌, codes, decimal, length}
 use Rattle.std.specs.List.{flat_map, zip}
-use Rattle.ledger_terms.specs.declared.submission.Submission.{Submission}
 use Rattle.ledger_terms.specs.declared.topology.Topology.{Topology}
 use Rattle.canton_model.specs.declared.entry.Entry.{Entry}
-use Rattle.plain_node.specs.declared.node_view.NodeView.{NodeView}
-use Rattle.plain_node.specs.declared.submit_result.SubmitResult.{SubmitResult}
+use Rattle.script_read.specs.declared.round.Round.{Round}
+use Rattle.node_core.specs.declared.node_view.NodeView.{NodeView}
+use Rattle.node_core.specs.declared.submit_result.SubmitResult.{SubmitResult}
 use Rattle.report_text.specs.Entries.{entry_lines}
 use Rattle.report_text.specs.Results.{result_lines}
 use Rattle.report_text.specs.Outcomes.{outcome_lines}
 use Rattle.report_text.specs.Participants.{participant_lines}
 
-abbrev pub report_of : Topology → List (List Submission) → List Entry → List SubmitResult → List NodeView → List ℕ
+abbrev pub report_of : Topology → List Round → List Entry → List SubmitResult → List NodeView → List ℕ
 report_of topology rounds log results views =
     codes "entries " ++ decimal (length log) ++ codes "\n"
     ++ entry_lines topology.hosts 0 log

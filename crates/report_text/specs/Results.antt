@@ -3,10 +3,11 @@ use Rattle.std.specs.Prelude.{ℕ, ◌+◌, List, [], ◌∷◌, ◌++◌, codes
 use Rattle.std.specs.List.{flat_map, zip}
 use Rattle.ledger_terms.specs.declared.host.Host.{Host}
 use Rattle.ledger_terms.specs.declared.submission.Submission.{Submission}
-use Rattle.plain_node.specs.declared.submit_fault.SubmitFault.{SubmitFault}
-use Rattle.plain_node.specs.declared.submit_fault.SubmitFault.TheVariants.{Paused, NotHosted, Command, Split, Duplicate, LogFull, Memory}
-use Rattle.plain_node.specs.declared.submit_result.SubmitResult.{SubmitResult}
-use Rattle.plain_node.specs.declared.submit_result.SubmitResult.TheVariants.{Sent, Refused}
+use Rattle.script_read.specs.declared.round.Round.{Round}
+use Rattle.prepare_request.specs.declared.submit_fault.SubmitFault.{SubmitFault}
+use Rattle.prepare_request.specs.declared.submit_fault.SubmitFault.TheVariants.{Paused, NotHosted, Command, Split, Duplicate, LogFull, Memory}
+use Rattle.node_core.specs.declared.submit_result.SubmitResult.{SubmitResult}
+use Rattle.node_core.specs.declared.submit_result.SubmitResult.TheVariants.{Sent, Refused}
 use Rattle.report_text.specs.FaultNames.{command_fault_name, split_fault_name}
 use Rattle.report_text.specs.Entries.{host_text}
 
@@ -32,9 +33,9 @@ abbrev pub submitted_in : ℕ → List Submission → List Submitted
 submitted_in round submissions = map (λ submission. record { round = round; submission = submission }) submissions
 
 -- the submissions of the rounds in order, the first of them with this number
-abbrev pub submitted_from : ℕ → List (List Submission) → List Submitted
-submitted_from round [] = []
-submitted_from round (submissions ∷ rounds) = submitted_in round submissions ++ submitted_from (round + 1) rounds
+abbrev pub submitted_from : ℕ → List Round → List Submitted
+submitted_from number [] = []
+submitted_from number (round ∷ rounds) = submitted_in number round.submits ++ submitted_from (number + 1) rounds
 
 abbrev pub result_line : List Host → Submitted × SubmitResult → List ℕ
 result_line hosts (submitted, answer) =
@@ -42,5 +43,5 @@ result_line hosts (submitted, answer) =
     ++ submitted.submission.command ++ codes " " ++ answer_text answer ++ codes "\n"
 
 -- The results are those of the submissions in script order. Where they are fewer, the last submissions have no line.
-abbrev pub result_lines : List Host → List (List Submission) → List SubmitResult → List ℕ
+abbrev pub result_lines : List Host → List Round → List SubmitResult → List ℕ
 result_lines hosts rounds results = flat_map (result_line hosts) (zip (submitted_from 0 rounds) results)

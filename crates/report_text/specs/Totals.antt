@@ -15,9 +15,9 @@ use Rattle.canton_model.specs.declared.outcome.Outcome.{Outcome}
 use Rattle.canton_model.specs.declared.outcome.Outcome.TheVariants.{Approved, Rejected, TimedOut, Expired, Undecided}
 use Rattle.canton_model.specs.Log.{request_of, decision_time_of}
 use Rattle.canton_model.specs.Timeline.{kind_of, outcome_of, timeline_of}
-use Rattle.plain_node.specs.declared.node_view.NodeView.{NodeView}
-use Rattle.plain_node.specs.declared.submit_result.SubmitResult.{SubmitResult}
-use Rattle.plain_node.specs.declared.submit_result.SubmitResult.TheVariants.{Sent, Refused}
+use Rattle.node_core.specs.declared.node_view.NodeView.{NodeView}
+use Rattle.node_core.specs.declared.submit_result.SubmitResult.{SubmitResult}
+use Rattle.node_core.specs.declared.submit_result.SubmitResult.TheVariants.{Sent, Refused}
 
 -- how the request at a place ended
 abbrev pub kind_at : Topology → List Entry → ℕ → Outcome

@@ -1,23 +1,9 @@
 //! The words of faults. Want of memory has none, since no result of a run holds it.
 ghost use Rattle.std.specs.Prelude.{◌≡◌};
-ghost use Rattle.report_text.specs.FaultNames.{eval_fault_name, command_fault_name, split_fault_name};
+ghost use Rattle.report_text.specs.FaultNames.{command_fault_name, split_fault_name};
 
 use interpret::CommandFault;
-use lang_eval::EvalFault;
 use view_split::SplitFault;
-
-fn eval_fault_name(fault: &EvalFault) -> &'static str
-    ensures { result.now ≡ eval_fault_name fault.now }
-{
-    match fault {
-        EvalFault::Overflow => "Overflow",
-        EvalFault::Assert => "Assert",
-        EvalFault::Ensure => "Ensure",
-        EvalFault::NoSignatory => "NoSignatory",
-        EvalFault::TooLarge => "TooLarge",
-        EvalFault::Memory => "",
-    }
-}
 
 /// The word of a fault of commands; that of an evaluation has the evaluation's word.
 pub fn command_fault_name(fault: &CommandFault) -> &'static str
@@ -28,7 +14,7 @@ pub fn command_fault_name(fault: &CommandFault) -> &'static str
         CommandFault::UnknownChoice { .. } => "UnknownChoice",
         CommandFault::BadArgs { .. } => "BadArgs",
         CommandFault::ContractUnknown { .. } => "ContractUnknown",
-        CommandFault::Eval { fault, .. } => eval_fault_name(fault),
+        CommandFault::Eval { fault, .. } => fault.as_str(),
         CommandFault::TooDeep { .. } => "TooDeep",
         CommandFault::TooMany { .. } => "TooMany",
         CommandFault::Unauthorised { .. } => "Unauthorised",

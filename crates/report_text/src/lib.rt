@@ -4,17 +4,16 @@
 mod actions;
 mod entries;
 mod fault_names;
+mod outcome_lines;
 mod outcomes;
 mod participants;
 mod results;
-mod round_submissions;
 mod totals;
 mod values;
 mod whole;
 
 pub use actions::put_trees;
 pub use fault_names::command_fault_name;
-pub use round_submissions::RoundSubmissionList;
 pub use totals::summary;
 pub use values::{put_instance, put_names, put_value};
 pub use whole::report;

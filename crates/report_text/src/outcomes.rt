@@ -1,34 +1,56 @@
 //! What became of the requests of a whole log.
-ghost use Rattle.std.specs.Prelude.{◌≡◌, ◌++◌, ◌+◌, OnOk, string_bytes, option_copied, slice_get, nat_lt, is_some};
-ghost use Rattle.canton_model.specs.Log.{verdict_of, request_of, time_of, decision_time_of};
-ghost use Rattle.canton_model.specs.Timeline.{decision_on, verdict_on, is_past, timeline_of, outcome_of};
-ghost use Rattle.report_text.specs.Outcomes.{outcome_text, outcome_line, outcome_lines};
+ghost use Rattle.std.specs.Prelude.{◌≡◌, ◌+◌, ℕ, IfOk, OnOk, max, nat_eq, nat_lt, option_copied, slice_get};
+ghost use Rattle.canton_model.specs.Log.{verdict_of, time_of, decision_time_of};
+ghost use Rattle.canton_model.specs.Timeline.{decision_on, or_else, verdict_on, is_past, timeline_of};
+ghost use Rattle.indexmap.specs.IndexMap.{get};
 
-use crate::entries::put_decision;
-use crate::values::put_number;
-use canton_model::{Decision, Entry, EntryList, Message};
-use ledger_terms::{Params, Topology};
-use std::alloc::AllocError;
+use canton_model::{Decision, EntryList, Message};
+use indexmap::IndexMap;
+use ledger_terms::Params;
+use std::alloc::{AllocError, Global};
+use std::marker::Model;
 
-fn decision_in(message: &Message, request: u64) -> Option<&Decision>
-    ensures { option_copied result ≡ decision_on request (verdict_of message.now) }
-{
-    match message {
-        Message::Verdict(verdict) if verdict.request == request => Some(&verdict.decision),
-        _ => None,
-    }
+/// A log that was read once, with what decides its requests: the first verdict on each, and the greatest time of an entry.
+#[derive(Drop)]
+pub struct Outcomes<'l> {
+    log: &'l EntryList,
+    verdicts: IndexMap<u64, &'l Decision>,
+    latest: u64,
 }
 
-/// The decision of the first verdict on the request.
-pub fn verdict_in(log: &EntryList, request: u64) -> Option<&Decision>
-    ensures { option_copied result ≡ verdict_on request (timeline_of log.now) }
+impl<'l> Model for Outcomes<'l> {
+    ghost use Rattle.std.specs.Prelude.{List, nat_eq};
+    ghost use Rattle.canton_model.specs.declared.entry.Entry.{Entry};
+    ghost use Rattle.indexmap.specs.IndexMap.{get};
+    ghost use Rattle.report_text.specs.Decided.{Decides};
+
+    ghost Value = { List Entry };
+
+    ghost view = { λ s. s.log.now };
+
+    ghost invariant = { λ s. Decides (λ request. get nat_eq s.verdicts request) s.latest s.log.now };
+}
+
+/// Keeps the decision of a verdict, unless its request has one.
+fn keep_first<'l>(
+    verdicts: &mut IndexMap<u64, &'l Decision>,
+    message: &'l Message,
+) -> Result<(), AllocError>
+    ensures { OnOk result ((request : ℕ) → option_copied (get nat_eq verdicts.new request)
+        ≡ or_else (option_copied (get nat_eq verdicts.old request)) (decision_on request (verdict_of message.now))) }
 {
-    'entries: for entry in log.as_slice() {
-        if let Some(decision) = decision_in(&entry.message, request) {
-            return Some(decision);
+    if let Message::Verdict(verdict) = message {
+        if !verdicts.contains_key(&verdict.request) {
+            verdicts.insert(verdict.request, &verdict.decision)?;
         }
     }
-    None
+    Ok(())
+}
+
+fn later(time: u64, other: u64) -> u64
+    ensures { result ≡ max time other }
+{
+    if time < other { other } else { time }
 }
 
 /// The time of the entry at a place, or 0.
@@ -41,85 +63,46 @@ fn time_at(log: &EntryList, place: usize) -> u64
     }
 }
 
-/// Whether the entry is later than the decision time of a request at a time. Their sum may be past every u64.
-fn is_later(entry: &Entry, time: u64, params: &Params) -> bool
-    ensures { result ≡ nat_lt (time + params.now.response_timeout + params.now.reaction_timeout) entry.now.time }
+/// Whether a time is later than the decision time of a request at another. The sum of a time and the timeouts may be past
+/// every u64.
+fn is_later(time: u64, sent: u64, params: &Params) -> bool
+    ensures { result ≡ nat_lt (sent + params.now.response_timeout + params.now.reaction_timeout) time }
 {
-    let waited = entry
-        .time
-        .saturating_sub(time)
+    let waited = time
+        .saturating_sub(sent)
         .saturating_sub(params.response_timeout);
     params.reaction_timeout < waited
 }
 
-/// Whether some entry is later than the decision time of the request at the place.
-pub fn has_passed(log: &EntryList, place: usize, params: &Params) -> bool
-    ensures { result ≡ is_past (decision_time_of params.now log.now place) (timeline_of log.now) }
-{
-    let time = time_at(log, place);
-    'entries: for entry in log.as_slice() {
-        if is_later(entry, time, params) {
-            return true;
+impl<'l> Outcomes<'l> {
+    /// Reads a log.
+    pub fn of(alloc: Global, log: &'l EntryList) -> Result<Outcomes<'l>, AllocError>
+        ensures { IfOk result (λ outcomes. outcomes ≡ log.now) }
+    {
+        let mut verdicts = IndexMap::new(alloc);
+        let mut latest = 0;
+        'entries: for entry in log.as_slice() {
+            latest = later(latest, entry.time);
+            keep_first(&mut verdicts, &entry.message)?;
         }
+        Ok(Outcomes {
+            log,
+            verdicts,
+            latest,
+        })
     }
-    false
-}
 
-pub fn is_request(message: &Message) -> bool
-    ensures { result ≡ is_some (request_of message.now) }
-{
-    match message {
-        Message::Request(_) => true,
-        _ => false,
+    /// The decision of the first verdict on the request.
+    pub fn verdict(&self, request: u64) -> Option<&'l Decision>
+        ensures { option_copied result ≡ verdict_on request (timeline_of self.now) }
+    {
+        self.verdicts.get(&request).copied()
     }
-}
 
-fn put_outcome(
-    out: &mut String,
-    topology: &Topology,
-    log: &EntryList,
-    place: usize,
-) -> Result<(), AllocError>
-    ensures { OnOk result (string_bytes out.new ≡ string_bytes out.old
-        ++ outcome_text topology.now.hosts (outcome_of (timeline_of log.now) place (decision_time_of topology.now.params log.now place))) }
-{
-    match verdict_in(log, place as u64) {
-        Some(decision) => put_decision(out, &topology.hosts, decision),
-        None => out.push_str(if has_passed(log, place, &topology.params) {
-            "expired"
-        } else {
-            "undecided"
-        }),
+    /// Whether some entry is later than the decision time of the request at the place.
+    pub fn has_passed(&self, place: usize, params: &Params) -> bool
+        ensures { result ≡ is_past (decision_time_of params.now self.now place) (timeline_of self.now) }
+    {
+        is_later(self.latest, time_at(self.log, place), params)
     }
-}
-
-fn put_outcome_line(
-    out: &mut String,
-    topology: &Topology,
-    log: &EntryList,
-    place: usize,
-) -> Result<(), AllocError>
-    ensures { OnOk result (string_bytes out.new ≡ string_bytes out.old ++ outcome_line topology.now log.now place) }
-{
-    out.push_str("outcome ")?;
-    put_number(out, place as u64)?;
-    out.push_str(" ")?;
-    put_outcome(out, topology, log, place)?;
-    out.push_str("\n")
-}
-
-/// Puts a line for each request of the log at the end.
-pub fn put_outcomes(
-    out: &mut String,
-    topology: &Topology,
-    log: &EntryList,
-) -> Result<(), AllocError>
-    ensures { OnOk result (string_bytes out.new ≡ string_bytes out.old ++ outcome_lines topology.now log.now 0 log.now) }
-{
-    'entries: for (place, entry) in log.as_slice().iter().enumerate() {
-        if is_request(&entry.message) {
-            put_outcome_line(out, topology, log, place)?;
-        }
-    }
-    Ok(())
 }

@@ -7,7 +7,7 @@ use crate::actions::put_trees;
 use crate::values::{put_instance, put_number};
 use ledger_model::{Commit, CommitList};
 use ledger_terms::{ActiveRow, ActiveRowList, Host, HostList};
-use plain_node::{NodeView, NodeViewList};
+use node_core::{NodeView, NodeViewList};
 use std::alloc::AllocError;
 
 fn put_commit(out: &mut String, commit: &Commit) -> Result<(), AllocError>

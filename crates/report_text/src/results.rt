@@ -5,10 +5,10 @@ ghost use Rattle.report_text.specs.Results.{fault_text, answer_text, result_line
 
 use crate::entries::put_host;
 use crate::fault_names::{command_fault_name, split_fault_name};
-use crate::round_submissions::RoundSubmissionList;
 use crate::values::put_number;
 use ledger_terms::{HostList, Submission, SubmissionList};
-use plain_node::{SubmitFault, SubmitResult, SubmitResultList};
+use node_core::{SubmitFault, SubmitResult, SubmitResultList};
+use script_read::RoundList;
 use std::alloc::AllocError;
 
 fn put_fault(out: &mut String, fault: &SubmitFault) -> Result<(), AllocError>
@@ -111,15 +111,15 @@ fn answers_after(answers: &[SubmitResult], count: usize) -> &[SubmitResult]
 pub fn put_results(
     out: &mut String,
     hosts: &HostList,
-    rounds: &RoundSubmissionList,
+    rounds: &RoundList,
     results: &SubmitResultList,
 ) -> Result<(), AllocError>
     ensures { OnOk result (string_bytes out.new ≡ string_bytes out.old ++ result_lines hosts.now rounds.now results.now) }
 {
     let mut rest = results.as_slice();
-    'rounds: for (round, submissions) in rounds.as_slice().iter().enumerate() {
-        put_round(out, hosts, round as u64, submissions, rest)?;
-        rest = answers_after(rest, submissions.len());
+    'rounds: for (number, round) in rounds.as_slice().iter().enumerate() {
+        put_round(out, hosts, number as u64, &round.submits, rest)?;
+        rest = answers_after(rest, round.submits.len());
     }
     Ok(())
 }

@@ -4,25 +4,26 @@ ghost use Rattle.std.specs.List.{flat_map, zip};
 ghost use Rattle.report_text.specs.Totals.{kind_at, kinds_from, is_same, count_line, count_lines, is_refused, is_iou, third_number};
 ghost use Rattle.report_text.specs.Totals.{amount_of, amounts_onto, active_total_line, summary_of};
 
-use crate::outcomes::{has_passed, is_request, verdict_in};
+use crate::outcome_lines::is_request;
+use crate::outcomes::Outcomes;
 use crate::values::put_number;
 use canton_model::{Decision, EntryList, Outcome};
 use ledger_terms::{
     ActiveRow, Host, HostList, Instance, ListOf, TemplateName, Text, Topology, Value,
 };
-use plain_node::{NodeView, NodeViewList, SubmitResult, SubmitResultList};
+use node_core::{NodeView, NodeViewList, SubmitResult, SubmitResultList};
 use std::alloc::{AllocError, Global};
 
 /// How the request at the place ended.
-fn outcome_at(topology: &Topology, log: &EntryList, place: usize) -> Outcome
-    ensures { result ≡ kind_at topology.now log.now place }
+fn outcome_at(topology: &Topology, outcomes: &Outcomes<'_>, place: usize) -> Outcome
+    ensures { result ≡ kind_at topology.now outcomes.now place }
 {
-    match verdict_in(log, place as u64) {
+    match outcomes.verdict(place as u64) {
         Some(Decision::Approved) => Outcome::Approved,
         Some(Decision::Rejected { .. }) => Outcome::Rejected,
         Some(Decision::TimedOut { .. }) => Outcome::TimedOut,
         None => {
-            if has_passed(log, place, &topology.params) {
+            if outcomes.has_passed(place, &topology.params) {
                 Outcome::Expired
             } else {
                 Outcome::Undecided
@@ -37,15 +38,16 @@ fn outcomes_in(
     topology: &Topology,
     log: &EntryList,
 ) -> Result<ListOf<Outcome>, AllocError>
-    ensures { IfOk result (λ outcomes. outcomes ≡ kinds_from topology.now log.now 0 log.now) }
+    ensures { IfOk result (λ kinds. kinds ≡ kinds_from topology.now log.now 0 log.now) }
 {
-    let mut outcomes = ListOf::new(alloc);
+    let outcomes = Outcomes::of(alloc, log)?;
+    let mut kinds = ListOf::new(alloc);
     'entries: for (place, entry) in log.as_slice().iter().enumerate() {
         if is_request(&entry.message) {
-            outcomes.push(outcome_at(topology, log, place))?;
+            kinds.push(outcome_at(topology, &outcomes, place))?;
         }
     }
-    Ok(outcomes)
+    Ok(kinds)
 }
 
 fn are_same(kind: Outcome, other: Outcome) -> bool

@@ -3,14 +3,14 @@ ghost use Rattle.std.specs.Prelude.{◌≡◌, IfOk};
 ghost use Rattle.report_text.specs.Report.{report_of};
 
 use crate::entries::put_entries;
-use crate::outcomes::put_outcomes;
+use crate::outcome_lines::put_outcomes;
 use crate::participants::put_participants;
 use crate::results::put_results;
-use crate::round_submissions::RoundSubmissionList;
 use crate::values::put_number;
 use canton_model::EntryList;
 use ledger_terms::{Text, Topology};
-use plain_node::{NodeViewList, SubmitResultList};
+use node_core::{NodeViewList, SubmitResultList};
+use script_read::RoundList;
 use std::alloc::{AllocError, Global};
 
 /// The text of a run: its log, then the results of the submissions, which stand in script order, the outcomes of the
@@ -18,7 +18,7 @@ use std::alloc::{AllocError, Global};
 pub fn report(
     alloc: Global,
     topology: &Topology,
-    rounds: &RoundSubmissionList,
+    rounds: &RoundList,
     log: &EntryList,
     results: &SubmitResultList,
     views: &NodeViewList,
@@ -31,7 +31,7 @@ pub fn report(
     out.push_str("\n")?;
     put_entries(&mut out, &topology.hosts, log)?;
     put_results(&mut out, &topology.hosts, rounds, results)?;
-    put_outcomes(&mut out, topology, log)?;
+    put_outcomes(alloc, &mut out, topology, log)?;
     put_participants(&mut out, &topology.hosts, views)?;
     out.push_str("end\n")?;
     Ok(Text::of_string(out))

@@ -1,6 +1,7 @@
 //! What a run gives.
 use crate::case::Case;
-use canton_run::{Finish, WordList, line, run};
+use canton_run::{Finish, line, run};
+use cli_words::WordList;
 use cn_io::{MemSink, MemSource};
 use ledger_terms::{Bytes, Text, U64List};
 use std::alloc::{AllocError, Global};

@@ -1,6 +1,0 @@
-use Rattle.std.proofs.Common.{refl, arith}
-use Rattle.canton_run.proofs.Items.{AreMany, many}
-use Rattle.canton_run.proofs.first_form.read_sole.Goals as goal
-
-pub returns-in-len2-up : goal.returns-in-len2-up
-returns-in-len2-up c = let two = many c.args.items.now (omega arith) in rw (AreMany.same two) refl

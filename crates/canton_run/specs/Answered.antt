@@ -1,0 +1,21 @@
+-- The rounds of a script with the results of their submissions, in the words of the world model.
+use Rattle.std.specs.Prelude.{ℕ, List, [], ◌∷◌, drop, length, take}
+use Rattle.node_core.specs.declared.submit_result.SubmitResult.{SubmitResult}
+use Rattle.prepare_request.specs.declared.submit_fault.SubmitFault.{SubmitFault}
+use Rattle.script_read.specs.declared.round.Round.{Round}
+use Rattle.world_model.specs.Rounds as w
+use Rattle.world_play.specs.Results.{results_of}
+
+abbrev pub round_of : Round → w.Round
+round_of round =
+    record { advance = round.advance; paused = round.paused; holds_verdicts = round.hold_verdicts; submits = round.submits }
+
+abbrev pub answered_round : Round → List SubmitResult → (end : ℕ) → w.RoundAnswers SubmitFault
+answered_round round results end = record { round = round_of round; results = results_of round.submits results; end = end }
+
+-- Each round with its own results and the length of the log at its end. The results stand in script order.
+abbrev pub answered : List Round → List SubmitResult → (ends : List ℕ) → List (w.RoundAnswers SubmitFault)
+answered [] results ends = []
+answered (round ∷ rounds) results [] = []
+answered (round ∷ rounds) results (end ∷ ends) =
+    answered_round round (take (length round.submits) results) end ∷ answered rounds (drop (length round.submits) results) ends

@@ -1,0 +1,50 @@
+-- What each job runs and writes.
+use Rattle.std.specs.Prelude.{◌≡◌, ℕ, ◌≤◌, List, Option, Ok, length}
+use Rattle.std.specs.Io.KnownBytes.{Consumes, IsAtEnd, Keeps}
+use Rattle.canton_model.specs.declared.entry.Entry.{Entry}
+use Rattle.cli_words.specs.declared.job.Job.{Job}
+use Rattle.cli_words.specs.declared.job.Job.TheVariants.{Gen, Run}
+use Rattle.ledger_terms.specs.declared.limits.TheConstants.{MOST_PLACES, MOST_SCRIPT_BYTES}
+use Rattle.ledger_terms.specs.declared.topology.Topology.{Topology}
+use Rattle.load_gen.specs.Generated.{generated}
+use Rattle.node_core.specs.Views.{views_over}
+use Rattle.node_core.specs.declared.node_view.NodeView.{NodeView}
+use Rattle.node_core.specs.declared.submit_result.SubmitResult.{SubmitResult}
+use Rattle.report_text.specs.Report.{report_of}
+use Rattle.report_text.specs.Totals.{summary_of}
+use Rattle.script_read.specs.Script.{script_in}
+use Rattle.script_read.specs.declared.round.Round.{Round}
+use Rattle.script_read.specs.declared.script.Script.{Script}
+use Rattle.canton_run.specs.declared.finish.Finish.{Finish}
+use Rattle.canton_run.specs.Run.{params_of, reading_for}
+
+-- the bytes that the source gave, which was read to its end, within the limit
+abbrev pub ReadWhole : Option (List ℕ) → Option (List ℕ) → List ℕ → Type 0
+ReadWhole left left' bytes = Consumes left left' bytes × IsAtEnd left' × (length bytes ≤ MOST_SCRIPT_BYTES)
+
+-- the source was read whole, and its bytes are the script
+abbrev pub ReadsScript : Option (List ℕ) → Option (List ℕ) → Script → Type 0
+ReadsScript left left' script = (bytes : List ℕ) × ReadWhole left left' bytes × (script_in bytes ≡ Ok script)
+
+-- the script of the source, or the generated one, for which nothing is read
+abbrev pub GivesScript : Job → Option (List ℕ) → Option (List ℕ) → Script → Type 0
+GivesScript (Run workers log) left left' script = ReadsScript left left' script
+GivesScript (Gen count seed workers) left left' script = Keeps left left' × (script ≡ generated seed count)
+
+-- how many places of the log the requests may need
+abbrev pub capacity_of : Job → ℕ
+capacity_of (Run workers log) = log
+capacity_of (Gen count seed workers) = MOST_PLACES
+
+-- the report of a run, or its summary
+abbrev pub text_over : Job → Topology → List Round → List Entry → List SubmitResult → List NodeView → List ℕ
+text_over (Run workers log) topology rounds entries results views = report_of topology rounds entries results views
+text_over (Gen count seed workers) topology rounds entries results views = summary_of topology entries results views
+
+-- what each participant knows at its clean place over the whole log
+abbrev pub views_in : Script → Finish → List NodeView
+views_in script finish = views_over (reading_for script) (params_of script) finish.log (length (script.topology).hosts)
+
+-- what the job of the script writes
+abbrev pub text_of : Job → Script → Finish → List ℕ
+text_of job script finish = text_over job script.topology script.rounds finish.log finish.results (views_in script finish)

@@ -1,0 +1,42 @@
+//! A whole script, from an empty log on.
+ghost use Rattle.std.specs.Prelude.{◌≡◌, ◌≤◌, IfOk, length};
+ghost use Rattle.ledger_terms.specs.declared.limits.TheConstants.{MOST_PLACES};
+ghost use Rattle.node_core.specs.Views.{views_over};
+ghost use Rattle.script_read.specs.Kept.{IsAccepted};
+ghost use Rattle.canton_run.specs.Run.{IsRun, reading_for, script_with};
+
+use crate::log_copy::log_of;
+use crate::played::Played;
+use crate::rounds::play_rounds;
+use crate::views::views_of;
+use confirm_reply::Setup;
+use log_row::LogRow;
+use script_read::RoundList;
+use std::alloc::{AllocError, Global};
+use world_play::World;
+
+/// Plays the rounds of a script over a new synchroniser whose requests may need so many places of the log in all. In the end
+/// every participant, paused or not, reads the whole log.
+pub fn run_script(
+    alloc: Global,
+    setup: &Setup,
+    rounds: &RoundList,
+    capacity: u64,
+) -> Result<Played, AllocError>
+    requires accepted { IsAccepted (script_with setup.now rounds.now) }
+    requires room { capacity ≤ MOST_PLACES }
+    ensures run { IfOk result (λ played. IsRun (script_with setup.now rounds.now) capacity played.log played.results played.ends) }
+    ensures views { IfOk result (λ played. played.views
+        ≡ views_over (reading_for (script_with setup.now rounds.now)) setup.now.topology.params played.log (length setup.now.topology.hosts)) }
+{
+    let mut row = LogRow::new(alloc)?;
+    let mut world = World::new(alloc, setup, &mut row, capacity)?;
+    let answers = play_rounds(alloc, &mut world, rounds)?;
+    world.catch_up()?;
+    Ok(Played {
+        log: log_of(alloc, &mut world.sequencer)?,
+        results: answers.results,
+        ends: answers.ends,
+        views: views_of(alloc, world.nodes.as_slice())?,
+    })
+}
