@@ -1,9 +1,12 @@
 //! How all participants read to the end of the log.
 ghost use Rattle.std.specs.Prelude.{◌≡◌, ℕ, map, OnOk};
+ghost use Rattle.ledger_terms.specs.declared.topology.Topology.{Topology};
+ghost use Rattle.lang_eval.specs.Found.{Packages};
 ghost use Rattle.world_model.specs.Machine.{Machine};
 ghost use Rattle.world_model.specs.Mediator.{MediatorState};
 ghost use Rattle.world_model.specs.Lawful.{Lawful};
 ghost use Rattle.world_model.specs.Settling.{catch_each, caught_up_world};
+ghost use Rattle.world_play.specs.Submitting.{AreSetUp};
 ghost use Rattle.world_play.specs.Worlds.{AreNodesOf, state_of, world_with};
 ghost use Rattle.world_play.specs.WorldOf.{IsWorldOf, world_of};
 
@@ -18,6 +21,7 @@ fn read_nodes_slice(nodes: &mut [Node<'_>], sequencer: &mut Sequencer<'_>) -> Re
         × Lawful m (world_with now state nodes.old sequencer.old) }
     ensures log { sequencer.new ≡ sequencer.old }
     ensures nodes { (m : Machine) → AreNodesOf m nodes.old sequencer.old → AreNodesOf m nodes.new sequencer.old }
+    ensures set_up { (topology : Topology) (packages : Packages) → AreSetUp topology packages nodes.old → AreSetUp topology packages nodes.new }
     ensures lawful { (m : Machine) (now : ℕ) (state : MediatorState) → AreNodesOf m nodes.old sequencer.old
         → Lawful m (world_with now state nodes.old sequencer.old) → Lawful m (world_with now state nodes.new sequencer.old) }
     ensures ok { OnOk result ((m : Machine) (now : ℕ) (state : MediatorState) → AreNodesOf m nodes.old sequencer.old
@@ -35,6 +39,7 @@ fn read_nodes(nodes: &mut NodeList<'_>, sequencer: &mut Sequencer<'_>) -> Result
         × Lawful m (world_with now state nodes.old.items sequencer.old) }
     ensures log { sequencer.new ≡ sequencer.old }
     ensures nodes { (m : Machine) → AreNodesOf m nodes.old.items sequencer.old → AreNodesOf m nodes.new.items sequencer.old }
+    ensures set_up { (topology : Topology) (packages : Packages) → AreSetUp topology packages nodes.old.items → AreSetUp topology packages nodes.new.items }
     ensures lawful { (m : Machine) (now : ℕ) (state : MediatorState) → AreNodesOf m nodes.old.items sequencer.old
         → Lawful m (world_with now state nodes.old.items sequencer.old) → Lawful m (world_with now state nodes.new.items sequencer.old) }
     ensures ok { OnOk result ((m : Machine) (now : ℕ) (state : MediatorState) → AreNodesOf m nodes.old.items sequencer.old
@@ -51,6 +56,8 @@ impl<'r> World<'r> {
         ensures log { self.new.sequencer ≡ self.old.sequencer }
         ensures now { self.new.now ≡ self.old.now }
         ensures is { (m : Machine) (state : MediatorState) → IsWorldOf m state self.old → IsWorldOf m state self.new }
+        ensures set_up { (topology : Topology) (packages : Packages) → AreSetUp topology packages (self.old.nodes).items
+            → AreSetUp topology packages (self.new.nodes).items }
         ensures lawful { (m : Machine) (state : MediatorState) → IsWorldOf m state self.old → Lawful m (world_of state self.old)
             → Lawful m (world_of state self.new) }
         ensures ok { OnOk result ((m : Machine) (state : MediatorState) → IsWorldOf m state self.old → Lawful m (world_of state self.old)

@@ -2,6 +2,8 @@
 #![tactic(auto)]
 
 mod among;
+mod answering;
+mod beginning;
 mod catching_up;
 mod deciding;
 mod event;
@@ -17,11 +19,14 @@ mod scanning;
 mod sending;
 mod settling;
 mod submitting;
+mod submitting_each;
 mod turn;
 mod validating;
 mod world;
 
+pub use beginning::begin_round;
 pub use event::{Event, EventList};
 pub use playing::play;
 pub use settling::settle;
+pub use submitting_each::submit_each;
 pub use world::{NodeList, World};

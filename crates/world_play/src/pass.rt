@@ -1,5 +1,7 @@
 //! A pass over a synchroniser.
 ghost use Rattle.std.specs.Prelude.{◌≡◌, ℕ, List, OnOk};
+ghost use Rattle.ledger_terms.specs.declared.topology.Topology.{Topology};
+ghost use Rattle.lang_eval.specs.Found.{Packages};
 ghost use Rattle.world_model.specs.Messages.{Entry};
 ghost use Rattle.world_model.specs.Machine.{Machine};
 ghost use Rattle.world_model.specs.Mediator.{MediatorState};
@@ -7,6 +9,7 @@ ghost use Rattle.world_model.specs.Lawful.{Lawful};
 ghost use Rattle.world_model.specs.Settled.{pass};
 ghost use Rattle.world_model.specs.Settling.{PassedTo, WorldReady};
 ghost use Rattle.world_play.specs.Standing.{GoesOn};
+ghost use Rattle.world_play.specs.Submitting.{AreSetUp};
 ghost use Rattle.world_play.specs.Worlds.{AreNodesOf, world_with};
 ghost use Rattle.world_play.specs.WorldOf.{IsWorldOf, world_of};
 
@@ -32,6 +35,7 @@ fn take_turns_slice(
     ensures nodes { (m : Machine) → AreNodesOf m nodes.old sequencer.old → AreNodesOf m nodes.new sequencer.new }
     ensures lawful { (m : Machine) (now : ℕ) (state : MediatorState) → AreNodesOf m nodes.old sequencer.old
         → Lawful m (world_with now state nodes.old sequencer.old) → Lawful m (world_with now state nodes.new sequencer.new) }
+    ensures set_up { (topology : Topology) (packages : Packages) → AreSetUp topology packages nodes.old → AreSetUp topology packages nodes.new }
     ensures ok { OnOk result ((m : Machine) (now : ℕ) (state : MediatorState) (began : List Entry) → AreNodesOf m nodes.old sequencer.old
         → PassedTo m paused.now began 0 (world_with now state nodes.old sequencer.old)
         → PassedTo m paused.now began m.hosts (world_with now state nodes.new sequencer.new)) }
@@ -59,6 +63,7 @@ fn take_turns(
     ensures nodes { (m : Machine) → AreNodesOf m nodes.old.items sequencer.old → AreNodesOf m nodes.new.items sequencer.new }
     ensures lawful { (m : Machine) (now : ℕ) (state : MediatorState) → AreNodesOf m nodes.old.items sequencer.old
         → Lawful m (world_with now state nodes.old.items sequencer.old) → Lawful m (world_with now state nodes.new.items sequencer.new) }
+    ensures set_up { (topology : Topology) (packages : Packages) → AreSetUp topology packages nodes.old.items → AreSetUp topology packages nodes.new.items }
     ensures ok { OnOk result ((m : Machine) (now : ℕ) (state : MediatorState) (began : List Entry) → AreNodesOf m nodes.old.items sequencer.old
         → PassedTo m paused.now began 0 (world_with now state nodes.old.items sequencer.old)
         → PassedTo m paused.now began m.hosts (world_with now state nodes.new.items sequencer.new)) }
@@ -78,6 +83,8 @@ pub fn pass(
     ensures now { world.new.now ≡ world.old.now }
     ensures lawful { (m : Machine) (state : MediatorState) → IsWorldOf m state world.old → Lawful m (world_of state world.old)
         → (after : MediatorState) × IsWorldOf m after world.new × Lawful m (world_of after world.new) }
+    ensures set_up { (topology : Topology) (packages : Packages) → AreSetUp topology packages (world.old.nodes).items
+        → AreSetUp topology packages (world.new.nodes).items }
     ensures ok { OnOk result ((m : Machine) (state : MediatorState) → IsWorldOf m state world.old
         → WorldReady m paused.now (world_of state world.old)
         → (after : MediatorState) × IsWorldOf m after world.new × WorldReady m paused.now (world_of after world.new)

@@ -1,5 +1,7 @@
 //! What was lost, or claimed and left, comes again.
 ghost use Rattle.std.specs.Prelude.{◌≡◌, ◌<◌, ◌&&◌, ℕ, length, map, is_some, nat_lt};
+ghost use Rattle.ledger_terms.specs.declared.topology.Topology.{Topology};
+ghost use Rattle.lang_eval.specs.Found.{Packages};
 ghost use Rattle.canton_model.specs.Genuine.{IsReading};
 ghost use Rattle.canton_model.specs.Log.{request_at};
 ghost use Rattle.world_model.specs.Machine.{Machine, GenuineLog};
@@ -10,6 +12,7 @@ ghost use Rattle.world_model.specs.Settling.{resume_each, resumed, resumed_world
 ghost use Rattle.seq_log.specs.Sequenced.{IsFor};
 ghost use Rattle.node_core.specs.Participant.{with_state};
 ghost use Rattle.world_play.specs.Standing.{IsMediator, IsParticipant};
+ghost use Rattle.world_play.specs.Submitting.{AreSetUp};
 ghost use Rattle.world_play.specs.Worlds.{AreNodesOf, state_of, world_with};
 ghost use Rattle.world_play.specs.WorldOf.{IsWorldOf, world_of};
 
@@ -53,6 +56,7 @@ fn resume_nodes_slice(nodes: &mut [Node<'_>], sequencer: &mut Sequencer<'_>)
         × Lawful m (world_with now state nodes.old sequencer.old) }
     ensures log { sequencer.new ≡ sequencer.old }
     ensures nodes { (m : Machine) → AreNodesOf m nodes.old sequencer.old → AreNodesOf m nodes.new sequencer.old }
+    ensures set_up { (topology : Topology) (packages : Packages) → AreSetUp topology packages nodes.old → AreSetUp topology packages nodes.new }
     ensures resumed { (m : Machine) (now : ℕ) (state : MediatorState) → AreNodesOf m nodes.old sequencer.old
         → Lawful m (world_with now state nodes.old sequencer.old)
         → map state_of nodes.new ≡ resume_each m sequencer.old.list 0 (map state_of nodes.old) }
@@ -70,6 +74,7 @@ fn resume_nodes(nodes: &mut NodeList<'_>, sequencer: &mut Sequencer<'_>)
         × Lawful m (world_with now state nodes.old.items sequencer.old) }
     ensures log { sequencer.new ≡ sequencer.old }
     ensures nodes { (m : Machine) → AreNodesOf m nodes.old.items sequencer.old → AreNodesOf m nodes.new.items sequencer.old }
+    ensures set_up { (topology : Topology) (packages : Packages) → AreSetUp topology packages nodes.old.items → AreSetUp topology packages nodes.new.items }
     ensures resumed { (m : Machine) (now : ℕ) (state : MediatorState) → AreNodesOf m nodes.old.items sequencer.old
         → Lawful m (world_with now state nodes.old.items sequencer.old)
         → map state_of nodes.new.items ≡ resume_each m sequencer.old.list 0 (map state_of nodes.old.items) }
@@ -116,6 +121,8 @@ pub fn resume(world: &mut World<'_>)
     ensures now { world.new.now ≡ world.old.now }
     ensures is { (m : Machine) (state : MediatorState) → IsWorldOf m state world.old → Lawful m (world_of state world.old)
         → IsWorldOf m (returned m.params (world.old.sequencer).list state) world.new }
+    ensures set_up { (topology : Topology) (packages : Packages) → AreSetUp topology packages (world.old.nodes).items
+        → AreSetUp topology packages (world.new.nodes).items }
     ensures resumed { (m : Machine) (state : MediatorState) → IsWorldOf m state world.old → Lawful m (world_of state world.old)
         → world_of (returned m.params (world.old.sequencer).list state) world.new ≡ resumed_world m (world_of state world.old) }
 {

@@ -1,14 +1,17 @@
 //! How submissions and Ticks come into the log.
-ghost use Rattle.std.specs.Prelude.{◌≡◌, ◌≢◌, ◌+◌, ◌≤◌, ◌^◌, Err, Some, slice_get, IfOk, OnOk};
+ghost use Rattle.std.specs.Prelude.{◌≡◌, ◌≢◌, ◌+◌, ◌≤◌, ◌^◌, Err, Some, slice_get, IfOk, OnErr, OnOk};
 ghost use Rattle.std.specs.Result.{result_ok};
 ghost use Rattle.ledger_terms.specs.declared.topology.Topology.{Topology};
 ghost use Rattle.lang_eval.specs.Found.{Packages};
 ghost use Rattle.world_model.specs.Machine.{Machine};
 ghost use Rattle.world_model.specs.Mediator.{MediatorState};
 ghost use Rattle.world_model.specs.Lawful.{Lawful};
+ghost use Rattle.world_model.specs.Locks.{SequencerBehind};
 ghost use Rattle.world_model.specs.World.{Advance, Submit, happens};
 ghost use Rattle.prepare_request.specs.declared.submit_fault.SubmitFault.TheVariants as SubmitFault;
+ghost use Rattle.seq_log.specs.Sequenced.{IsFor};
 ghost use Rattle.node_core.specs.Participant.{Participant};
+ghost use Rattle.world_play.specs.Standing.{GoesOn};
 ghost use Rattle.world_play.specs.Submitting.{AreSetUp, CanPrepare, CanSubmit, wanted_of};
 ghost use Rattle.world_play.specs.WorldOf.{IsWorldOf, world_of};
 
@@ -64,21 +67,29 @@ pub fn submit(alloc: Global, world: &mut World<'_>, what: &Submission) -> Result
     Ok(())
 }
 
-/// Time moves on, and a Tick tells of it.
+/// Time moves on by so many microseconds, and a Tick tells of it where they are more than none. After want of memory time stands
+/// still.
 pub fn advance(world: &mut World<'_>, by: u64) -> Result<(), AllocError>
     requires { world.old.now + by ≤ 10 ^ 16 }
-    ensures now { world.new.now ≡ world.old.now + by }
+    ensures on { GoesOn world.old.sequencer world.new.sequencer }
+    ensures now { OnOk result (world.new.now ≡ world.old.now + by) }
     ensures nodes { world.new.nodes ≡ world.old.nodes }
     ensures is { (m : Machine) (state : MediatorState) → IsWorldOf m state world.old → IsWorldOf m state world.new }
     ensures ok { OnOk result ((m : Machine) (state : MediatorState) → IsWorldOf m state world.old
         → world_of state world.new ≡ happens m (world_of state world.old) (Advance by)) }
+    ensures behind { (m : Machine) → IsFor m world.old.sequencer → SequencerBehind m (world.old.sequencer).list
+        → SequencerBehind m (world.new.sequencer).list }
+    ensures err { OnErr result ((world.new.now ≡ world.old.now) × (world.new.sequencer ≡ world.old.sequencer)) }
 {
     if by == 0 {
         return Ok(());
     }
-    world.now += by;
-    match world.sequencer.append(Message::Tick, world.now) {
-        Ok(_) => Ok(()),
+    let now = world.now + by;
+    match world.sequencer.append(Message::Tick, now) {
+        Ok(_) => {
+            world.now = now;
+            Ok(())
+        }
         Err(_) => Err(AllocError),
     }
 }

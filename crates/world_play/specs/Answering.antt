@@ -1,0 +1,36 @@
+-- What comes of one submission.
+use Rattle.std.specs.Prelude.{◌⊎◌, ℕ, ◌<◌, List, length}
+use Rattle.ledger_terms.specs.declared.submission.Submission.{Submission}
+use Rattle.ledger_terms.specs.declared.topology.Topology.{Topology}
+use Rattle.lang_eval.specs.Found.{Packages}
+use Rattle.world_model.specs.Messages.{Entry}
+use Rattle.world_model.specs.Machine.{Machine}
+use Rattle.world_model.specs.Rounds.{Round, read_at, wanted_at}
+use Rattle.world_model.specs.Plain.{AnswersWanted, IsAwakeAnswer, IsPausedAnswer}
+use Rattle.seq_log.specs.Sequenced.{Sequenced}
+use Rattle.node_core.specs.Participant.{Participant as NodeValue}
+use Rattle.node_core.specs.declared.submit_result.SubmitResult.{SubmitResult}
+use Rattle.world_play.specs.Machines.{why_of}
+use Rattle.world_play.specs.Results.{result_of}
+use Rattle.world_play.specs.Standing.{IsParticipant}
+use Rattle.world_play.specs.Submitting.{CanSubmit}
+
+-- The submission is this participant's, which is one of the topology, and is within it.
+pub record CanAnswer (m : Machine) (node : NodeValue) (what : Submission) (sequencer : Sequenced) : Type 0 where
+  pub is : IsParticipant m what.participant node sequencer
+  pub is_host : what.participant < length (node.topology).hosts
+  pub can : CanSubmit node.topology node.packages what
+
+-- the answer of a participant that isn't paused and has read all of the log, and the log after it
+abbrev pub AnswersAwake : Machine → Topology → Packages → (now : ℕ) → (before : List Entry) → Submission → SubmitResult → (after : List Entry)
+    → Type 0
+AnswersAwake m topology packages now before what answer after =
+    AnswersWanted m (why_of topology packages what (read_at m before what (length before)) now) now before (wanted_at m now before what (length before))
+    (result_of answer) after
+
+-- the answer of a participant in a round, and the log after it
+abbrev pub IsAnswer : Machine → Topology → Packages → (now : ℕ) → Round → (before : List Entry) → Submission → SubmitResult
+    → (after : List Entry) → Type 0
+IsAnswer m topology packages now round before what answer after =
+    IsPausedAnswer round before what (result_of answer) after
+    ⊎ IsAwakeAnswer m (why_of topology packages) now round before what (result_of answer) after
