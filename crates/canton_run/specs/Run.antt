@@ -6,7 +6,7 @@ use Rattle.canton_model.specs.declared.entry.Entry.{Entry}
 use Rattle.confirm_reply.specs.declared.setup.Setup.{Setup}
 use Rattle.node_core.specs.declared.submit_result.SubmitResult.{SubmitResult}
 use Rattle.prepare_request.specs.declared.submit_fault.SubmitFault.{SubmitFault}
-use Rattle.run_model.specs.Approval.{AllRoundsApprove}
+use Rattle.run_model.specs.Approving.{AllRoundsApprove}
 use Rattle.script_read.specs.declared.round.Round.{Round}
 use Rattle.script_read.specs.declared.script.Script.{Script}
 use Rattle.sealed_form.specs.Collisions.{Collides}
