@@ -1,6 +1,6 @@
 -- A party that a script may name is hosted, in the words of the sealed form.
 use Rattle.std.proofs.Common.{◌≡◌, ℕ, suc, Bool, true, List, [], ◌∷◌, Option, Some, None, refl, sym, ap, ◌∙◌, subst, inl, inr}
-use Rattle.std.specs.Prelude.{is_some, option_map}
+use Rattle.std.specs.Prelude.{◌&&◌, is_some, option_map}
 use Rattle.std.specs.List.{list_all}
 use Rattle.std.proofs.lemmas.Bool.{cases_Bool}
 use Rattle.ledger_terms.specs.Hosting.{host_of, lists_party}
@@ -34,7 +34,8 @@ listed (host ∷ hosts) party =
 known_alike : (test other : List ℕ → Bool) (parties : List (List ℕ)) → ((party : List ℕ) → other party ≡ test party)
     → list_all other parties ≡ list_all test parties
 known_alike test other [] same = refl
-known_alike test other (party ∷ parties) same = rw (same party, known_alike test other parties same) refl
+known_alike test other (party ∷ parties) same = 
+    ap (λ (b : Bool). b && list_all other parties) (same party) ∙ ap (λ (b : Bool). test party && b) (known_alike test other parties same)
 
 module _ (topology : Topology) where
   pub hosted : (parties : List (List ℕ)) → AreKnown (read.is_hosted topology.hosts) parties → AreKnown (sealed.is_hosted topology) parties

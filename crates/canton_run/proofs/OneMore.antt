@@ -1,5 +1,5 @@
 -- One more round of one thread, with its results and its end.
-use Rattle.std.proofs.Common.{◌≡◌, ℕ, zero, suc, ◌+◌, ◌-◌, ◌≤◌, List, [], ◌∷◌, ◌++◌, length, take, drop, map, refl, sym, ap, ◌∙◌, subst, arith}
+use Rattle.std.proofs.Common.{◌≡◌, ℕ, ◌+◌, ◌≤◌, List, [], ◌∷◌, ◌++◌, length, take, drop, map, refl, sym, ap, ◌∙◌, subst, arith}
 use Rattle.std.proofs.lemmas.List.{length-drop, take_all, take-append-le, drop-append-le}
 use Rattle.std.proofs.lemmas.List.Sums.{sum_by-cons}
 use Rattle.ledger_terms.specs.declared.submission.Submission.{Submission}
@@ -12,7 +12,7 @@ use Rattle.world_model.specs.Plain.{PlainPart, PlainRounds}
 use Rattle.world_model.specs.Rounds as w
 use Rattle.world_play.specs.Results.{result_of, results_of}
 use Rattle.canton_run.specs.Answered.{answered, answered_round, round_of}
-use Rattle.canton_run.specs.Played.{time_in}
+use Rattle.canton_run.specs.Between.{time_in}
 use Rattle.canton_run.specs.Run.{submissions_in}
 
 -- the submissions of results are those that they answer
@@ -21,12 +21,6 @@ submitted : (submits : List Submission) (results : List SubmitResult) → length
 submitted [] results h = refl
 submitted (s ∷ submits) [] h = absurd (omega (arith, h))
 submitted (s ∷ submits) (r ∷ results) h = ap (λ (xs : List Submission). s ∷ xs) (submitted submits results (omega (arith, h)))
-
-submits_in : Round → ℕ
-submits_in round = length round.submits
-
-advance_in : Round → ℕ
-advance_in round = round.advance
 
 pub answers_are_as_many : (rounds : List Round) (results : List SubmitResult) (ends : List ℕ) → length (answered rounds results ends) ≤ length rounds
 answers_are_as_many [] results ends = omega arith
@@ -57,8 +51,8 @@ module _ (m : Machine) (why : w.Why SubmitFault) (round : Round) (answers : List
   one_more (x ∷ rounds) results [] now log each each_end times played = absurd (omega (arith, each_end))
   one_more (x ∷ rounds) results (e ∷ ends) now log each each_end times played =
       let n = length x.submits in
-      let sum = sum_by-cons submits_in x rounds in
-      let time_sum = sum_by-cons advance_in x rounds in
+      let sum : submissions_in (x ∷ rounds) ≡ n + submissions_in rounds = sum_by-cons (λ (r : Round). length r.submits) x rounds in
+      let time_sum : time_in (x ∷ rounds) ≡ x.advance + time_in rounds = sum_by-cons (λ (r : Round). r.advance) x rounds in
       let few : n ≤ length results = omega (arith, each, sum) in
       let left : length (drop n results) ≡ submissions_in rounds = length-drop n results ∙ omega (arith, each, sum) in
       let rest =
@@ -68,6 +62,7 @@ module _ (m : Machine) (why : w.Why SubmitFault) (round : Round) (answers : List
       (answered_round x xs e ∷ answered (rounds ++ round ∷ []) (drop n (results ++ answers)) (ends ++ end ∷ [])) after)
       (sym (take-append-le n results answers few))
       (subst
-      (λ (xs : List SubmitResult). PlainRounds m why now log (answered_round x (take n results) e ∷ answered (rounds ++ round ∷ []) xs (ends ++ end ∷ [])) after)
+      (λ (xs : List SubmitResult). PlainRounds m why now log
+      (answered_round x (take n results) e ∷ answered (rounds ++ round ∷ []) xs (ends ++ end ∷ [])) after)
       (sym (drop-append-le n results answers few))
       (played.0, played.1, played.2, played.3, rest))

@@ -25,16 +25,10 @@ use Rattle.world_play.specs.WorldOf.{IsWorldOf, world_of}
 use Rattle.world_play.specs.declared.world.World.{World}
 use Rattle.world_play.proofs.Plays.{each_of}
 use Rattle.canton_run.specs.Answered.{answered, round_of}
-use Rattle.canton_run.specs.Played.{ArePlayed, IsRoundOf, time_in}
+use Rattle.canton_run.specs.Between.{ArePlayed, IsRoundOf, time_in}
 use Rattle.canton_run.specs.Run.{machine_for, submissions_in, why_for}
 use Rattle.canton_run.proofs.Hosted.{can_submit}
 use Rattle.canton_run.proofs.OneMore.{one_more}
-
-advance_of : Round → ℕ
-advance_of round = round.advance
-
-submits_of : Round → ℕ
-submits_of round = length round.submits
 
 module _ (script : Script) (count : ℕ) (round : Round) (is : IsRoundOf script count round) where
   is_round : IsRound (script.topology).hosts round
@@ -44,10 +38,10 @@ module _ (script : Script) (count : ℕ) (round : Round) (is : IsRoundOf script 
   next = let one : count + 1 ≡ suc count = omega arith in ap (λ (n : ℕ). take n script.rounds) one ∙ take_next count script.rounds round is.there
 
   next_time : time_in (take (count + 1) script.rounds) ≡ time_in (take count script.rounds) + round.advance
-  next_time = ap time_in next ∙ sum_by_push advance_of (take count script.rounds) round
+  next_time = ap time_in next ∙ sum_by_push (λ (r : Round). r.advance) (take count script.rounds) round
 
   next_submissions : submissions_in (take (count + 1) script.rounds) ≡ submissions_in (take count script.rounds) + length round.submits
-  next_submissions = ap submissions_in next ∙ sum_by_push submits_of (take count script.rounds) round
+  next_submissions = ap submissions_in next ∙ sum_by_push (λ (r : Round). length r.submits) (take count script.rounds) round
 
   next_length : length (take (count + 1) script.rounds) ≡ length (take count script.rounds) + 1
   next_length = ap length next ∙ length-append (take count script.rounds) (round ∷ [])
@@ -59,7 +53,7 @@ module _ (script : Script) (count : ℕ) (round : Round) (is : IsRoundOf script 
       let each : All (λ (r : Round). r.advance ≤ most) (take (count + 1) script.rounds) =
       All-take (λ (r : Round). r.advance ≤ most) (count + 1) script.rounds (λ k d lt. (((is.accepted).rounds).each k d lt).advance) in
       let sum : time_in (take (count + 1) script.rounds) ≤ length (take (count + 1) script.rounds) * 1000000000000 =
-      sum_by-le advance_of most (take (count + 1) script.rounds) each in
+      sum_by-le (λ (r : Round). r.advance) most (take (count + 1) script.rounds) each in
       let few : length script.rounds ≤ 2048 = ((is.accepted).rounds).few in
       let time = next_time in omega (arith, at, sum, few, time)
 
@@ -77,7 +71,8 @@ module _ (script : Script) (count : ℕ) (round : Round) (is : IsRoundOf script 
       (now1 : w1.now ≡ world.now + round.advance) (now2 : w2.now ≡ w1.now) (now3 : w3.now ≡ w2.now)
       (begins : (w1.sequencer).list ≡ begun (machine_for script capacity) (world.now + round.advance) (round_of round) (world.sequencer).list)
       (many : length answers ≡ length round.submits) (plain : All IsPlainResult answers)
-      (submitted : Submitted (machine_for script capacity) (why_for script) w1.now (round_of round) (w1.sequencer).list (results_of round.submits answers) (w2.sequencer).list)
+      (submitted : Submitted (machine_for script capacity) (why_for script) w1.now (round_of round) (w1.sequencer).list
+          (results_of round.submits answers) (w2.sequencer).list)
       (settles : (w3.sequencer).list ≡ passes (machine_for script capacity) w2.now round.paused round.hold_verdicts
       (left (machine_for script capacity).hosts (w2.sequencer).list) (w2.sequencer).list)
       (ends_at : end ≡ length (w3.sequencer).list) where
@@ -91,7 +86,9 @@ module _ (script : Script) (count : ℕ) (round : Round) (is : IsRoundOf script 
     part = (
       (w2.sequencer).list,
       subst (λ (xs : List Entry). Submitted m (why_for script) time (round_of round) xs (results_of round.submits answers) (w2.sequencer).list) begins
-          (subst (λ (n : ℕ). Submitted m (why_for script) n (round_of round) (w1.sequencer).list (results_of round.submits answers) (w2.sequencer).list) now1 submitted),
+          (subst
+          (λ (n : ℕ). Submitted m (why_for script) n (round_of round) (w1.sequencer).list (results_of round.submits answers) (w2.sequencer).list)
+          now1 submitted),
       settles ∙ ap (λ (n : ℕ). passes m n round.paused round.hold_verdicts (left m.hosts (w2.sequencer).list) (w2.sequencer).list) (now2 ∙ now1),
     )
 

@@ -1,5 +1,5 @@
 -- What was played is a run of its script.
-use Rattle.std.proofs.Common.{◌≡◌, ℕ, ◌+◌, ◌≤◌, List, length, take, refl, sym, ap, ◌∙◌, subst, arith}
+use Rattle.std.proofs.Common.{◌≡◌, ℕ, ◌+◌, ◌≤◌, List, [], length, take, refl, sym, ap, ◌∙◌, subst, arith}
 use Rattle.std.proofs.lemmas.List.{take_all}
 use Rattle.canton_model.specs.declared.entry.Entry.{Entry}
 use Rattle.node_core.specs.declared.submit_result.SubmitResult.{SubmitResult}
@@ -22,7 +22,7 @@ use Rattle.world_play.specs.Submitting.{AreSetUp}
 use Rattle.world_play.specs.WorldOf.{IsWorldOf, world_of}
 use Rattle.world_play.specs.declared.world.World.{World}
 use Rattle.canton_run.specs.Answered.{answered}
-use Rattle.canton_run.specs.Played.{ArePlayed}
+use Rattle.canton_run.specs.Between.{ArePlayed}
 use Rattle.canton_run.specs.Run.{IsRun, machine_for, submissions_in, why_for}
 use Rattle.canton_run.proofs.OneMore.{answers_are_as_many}
 
@@ -47,9 +47,6 @@ module _ (script : Script) (capacity : ℕ) where
       }
 
   module _ (machine : IsMachine m) (accepted : IsAccepted script) (room : capacity ≤ 20480) (results : List SubmitResult) (ends : List ℕ) where
-    answers : (rounds : List Round) → List _
-    answers rounds = answered rounds results ends
-
     pub is_run : (world : World) → ArePlayed script capacity (length script.rounds) world results ends → (log : List Entry) → log ≡ (world.sequencer).list
         → IsRun script capacity log results ends
     is_run world p log same =
@@ -57,7 +54,7 @@ module _ (script : Script) (capacity : ℕ) where
         let played =
         subst (λ (xs : List Entry). PlainRounds m (why_for script) 0 [] (answered script.rounds results ends) xs) (sym same)
         (subst (λ (xs : List Round). PlainRounds m (why_for script) 0 [] (answered xs results ends) (world.sequencer).list) all p.played) in
-        let cut : RunHolds m (why_for script) log (answered script.rounds results ends) = run_holds m (why_for script) machine (answered script.rounds results ends) log played in
+        let cut = run_holds m (why_for script) machine (answered script.rounds results ends) log played in
         let holds = headline m.reading m.params log machine.is_reading cut.genuine in
         let few : length script.rounds ≤ 2048 = (accepted.rounds).few in
         let many = answers_are_as_many script.rounds results ends in

@@ -2,7 +2,7 @@
 ghost use Rattle.std.specs.Prelude.{◌≡◌, ◌+◌, ℕ, [], length, IfOk, OnOk};
 ghost use Rattle.script_read.specs.Kept.{IsAccepted};
 ghost use Rattle.script_read.specs.declared.script.Script.{Script};
-ghost use Rattle.canton_run.specs.Played.{ArePlayed, IsRoundOf};
+ghost use Rattle.canton_run.specs.Between.{ArePlayed, IsRoundOf};
 
 use ledger_terms::U64List;
 use node_core::SubmitResultList;

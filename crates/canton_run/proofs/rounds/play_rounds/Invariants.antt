@@ -1,7 +1,7 @@
 use Rattle.std.proofs.Common.{◌≡◌, ℕ, []}
 use Rattle.script_read.specs.Kept.{IsAccepted}
 use Rattle.script_read.specs.declared.script.Script.{Script}
-use Rattle.canton_run.specs.Played.{ArePlayed}
+use Rattle.canton_run.specs.Between.{ArePlayed}
 use Rattle.canton_run.proofs.rounds.play_rounds.Given as goal
 
 abbrev pub invariant-rounds : goal.invariant-rounds
