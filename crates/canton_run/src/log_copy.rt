@@ -18,10 +18,8 @@ pub fn log_of(alloc: Global, sequencer: &mut Sequencer<'_>) -> Result<EntryList,
     ensures log { IfOk result (λ log. log ≡ sequencer.old.list) }
 {
     let mut log = EntryList::new(alloc);
-    'places: for place in 0..sequencer.len() {
-        if let Some(slip) = sequencer.entry(place) {
-            log.push(copy_of(slip.entry())?)?;
-        }
+    'entries: while let Some(slip) = sequencer.entry(log.len() as u64) {
+        log.push(copy_of(slip.entry())?)?;
     }
     Ok(log)
 }
