@@ -1,7 +1,7 @@
 -- A copy of a log, entry after entry.
-use Rattle.std.proofs.Common.{◌≡◌, ℕ, zero, suc, ◌+◌, ◌-◌, ◌<◌, ◌≤◌, List, [], ◌∷◌, ◌++◌, length, take, Some, refl, sym, ap, ◌∙◌, subst, arith}
+use Rattle.std.proofs.Common.{◌≡◌, ℕ, zero, suc, ◌+◌, ◌<◌, List, [], ◌∷◌, ◌++◌, length, take, Some, refl, sym, ap, ◌∙◌, subst, arith}
 use Rattle.std.specs.Prelude.{slice_get}
-use Rattle.std.proofs.lemmas.List.{length-append, length-take-le, take_all}
+use Rattle.std.proofs.lemmas.List.{length-append, length-take-le}
 use Rattle.canton_model.specs.declared.entry.Entry.{Entry}
 use Rattle.log_row.specs.LogPrefix.{LogPrefix}
 use Rattle.seq_log.specs.Sequenced.{Sequenced, prefix_of}
@@ -37,14 +37,3 @@ module _ (s q : Sequenced) (same : q ≡ s) (log : List Entry) (begins : log ≡
       ap (λ (x : LogPrefix). x.list) is
       ∙ (ap (λ (x : Sequenced). take (place + 1) x.list) same ∙ ap (λ (k : ℕ). take (k + 1) s.list) at) in
       next_entry s.list log slip.list e begins (within lt) list entry log' (more ∙ ap (λ (x : Entry). log ++ x ∷ []) exact)
-
-  pub fewer_left : place < length q.list → (copy : Entry) (log' : List Entry) → log' ≡ log ++ copy ∷ []
-      → length s.list - length log' < length s.list - length log
-  fewer_left lt copy log' more =
-      let w = within lt in
-      let longer : length log' ≡ length log + 1 = ap length more ∙ length-append log (copy ∷ []) in omega (arith, w, longer)
-
-  pub copied_all : length q.list ≤ place → log ≡ s.list
-  copied_all past =
-      let many : length q.list ≡ length s.list = ap (λ (x : Sequenced). length x.list) same in
-      begins ∙ take_all (length log) s.list (omega (arith, past, many, at))

@@ -1,6 +1,8 @@
 -- What participants know when they have read the whole log.
-use Rattle.std.proofs.Common.{◌≡◌, ℕ, zero, suc, ◌+◌, List, [], ◌∷◌, length, map, Some, refl, sym, ap, ◌∙◌, subst, arith}
+use Rattle.std.proofs.Common.{◌≡◌, ℕ, zero, suc, ◌+◌, List, [], ◌∷◌, ◌++◌, length, take, map, Some, refl, sym, ap, ◌∙◌, subst, arith}
 use Rattle.std.specs.Prelude.{slice_get}
+use Rattle.std.proofs.lemmas.List.{map-append}
+use Rattle.world_model.proofs.Steps.{take_next}
 use Rattle.ledger_terms.specs.declared.topology.Topology.{Topology}
 use Rattle.lang_eval.specs.Found.{Packages}
 use Rattle.canton_model.specs.Inbox.{Item, inbox}
@@ -24,9 +26,21 @@ use Rattle.world_play.specs.declared.world.World.{World}
 use Rattle.world_play.proofs.Passing.{map_at}
 use Rattle.canton_run.specs.Run.{machine_for, params_of as times_of, reading_for}
 
+-- one more view, of the next participant
+pub one_more_view : (nodes : List NodeValue) (k : ℕ) (node : NodeValue) → slice_get nodes k ≡ Some node
+    → (views : List NodeView) → views ≡ map view_of (take k nodes) → (view : NodeView) → view ≡ view_of node
+    → (views' : List NodeView) → views' ≡ views ++ view ∷ [] → views' ≡ map view_of (take (k + 1) nodes)
+one_more_view nodes k node at views same view is views' more =
+    let one : k + 1 ≡ suc k = omega arith in
+    more
+    ∙ (ap (λ (v : NodeView). views ++ v ∷ []) is
+    ∙ (ap (λ (vs : List NodeView). vs ++ view_of node ∷ []) same
+    ∙ (sym (map-append view_of (take k nodes) (node ∷ []))
+    ∙ ap (map view_of) (sym (ap (λ (n : ℕ). take n nodes) one ∙ take_next k nodes node at)))))
+
 module _ (reading : Reading) (params : Params) (log : List Entry) where
   -- the participant at a place has read all of the log
-  HasReadAll : ℕ → NodeValue → Type 0
+  abbrev HasReadAll : ℕ → NodeValue → Type 0
   HasReadAll p node = view_of node ≡ view_over reading params p (inbox reading p log)
 
   each_view : (nodes : List NodeValue) (start : ℕ) → ((k : ℕ) (node : NodeValue) → slice_get nodes k ≡ Some node → HasReadAll (start + k) node)
@@ -42,7 +56,7 @@ module _ (reading : Reading) (params : Params) (log : List Entry) where
       ∙ ap (λ (vs : List NodeView). view_over reading params start (inbox reading start log) ∷ vs) rest
 
 module _ (script : Script) (capacity : ℕ) where
-  m : Machine
+  abbrev m : Machine
   m = machine_for script capacity
 
   view_at : (log : List Entry) (p : ℕ) (node : NodeValue) → IsNodeOf m p node → NodeHas m p log node.state → HasReadAll m.reading m.params log p node

@@ -1,5 +1,5 @@
 -- A round is played after those before it.
-use Rattle.std.proofs.Common.{◌≡◌, ℕ, suc, ◌+◌, ◌*◌, ◌≤◌, ◌<◌, List, [], ◌∷◌, ◌++◌, length, take, Some, refl, sym, ap, ◌∙◌, subst, arith}
+use Rattle.std.proofs.Common.{◌≡◌, ℕ, suc, ◌+◌, ◌*◌, ◌≤◌, ◌<◌, List, [], ◌∷◌, ◌++◌, length, take, Some, refl, sym, ap, ◌∙◌, subst, arith, length-take}
 use Rattle.std.specs.Prelude.{◌^◌, All}
 use Rattle.std.proofs.lemmas.List.{length-append}
 use Rattle.std.proofs.lemmas.List.Elements.{All-append, All-take}
@@ -55,7 +55,7 @@ module _ (script : Script) (count : ℕ) (round : Round) (is : IsRoundOf script 
       let sum : time_in (take (count + 1) script.rounds) ≤ length (take (count + 1) script.rounds) * 1000000000000 =
       sum_by-le (λ (r : Round). r.advance) most (take (count + 1) script.rounds) each in
       let few : length script.rounds ≤ 2048 = ((is.accepted).rounds).few in
-      let time = next_time in omega (arith, at, sum, few, time)
+      let time = next_time in let taken = length-take (count + 1) script.rounds in omega (arith, at, sum, few, time, taken)
 
   pub can_each : All (CanSubmit script.topology script.checked) round.submits
   can_each k d lt = can_submit script is.accepted _ (is_round.submits k d lt)
@@ -76,10 +76,10 @@ module _ (script : Script) (count : ℕ) (round : Round) (is : IsRoundOf script 
       (settles : (w3.sequencer).list ≡ passes (machine_for script capacity) w2.now round.paused round.hold_verdicts
       (left (machine_for script capacity).hosts (w2.sequencer).list) (w2.sequencer).list)
       (ends_at : end ≡ length (w3.sequencer).list) where
-    m : Machine
+    abbrev m : Machine
     m = machine_for script capacity
 
-    time : ℕ
+    abbrev time : ℕ
     time = world.now + round.advance
 
     part : PlainPart m (why_for script) time (round_of round) (results_of round.submits answers) (world.sequencer).list (w3.sequencer).list
@@ -96,7 +96,7 @@ module _ (script : Script) (count : ℕ) (round : Round) (is : IsRoundOf script 
     played =
         subst (λ (xs : List Round). PlainRounds m (why_for script) 0 [] (answered xs (results ++ answers) (ends ++ end ∷ [])) (w3.sequencer).list) (sym next)
         (one_more m (why_for script) round answers many end (world.sequencer).list (w3.sequencer).list ends_at world.now part (take count script.rounds)
-        results ends 0 [] p.each_result p.each_end p.now p.played)
+        results ends 0 [] p.each_result p.each_end (let at = p.now in omega (arith, at)) p.played)
 
     pub plays_on : (state : MediatorState) × IsWorldOf m state w3 × Lawful m (world_of state w3) → AreSetUp script.topology script.checked (w3.nodes).items
         → ArePlayed script capacity (count + 1) w3 (results ++ answers) (ends ++ end ∷ [])

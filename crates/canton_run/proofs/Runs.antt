@@ -27,7 +27,7 @@ use Rattle.canton_run.specs.Run.{IsRun, machine_for, submissions_in, why_for}
 use Rattle.canton_run.proofs.OneMore.{answers_are_as_many}
 
 module _ (script : Script) (capacity : ℕ) where
-  m : Machine
+  abbrev m : Machine
   m = machine_for script capacity
 
   -- on a new synchroniser no rounds were played

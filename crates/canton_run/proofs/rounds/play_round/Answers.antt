@@ -31,8 +31,8 @@ submit_each-requires-clause-there c =
     let r = c.requires in
     there_each r.0 r.2 c.args.round.now r.3 _ (c.begin_round.ensures.set_up (r.0).topology (r.0).checked (r.4).set_up)
 
-pub settle-requires-clause-lawful : goal.settle-requires-clause-lawful
-settle-requires-clause-lawful c =
+pub settle-requires : goal.settle-requires
+settle-requires c =
     let r = c.requires in
     let m = machine_for r.0 r.1 in
     let begun = c.begin_round.ensures.lawful m (r.4).state (r.4).is (r.4).lawful in
