@@ -54,3 +54,19 @@ returns-clause-answers c =
     submitting_ends c.args.world.now c.args.submits.now c.args.results.now c.submits.what-index c.submits.world c.submits.results c.submits.invariant
     (let ends = c.submits.auto.what-index-end in let out = c.submits-test.false in let same = c.as_slice-what-items.ensures in
     omega (arith, ends, out, ap length same))
+
+pub returns-in_err-answer-clause-set_up : goal.returns-in_err-answer-clause-set_up
+returns-in_err-answer-clause-set_up c = λ topology packages u.
+    c.submit_one.ensures.set_up topology packages (((c.submits.invariant).kept).set_up topology packages u)
+
+pub returns-in_err-answer-clause-paused : goal.returns-in_err-answer-clause-paused
+returns-in_err-answer-clause-paused c = λ paused p.
+    c.submit_one.ensures.paused paused (((c.submits.invariant).kept).paused paused p)
+
+pub returns-in_err-push-clause-set_up : goal.returns-in_err-push-clause-set_up
+returns-in_err-push-clause-set_up c = λ topology packages u.
+    c.submit_one.ensures.set_up topology packages (((c.submits.invariant).kept).set_up topology packages u)
+
+pub returns-in_err-push-clause-paused : goal.returns-in_err-push-clause-paused
+returns-in_err-push-clause-paused c = λ paused p.
+    c.submit_one.ensures.paused paused (((c.submits.invariant).kept).paused paused p)
