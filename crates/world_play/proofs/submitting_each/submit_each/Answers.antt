@@ -2,7 +2,7 @@ use Rattle.std.proofs.Common.{◌≡◌, ◌<◌, List, length, Some, sym, ap, �
 use Rattle.std.specs.Prelude.{slice_get}
 use Rattle.ledger_terms.specs.declared.submission.Submission.{Submission}
 use Rattle.world_play.specs.Submitting.{CanSubmit}
-use Rattle.world_play.proofs.InOrder.{keeps_both, submitting_ends, submitting_on}
+use Rattle.world_play.proofs.InOrder.{submitting_ends, submitting_on}
 use Rattle.world_play.proofs.Passing.{item_at}
 use Rattle.world_play.proofs.Plays.{each_of}
 use Rattle.world_play.proofs.submitting_each.submit_each.Goals as goal
