@@ -46,7 +46,7 @@ returns-clause-views c =
     (none_played script c.args.capacity n.world n.ensures.is n.ensures.new n.ensures.set_up) in
     let m = machine_for script c.args.capacity in
     c.in_ok-views.ensures
-    ∙ (ap (map view_of) c.as_slice.ensures
+    ∙ (ap (map view_of) c.as_slice.ensures.value
     ∙ views_are script c.args.capacity c.play_rounds.new.world c.catch_up.new.self p.state (c.in_ok-catch_up.ensures.is m p.state p.is) p.lawful
     (c.in_ok-catch_up.ensures.ok m p.state p.is p.lawful) (c.in_ok-catch_up.ensures.set_up script.topology script.checked p.set_up) c.in_ok-log.log
     (c.in_ok-log.ensures.log ∙ ap (λ (q : Sequenced). q.list) c.in_ok-catch_up.ensures.log))
