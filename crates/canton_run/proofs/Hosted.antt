@@ -34,7 +34,7 @@ listed (host ∷ hosts) party =
 known_alike : (test other : List ℕ → Bool) (parties : List (List ℕ)) → ((party : List ℕ) → other party ≡ test party)
     → list_all other parties ≡ list_all test parties
 known_alike test other [] same = refl
-known_alike test other (party ∷ parties) same = 
+known_alike test other (party ∷ parties) same =
     ap (λ (b : Bool). b && list_all other parties) (same party) ∙ ap (λ (b : Bool). test party && b) (known_alike test other parties same)
 
 module _ (topology : Topology) where

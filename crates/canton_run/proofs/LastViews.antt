@@ -77,7 +77,9 @@ module _ (script : Script) (capacity : ℕ) where
       λ (k : ℕ) (node : NodeValue) (at : slice_get nodes k ≡ Some node).
       let there =
       subst (λ (x : w.World). slice_get x.nodes k ≡ Some node.state) caught (map_at nodes k node at) in
-      view_at log k node ((is.nodes).node k node at)
-      (subst (λ (xs : List Entry). NodeHas m k xs node.state) (sym same) (node_caught m (world_of state world) lawful k node.state there)) in
+      let first : k ≡ 0 + k = omega arith in
+      subst (λ (p : ℕ). HasReadAll m.reading m.params log p node) first
+      (view_at log k node ((is.nodes).node k node at)
+      (subst (λ (xs : List Entry). NodeHas m k xs node.state) (sym same) (node_caught m (world_of state world) lawful k node.state there))) in
       each_view m.reading m.params log nodes 0 each
       ∙ ap (views_over m.reading m.params log) set_up.many

@@ -72,7 +72,7 @@ module _ (script : Script) (count : ℕ) (round : Round) (is : IsRoundOf script 
       (begins : (w1.sequencer).list ≡ begun (machine_for script capacity) (world.now + round.advance) (round_of round) (world.sequencer).list)
       (many : length answers ≡ length round.submits) (plain : All IsPlainResult answers)
       (submitted : Submitted (machine_for script capacity) (why_for script) w1.now (round_of round) (w1.sequencer).list
-          (results_of round.submits answers) (w2.sequencer).list)
+      (results_of round.submits answers) (w2.sequencer).list)
       (settles : (w3.sequencer).list ≡ passes (machine_for script capacity) w2.now round.paused round.hold_verdicts
       (left (machine_for script capacity).hosts (w2.sequencer).list) (w2.sequencer).list)
       (ends_at : end ≡ length (w3.sequencer).list) where

@@ -36,7 +36,7 @@ settle-requires c =
     let r = c.requires in
     let m = machine_for r.0 r.1 in
     let begun = c.begin_round.ensures.lawful m (r.4).state (r.4).is (r.4).lawful in
-    let submitted = c.submit_each.ensures.lawful m (r.4).state begun.0 begun.1 in (m, (r.4).state, submitted.0, submitted.1)
+    let submitted = c.submit_each.ensures.lawful m (r.4).state begun.0 begun.1 in record { lawful = (m, (r.4).state, submitted.0, submitted.1) }
 
 pub returns : goal.returns
 returns c =

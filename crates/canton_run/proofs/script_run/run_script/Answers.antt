@@ -1,4 +1,5 @@
-use Rattle.std.proofs.Common.{◌≤◌, length, refl, sym, ap, ◌∙◌, subst, arith}
+use Rattle.std.proofs.Common.{map, refl, ap, ◌∙◌}
+use Rattle.node_core.specs.Views.{view_of}
 use Rattle.seq_log.specs.Sequenced.{Sequenced}
 use Rattle.canton_run.specs.Run.{machine_for, script_with}
 use Rattle.canton_run.proofs.LastViews.{views_are}
@@ -23,7 +24,7 @@ catch_up-requires c =
     let p =
     c.in_ok-answers.ensures script c.args.capacity c.requires.accepted refl
     (none_played script c.args.capacity n.world n.ensures.is n.ensures.new n.ensures.set_up) in
-    (machine_for script c.args.capacity, p.state, p.is, p.lawful)
+    record { lawful = (machine_for script c.args.capacity, p.state, p.is, p.lawful) }
 
 pub returns-clause-run : goal.returns-clause-run
 returns-clause-run c =
@@ -45,6 +46,7 @@ returns-clause-views c =
     (none_played script c.args.capacity n.world n.ensures.is n.ensures.new n.ensures.set_up) in
     let m = machine_for script c.args.capacity in
     c.in_ok-views.ensures
+    ∙ (ap (map view_of) c.as_slice.ensures.value
     ∙ views_are script c.args.capacity c.play_rounds.new.world c.catch_up.new.self p.state (c.in_ok-catch_up.ensures.is m p.state p.is) p.lawful
     (c.in_ok-catch_up.ensures.ok m p.state p.is p.lawful) (c.in_ok-catch_up.ensures.set_up script.topology script.checked p.set_up) c.in_ok-log.log
-    (c.in_ok-log.ensures.log ∙ ap (λ (q : Sequenced). q.list) c.in_ok-catch_up.ensures.log)
+    (c.in_ok-log.ensures.log ∙ ap (λ (q : Sequenced). q.list) c.in_ok-catch_up.ensures.log))
