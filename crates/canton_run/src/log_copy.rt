@@ -1,9 +1,16 @@
 //! The log, for those who read it when its row is gone.
 ghost use Rattle.std.specs.Prelude.{◌≡◌, IfOk};
 
-use canton_model::EntryList;
+use canton_model::{Entry, EntryList};
 use seq_log::Sequencer;
 use std::alloc::{AllocError, Global};
+
+#[tactic(auto, using(std::proofs::lemmas::List::Elements::same_from_all_zip))]
+fn copy_of(entry: &Entry) -> Result<Entry, AllocError>
+    ensures { IfOk result (λ copy. copy ≡ entry.now) }
+{
+    entry.clone()
+}
 
 /// A copy of the log.
 pub fn log_of(alloc: Global, sequencer: &mut Sequencer<'_>) -> Result<EntryList, AllocError>
@@ -11,10 +18,8 @@ pub fn log_of(alloc: Global, sequencer: &mut Sequencer<'_>) -> Result<EntryList,
     ensures log { IfOk result (λ log. log ≡ sequencer.old.list) }
 {
     let mut log = EntryList::new(alloc);
-    'places: for place in 0..sequencer.len() {
-        if let Some(slip) = sequencer.entry(place) {
-            log.push(slip.entry().clone()?)?;
-        }
+    'entries: while let Some(slip) = sequencer.entry(log.len() as u64) {
+        log.push(copy_of(slip.entry())?)?;
     }
     Ok(log)
 }

@@ -11,6 +11,7 @@ use crate::rounds::play_rounds;
 use crate::views::views_of;
 use confirm_reply::Setup;
 use log_row::LogRow;
+use prepare_request::laws::prepared_requests_make_a_machine;
 use script_read::RoundList;
 use std::alloc::{AllocError, Global};
 use world_play::World;
@@ -29,14 +30,18 @@ pub fn run_script(
     ensures views { IfOk result (λ played. played.views
         ≡ views_over (reading_for (script_with setup.now rounds.now)) setup.now.topology.params played.log (length setup.now.topology.hosts)) }
 {
+    // the prover learns from this call that there is a machine
+    prepared_requests_make_a_machine();
     let mut row = LogRow::new(alloc)?;
     let mut world = World::new(alloc, setup, &mut row, capacity)?;
     let answers = play_rounds(alloc, &mut world, rounds)?;
     world.catch_up()?;
+    let log = log_of(alloc, &mut world.sequencer)?;
+    let views = views_of(alloc, world.nodes.as_slice())?;
     Ok(Played {
-        log: log_of(alloc, &mut world.sequencer)?,
+        log,
         results: answers.results,
         ends: answers.ends,
-        views: views_of(alloc, world.nodes.as_slice())?,
+        views,
     })
 }

@@ -3,7 +3,6 @@ use Rattle.std.proofs.Common.{◌≡◌, ◌<◌, ℕ, List, length, Some, sym, 
 use Rattle.std.specs.Prelude.{slice_get}
 use Rattle.ledger_terms.specs.declared.submission.Submission.{Submission}
 use Rattle.ledger_terms.specs.declared.topology.Topology.{Topology}
-use Rattle.ledger_model.specs.Terms.{ParticipantId}
 use Rattle.lang_eval.specs.Found.{Packages}
 use Rattle.world_model.specs.Machine.{Machine}
 use Rattle.world_model.specs.Mediator.{MediatorState}

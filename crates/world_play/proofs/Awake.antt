@@ -14,7 +14,7 @@ use Rattle.world_model.specs.Rounds.{read_at, wanted_at}
 use Rattle.world_model.specs.Rounds as w
 use Rattle.world_model.specs.Sequencing.{append_fault}
 use Rattle.prepare_request.specs.declared.submit_fault.SubmitFault.{SubmitFault}
-use Rattle.seq_log.specs.Sequenced.{Sequenced, IsFor}
+use Rattle.seq_log.specs.Sequenced.{Sequenced}
 use Rattle.node_core.specs.Participant.{Participant as NodeValue, reading_of}
 use Rattle.node_core.specs.declared.submit_result.SubmitResult.{SubmitResult}
 use Rattle.node_core.specs.declared.submit_result.SubmitResult.TheVariants.{Refused}

@@ -1,5 +1,5 @@
 -- Which participants are paused, set one after another.
-use Rattle.std.proofs.Common.{◌≡◌, ℕ, zero, suc, Bool, List, [], ◌∷◌, length, map, take, Some, refl, sym, ap, ◌∙◌, subst, inl, inr, arith, slice_set}
+use Rattle.std.proofs.Common.{◌≡◌, ℕ, zero, suc, List, [], ◌∷◌, length, map, take, Some, refl, sym, ap, ◌∙◌, subst, inl, inr, arith, slice_set}
 use Rattle.std.specs.Prelude.{slice_get}
 use Rattle.std.proofs.lemmas.Option.{none-some, same_Some, slice_get_within}
 use Rattle.ledger_model.specs.Terms.{ParticipantId}

@@ -1,6 +1,6 @@
 -- Who is asked, and what is due of who is.
 use Rattle.std.proofs.Common.{◌≡◌, ℕ, Bool, true, false, List, [], ◌∷◌, Option, Some, None, refl, sym, ap, ◌∙◌, subst, inl, inr, not, nat_eq}
-use Rattle.std.specs.Prelude.{◌&&◌, ◌||◌, find, is_some}
+use Rattle.std.specs.Prelude.{◌&&◌, find, is_some}
 use Rattle.std.proofs.lemmas.Bool.{cases_Bool, eqb-true, eq-eqb, and_parts}
 use Rattle.std.proofs.lemmas.Option.{none-some, same_Some}
 use Rattle.ledger_model.specs.Terms.{ParticipantId}

@@ -1,4 +1,4 @@
-use Rattle.std.proofs.Common.{List, sym, ap, ◌∙◌, subst}
+use Rattle.std.proofs.Common.{List, ap, ◌∙◌, subst}
 use Rattle.ledger_model.specs.Terms.{ParticipantId}
 use Rattle.world_model.specs.World.{World as WorldState}
 use Rattle.world_play.specs.Flags.{ArePaused}

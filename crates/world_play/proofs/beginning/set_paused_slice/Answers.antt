@@ -1,4 +1,4 @@
-use Rattle.std.proofs.Common.{ℕ, Bool, sym, ap, ◌∙◌, ◌+◌, arith}
+use Rattle.std.proofs.Common.{ℕ, Bool, ap, ◌∙◌, ◌+◌, arith}
 use Rattle.std.specs.Prelude.{slice_index_or}
 use Rattle.world_model.specs.Node.{with_flag}
 use Rattle.world_model.specs.Places.{has_place}

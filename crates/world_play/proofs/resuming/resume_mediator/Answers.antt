@@ -1,7 +1,5 @@
-use Rattle.std.proofs.Common.{◌≡◌, ◌+◌, ◌<◌, ◌≤◌, ◌++◌, ◌∷◌, [], ℕ, List, Bool, length, take, refl, sym, ap, ◌∙◌, subst, arith}
-use Rattle.std.specs.Prelude.{nat_lt}
+use Rattle.std.proofs.Common.{◌+◌, ℕ, List, length, take, refl, sym, ap, subst, arith}
 use Rattle.mediator.specs.Kept.{Kept}
-use Rattle.seq_log.specs.OpenRequests.{is_open}
 use Rattle.world_play.proofs.Resumes.{IsReturner, all_taken, one_more, open_at, open_of, open_passes, within_open, returner_on, returner_past, returner_ends}
 use Rattle.world_play.proofs.resuming.resume_mediator.Goals as goal
 use Rattle.world_play.proofs.resuming.resume_mediator.Goals.{then-place-cursor, else-place-cursor}

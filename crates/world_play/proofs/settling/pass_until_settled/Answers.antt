@@ -26,3 +26,11 @@ pub passes-preserved : goal.passes-preserved
 passes-preserved c =
     passing_on c.args.paused.now c.args.hold_verdicts c.args.world.now c.passes.world c.passes.invariant c.pass.new.world c.pass.ensures.on c.pass.ensures.now
     c.pass.ensures.lawful c.pass.ensures.set_up c.in_ok-pass.ensures.ok
+
+pub returns-in_err-pass-clause-set_up : goal.returns-in_err-pass-clause-set_up
+returns-in_err-pass-clause-set_up c = λ topology packages u.
+    c.pass.ensures.set_up topology packages ((c.passes.invariant).set_up topology packages u)
+
+pub returns-then-len-before-clause-set_up : goal.returns-then-len-before-clause-set_up
+returns-then-len-before-clause-set_up c = λ topology packages u.
+    c.pass.ensures.set_up topology packages ((c.passes.invariant).set_up topology packages u)

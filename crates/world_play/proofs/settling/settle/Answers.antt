@@ -54,3 +54,7 @@ returns-clause-settled c =
     subst (WorldReady m c.as_slice.result.now) (sym (c.resume.ensures.resumed m state is l)) (world_resumed m c.as_slice.result.now (world_of state world) l) in
     subst (λ (p : List ParticipantId). Settled m p c.args.hold_verdicts (c.pass_until_settled.new.world.sequencer).list) c.as_slice.ensures
     (ok m (returned m.params (world.sequencer).list state) (c.resume.ensures.is m state is l) ready))
+
+pub returns-clause-set_up : goal.returns-clause-set_up
+returns-clause-set_up c = λ topology packages u.
+    c.pass_until_settled.ensures.set_up topology packages (c.resume.ensures.set_up topology packages u)

@@ -1,4 +1,4 @@
-use Rattle.std.proofs.Common.{◌<◌, List, length, rules, sym, subst}
+use Rattle.std.proofs.Common.{List, rules, sym, subst}
 use Rattle.std.proofs.lemmas.List.{with_items_is, places}
 use Rattle.world_model.specs.Lawful.{Lawful}
 use Rattle.node_core.specs.Participant.{Participant as NodeValue}

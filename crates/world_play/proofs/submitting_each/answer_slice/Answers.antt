@@ -7,10 +7,6 @@ use Rattle.world_play.proofs.Passing.{item_at, lawful_then, nodes_then, set_up_t
 use Rattle.world_play.proofs.Submits.{if_ok}
 use Rattle.world_play.proofs.submitting_each.answer_slice.Goals as goal
 
-pub index-nodes-at-requires : goal.index-nodes-at-requires
-index-nodes-at-requires c =
-    subst (λ (i : ℕ). i < length c.args.nodes.now) (sym (ap (λ (w : Submission). w.participant) c.what.view_is)) c.requires.there
-
 pub answer-requires : goal.answer-requires
 answer-requires c =
     let nodes = c.args.nodes.now in

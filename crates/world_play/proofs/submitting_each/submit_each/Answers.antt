@@ -2,7 +2,7 @@ use Rattle.std.proofs.Common.{◌≡◌, ◌<◌, List, length, Some, sym, ap, �
 use Rattle.std.specs.Prelude.{slice_get}
 use Rattle.ledger_terms.specs.declared.submission.Submission.{Submission}
 use Rattle.world_play.specs.Submitting.{CanSubmit}
-use Rattle.world_play.proofs.InOrder.{keeps_both, submitting_ends, submitting_on}
+use Rattle.world_play.proofs.InOrder.{submitting_ends, submitting_on}
 use Rattle.world_play.proofs.Passing.{item_at}
 use Rattle.world_play.proofs.Plays.{each_of}
 use Rattle.world_play.proofs.submitting_each.submit_each.Goals as goal
@@ -54,3 +54,19 @@ returns-clause-answers c =
     submitting_ends c.args.world.now c.args.submits.now c.args.results.now c.submits.what-index c.submits.world c.submits.results c.submits.invariant
     (let ends = c.submits.auto.what-index-end in let out = c.submits-test.false in let same = c.as_slice-what-items.ensures in
     omega (arith, ends, out, ap length same))
+
+pub returns-in_err-answer-clause-set_up : goal.returns-in_err-answer-clause-set_up
+returns-in_err-answer-clause-set_up c = λ topology packages u.
+    c.submit_one.ensures.set_up topology packages (((c.submits.invariant).kept).set_up topology packages u)
+
+pub returns-in_err-answer-clause-paused : goal.returns-in_err-answer-clause-paused
+returns-in_err-answer-clause-paused c = λ paused p.
+    c.submit_one.ensures.paused paused (((c.submits.invariant).kept).paused paused p)
+
+pub returns-in_err-push-clause-set_up : goal.returns-in_err-push-clause-set_up
+returns-in_err-push-clause-set_up c = λ topology packages u.
+    c.submit_one.ensures.set_up topology packages (((c.submits.invariant).kept).set_up topology packages u)
+
+pub returns-in_err-push-clause-paused : goal.returns-in_err-push-clause-paused
+returns-in_err-push-clause-paused c = λ paused p.
+    c.submit_one.ensures.paused paused (((c.submits.invariant).kept).paused paused p)

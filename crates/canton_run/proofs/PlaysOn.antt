@@ -1,0 +1,114 @@
+-- A round is played after those before it.
+use Rattle.std.proofs.Common.{◌≡◌, ℕ, suc, ◌+◌, ◌*◌, ◌≤◌, ◌<◌, List, [], ◌∷◌, ◌++◌, length, take, Some, refl, sym, ap, ◌∙◌, subst, arith, length-take}
+use Rattle.std.specs.Prelude.{◌^◌, All}
+use Rattle.std.proofs.lemmas.List.{length-append}
+use Rattle.std.proofs.lemmas.List.Elements.{All-append, All-take}
+use Rattle.std.proofs.lemmas.List.Sums.{sum_by_push, sum_by-le}
+use Rattle.ledger_terms.specs.declared.submission.Submission.{Submission}
+use Rattle.ledger_model.specs.Terms.{ParticipantId}
+use Rattle.node_core.specs.Participant.{Participant as NodeValue}
+use Rattle.node_core.specs.declared.submit_result.SubmitResult.{SubmitResult}
+use Rattle.script_read.specs.Kept.{IsRound, IsSubmission}
+use Rattle.script_read.specs.declared.round.Round.{Round}
+use Rattle.script_read.specs.declared.script.Script.{Script}
+use Rattle.world_model.specs.Messages.{Entry}
+use Rattle.world_model.specs.Machine.{Machine}
+use Rattle.world_model.specs.Mediator.{MediatorState}
+use Rattle.world_model.specs.Lawful.{Lawful}
+use Rattle.world_model.specs.Plain.{PlainPart, PlainRounds, Submitted}
+use Rattle.world_model.specs.Rounds.{begun}
+use Rattle.world_model.specs.Settled.{left, passes}
+use Rattle.world_model.proofs.Steps.{take_next}
+use Rattle.world_play.specs.Results.{IsPlainResult, results_of}
+use Rattle.world_play.specs.Submitting.{AreSetUp, CanSubmit}
+use Rattle.world_play.specs.WorldOf.{IsWorldOf, world_of}
+use Rattle.world_play.specs.declared.world.World.{World}
+use Rattle.world_play.proofs.Plays.{each_of}
+use Rattle.canton_run.specs.Answered.{answered, round_of}
+use Rattle.canton_run.specs.Between.{ArePlayed, IsRoundOf, time_in}
+use Rattle.canton_run.specs.Run.{machine_for, submissions_in, why_for}
+use Rattle.canton_run.proofs.Hosted.{can_submit}
+use Rattle.canton_run.proofs.OneMore.{one_more}
+
+module _ (script : Script) (count : ℕ) (round : Round) (is : IsRoundOf script count round) where
+  is_round : IsRound (script.topology).hosts round
+  is_round = each_of (IsRound (script.topology).hosts) script.rounds count round ((is.accepted).rounds).each is.there
+
+  next : take (count + 1) script.rounds ≡ take count script.rounds ++ round ∷ []
+  next = let one : count + 1 ≡ suc count = omega arith in ap (λ (n : ℕ). take n script.rounds) one ∙ take_next count script.rounds round is.there
+
+  next_time : time_in (take (count + 1) script.rounds) ≡ time_in (take count script.rounds) + round.advance
+  next_time = ap time_in next ∙ sum_by_push (λ (r : Round). r.advance) (take count script.rounds) round
+
+  next_submissions : submissions_in (take (count + 1) script.rounds) ≡ submissions_in (take count script.rounds) + length round.submits
+  next_submissions = ap submissions_in next ∙ sum_by_push (λ (r : Round). length r.submits) (take count script.rounds) round
+
+  next_length : length (take (count + 1) script.rounds) ≡ length (take count script.rounds) + 1
+  next_length = ap length next ∙ length-append (take count script.rounds) (round ∷ [])
+
+  -- the rounds of a script move time by no more than it can hold
+  pub time_fits : (now : ℕ) → now ≡ time_in (take count script.rounds) → now + round.advance ≤ 10 ^ 16
+  time_fits now at =
+      let most : ℕ = 1000000000000 in
+      let each : All (λ (r : Round). r.advance ≤ most) (take (count + 1) script.rounds) =
+      All-take (λ (r : Round). r.advance ≤ most) (count + 1) script.rounds (λ k d lt. (((is.accepted).rounds).each k d lt).advance) in
+      let sum : time_in (take (count + 1) script.rounds) ≤ length (take (count + 1) script.rounds) * 1000000000000 =
+      sum_by-le (λ (r : Round). r.advance) most (take (count + 1) script.rounds) each in
+      let few : length script.rounds ≤ 2048 = ((is.accepted).rounds).few in
+      let time = next_time in let taken = length-take (count + 1) script.rounds in omega (arith, at, sum, few, time, taken)
+
+  pub can_each : All (CanSubmit script.topology script.checked) round.submits
+  can_each k d lt = can_submit script is.accepted _ (is_round.submits k d lt)
+
+  pub there_each : (nodes : List NodeValue) → AreSetUp script.topology script.checked nodes
+      → All (λ (what : Submission). what.participant < length nodes) round.submits
+  there_each nodes set_up k d lt =
+      let there = (is_round.submits k d lt).participant in let many = set_up.many in omega (arith, there, many)
+
+  -- a round begins in the first of these worlds, is answered in the second and settles in the third
+  module _ (capacity : ℕ) (world w1 w2 w3 : World) (results answers : List SubmitResult) (ends : List ℕ) (end : ℕ)
+      (p : ArePlayed script capacity count world results ends)
+      (now1 : w1.now ≡ world.now + round.advance) (now2 : w2.now ≡ w1.now) (now3 : w3.now ≡ w2.now)
+      (begins : (w1.sequencer).list ≡ begun (machine_for script capacity) (world.now + round.advance) (round_of round) (world.sequencer).list)
+      (many : length answers ≡ length round.submits) (plain : All IsPlainResult answers)
+      (submitted : Submitted (machine_for script capacity) (why_for script) w1.now (round_of round) (w1.sequencer).list
+      (results_of round.submits answers) (w2.sequencer).list)
+      (settles : (w3.sequencer).list ≡ passes (machine_for script capacity) w2.now round.paused round.hold_verdicts
+      (left (machine_for script capacity).hosts (w2.sequencer).list) (w2.sequencer).list)
+      (ends_at : end ≡ length (w3.sequencer).list) where
+    abbrev m : Machine
+    m = machine_for script capacity
+
+    abbrev time : ℕ
+    time = world.now + round.advance
+
+    part : PlainPart m (why_for script) time (round_of round) (results_of round.submits answers) (world.sequencer).list (w3.sequencer).list
+    part = (
+      (w2.sequencer).list,
+      subst (λ (xs : List Entry). Submitted m (why_for script) time (round_of round) xs (results_of round.submits answers) (w2.sequencer).list) begins
+          (subst
+          (λ (n : ℕ). Submitted m (why_for script) n (round_of round) (w1.sequencer).list (results_of round.submits answers) (w2.sequencer).list)
+          now1 submitted),
+      settles ∙ ap (λ (n : ℕ). passes m n round.paused round.hold_verdicts (left m.hosts (w2.sequencer).list) (w2.sequencer).list) (now2 ∙ now1),
+    )
+
+    played : PlainRounds m (why_for script) 0 [] (answered (take (count + 1) script.rounds) (results ++ answers) (ends ++ end ∷ [])) (w3.sequencer).list
+    played =
+        subst (λ (xs : List Round). PlainRounds m (why_for script) 0 [] (answered xs (results ++ answers) (ends ++ end ∷ [])) (w3.sequencer).list) (sym next)
+        (one_more m (why_for script) round answers many end (world.sequencer).list (w3.sequencer).list ends_at world.now part (take count script.rounds)
+        results ends 0 [] p.each_result p.each_end (let at = p.now in omega (arith, at)) p.played)
+
+    pub plays_on : (state : MediatorState) × IsWorldOf m state w3 × Lawful m (world_of state w3) → AreSetUp script.topology script.checked (w3.nodes).items
+        → ArePlayed script capacity (count + 1) w3 (results ++ answers) (ends ++ end ∷ [])
+    plays_on s set_up =
+        record {
+          state = s.0;
+          is = s.1;
+          lawful = s.2;
+          set_up = set_up;
+          now = let n = next_time in let at = p.now in omega (arith, now1, now2, now3, n, at);
+          each_result = let n = next_submissions in let at = p.each_result in length-append results answers ∙ omega (arith, n, at, many);
+          each_end = let n = next_length in let at = p.each_end in length-append ends (end ∷ []) ∙ omega (arith, n, at);
+          plain = All-append IsPlainResult results answers p.plain plain;
+          played = played;
+        }

@@ -1,0 +1,52 @@
+use Rattle.std.proofs.Common.{map, refl, ap, ◌∙◌}
+use Rattle.node_core.specs.Views.{view_of}
+use Rattle.seq_log.specs.Sequenced.{Sequenced}
+use Rattle.canton_run.specs.Run.{machine_for, script_with}
+use Rattle.canton_run.proofs.LastViews.{views_are}
+use Rattle.canton_run.proofs.Runs.{is_run, none_played}
+use Rattle.canton_run.proofs.script_run.run_script.Goals as goal
+
+pub play_rounds-requires : goal.play_rounds-requires
+play_rounds-requires c =
+    let script = script_with c.args.setup.now c.args.rounds.now in
+    let n = c.in_ok-world in (
+      script,
+      c.args.capacity,
+      c.requires.accepted,
+      refl,
+      none_played script c.args.capacity n.world n.ensures.is n.ensures.new n.ensures.set_up,
+    )
+
+pub catch_up-requires : goal.catch_up-requires
+catch_up-requires c =
+    let script = script_with c.args.setup.now c.args.rounds.now in
+    let n = c.in_ok-world in
+    let p =
+    c.in_ok-answers.ensures script c.args.capacity c.requires.accepted refl
+    (none_played script c.args.capacity n.world n.ensures.is n.ensures.new n.ensures.set_up) in
+    record { lawful = (machine_for script c.args.capacity, p.state, p.is, p.lawful) }
+
+pub returns-clause-run : goal.returns-clause-run
+returns-clause-run c =
+    let script = script_with c.args.setup.now c.args.rounds.now in
+    let n = c.in_ok-world in
+    let p =
+    c.in_ok-answers.ensures script c.args.capacity c.requires.accepted refl
+    (none_played script c.args.capacity n.world n.ensures.is n.ensures.new n.ensures.set_up) in
+    is_run script c.args.capacity (c.prepared_requests_make_a_machine.ensures _ _ _ _) c.requires.accepted c.requires.room
+    (c.in_ok-answers.answers).results (c.in_ok-answers.answers).ends c.play_rounds.new.world p c.in_ok-log.log
+    (c.in_ok-log.ensures.log ∙ ap (λ (q : Sequenced). q.list) c.in_ok-catch_up.ensures.log)
+
+pub returns-clause-views : goal.returns-clause-views
+returns-clause-views c =
+    let script = script_with c.args.setup.now c.args.rounds.now in
+    let n = c.in_ok-world in
+    let p =
+    c.in_ok-answers.ensures script c.args.capacity c.requires.accepted refl
+    (none_played script c.args.capacity n.world n.ensures.is n.ensures.new n.ensures.set_up) in
+    let m = machine_for script c.args.capacity in
+    c.in_ok-views.ensures
+    ∙ (ap (map view_of) c.as_slice.ensures.value
+    ∙ views_are script c.args.capacity c.play_rounds.new.world c.catch_up.new.self p.state (c.in_ok-catch_up.ensures.is m p.state p.is) p.lawful
+    (c.in_ok-catch_up.ensures.ok m p.state p.is p.lawful) (c.in_ok-catch_up.ensures.set_up script.topology script.checked p.set_up) c.in_ok-log.log
+    (c.in_ok-log.ensures.log ∙ ap (λ (q : Sequenced). q.list) c.in_ok-catch_up.ensures.log))
