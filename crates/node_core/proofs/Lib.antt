@@ -1,4 +1,5 @@
 pub mod DutyFacts
+pub mod OutboxFacts
 pub mod Claims
 pub mod Heads
 pub mod Growth

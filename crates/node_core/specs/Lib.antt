@@ -1,4 +1,5 @@
 pub mod Duties
+pub mod Outbox
 pub mod Participant
 pub mod Completion
 pub mod Kept

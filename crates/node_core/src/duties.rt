@@ -9,7 +9,7 @@ ghost use Rattle.node_core.specs.Duties.{nothing_kept, with_passed, with_room, w
 ghost use Rattle.node_core.specs.Duties.{is_free, IsPassed, first_waiting};
 
 use crate::decisions::Decisions;
-use crate::outbox::{first_waiting, remove};
+use crate::outbox::Outbox;
 use canton_model::Response;
 use indexmap::IndexSet;
 use ledger_terms::RoomyList;
@@ -26,13 +26,12 @@ pub struct Duties {
     claimed: IndexSet<u64>,
     unfinished: Vec<u64>,
     // It has room for a response to each unfinished place.
-    outbox: Vec<Response>,
+    outbox: Outbox,
 }
 
 impl Model for Duties {
     ghost use Rattle.std.specs.Prelude.{◌≤◌, ◌+◌, length};
     ghost use Rattle.std.specs.List.Sorted.{IsNonDecreasing};
-    ghost use Rattle.std.specs.Vec.{vec_capacity};
     ghost use Rattle.node_core.specs.Duties.{Kept};
 
     ghost Value = { Kept };
@@ -43,11 +42,11 @@ impl Model for Duties {
       passed = d.passed;
       claimed = d.claimed.keys;
       unfinished = d.unfinished.items;
-      outbox = d.outbox.items;
+      outbox = d.outbox.responses;
     } };
 
     ghost invariant = { λ d. IsNonDecreasing d.owed.items
-        × (length d.outbox.items + length d.unfinished.items ≤ vec_capacity d.outbox) };
+        × (length d.outbox.responses + length d.unfinished.items ≤ d.outbox.capacity) };
 }
 
 // How many of the owed places are passed, where `passed` were before.
@@ -89,7 +88,7 @@ impl Duties {
             passed: 0,
             claimed: IndexSet::new(alloc),
             unfinished: Vec::new(alloc),
-            outbox: Vec::new(alloc),
+            outbox: Outbox::new(alloc),
         }
     }
 
@@ -140,7 +139,7 @@ impl Duties {
     {
         let place = response.request;
         drop_place(&mut self.unfinished, place);
-        self.outbox.push_reserved(response);
+        self.outbox.push_within(response);
     }
 
     /// Whether a job of the request at a place was claimed and neither finished nor put back.
@@ -158,21 +157,21 @@ impl Duties {
         self.passed = self.passed.min(places_below(self.owed.as_slice(), place));
         drop_claim(&mut self.claimed, place);
         drop_place(&mut self.unfinished, place);
-        remove(&mut self.outbox, place);
+        self.outbox.remove(place);
     }
 
     /// The first response in order of place whose request isn't decided.
     pub fn first_waiting<D: Decisions>(&self, decisions: &D) -> Option<&Response>
         ensures { option_copied result ≡ first_waiting (D.decided decisions.now) self.now.outbox }
     {
-        first_waiting(decisions, self.outbox.as_slice())
+        self.outbox.first_waiting(decisions)
     }
 
     /// The response to a request is sent.
     pub fn sent(&mut self, request: u64)
         ensures { self.new ≡ without_response self.old request }
     {
-        remove(&mut self.outbox, request);
+        self.outbox.remove(request);
     }
 }
 
@@ -180,14 +179,14 @@ impl Duties {
 fn make_room(
     claimed: &mut IndexSet<u64>,
     unfinished: &mut Vec<u64>,
-    outbox: &mut Vec<Response>,
+    outbox: &mut Outbox,
 ) -> Result<(), AllocError>
     ensures claimed { claimed.new.keys ≡ claimed.old.keys }
     ensures unfinished { unfinished.new.items ≡ unfinished.old.items }
-    ensures outbox { outbox.new.items ≡ outbox.old.items }
-    ensures kept { vec_capacity outbox.old ≤ vec_capacity outbox.new }
+    ensures outbox { outbox.new.responses ≡ outbox.old.responses }
+    ensures kept { outbox.old.capacity ≤ outbox.new.capacity }
     ensures room { OnOk result ((0 < spare claimed.new) × (vec_len unfinished.new < vec_capacity unfinished.new)
-        × (length outbox.new.items + length unfinished.new.items < vec_capacity outbox.new)) }
+        × (length outbox.new.responses + length unfinished.new.items < outbox.new.capacity)) }
 {
     claimed.reserve(1)?;
     unfinished.reserve(1)?;

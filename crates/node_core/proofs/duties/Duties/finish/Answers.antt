@@ -11,6 +11,6 @@ invariant_of-self c =
     let response = c.args.response in
     let there = subst (λ (kept : Kept). has_place kept.unfinished response.request ≡ true) (sym c.self.view_is) c.requires in
     let fewer = fewer_without response.request c.self.inside.unfinished.items there in
-    let more = ap length c.push_reserved.ensures.items in
-    let one = length-append c.self.inside.outbox.items (response ∷ []) in
-    (inv.0, omega (arith, fewer, inv.1, more, one, ap length c.drop_place.ensures, c.push_reserved.ensures.capacity))
+    let more = ap length c.push_within.ensures.responses in
+    let one = length-append c.self.inside.outbox.responses (response ∷ []) in
+    (inv.0, omega (arith, fewer, inv.1, more, one, ap length c.drop_place.ensures, c.push_within.ensures.capacity))

@@ -10,10 +10,10 @@ pub invariant_of-self : goal.invariant_of-self
 invariant_of-self c =
     let inv = c.self.invariant in
     let place = c.args.place in
-    let responses = shorter (λ (r : Response). not (is_to place r)) c.self.inside.outbox.items in
+    let responses = shorter (λ (r : Response). not (is_to place r)) c.self.inside.outbox.responses in
     let places = shorter (λ (n : ℕ). not (nat_eq n place)) c.self.inside.unfinished.items in (
       inv.0,
-      omega (arith, responses, places, inv.1, ap length c.remove.ensures.items, ap length c.drop_place.ensures, c.remove.ensures.capacity),
+      omega (arith, responses, places, inv.1, ap length c.remove.ensures.responses, ap length c.drop_place.ensures, c.remove.ensures.capacity),
     )
 
 pub returns-clause-passed : goal.returns-clause-passed

@@ -7,5 +7,5 @@ use Rattle.node_core.proofs.duties.Duties.sent.Goals as goal
 pub invariant_of-self : goal.invariant_of-self
 invariant_of-self c =
     let inv = c.self.invariant in
-    let fewer = shorter (λ (r : Response). not (is_to c.args.request r)) c.self.inside.outbox.items in
-    (inv.0, omega (arith, fewer, inv.1, ap length c.remove.ensures.items, c.remove.ensures.capacity))
+    let fewer = shorter (λ (r : Response). not (is_to c.args.request r)) c.self.inside.outbox.responses in
+    (inv.0, omega (arith, fewer, inv.1, ap length c.remove.ensures.responses, c.remove.ensures.capacity))
