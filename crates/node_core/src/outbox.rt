@@ -58,10 +58,7 @@ fn unless_decided<'a, D: Decisions>(decisions: &D, response: &'a Response) -> Op
 }
 
 // The first in order of place whose request isn't decided.
-fn first_waiting<'a, D: Decisions>(
-    decisions: &D,
-    responses: &'a [Response],
-) -> Option<&'a Response>
+fn first_waiting<'a, D: Decisions>(decisions: &D, responses: &'a [Response]) -> Option<&'a Response>
     ensures { option_copied result ≡ first_waiting (D.decided decisions.now) responses.now }
 {
     let mut first = None;
@@ -187,7 +184,10 @@ impl Outbox {
         if self.rises_to.is_some() {
             first_of_both(decisions, front, back)
         } else {
-            earlier(first_waiting(decisions, front), first_waiting(decisions, back))
+            earlier(
+                first_waiting(decisions, front),
+                first_waiting(decisions, back),
+            )
         }
     }
 }
