@@ -1,5 +1,6 @@
-use Rattle.std.proofs.Common.{◌≡◌, ℕ, List, Option, take, rules}
+use Rattle.std.proofs.Common.{◌≡◌, ℕ, List, Option, subst, take, rules}
 use Rattle.std.specs.Io.KnownBytes.{Appends}
+use Rattle.canton_run.specs.Run.{IsRun}
 use Rattle.canton_run.proofs.top_call.carry_out.Goals as goal
 use Rattle.canton_run.proofs.top_call.carry_out.Goals.{in-Ok-write_all, in-Err}
 
@@ -14,3 +15,7 @@ returns-clause-cut g c at =
       | in-Ok-write_all w ↦ search rules
       | in-Err w ↦ written_of _ _ _ _ (search rules) w.in-Err.ensures.part.1
     ]
+
+pub returns-clause-ran : goal.returns-clause-ran
+returns-clause-ran g c at =
+    subst (λ (n : ℕ). IsRun c.args.script n c.in-Ok.played.log c.in-Ok.played.results c.in-Ok.played.ends) c.capacity_of.ensures c.in-Ok.ensures.run

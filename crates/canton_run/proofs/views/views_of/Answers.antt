@@ -1,5 +1,4 @@
 use Rattle.std.proofs.Common.{Some, sym, ap, ◌∙◌}
-use Rattle.node_core.specs.declared.node_view.NodeView.{NodeView}
 use Rattle.world_play.proofs.Passing.{item_at}
 use Rattle.canton_run.proofs.LastViews.{one_more_view}
 use Rattle.canton_run.proofs.views.views_of.Goals as goal

@@ -1,0 +1,28 @@
+use Rattle.std.proofs.Common.{[], arith, refl, rules}
+use Rattle.std.proofs.KnownBytes.{Consumes-nil, Keeps-refl}
+use Rattle.cli_words.specs.declared.job.Job.TheVariants.{Gen}
+use Rattle.load_gen.specs.Generated.{generated}
+use Rattle.canton_run.specs.Jobs.{text_of}
+use Rattle.canton_run.proofs.Generated.{never_six}
+use Rattle.canton_run.proofs.top_call.run.Goals as goal
+
+pub returns-in-Gen-clause-taken : goal.returns-in-Gen-clause-taken
+returns-in-Gen-clause-taken g c = (
+  [],
+  (
+    Consumes-nil _,
+    omega (arith),
+    (λ six. absurd (never_six _ c.run_generated.ensures.status six), λ less. absurd (omega (arith, less))),
+  ),
+  λ no. refl,
+)
+
+pub returns-in-Gen-clause-cut : goal.returns-in-Gen-clause-cut
+returns-in-Gen-clause-cut g c at =
+    let job = Gen c.in-Gen.count c.in-Gen.seed c.in-Gen.workers in
+    let script = generated c.in-Gen.seed c.in-Gen.count in (
+      text_of job script c.run_generated.result,
+      (job, script, search rules, (Keeps-refl _, refl), c.run_generated.ensures.ran (omega (arith, at)), refl),
+      c.run_generated.ensures.sure at,
+      c.run_generated.ensures.cut at,
+    )
