@@ -5,7 +5,7 @@ ghost use Rattle.ledger_terms.specs.ExprForms.{expr_form, list_form};
 ghost use Rattle.ledger_terms.specs.StmtForms.{stmt_form, stmt_list_form};
 ghost use Rattle.lang_eval.specs.Names.{bound_to, with_fields, with_this};
 ghost use Rattle.lang_eval.specs.Found.{template_in, fields_of};
-ghost use Rattle.lang_eval.specs.Next.{Stopped, Went, on_value, asserted, create_step, exercise_step, fetch_step, ran, ran_all, next};
+ghost use Rattle.lang_eval.specs.Next.{Stopped, Went, on_value, asserted, taken, create_step, exercise_step, fetch_step, ran, ran_all, next};
 ghost use Rattle.lang_eval.specs.Next.{next_of, names_of, closed, id_of, value_seen, fields_seen};
 ghost use Rattle.lang_eval.specs.Value.{val, vals, truth};
 ghost use Rattle.lang_eval.specs.RunAnswers.{shown};
@@ -162,6 +162,24 @@ fn next_create<'s>(
     Ok(Run::Stopped(Step::Create { template, fields }))
 }
 
+/// A create, after its child or before it.
+fn run_create<'s>(
+    name: Name,
+    template: TemplateName,
+    fields: &ExprList,
+    names: &mut Bindings,
+    seen: &'s [ChildResult],
+) -> Result<Run<'s>, EvalFault>
+    ensures { result ≢ Err EvalFault.Memory
+        → shown result names.new ≡ taken (create_step template (vals (list_form fields.now) names.old))
+        (λ s. bound_to name (value_seen s) names.old) seen.now }
+{
+    match seen.split_first() {
+        Some((child, rest)) => run_value(name, child, rest, names),
+        None => next_create(template, fields, names),
+    }
+}
+
 fn next_exercise<'s>(
     template: TemplateName,
     contract: &Expr,
@@ -193,6 +211,25 @@ fn next_fetch<'s>(
     Ok(Run::Stopped(Step::Fetch { template, id }))
 }
 
+/// A fetch, after its child or before it.
+fn run_fetch<'s>(
+    name: Name,
+    template: TemplateName,
+    contract: &Expr,
+    checked: &Checked,
+    names: &mut Bindings,
+    seen: &'s [ChildResult],
+) -> Result<Run<'s>, EvalFault>
+    ensures { result ≢ Err EvalFault.Memory → shown result names.new
+        ≡ taken (fetch_step template (id_of (expr_form contract.now) names.old))
+        (λ s. with_fields name (fields_of (template_in template checked.now)) (fields_seen s) names.old) seen.now }
+{
+    match seen.split_first() {
+        Some((child, rest)) => { run_fields(name, fields(checked, template), child, rest, names) }
+        None => next_fetch(template, contract, names),
+    }
+}
+
 #[cycle(run)]
 fn run_stmt<'s>(
     stmt: &Stmt,
@@ -209,10 +246,7 @@ fn run_stmt<'s>(
             bind: name,
             template,
             fields,
-        } => match seen.split_first() {
-            Some((child, rest)) => run_value(*name, child, rest, names),
-            None => next_create(*template, fields, names),
-        },
+        } => run_create(*name, *template, fields, names, seen),
         Stmt::Exercise {
             bind: name,
             template,
@@ -227,12 +261,7 @@ fn run_stmt<'s>(
             bind: name,
             template,
             contract,
-        } => match seen.split_first() {
-            Some((child, rest)) => {
-                run_fields(*name, fields(checked, *template), child, rest, names)
-            }
-            None => next_fetch(*template, contract, names),
-        },
+        } => run_fetch(*name, *template, contract, checked, names, seen),
         Stmt::When { test, yes, no } => {
             if eval_test(test, names)? {
                 return run_side(yes, checked, names, seen);

@@ -69,6 +69,7 @@ impl<'r> World<'r> {
     ) -> Result<World<'r>, AllocError>
         requires { length setup.now.topology.hosts ≤ 256 }
         ensures is { IfOk result (λ world. IsWorldOf (machine_of setup.now.topology setup.now.checked capacity) new_mediator world) }
+        ensures row { IfOk result (λ world. (world.sequencer).row ≡ row.old) }
         ensures set_up { IfOk result (λ world. AreSetUp setup.now.topology setup.now.checked (world.nodes).items) }
         ensures new { IfOk result (λ world. world_of new_mediator world
             ≡ new_world (machine_of setup.now.topology setup.now.checked capacity)) }
