@@ -1,0 +1,9 @@
+pub mod Prefixes
+pub mod Logs
+pub mod Senders
+pub mod Nodes
+pub mod Preparing
+pub mod Jobs
+pub mod Mediators
+pub mod Handing
+pub mod Worlds

@@ -1,0 +1,10 @@
+use Rattle.std.proofs.Common.{sym, refl, subst}
+use Rattle.std.specs.Prelude.{Option}
+use mathlib.Core.List.{IsPrefix}
+use Rattle.log_row.specs.LogPrefix.{LogPrefix}
+use Rattle.sync_shared.specs.Slips.{read_to}
+use Rattle.sync_shared.proofs.slips.follows.Goals as goal
+
+pub returns-in_default-clause-begins : goal.returns-in_default-clause-begins
+returns-in_default-clause-begins g c follows =
+    subst (λ (o : Option LogPrefix). IsPrefix (read_to o) (read_to c.args.last.now)) (sym c.in_default.is) (read_to c.args.last.now, refl)

@@ -1,0 +1,48 @@
+-- Answers to submissions in the words of the world model.
+use Rattle.std.specs.Prelude.{ℕ, Bool, true, false, List, Option, Some, None, Result, Ok, Err}
+use Rattle.world_model.specs.Messages.{Entry}
+use Rattle.world_model.specs.Rounds as r
+use Rattle.seq_log.specs.declared.fault.AppendFault.{AppendFault}
+use Rattle.seq_log.specs.declared.fault.AppendFault.TheVariants as append
+use Rattle.prepare_request.specs.declared.submit_fault.SubmitFault.{SubmitFault}
+use Rattle.prepare_request.specs.declared.submit_fault.SubmitFault.TheVariants.{Paused, NotHosted, Command, Split, Duplicate, LogFull, Memory}
+use Rattle.sync_shared.specs.Clients.{TicketValue}
+use Rattle.sync_shared.specs.declared.submit_refusal.SubmitRefusal.{SubmitRefusal}
+
+-- the fault in the words of the world model; want of memory is none there
+abbrev pub fault_of : SubmitFault → Option (r.SubmitFault SubmitFault)
+fault_of Paused = Some r.Paused
+fault_of (NotHosted party) = Some (r.Unwanted (NotHosted party))
+fault_of (Command fault) = Some (r.Unwanted (Command fault))
+fault_of (Split fault) = Some (r.Unwanted (Split fault))
+fault_of (Duplicate place) = Some (r.Duplicate place)
+fault_of (LogFull reserved need) = Some (r.LogFull reserved need)
+fault_of Memory = None
+
+abbrev pub refused_at : (read_to : ℕ) → Option (r.SubmitFault SubmitFault) → Option (r.SubmitResult SubmitFault)
+refused_at read_to None = None
+refused_at read_to (Some fault) = Some (r.Refused fault read_to)
+
+-- what a call answered, unless there was no memory
+abbrev pub answer_of : Result TicketValue SubmitRefusal → Option (r.SubmitResult SubmitFault)
+answer_of (Ok ticket) = Some (r.Sent ticket.place ticket.read_to)
+answer_of (Err refusal) = refused_at refusal.read_to (fault_of refusal.fault)
+
+-- a ticket was given
+abbrev pub has_ticket : Result TicketValue SubmitRefusal → Bool
+has_ticket (Ok ticket) = true
+has_ticket (Err refusal) = false
+
+-- Why a request isn't appended, as its client is told. No request comes too late.
+abbrev pub told_of : AppendFault → SubmitFault
+told_of (append.Already place) = Duplicate place
+told_of (append.LogFull reserved need) = LogFull reserved need
+told_of (append.TooLate decision time) = Memory
+told_of append.Memory = Memory
+
+-- the entries that the client has seen then, of a log that had these
+abbrev pub seen_after : AppendFault → (seen log : List Entry) → List Entry
+seen_after (append.Already place) seen log = log
+seen_after (append.LogFull reserved need) seen log = log
+seen_after (append.TooLate decision time) seen log = seen
+seen_after append.Memory seen log = seen

@@ -1,0 +1,47 @@
+-- What lies behind each lock, between any two steps of any thread, in the program's own types.
+use Rattle.std.specs.Prelude.{◌≡◌, ℕ, ◌<◌, List, Some, length, slice_get}
+use mathlib.Core.List.{IsPrefix}
+use Rattle.ledger_terms.specs.declared.topology.Topology.{Topology}
+use Rattle.ledger_model.specs.Terms.{ParticipantId}
+use Rattle.lang_eval.specs.Found.{Packages}
+use Rattle.canton_model.specs.Genuine.{IsReading}
+use Rattle.world_model.specs.Messages.{Entry}
+use Rattle.world_model.specs.Machine.{Machine, GenuineLog}
+use Rattle.world_model.specs.Locks.{NodeBehind}
+use Rattle.world_model.specs.Rounds.{Why}
+use Rattle.threads_model.specs.Behind.{LogBehind}
+use Rattle.log_row.specs.LogPrefix.{RowName}
+use Rattle.seq_log.specs.Sequenced.{Sequenced, IsFor}
+use Rattle.mediator.specs.Kept.{Kept, Knows}
+use Rattle.node_core.specs.Participant.{Participant as NodeValue}
+use Rattle.prepare_request.specs.declared.submit_fault.SubmitFault.{SubmitFault}
+use Rattle.world_play.specs.Standing.{IsNodeOf}
+use Rattle.sync_shared.specs.SetUp.{IsSetUp}
+
+-- behind the sequencer's lock: its history, its machine, and the log with the total of the book that counts what came in
+pub record IsLogBehind (row : RowName) (m : Machine) (start : List Entry) (total : ℕ) (sequencer : Sequenced) : Type 0 where
+  pub in_row : sequencer.row ≡ row
+  pub is_for : IsFor m sequencer
+  pub behind : LogBehind m start total sequencer.list
+
+-- behind the lock of participant p: a participant that has read this list
+pub record IsNodeBehind (topology : Topology) (packages : Packages) (m : Machine) (why : Why SubmitFault) (p : ParticipantId) (list : List Entry)
+    (node : NodeValue) : Type 0 where
+  pub set_up : IsSetUp topology packages m why
+  pub is_reading : IsReading m.reading
+  pub is_host : p < length topology.hosts
+  pub own_topology : node.topology ≡ topology
+  pub own_packages : node.packages ≡ packages
+  pub is : IsNodeOf m p node
+  pub behind : NodeBehind m p list node.state
+
+-- behind the mediator's lock: a mediator that has read this list
+pub record IsMediatorBehind (m : Machine) (list : List Entry) (mediator : Kept) : Type 0 where
+  pub genuine : GenuineLog m list
+  pub knows : Knows m list mediator
+
+-- each of these nodes is, in order, the participant of its place, and has read a beginning of the log
+pub record AreNodesBehind (topology : Topology) (packages : Packages) (m : Machine) (why : Why SubmitFault) (log : List Entry) (nodes : List NodeValue)
+    : Type 0 where
+  pub each : (p : ParticipantId) (node : NodeValue) → slice_get nodes p ≡ Some node
+      → (list : List Entry) × IsPrefix list log × IsNodeBehind topology packages m why p list node

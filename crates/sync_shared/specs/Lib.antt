@@ -1,0 +1,7 @@
+pub mod Slips
+pub mod SetUp
+pub mod Behind
+pub mod Clients
+pub mod Answers
+pub mod Sharing
+pub mod Lanes

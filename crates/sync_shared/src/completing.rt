@@ -1,0 +1,61 @@
+//! What became of a request.
+ghost use Rattle.std.specs.Prelude.{◌≡◌, true, is_some, length, IfOk, OnOk, OnErr};
+ghost use Rattle.canton_model.specs.Log.{decision_time_of};
+ghost use Rattle.canton_model.specs.Timeline.{outcome_of, timeline_of};
+ghost use Rattle.node_core.specs.Completion.{completion_of};
+ghost use mathlib.Core.List.{IsPrefix};
+
+use crate::client::Client;
+use crate::locked_log::LockedLog;
+use crate::locked_node::LockedNode;
+use crate::session::Session;
+use crate::shared::Shared;
+use crate::ticket::Ticket;
+use node_core::Completion;
+use std::alloc::AllocError;
+use std::sync::{Mutex, Wait};
+
+// The participant reads at least what the client has seen, and past the ticket's request.
+fn read_past<'r, S: Session, const I: u8>(
+    log: &mut LockedLog<'r, S>,
+    node: &mut LockedNode<'r, S, I>,
+    client: &mut Client<'r, S>,
+    ticket: &mut Ticket<'r>,
+) -> Result<(), AllocError>
+    requires { ticket.old.row ≡ S.history }
+    ensures same { (client.new ≡ client.old) × (ticket.new ≡ ticket.old) }
+    ensures seen { OnOk result (IsPrefix client.old.list node.new) }
+    ensures ticket { OnOk result (IsPrefix ticket.old.list node.new) }
+{
+    client.reaches(log);
+    ticket.reaches(log);
+    node.read_on(log)
+}
+
+/// What became of the ticket's request at its participant.
+pub fn complete_at<'r, S: Session, R: Wait, const I: u8>(
+    rt: &R,
+    shared: &Shared<'r, S>,
+    lock: &Option<Mutex<LockedNode<'r, S, I>>>,
+    client: &mut Client<'r, S>,
+    ticket: &mut Ticket<'r>,
+) -> Result<Completion, AllocError>
+    requires there { is_some lock.now ≡ true }
+    requires ticket { (ticket.old.row ≡ S.history) × (ticket.old.me ≡ I) }
+    ensures same { ticket.new ≡ ticket.old }
+    ensures seen { IsPrefix client.old.list client.new.list }
+    ensures client { (client.new.tickets ≡ client.old.tickets) × (client.new.me ≡ client.old.me) }
+    ensures holds { OnOk result (IsPrefix ticket.old.list client.new.list) }
+    ensures answer { IfOk result (λ c. c ≡ completion_of (length client.new.list)
+        (outcome_of (timeline_of client.new.list) ticket.old.place (decision_time_of S.machine.params client.new.list ticket.old.place))) }
+    ensures err { OnErr result (client.new ≡ client.old) }
+{
+    let Some(lock) = lock else {
+        unreachable!();
+    };
+    let mut node = lock.lock(rt);
+    read_past(&mut *shared.log.lock(rt), &mut *node, client, ticket)?;
+    let completion = node.completion_of(ticket.place())?;
+    client.sees(node.last());
+    Ok(completion)
+}

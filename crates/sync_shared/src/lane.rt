@@ -1,0 +1,191 @@
+//! What lanes do for the participants and the mediator.
+ghost use Rattle.std.specs.Prelude.{◌≡◌, ◌<◌, IfOk, IfSome};
+ghost use Rattle.world_model.specs.Fits.{IsDecision, IsOwed};
+ghost use Rattle.validate_job.specs.Outcome.{IsOutcome};
+ghost use Rattle.sync_shared.specs.Lanes.{IsClaimed, IsCopied, IsStep};
+ghost use Rattle.sync_shared.specs.Slips.{read_to, InRow};
+
+use crate::locked_log::LockedLog;
+use crate::locked_node::LockedNode;
+use crate::node_step::{ClaimedJob, CopiedResponse, NodeStep};
+use crate::session::Session;
+use crate::shared::Shared;
+use canton_model::{Message, Response, Verdict};
+use lane_pool::Gate;
+use log_row::Slip;
+use std::alloc::{AllocError, Global};
+use std::sync::{Mutex, Wait};
+use validate_job::{Finished, ValidateJob};
+
+// A job that is claimed or a response to be sent, where there is nothing to read.
+fn next_work<'r, S: Session, const I: u8>(
+    alloc: Global,
+    node: &mut LockedNode<'r, S, I>,
+) -> Result<NodeStep<'r>, AllocError>
+    ensures { IfOk result (IsStep S.history S.machine I) }
+{
+    if let Some(job) = node.claim_job(alloc)? {
+        let known = node.last();
+        return Ok(NodeStep::Check(ClaimedJob { job, known }));
+    }
+    match node.outbox(alloc)? {
+        Some(response) => {
+            let known = node.last();
+            Ok(NodeStep::Send(CopiedResponse { response, known }))
+        }
+        None => Ok(NodeStep::Done),
+    }
+}
+
+// The participant reads an entry where there is one. Otherwise it says what there is to do.
+fn next_step<'r, S: Session, R: Wait, const I: u8>(
+    rt: &R,
+    shared: &Shared<'r, S>,
+    lock: &Mutex<LockedNode<'r, S, I>>,
+) -> Result<NodeStep<'r>, AllocError>
+    ensures { IfOk result (IsStep S.history S.machine I) }
+{
+    let mut node = lock.lock(rt);
+    let slip = shared.log.lock(rt).entry(node.cursor());
+    match slip {
+        Some(slip) => {
+            node.read(slip)?;
+            Ok(NodeStep::Done)
+        }
+        None => next_work(shared.alloc, &mut *node),
+    }
+}
+
+// Checks all views of a job, and passes the gate before each.
+fn run_job<G: Gate>(job: ValidateJob<'_>, gate: &G) -> Result<Finished, AllocError>
+    requires { 0 < job.left }
+    ensures { IfOk result (IsOutcome job.entry.given) }
+{
+    let mut job = job;
+    let place = job.place();
+    let mut view: u32 = 0;
+    'views: loop {
+        gate.enter(place, view);
+        if let Some(finished) = job.check_next()? {
+            return Ok(finished);
+        }
+        view = view.saturating_add(1);
+    }
+}
+
+// The job is done outside every lock, and finished where its claim still stands.
+fn check<'r, S: Session, R: Wait, G: Gate, const I: u8>(
+    rt: &R,
+    lock: &Mutex<LockedNode<'r, S, I>>,
+    claimed: ClaimedJob<'r>,
+    gate: &G,
+) -> Result<(), AllocError>
+    requires { IsClaimed S.history S.machine I claimed }
+{
+    let ClaimedJob { job, mut known } = claimed;
+    let done = run_job(job, gate)?;
+    lock.lock(rt).finish_job(&mut known, done);
+    Ok(())
+}
+
+// A response that was owed over what was known is handed in.
+fn hand_in_response<'r, S: Session>(
+    log: &mut LockedLog<'r, S>,
+    known: &mut Option<Slip<'r>>,
+    response: Response,
+) -> Result<(), AllocError>
+    requires row { InRow S.history known.old }
+    requires owed { IsOwed S.machine.reading S.machine.params (read_to known.old) response }
+{
+    log.reaches(known);
+    log.answer(Message::Response(response))
+}
+
+// The response is appended under the log's lock, and then taken out of the outbox under the participant's.
+fn send<'r, S: Session, R: Wait, const I: u8>(
+    rt: &R,
+    shared: &Shared<'r, S>,
+    lock: &Mutex<LockedNode<'r, S, I>>,
+    copied: CopiedResponse<'r>,
+) -> Result<(), AllocError>
+    requires { IsCopied S.history S.machine copied }
+{
+    let CopiedResponse {
+        response,
+        mut known,
+    } = copied;
+    let request = response.request;
+    hand_in_response(&mut *shared.log.lock(rt), &mut known, response)?;
+    lock.lock(rt).sent(request);
+    Ok(())
+}
+
+/// One participant reads an entry, or checks a request, or sends a response: the first of these that it can.
+pub fn take_turn<'r, S: Session, R: Wait, G: Gate, const I: u8>(
+    rt: &R,
+    shared: &Shared<'r, S>,
+    lock: &Option<Mutex<LockedNode<'r, S, I>>>,
+    gate: &G,
+) -> Result<(), AllocError> {
+    let Some(lock) = lock else {
+        return Ok(());
+    };
+    match next_step(rt, shared, lock)? {
+        NodeStep::Done => Ok(()),
+        NodeStep::Check(claimed) => check(rt, lock, claimed, gate),
+        NodeStep::Send(copied) => send(rt, shared, lock, copied),
+    }
+}
+
+// A verdict, with the slip of what the mediator had read when it gave it.
+#[derive(Drop)]
+struct GivenVerdict<'r> {
+    verdict: Verdict,
+    known: Option<Slip<'r>>,
+}
+
+// The mediator reads an entry where there is one. Otherwise it gives a verdict, unless verdicts are held.
+fn next_verdict<'r, S: Session, R: Wait>(
+    rt: &R,
+    shared: &Shared<'r, S>,
+) -> Result<Option<GivenVerdict<'r>>, AllocError>
+    ensures { IfOk result (λ o. IfSome o (λ g. InRow S.history g.known × IsDecision S.machine.params (read_to g.known) g.verdict)) }
+{
+    let mut mediator = shared.mediator.lock(rt);
+    let slip = shared.log.lock(rt).entry(mediator.cursor());
+    if let Some(slip) = slip {
+        mediator.read(slip)?;
+        return Ok(None);
+    }
+    if shared.round.hold_verdicts {
+        return Ok(None);
+    }
+    match mediator.take_verdict()? {
+        Some(verdict) => {
+            let known = mediator.last();
+            Ok(Some(GivenVerdict { verdict, known }))
+        }
+        None => Ok(None),
+    }
+}
+
+// A verdict that was decided over what was known is handed in.
+fn hand_in_verdict<'r, S: Session>(
+    log: &mut LockedLog<'r, S>,
+    given: GivenVerdict<'r>,
+) -> Result<(), AllocError>
+    requires row { InRow S.history given.known }
+    requires decided { IsDecision S.machine.params (read_to given.known) given.verdict }
+{
+    let GivenVerdict { verdict, mut known } = given;
+    log.reaches(&mut known);
+    log.answer(Message::Verdict(verdict))
+}
+
+/// The mediator reads an entry or, where it has read all and verdicts aren't held, sends a verdict.
+pub fn mediate<'r, S: Session, R: Wait>(rt: &R, shared: &Shared<'r, S>) -> Result<(), AllocError> {
+    match next_verdict(rt, shared)? {
+        Some(given) => hand_in_verdict(&mut *shared.log.lock(rt), given),
+        None => Ok(()),
+    }
+}

@@ -1,0 +1,28 @@
+//! A synchroniser that threads share: the sequencer, the mediator and each participant behind a lock of its own, clients that
+//! submit, and lanes that do the participants' work.
+#![tactic(auto)]
+
+mod client;
+mod completing;
+mod lane;
+mod locked_log;
+mod locked_mediator;
+mod locked_node;
+mod locked_nodes;
+mod node_step;
+mod round_rules;
+mod session;
+mod shared;
+mod slips;
+mod submit_refusal;
+mod submitting;
+mod synchroniser;
+mod ticket;
+
+pub use client::Client;
+pub use round_rules::RoundRules;
+pub use session::Session;
+pub use shared::Shared;
+pub use submit_refusal::SubmitRefusal;
+pub use synchroniser::{LEDGER_PARTS, Synchroniser};
+pub use ticket::Ticket;

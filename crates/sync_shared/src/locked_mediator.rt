@@ -1,0 +1,104 @@
+//! The mediator as it lies behind its lock.
+ghost use Rattle.std.specs.Prelude.{◌≡◌, ◌+◌, length, IfOk, IfSome, OnOk, OnErr};
+ghost use Rattle.world_model.specs.Machine.{GenuineLog};
+ghost use Rattle.world_model.specs.Fits.{IsDecision};
+ghost use Rattle.sync_shared.specs.Behind.{IsMediatorBehind};
+ghost use Rattle.sync_shared.specs.Slips.{read_to, InRow};
+
+use crate::session::Session;
+use crate::slips::{again, tie};
+use canton_model::Verdict;
+use log_row::Slip;
+use mediator::Mediator;
+use std::alloc::AllocError;
+use std::marker::{Model, PhantomData};
+
+/// The mediator, with the last slip that it has read. Contracts see the entries that it has read.
+#[derive(Drop)]
+pub struct LockedMediator<'r, S: Session> {
+    mediator: Mediator,
+    last: Option<Slip<'r>>,
+    of: PhantomData<S>,
+}
+
+impl<'r, S: Session> Model for LockedMediator<'r, S> {
+    ghost use Rattle.std.specs.Prelude.{List};
+    ghost use Rattle.world_model.specs.Messages.{Entry};
+
+    ghost Value = { List Entry };
+
+    ghost use Rattle.sync_shared.specs.Behind.{IsMediatorBehind};
+    ghost use Rattle.sync_shared.specs.Slips.{read_to, InRow};
+
+    ghost view = { λ m. read_to m.last };
+
+    ghost invariant = { λ m. InRow S.history m.last × IsMediatorBehind S.machine (read_to m.last) m.mediator };
+}
+
+impl<'r, S: Session> LockedMediator<'r, S> {
+    /// A mediator with the slip of the last entry that it has read.
+    pub fn of(mediator: Mediator, last: Option<Slip<'r>>) -> LockedMediator<'r, S>
+        requires row { InRow S.history last }
+        requires behind { IsMediatorBehind S.machine (read_to last) mediator }
+        ensures { result ≡ read_to last.entry }
+    {
+        LockedMediator {
+            mediator,
+            last,
+            of: PhantomData,
+        }
+    }
+
+    pub fn into_parts(self) -> (Mediator, Option<Slip<'r>>)
+        ensures row { InRow S.history result.1 }
+        ensures same { read_to result.1 ≡ self.entry }
+        ensures behind { IsMediatorBehind S.machine self.entry result.0 }
+    {
+        let LockedMediator {
+            mediator,
+            last,
+            of: _,
+        } = self;
+        (mediator, last)
+    }
+
+    /// How many entries it has read.
+    pub fn cursor(&self) -> u64
+        ensures { result ≡ length self.now }
+    {
+        self.mediator.cursor()
+    }
+
+    /// Reads the slip of the next place.
+    pub fn read(&mut self, mut slip: Slip<'r>) -> Result<(), AllocError>
+        requires row { slip.row ≡ S.history }
+        requires next { length slip.list ≡ length self.old + 1 }
+        requires genuine { GenuineLog S.machine slip.list }
+        ensures ok { OnOk result (self.new ≡ slip.entry.list) }
+        ensures err { OnErr result (self.new ≡ self.old) }
+    {
+        tie(&mut self.last, &mut slip);
+        // the prover learns from this call that the place isn't too great
+        let _place = slip.place();
+        self.mediator.read(slip.entry())?;
+        self.last = Some(slip);
+        Ok(())
+    }
+
+    /// The slip of the last entry that it has read.
+    pub fn last(&mut self) -> Option<Slip<'r>>
+        ensures same { self.new ≡ self.old }
+        ensures row { InRow S.history result }
+        ensures list { read_to result ≡ self.old }
+    {
+        again(&mut self.last)
+    }
+
+    /// The decision on the first request that is settled over what was read, and whose verdict neither was taken nor read.
+    pub fn take_verdict(&mut self) -> Result<Option<Verdict>, AllocError>
+        ensures same { self.new ≡ self.old }
+        ensures decision { IfOk result (λ o. IfSome o (IsDecision S.machine.params self.old)) }
+    {
+        self.mediator.take_verdict()
+    }
+}

@@ -1,0 +1,191 @@
+//! What threads share.
+ghost use Rattle.std.specs.Prelude.{◌≡◌, ◌+◌, ◌<◌, ◌≤◌, ◌^◌, true, Err, length, IfOk, IfErr, IfSome, OnOk, OnErr};
+ghost use Rattle.lang_eval.specs.Named.{AreKnown};
+ghost use Rattle.canton_model.specs.Log.{decision_time_of};
+ghost use Rattle.canton_model.specs.Timeline.{outcome_of, timeline_of};
+ghost use Rattle.sealed_form.specs.Within.{is_hosted};
+ghost use Rattle.world_model.specs.Places.{has_place};
+ghost use Rattle.threads_model.specs.Inputs.{one_if};
+ghost use Rattle.threads_model.specs.Clients.{ClientStep};
+ghost use Rattle.prepare_request.specs.Causes.{HoldsNoMemory};
+ghost use Rattle.prepare_request.specs.Within.{parties_in_what};
+ghost use Rattle.prepare_request.specs.declared.submit_fault.SubmitFault.TheVariants.{Paused};
+ghost use Rattle.node_core.specs.Completion.{completion_of};
+ghost use Rattle.sync_shared.specs.Answers.{answer_of, has_ticket};
+ghost use Rattle.sync_shared.specs.Clients.{IsRequestBy};
+ghost use mathlib.Core.List.{IsPrefix};
+
+use crate::client::Client;
+use crate::completing::complete_at;
+use crate::lane::{mediate, take_turn};
+use crate::locked_log::LockedLog;
+use crate::locked_mediator::LockedMediator;
+use crate::locked_nodes::LockedNodes;
+use crate::round_rules::RoundRules;
+use crate::session::Session;
+use crate::submit_refusal::SubmitRefusal;
+use crate::submitting::submit_at;
+use crate::ticket::Ticket;
+use lane_pool::Gate;
+use ledger_terms::{ParticipantId, Submission};
+use node_core::{Completion, SubmitFault};
+use std::alloc::{AllocError, Global};
+use std::sync::ledger::Share;
+use std::sync::{Mutex, Wait};
+
+/// What threads share of a synchroniser: the log, the mediator and each participant behind a lock, and beside them what the round
+/// says. Where two locks are held, the participant's is taken first, and the log's second.
+#[derive(Drop)]
+pub struct Shared<'r, S: Session> {
+    pub round: RoundRules,
+    pub(crate) alloc: Global,
+    pub(crate) log: Mutex<LockedLog<'r, S>>,
+    pub(crate) mediator: Mutex<LockedMediator<'r, S>>,
+    pub(crate) nodes: LockedNodes<'r, S>,
+    ghost timely: { round.time ≤ 10 ^ 16 },
+}
+
+// Whether the list names the participant.
+fn names(participants: &[ParticipantId], p: ParticipantId) -> bool
+    ensures { result ≡ has_place participants.now p }
+{
+    participants.iter().any(|q| p == *q)
+}
+
+impl<'r, S: Session> Shared<'r, S> {
+    /// Begins a round. Where time moved on, a Tick tells of it, and is counted with the share. After want of memory all is as before.
+    pub(crate) fn begin(
+        &mut self,
+        home: &mut Share<S>,
+        round: RoundRules,
+        has_tick: bool,
+    ) -> Result<(), AllocError>
+        requires time { round.time ≤ 10 ^ 16 }
+        requires parts { 0 < home.old.parts }
+        ensures round { OnOk result (self.new.round ≡ round) }
+        ensures counted { OnOk result (home.new.amount ≡ home.old.amount + one_if has_tick) }
+        ensures err { OnErr result ((self.new.round ≡ self.old.round) × (home.new.amount ≡ home.old.amount)) }
+        ensures parts { home.new.parts ≡ home.old.parts }
+    {
+        if has_tick {
+            self.log.get_mut().tick(home, round.time)?;
+        }
+        self.round = round;
+        Ok(())
+    }
+
+    /// Whether the round has the participant as paused.
+    pub fn is_paused(&self, participant: ParticipantId) -> bool
+        ensures { result ≡ has_place self.now.round.paused participant }
+    {
+        names(self.round.paused.as_slice(), participant)
+    }
+
+    /// Submits for the client's participant, which first reads at least what the client has seen. A paused one doesn't read. After
+    /// want of memory nothing was appended.
+    pub fn submit<R: Wait>(
+        &self,
+        rt: &R,
+        client: &mut Client<'r, S>,
+        what: &Submission,
+    ) -> Result<Ticket<'r>, SubmitRefusal>
+        requires mine { what.now.participant ≡ client.old.me }
+        requires named { AreKnown (is_hosted S.topology) (parties_in_what what.now.what) }
+        ensures step { IfSome (answer_of result) (λ r. ClientStep S.machine S.why self.now.round.time self.now.round.paused client.old.list
+            what.now r client.new.list) }
+        ensures paused { has_place self.now.round.paused what.now.participant ≡ true
+            → (result ≡ Err (record { fault = Paused; read_to = length client.old.list })) × (client.new ≡ client.old) }
+        ensures ticket { IfOk result (λ t. (t.row ≡ S.history) × (t.list ≡ client.new.list) × (t.me ≡ client.old.me)) }
+        ensures tickets { client.new.tickets ≡ client.old.tickets + one_if (has_ticket result) }
+        ensures seen { IsPrefix client.old.list client.new.list }
+        ensures me { client.new.me ≡ client.old.me }
+        ensures plain { IfErr result (λ refusal. HoldsNoMemory refusal.fault) }
+    {
+        let participant = client.participant();
+        if self.is_paused(participant) {
+            return Err(SubmitRefusal {
+                fault: SubmitFault::Paused,
+                read_to: client.seen(),
+            });
+        }
+        match participant.0 {
+            0 => submit_at(rt, self, &self.nodes.first, client, what),
+            1 => submit_at(rt, self, &self.nodes.second, client, what),
+            2 => submit_at(rt, self, &self.nodes.third, client, what),
+            3 => submit_at(rt, self, &self.nodes.fourth, client, what),
+            4 => submit_at(rt, self, &self.nodes.fifth, client, what),
+            5 => submit_at(rt, self, &self.nodes.sixth, client, what),
+            6 => submit_at(rt, self, &self.nodes.seventh, client, what),
+            7 => submit_at(rt, self, &self.nodes.eighth, client, what),
+            _ => unreachable!(),
+        }
+    }
+
+    /// What became of a ticket's request. The participant, paused or not, first reads at least what the client has seen and past the
+    /// request.
+    pub fn completion<R: Wait>(
+        &self,
+        rt: &R,
+        client: &mut Client<'r, S>,
+        ticket: &mut Ticket<'r>,
+    ) -> Result<Completion, AllocError>
+        requires ticket { (ticket.old.row ≡ S.history) × (ticket.old.me ≡ client.old.me) }
+        ensures same { ticket.new ≡ ticket.old }
+        ensures seen { IsPrefix client.old.list client.new.list }
+        ensures client { (client.new.tickets ≡ client.old.tickets) × (client.new.me ≡ client.old.me) }
+        ensures holds { OnOk result (IsPrefix ticket.old.list client.new.list) }
+        ensures answer { IfOk result (λ c. c ≡ completion_of (length client.new.list)
+            (outcome_of (timeline_of client.new.list) ticket.old.place (decision_time_of S.machine.params client.new.list ticket.old.place))) }
+        ensures err { OnErr result (client.new ≡ client.old) }
+    {
+        match client.participant().0 {
+            0 => complete_at(rt, self, &self.nodes.first, client, ticket),
+            1 => complete_at(rt, self, &self.nodes.second, client, ticket),
+            2 => complete_at(rt, self, &self.nodes.third, client, ticket),
+            3 => complete_at(rt, self, &self.nodes.fourth, client, ticket),
+            4 => complete_at(rt, self, &self.nodes.fifth, client, ticket),
+            5 => complete_at(rt, self, &self.nodes.sixth, client, ticket),
+            6 => complete_at(rt, self, &self.nodes.seventh, client, ticket),
+            7 => complete_at(rt, self, &self.nodes.eighth, client, ticket),
+            _ => unreachable!(),
+        }
+    }
+
+    // The turn of one participant, where there is one of this index.
+    fn serve<R: Wait, G: Gate>(&self, rt: &R, at: u8, gate: &G) -> Result<(), AllocError> {
+        match at {
+            0 => take_turn(rt, self, &self.nodes.first, gate),
+            1 => take_turn(rt, self, &self.nodes.second, gate),
+            2 => take_turn(rt, self, &self.nodes.third, gate),
+            3 => take_turn(rt, self, &self.nodes.fourth, gate),
+            4 => take_turn(rt, self, &self.nodes.fifth, gate),
+            5 => take_turn(rt, self, &self.nodes.sixth, gate),
+            6 => take_turn(rt, self, &self.nodes.seventh, gate),
+            _ => take_turn(rt, self, &self.nodes.eighth, gate),
+        }
+    }
+
+    /// A turn of one of so many lanes. Lane w serves the participants whose index leaves w, and lane 0 the mediator too. Each that
+    /// isn't paused reads one entry or, where it has read all, checks one request or, where it owes nothing, sends one response;
+    /// the mediator reads one entry or, unless verdicts are held, sends one verdict. The gate is passed before each view, outside
+    /// every lock, with the request's place and the number of its views that were checked before.
+    pub fn turn<R: Wait, G: Gate>(
+        &self,
+        rt: &R,
+        lane: u32,
+        lanes: u32,
+        gate: &G,
+    ) -> Result<(), AllocError>
+        requires { 0 < lanes }
+    {
+        for at in 0..8u8 {
+            if at as u32 % lanes == lane && !self.is_paused(ParticipantId(at)) {
+                self.serve(rt, at, gate)?;
+            }
+        }
+        if lane == 0 {
+            mediate(rt, self)?;
+        }
+        Ok(())
+    }
+}

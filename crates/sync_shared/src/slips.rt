@@ -1,0 +1,64 @@
+//! The last slip that somebody has read.
+ghost use Rattle.std.specs.Prelude.{◌≡◌, ◌+◌, IsTrue, length};
+ghost use Rattle.sync_shared.specs.Slips.{read_to, InRow};
+ghost use mathlib.Core.List.{IsPrefix};
+
+use log_row::{Row, Slip};
+
+/// The last slip once more.
+pub fn again<'r>(last: &mut Option<Slip<'r>>) -> Option<Slip<'r>>
+    ensures same { last.new ≡ last.old }
+    ensures again { result ≡ last.old }
+{
+    match last {
+        Some(slip) => Some(slip.again()),
+        None => None,
+    }
+}
+
+/// How many entries it ties.
+pub fn count_of(last: &Option<Slip<'_>>) -> u64
+    ensures { result ≡ length (read_to last.now) }
+{
+    match last {
+        Some(slip) => slip.place() + 1,
+        None => 0,
+    }
+}
+
+/// Tells that what was read begins the list of the slip of the next place.
+pub fn tie<'r>(last: &mut Option<Slip<'r>>, slip: &mut Slip<'r>)
+    requires row { InRow slip.old.row last.old }
+    requires next { length slip.old.list ≡ length (read_to last.old) + 1 }
+    ensures same { (last.new ≡ last.old) × (slip.new ≡ slip.old) }
+    ensures begins { IsPrefix (read_to last.old) slip.old.list }
+{
+    if let Some(last) = last {
+        last.compare(slip);
+    }
+}
+
+fn follows_slip<'r>(known: &mut Slip<'r>, last: &mut Slip<'r>) -> bool
+    requires { last.old.row ≡ known.old.row }
+    ensures same { (known.new ≡ known.old) × (last.new ≡ last.old) }
+    ensures begins { IsTrue result → IsPrefix known.old.list last.old.list }
+{
+    known.compare(last);
+    known.place() <= last.place()
+}
+
+/// Whether what was known once begins what is read by now, as far as the two slips tell.
+pub fn follows<'r, S: Row>(known: &mut Option<Slip<'r>>, last: &mut Option<Slip<'r>>) -> bool
+    requires known { InRow S.history known.old }
+    requires last { InRow S.history last.old }
+    ensures same { (known.new ≡ known.old) × (last.new ≡ last.old) }
+    ensures begins { IsTrue result → IsPrefix (read_to known.old) (read_to last.old) }
+{
+    let Some(known) = known else {
+        return true;
+    };
+    match last {
+        Some(last) => follows_slip(known, last),
+        None => false,
+    }
+}

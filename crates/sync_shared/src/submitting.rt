@@ -1,0 +1,175 @@
+//! A submission in its two halves: the participant prepares the request under its own lock, and hands it in under the log's.
+ghost use Rattle.std.specs.Prelude.{◌≡◌, ◌≢◌, ◌+◌, ◌≤◌, ◌^◌, List, ℕ, Some, None, true, false, is_some, IfOk, IfErr, IfSome, OnOk};
+ghost use Rattle.lang_eval.specs.Named.{AreKnown};
+ghost use Rattle.canton_model.specs.Inbox.{inbox};
+ghost use Rattle.sealed_form.specs.Within.{is_hosted};
+ghost use Rattle.world_model.specs.Places.{has_place};
+ghost use Rattle.world_model.specs.Rounds.{Unwanted};
+ghost use Rattle.threads_model.specs.Inputs.{one_if};
+ghost use Rattle.threads_model.specs.Clients.{ClientStep};
+ghost use Rattle.prepare_request.specs.Causes.{HoldsNoMemory};
+ghost use Rattle.prepare_request.specs.Within.{parties_in_what};
+ghost use Rattle.prepare_request.specs.declared.submit_fault.SubmitFault.TheVariants.{Memory};
+ghost use Rattle.seq_log.specs.declared.fault.AppendFault.TheVariants.{TooLate};
+ghost use Rattle.sync_shared.specs.Answers.{answer_of, fault_of, has_ticket, refused_at, seen_after, told_of};
+ghost use mathlib.Core.List.{IsPrefix};
+
+use crate::client::Client;
+use crate::locked_log::LockedLog;
+use crate::locked_node::LockedNode;
+use crate::session::Session;
+use crate::shared::Shared;
+use crate::submit_refusal::SubmitRefusal;
+use crate::ticket::Ticket;
+use canton_model::Request;
+use ledger_terms::Submission;
+use node_core::SubmitFault;
+use seq_log::AppendFault;
+use std::alloc::AllocError;
+use std::sync::{Mutex, Wait};
+
+// The participant reads at least what the client has seen.
+fn catch_up<'r, S: Session, const I: u8>(
+    log: &mut LockedLog<'r, S>,
+    node: &mut LockedNode<'r, S, I>,
+    client: &mut Client<'r, S>,
+) -> Result<(), AllocError>
+    ensures same { (log.new ≡ log.old) × (client.new ≡ client.old) }
+    ensures ok { OnOk result (IsPrefix client.old.list node.new) }
+{
+    client.reaches(log);
+    node.read_on(log)
+}
+
+// What a client is told where the log takes no request. It has then seen the log to its end, unless there was no memory.
+fn told<'r, S: Session>(
+    log: &mut LockedLog<'r, S>,
+    client: &mut Client<'r, S>,
+    fault: AppendFault,
+) -> SubmitFault
+    requires in_time { (decision time : ℕ) → fault ≢ TooLate decision time }
+    ensures fault { result ≡ told_of fault }
+    ensures list { client.new.list ≡ seen_after fault client.old.list log.old }
+    ensures seen { IsPrefix client.old.list log.old → IsPrefix client.old.list client.new.list }
+    ensures client { (client.new.tickets ≡ client.old.tickets) × (client.new.me ≡ client.old.me) }
+    ensures plain { HoldsNoMemory result }
+{
+    match fault {
+        AppendFault::Already { place } => {
+            client.sees(log.last());
+            SubmitFault::Duplicate { place }
+        }
+        AppendFault::LogFull { reserved, need } => {
+            client.sees(log.last());
+            SubmitFault::LogFull { reserved, need }
+        }
+        AppendFault::TooLate { .. } => unreachable!(),
+        AppendFault::Memory => SubmitFault::Memory,
+    }
+}
+
+// The request that is wanted is handed in. The client has then seen as far as the answer goes.
+fn hand_in<'r, S: Session, const I: u8>(
+    log: &mut LockedLog<'r, S>,
+    node: &mut LockedNode<'r, S, I>,
+    client: &mut Client<'r, S>,
+    what: &Submission,
+    request: Request,
+    now: u64,
+) -> Result<Ticket<'r>, SubmitRefusal>
+    requires time { now ≤ 10 ^ 16 }
+    requires mine { (what.now.participant ≡ I) × (client.old.me ≡ I) × (request.sender ≡ I) }
+    requires knows { IsPrefix client.old.list node.old }
+    requires wanted { S.machine.prepare what.now (inbox S.machine.reading I node.old) now ≡ Some request }
+    requires sealed { (S.machine.reading).is_sealed request ≡ true }
+    ensures step { IfSome (answer_of result) (λ r. (paused : List ℕ) → has_place paused what.now.participant ≡ false
+        → ClientStep S.machine S.why now paused client.old.list what.now r client.new.list) }
+    ensures ticket { IfOk result (λ t. (t.row ≡ S.history) × (t.list ≡ client.new.list) × (t.me ≡ client.old.me)) }
+    ensures tickets { client.new.tickets ≡ client.old.tickets + one_if (has_ticket result) }
+    ensures seen { IsPrefix client.old.list client.new.list }
+    ensures me { client.new.me ≡ client.old.me }
+    ensures plain { IfErr result (λ refusal. HoldsNoMemory refusal.fault) }
+{
+    node.reaches(log);
+    let read_to = node.cursor();
+    let me = client.participant();
+    match log.append(&mut client.share, request, now) {
+        Ok(mut slip) => {
+            client.last = Some(slip.again());
+            Ok(Ticket::of(slip, read_to, me))
+        }
+        Err(fault) => Err(SubmitRefusal {
+            fault: told(log, client, fault),
+            read_to,
+        }),
+    }
+}
+
+// The submission wants no request. The client has then seen what the participant has read.
+fn refuse<'r, S: Session, const I: u8>(
+    node: &mut LockedNode<'r, S, I>,
+    client: &mut Client<'r, S>,
+    what: &Submission,
+    fault: SubmitFault,
+    now: u64,
+) -> SubmitRefusal
+    requires mine { what.now.participant ≡ I }
+    requires knows { IsPrefix client.old.list node.old }
+    requires unwanted { fault ≢ Memory → (S.machine.prepare what.now (inbox S.machine.reading I node.old) now ≡ None)
+        × (S.why what.now (inbox S.machine.reading I node.old) now ≡ fault) × (fault_of fault ≡ Some (Unwanted fault)) }
+    ensures step { IfSome (refused_at result.read_to (fault_of result.fault)) (λ r. (paused : List ℕ) → has_place paused what.now.participant ≡ false
+        → ClientStep S.machine S.why now paused client.old.list what.now r client.new.list) }
+    ensures fault { result.fault ≡ fault }
+    ensures tickets { client.new.tickets ≡ client.old.tickets }
+    ensures seen { IsPrefix client.old.list client.new.list }
+    ensures me { client.new.me ≡ client.old.me }
+{
+    client.sees(node.last());
+    SubmitRefusal {
+        fault,
+        read_to: node.cursor(),
+    }
+}
+
+/// A submission of a participant that isn't paused.
+pub fn submit_at<'r, S: Session, R: Wait, const I: u8>(
+    rt: &R,
+    shared: &Shared<'r, S>,
+    lock: &Option<Mutex<LockedNode<'r, S, I>>>,
+    client: &mut Client<'r, S>,
+    what: &Submission,
+) -> Result<Ticket<'r>, SubmitRefusal>
+    requires there { is_some lock.now ≡ true }
+    requires mine { (what.now.participant ≡ I) × (client.old.me ≡ I) }
+    requires named { AreKnown (is_hosted S.topology) (parties_in_what what.now.what) }
+    ensures step { IfSome (answer_of result) (λ r. (paused : List ℕ) → has_place paused what.now.participant ≡ false
+        → ClientStep S.machine S.why shared.now.round.time paused client.old.list what.now r client.new.list) }
+    ensures ticket { IfOk result (λ t. (t.row ≡ S.history) × (t.list ≡ client.new.list) × (t.me ≡ client.old.me)) }
+    ensures tickets { client.new.tickets ≡ client.old.tickets + one_if (has_ticket result) }
+    ensures seen { IsPrefix client.old.list client.new.list }
+    ensures me { client.new.me ≡ client.old.me }
+    ensures plain { IfErr result (λ refusal. HoldsNoMemory refusal.fault) }
+{
+    let Some(lock) = lock else {
+        unreachable!();
+    };
+    let now = shared.round.time;
+    let mut node = lock.lock(rt);
+    if catch_up(&mut *shared.log.lock(rt), &mut *node, client).is_err() {
+        return Err(SubmitRefusal {
+            fault: SubmitFault::Memory,
+            read_to: client.seen(),
+        });
+    }
+    match node.prepare(shared.alloc, what, now) {
+        Ok(request) => hand_in(
+            &mut *shared.log.lock(rt),
+            &mut *node,
+            client,
+            what,
+            request,
+            now,
+        ),
+        Err(fault) => Err(refuse(&mut *node, client, what, fault, now)),
+    }
+}
