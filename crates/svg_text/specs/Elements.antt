@@ -16,6 +16,14 @@ use Rattle.svg_text.specs.declared.tone.Tone.{Tone}
 abbrev pub number_attribute : List ℕ → ℕ → List ℕ
 number_attribute name number = codes " " ++ name ++ codes "=\"" ++ decimal number ++ codes "\""
 
+-- an attribute up to its first quote
+abbrev pub attribute_start : List ℕ → List ℕ
+attribute_start name = codes " " ++ name ++ codes "=\""
+
+-- two numbers with a blank between them
+abbrev pub pair : ℕ → ℕ → List ℕ
+pair first second = decimal first ++ codes " " ++ decimal second
+
 -- a blank, a name and a text
 abbrev pub attribute : List ℕ → List ℕ → List ℕ
 attribute name text = codes " " ++ name ++ codes "=\"" ++ escaped text ++ codes "\""
@@ -57,7 +65,7 @@ line_element from to stroke =
 
 -- the end of a line as an arrow's tip of this tone
 abbrev pub tip : Tone → List ℕ
-tip tone = codes " marker-end=\"url(#tip-" ++ tone_word tone ++ codes ")\""
+tip tone = attribute_start (codes "marker-end") ++ codes "url(#tip-" ++ tone_word tone ++ codes ")\""
 
 abbrev pub arrow_element : Point → Point → Stroke → List ℕ
 arrow_element from to stroke =
@@ -79,7 +87,7 @@ abbrev pub circle_element : Point → ℕ → Paint → List ℕ
 circle_element at radius paint = codes "<circle" ++ round at radius ++ paint_class paint ++ codes "/>\n"
 
 abbrev pub shift : Point → List ℕ
-shift at = codes " transform=\"translate(" ++ decimal at.x ++ codes " " ++ decimal at.y ++ codes ")\""
+shift at = attribute_start (codes "transform") ++ codes "translate(" ++ pair at.x at.y ++ codes ")\""
 
 abbrev pub mark_element : Point → Mark → List ℕ
 mark_element at mark =
@@ -87,7 +95,3 @@ mark_element at mark =
 
 abbrev pub group_start : List ℕ → List ℕ
 group_start class = codes "<g" ++ attribute (codes "class") class ++ codes ">"
-
--- the root's size, once as its own and once as that of its units
-abbrev pub sheet : Size → List ℕ
-sheet size = extent size ++ codes " viewBox=\"0 0 " ++ decimal size.width ++ codes " " ++ decimal size.height ++ codes "\""
