@@ -38,7 +38,7 @@ def broken():
     instance = 'a place and an instance'
     more = "a commit, an active contract, a participant or 'end'"
     first = number_of(transfer, '  create Iou.Iou(')
-    yield 'empty', '', 1, "'entries' and a number below 2^64"
+    yield 'nothing', '', 1, "'entries' and a number below 2^64"
     yield 'cut_in_a_line', '\n'.join(lines[:4]) + '\n' + lines[4][:9], 5, whole_line
     yield 'cut_at_a_line', '\n'.join(lines[:5]) + '\n', 6, 'an entry'
     yield 'cut_before_the_end', transfer[:-len('end\n')], len(lines) - 1, more

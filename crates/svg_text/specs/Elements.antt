@@ -10,7 +10,6 @@ use Rattle.svg_text.specs.declared.paint.Paint.{Paint}
 use Rattle.svg_text.specs.declared.point.Point.{Point}
 use Rattle.svg_text.specs.declared.size.Size.{Size}
 use Rattle.svg_text.specs.declared.stroke.Stroke.{Stroke}
-use Rattle.svg_text.specs.declared.tone.Tone.{Tone}
 
 -- a blank, a name and a number
 abbrev pub number_attribute : List ℕ → ℕ → List ℕ
@@ -23,6 +22,11 @@ attribute_start name = codes " " ++ name ++ codes "=\""
 -- two numbers with a blank between them
 abbrev pub pair : ℕ → ℕ → List ℕ
 pair first second = decimal first ++ codes " " ++ decimal second
+
+-- an attribute with two numbers between other words
+abbrev pub pair_attribute : List ℕ → List ℕ → ℕ → ℕ → List ℕ → List ℕ
+pair_attribute name before first second behind =
+    attribute_start name ++ before ++ pair first second ++ behind ++ codes "\""
 
 -- a blank, a name and a text
 abbrev pub attribute : List ℕ → List ℕ → List ℕ
@@ -63,13 +67,13 @@ abbrev pub line_element : Point → Point → Stroke → List ℕ
 line_element from to stroke =
     codes "<line" ++ ends from to ++ class_attribute (tone_word stroke.tone) (dash_word stroke.dash) ++ codes "/>\n"
 
--- the end of a line as an arrow's tip of this tone
-abbrev pub tip : Tone → List ℕ
-tip tone = attribute_start (codes "marker-end") ++ codes "url(#tip-" ++ tone_word tone ++ codes ")\""
+-- the end of a line as the tip of an arrow of the tone with this word
+abbrev pub tip : List ℕ → List ℕ
+tip word = attribute_start (codes "marker-end") ++ codes "url(#tip-" ++ word ++ codes ")\""
 
 abbrev pub arrow_element : Point → Point → Stroke → List ℕ
 arrow_element from to stroke =
-    codes "<line" ++ ends from to ++ class_attribute (tone_word stroke.tone) (dash_word stroke.dash) ++ tip stroke.tone ++ codes "/>\n"
+    codes "<line" ++ ends from to ++ class_attribute (tone_word stroke.tone) (dash_word stroke.dash) ++ tip (tone_word stroke.tone) ++ codes "/>\n"
 
 abbrev pub paint_class : Paint → List ℕ
 paint_class paint = class_attribute (tone_word paint.tone) (fill_word paint.fill)
@@ -87,7 +91,7 @@ abbrev pub circle_element : Point → ℕ → Paint → List ℕ
 circle_element at radius paint = codes "<circle" ++ round at radius ++ paint_class paint ++ codes "/>\n"
 
 abbrev pub shift : Point → List ℕ
-shift at = attribute_start (codes "transform") ++ codes "translate(" ++ pair at.x at.y ++ codes ")\""
+shift at = pair_attribute (codes "transform") (codes "translate(") at.x at.y (codes ")")
 
 abbrev pub mark_element : Point → Mark → List ℕ
 mark_element at mark =

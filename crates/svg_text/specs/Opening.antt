@@ -1,13 +1,13 @@
 -- What stands before the first element of a picture.
-use Rattle.std.specs.Prelude.{ℕ, List, ◌++◌, codes}
-use Rattle.svg_text.specs.Elements.{attribute_start, extent, pair}
+use Rattle.std.specs.Prelude.{ℕ, List, [], ◌++◌, codes}
+use Rattle.svg_text.specs.Elements.{extent, pair_attribute}
 use Rattle.svg_text.specs.Escape.{escaped}
 use Rattle.svg_text.specs.declared.size.Size.{Size}
 use Rattle.svg_text.specs.declared.style.TheConstants.{ROOT, STYLE, TIPS}
 
 -- the part of the plane that is drawn
 abbrev pub view_box : Size → List ℕ
-view_box size = attribute_start (codes "viewBox") ++ codes "0 0 " ++ pair size.width size.height ++ codes "\""
+view_box size = pair_attribute (codes "viewBox") (codes "0 0 ") size.width size.height []
 
 abbrev pub root : Size → List ℕ
 root size = ROOT.now ++ extent size ++ view_box size ++ codes ">\n"

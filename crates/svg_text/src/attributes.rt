@@ -1,6 +1,6 @@
 //! Attributes of elements.
 ghost use Rattle.std.specs.Prelude.{◌≡◌, ◌++◌, OnOk, string_bytes, decimal};
-ghost use Rattle.svg_text.specs.Elements.{attribute, attribute_start, number_attribute, pair, class_attribute, place, extent, ends};
+ghost use Rattle.svg_text.specs.Elements.{attribute, attribute_start, number_attribute, pair, pair_attribute, class_attribute, place, extent, ends};
 ghost use Rattle.svg_text.specs.Escape.{escaped};
 
 use crate::escape::put_escaped;
@@ -17,7 +17,7 @@ pub(crate) fn put_number(out: &mut String, number: u32) -> Result<(), AllocError
 }
 
 /// Two numbers with a blank between them.
-pub(crate) fn put_pair(out: &mut String, first: u32, second: u32) -> Result<(), AllocError>
+fn put_pair(out: &mut String, first: u32, second: u32) -> Result<(), AllocError>
     ensures { OnOk result (string_bytes out.new ≡ string_bytes out.old ++ pair first second) }
 {
     put_number(out, first)?;
@@ -32,6 +32,25 @@ pub(crate) fn put_attribute_start(out: &mut String, name: &str) -> Result<(), Al
     out.push_str(" ")?;
     out.push_str(name)?;
     out.push_str("=\"")
+}
+
+/// An attribute with two numbers between other words.
+pub(crate) fn put_pair_attribute(
+    out: &mut String,
+    name: &str,
+    before: &str,
+    first: u32,
+    second: u32,
+    behind: &str,
+) -> Result<(), AllocError>
+    ensures { OnOk result (string_bytes out.new ≡ string_bytes out.old
+        ++ pair_attribute name.now before.now first second behind.now) }
+{
+    put_attribute_start(out, name)?;
+    out.push_str(before)?;
+    put_pair(out, first, second)?;
+    out.push_str(behind)?;
+    out.push_str("\"")
 }
 
 /// A blank, a name and a number.

@@ -4,7 +4,7 @@ ghost use Rattle.svg_text.specs.Elements.{title_element, label_class, label_star
 ghost use Rattle.svg_text.specs.Opening.{described, described_end, described_start, page, opening, root, sheets, view_box};
 
 use crate::attributes::{
-    put_attribute_start, put_class, put_extent, put_number_attribute, put_pair, put_place,
+    put_attribute_start, put_class, put_extent, put_number_attribute, put_pair_attribute, put_place,
 };
 use crate::escape::put_escaped;
 use crate::frame::Frame;
@@ -13,7 +13,6 @@ use crate::paint::Paint;
 use crate::point::Point;
 use crate::size::Size;
 use crate::style::{ROOT, STYLE, TIPS};
-use crate::tone::Tone;
 use std::alloc::AllocError;
 
 /// A title inside its element.
@@ -47,13 +46,13 @@ pub(crate) fn put_label_start(out: &mut String, label: &Label) -> Result<(), All
     out.push_str(">")
 }
 
-/// An arrow's tip.
-pub(crate) fn put_tip(out: &mut String, tone: Tone) -> Result<(), AllocError>
-    ensures { OnOk result (string_bytes out.new ≡ string_bytes out.old ++ tip tone) }
+/// The tip of an arrow of the tone with this word.
+pub(crate) fn put_tip(out: &mut String, word: &str) -> Result<(), AllocError>
+    ensures { OnOk result (string_bytes out.new ≡ string_bytes out.old ++ tip word.now) }
 {
     put_attribute_start(out, "marker-end")?;
     out.push_str("url(#tip-")?;
-    out.push_str(tone.word())?;
+    out.push_str(word)?;
     out.push_str(")\"")
 }
 
@@ -85,19 +84,13 @@ pub(crate) fn put_round(out: &mut String, at: Point, radius: u32) -> Result<(), 
 pub(crate) fn put_shift(out: &mut String, at: Point) -> Result<(), AllocError>
     ensures { OnOk result (string_bytes out.new ≡ string_bytes out.old ++ shift at) }
 {
-    put_attribute_start(out, "transform")?;
-    out.push_str("translate(")?;
-    put_pair(out, at.x, at.y)?;
-    out.push_str(")\"")
+    put_pair_attribute(out, "transform", "translate(", at.x, at.y, ")")
 }
 
 fn put_view_box(out: &mut String, size: Size) -> Result<(), AllocError>
     ensures { OnOk result (string_bytes out.new ≡ string_bytes out.old ++ view_box size) }
 {
-    put_attribute_start(out, "viewBox")?;
-    out.push_str("0 0 ")?;
-    put_pair(out, size.width, size.height)?;
-    out.push_str("\"")
+    put_pair_attribute(out, "viewBox", "0 0 ", size.width, size.height, "")
 }
 
 fn put_described_start(out: &mut String, name: &str) -> Result<(), AllocError>
