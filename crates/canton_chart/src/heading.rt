@@ -90,13 +90,24 @@ fn draw_lane(sheet: &mut Sheet, x: u32, name: &str, end: u32) -> Result<(), Allo
         fill: Fill::Tint,
     };
     sheet.svg.rectangle(frame, paint)?;
+    draw_name(sheet, x, name, width)
+}
+
+/// Draws a lane's name, in small letters where lanes are narrow.
+fn draw_name(sheet: &mut Sheet, x: u32, name: &str, width: u32) -> Result<(), AllocError> {
+    let is_wide = width >= WIDE_LANE;
     let label = Label {
         at: at(x, NAMES_Y),
         anchor: Anchor::Middle,
-        font: Font::Strong,
+        font: if is_wide { Font::Strong } else { Font::Small },
         tone: Tone::Accent,
     };
-    sheet.words(&label, name, width / NAME_LETTER)
+    let letters = if is_wide {
+        width / NAME_LETTER
+    } else {
+        width / SMALL_LETTER
+    };
+    sheet.words(&label, name, letters)
 }
 
 /// A text that begins at a point.

@@ -31,7 +31,7 @@ pub fn draw_refused(
     {
         draw_refusal(sheet, report, answered)?;
     }
-    draw_rest(sheet, count, MOST_REFUSED)
+    draw_rest(sheet, "refused submissions", count, MOST_REFUSED)
 }
 
 fn draw_refusal(
@@ -61,7 +61,12 @@ pub fn draw_standings(sheet: &mut Sheet, report: &Report<'_>) -> Result<(), Allo
             draw_active(sheet, active)?;
         }
     }
-    draw_rest(sheet, report.actives.len(), MOST_ACTIVES)
+    draw_rest(
+        sheet,
+        "active contracts",
+        report.actives.len(),
+        MOST_ACTIVES,
+    )
 }
 
 fn draw_standing(
@@ -112,9 +117,11 @@ fn draw_line(sheet: &mut Sheet, words: &str, font: Font) -> Result<(), AllocErro
 }
 
 /// Says how many of a list aren't drawn, if there are such, and leaves a gap.
-fn draw_rest(sheet: &mut Sheet, count: usize, most: usize) -> Result<(), AllocError> {
+fn draw_rest(sheet: &mut Sheet, what: &str, count: usize, most: usize) -> Result<(), AllocError> {
     if count > most {
-        let words = format!(in sheet.alloc; "The report has {count}, of which {most} are drawn.")?;
+        let words = format!(in sheet.alloc;
+            "The report has {count} {what}, of which {most} are drawn."
+        )?;
         let place = at(LEFT, sheet.y);
         sheet.svg.text(&quiet(place, Font::Plain), words.as_str())?;
         sheet.skip(LINE_HEIGHT);
