@@ -28,6 +28,10 @@ abbrev pub pair_attribute : List ℕ → List ℕ → ℕ → ℕ → List ℕ �
 pair_attribute name before first second behind =
     attribute_start name ++ before ++ pair first second ++ behind ++ codes "\""
 
+-- an attribute with a word between other words
+abbrev pub joined_attribute : List ℕ → List ℕ → List ℕ → List ℕ → List ℕ
+joined_attribute name before word behind = attribute_start name ++ before ++ word ++ behind ++ codes "\""
+
 -- a blank, a name and a text
 abbrev pub attribute : List ℕ → List ℕ → List ℕ
 attribute name text = codes " " ++ name ++ codes "=\"" ++ escaped text ++ codes "\""
@@ -68,8 +72,8 @@ line_element from to stroke =
     codes "<line" ++ ends from to ++ class_attribute (tone_word stroke.tone) (dash_word stroke.dash) ++ codes "/>\n"
 
 -- the end of a line as the tip of an arrow of the tone with this word
-abbrev pub tip : List ℕ → List ℕ
-tip word = attribute_start (codes "marker-end") ++ codes "url(#tip-" ++ word ++ codes ")\""
+unfoldable pub tip : List ℕ → List ℕ
+tip word = joined_attribute (codes "marker-end") (codes "url(#tip-") word (codes ")")
 
 abbrev pub arrow_element : Point → Point → Stroke → List ℕ
 arrow_element from to stroke =

@@ -4,7 +4,8 @@ ghost use Rattle.svg_text.specs.Elements.{title_element, label_class, label_star
 ghost use Rattle.svg_text.specs.Opening.{described, described_end, described_start, page, opening, root, sheets, view_box};
 
 use crate::attributes::{
-    put_attribute_start, put_class, put_extent, put_number_attribute, put_pair_attribute, put_place,
+    put_class, put_extent, put_joined_attribute, put_number_attribute, put_pair_attribute,
+    put_place,
 };
 use crate::escape::put_escaped;
 use crate::frame::Frame;
@@ -47,13 +48,11 @@ pub(crate) fn put_label_start(out: &mut String, label: &Label) -> Result<(), All
 }
 
 /// The tip of an arrow of the tone with this word.
+#[tactic(auto, unfolding(crate::specs::Elements::tip))]
 pub(crate) fn put_tip(out: &mut String, word: &str) -> Result<(), AllocError>
     ensures { OnOk result (string_bytes out.new ≡ string_bytes out.old ++ tip word.now) }
 {
-    put_attribute_start(out, "marker-end")?;
-    out.push_str("url(#tip-")?;
-    out.push_str(word)?;
-    out.push_str(")\"")
+    put_joined_attribute(out, "marker-end", "url(#tip-", word, ")")
 }
 
 pub(crate) fn put_paint(out: &mut String, paint: Paint) -> Result<(), AllocError>
