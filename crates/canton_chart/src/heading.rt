@@ -22,6 +22,11 @@ const TITLE_LETTERS: u32 = 90;
 
 const NAME_LETTER: u32 = 9;
 
+/// Units that it takes where lanes are narrow, and how wide a lane is that isn't.
+const SMALL_LETTER: u32 = 6;
+
+const WIDE_LANE: u32 = 72;
+
 /// Draws the title, the lanes with their names, and what the columns are.
 pub fn draw_heading(
     sheet: &mut Sheet,
