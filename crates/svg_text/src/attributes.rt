@@ -1,6 +1,7 @@
 //! Attributes of elements.
 ghost use Rattle.std.specs.Prelude.{◌≡◌, ◌++◌, OnOk, string_bytes, decimal};
-ghost use Rattle.svg_text.specs.Elements.{attribute, attribute_start, number_attribute, pair, pair_attribute, class_attribute, place, extent, ends, joined_attribute};
+ghost use Rattle.svg_text.specs.Elements.{attribute, attribute_start, number_attribute, pair, pair_attribute, joined_attribute};
+ghost use Rattle.svg_text.specs.Elements.{class_attribute, place, extent, ends};
 ghost use Rattle.svg_text.specs.Escape.{escaped};
 
 use crate::escape::put_escaped;
