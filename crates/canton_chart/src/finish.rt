@@ -1,4 +1,6 @@
 //! How the program ends.
+ghost use Rattle.std.specs.Prelude.{◌≡◌};
+
 use report_read::Expected;
 use std::alloc::{AllocError, Global};
 
@@ -11,7 +13,9 @@ pub struct Finish {
 
 impl Finish {
     /// An end without a line.
-    pub fn of(status: u8) -> Finish {
+    pub fn of(status: u8) -> Finish
+        ensures { result.status ≡ status }
+    {
         Finish {
             status,
             fault: None,
