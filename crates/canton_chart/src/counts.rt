@@ -36,12 +36,14 @@ impl Counts {
 }
 
 fn ending_count(report: &Report<'_>, ending: Ending) -> usize {
-    report
-        .outcomes
-        .as_slice()
-        .iter()
-        .filter(|outcome| outcome.decision.ending == ending)
-        .count()
+    let mut count = 0usize;
+    for outcome in report.outcomes.as_slice() {
+        let decision = outcome.decision;
+        if decision.ending == ending {
+            count = count.saturating_add(1);
+        }
+    }
+    count
 }
 
 pub fn is_refused(answered: &SubmitResult<'_>) -> bool {
