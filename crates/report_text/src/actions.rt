@@ -7,7 +7,7 @@ use ledger_terms::{Action, ActionNodeList};
 use std::alloc::AllocError;
 
 /// Puts an action at the end.
-fn put_action(out: &mut String, action: &Action) -> Result<(), AllocError>
+pub fn put_action(out: &mut String, action: &Action) -> Result<(), AllocError>
     ensures { OnOk result (string_bytes out.new ≡ string_bytes out.old ++ action_text action.now) }
 {
     match action {

@@ -65,7 +65,8 @@ fn put_recipients(out: &mut String, hosts: &HostList, request: &Request) -> Resu
     Ok(())
 }
 
-fn put_path(out: &mut String, path: &Path) -> Result<(), AllocError>
+/// Puts a path at the end, its steps joined by points.
+pub fn put_path(out: &mut String, path: &Path) -> Result<(), AllocError>
     ensures { OnOk result (string_bytes out.new ≡ string_bytes out.old ++ path_text path.now) }
 {
     let Some((first, others)) = path.as_slice().split_first() else {

@@ -12,8 +12,9 @@ mod totals;
 mod values;
 mod whole;
 
-pub use actions::put_trees;
+pub use actions::{put_action, put_trees};
+pub use entries::{put_host, put_path};
 pub use fault_names::command_fault_name;
 pub use totals::summary;
-pub use values::{put_instance, put_names, put_value};
+pub use values::{put_instance, put_names, put_number, put_value};
 pub use whole::report;

@@ -1,0 +1,55 @@
+//! Parts of a picture's width.
+
+/// From where to where a part of the picture goes, in units from the left.
+#[derive(Clone, Copy, PartialEq, Eq)]
+pub(crate) struct Span {
+    pub left: u32,
+    pub right: u32,
+}
+
+/// Units between the edge of a box and what stands inside it.
+pub(crate) const INSIDE: u32 = 10;
+
+/// Units by which a consequence stands more to the right than its action.
+const LEVEL: u32 = 20;
+
+/// How wide a letter is.
+const LETTER: u32 = 8;
+
+impl Span {
+    /// What is inside a box.
+    pub fn inside(&self) -> Span {
+        Span {
+            left: self.left.saturating_add(INSIDE),
+            right: self.right.saturating_sub(INSIDE),
+        }
+    }
+
+    /// What is left for something so many levels down.
+    pub fn at_level(&self, level: u32) -> Span {
+        Span {
+            left: self.left.saturating_add(level.saturating_mul(LEVEL)),
+            right: self.right,
+        }
+    }
+
+    /// How wide it is.
+    pub fn width(&self) -> u32 {
+        self.right.saturating_sub(self.left)
+    }
+
+    /// How many letters have room.
+    pub fn letters(&self) -> u32 {
+        letters_in(self.width())
+    }
+}
+
+/// How wide a text of so many letters is.
+pub(crate) fn width_of(letters: u32) -> u32 {
+    letters.saturating_mul(LETTER)
+}
+
+/// How many letters have room in a width.
+pub(crate) fn letters_in(width: u32) -> u32 {
+    width / LETTER
+}
