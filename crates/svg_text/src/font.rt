@@ -1,0 +1,33 @@
+//! Fonts.
+ghost use Rattle.std.specs.Prelude.{◌≡◌};
+ghost use Rattle.svg_text.specs.Words.{font_word};
+
+/// How a text is set.
+#[derive(Clone, Copy, PartialEq, Eq)]
+pub enum Font {
+    /// 13 units high.
+    Plain,
+    /// 13 units high, and bold.
+    Strong,
+    /// 12 units high, and each letter is 7.3 units wide.
+    Code,
+    /// 11 units high.
+    Small,
+    /// 18 units high, and bold.
+    Title,
+}
+
+impl Font {
+    /// The word of the style sheet.
+    pub(crate) fn word(&self) -> &'static str
+        ensures { result.now ≡ font_word self.now }
+    {
+        match self {
+            Font::Plain => "plain",
+            Font::Strong => "strong",
+            Font::Code => "code",
+            Font::Small => "small",
+            Font::Title => "title",
+        }
+    }
+}
