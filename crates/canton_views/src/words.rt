@@ -6,7 +6,8 @@ use cli_words::{WordList, WordsFault};
 use ledger_terms::{Name, Text};
 use std::alloc::{AllocError, Global};
 
-const ABOUT: &str = "Runs the script of standard input and draws each request of its log as a tree with views, as SVG";
+const ABOUT: &str =
+    "Runs the script of standard input and draws each request of its log as a tree with views, as SVG";
 
 const FOR: &str = "Draws what this participant is shown, with hashes in the place of all else";
 

@@ -5,10 +5,10 @@ use crate::line::{Line, LineKind};
 use crate::picture::Picture;
 use crate::piece::Piece;
 use crate::span::letters_in;
-use crate::view_box::ViewBox;
+use crate::view_box::{BoxKind, ViewBox};
 use ledger_terms::Text;
 use std::alloc::{AllocError, Global};
-use svg_text::{Anchor, Fill, Font, Label, Paint, Point, Svg, Tone};
+use svg_text::{Anchor, Fill, Font, Frame, Label, Paint, Point, Svg, Tone};
 
 /// The picture as SVG. Boxes stand below those inside them, and all of them below the lines and the chips.
 pub fn drawn(alloc: Global, picture: &Picture) -> Result<Text, AllocError> {
@@ -30,22 +30,27 @@ pub fn drawn(alloc: Global, picture: &Picture) -> Result<Text, AllocError> {
     svg.finish()
 }
 
-/// Draws a box, in dashes where its view isn't shown.
-fn draw_box(svg: &mut Svg, view_box: &ViewBox) -> Result<(), AllocError> {
-    if view_box.shown {
-        let paint = Paint {
-            tone: Tone::Accent,
-            fill: Fill::Tint,
-        };
-        return svg.rectangle(view_box.frame, paint);
-    }
+fn draw_shown_box(svg: &mut Svg, frame: Frame, fill: Fill) -> Result<(), AllocError> {
+    let tone = Tone::Accent;
+    svg.rectangle(frame, Paint { tone, fill })
+}
+
+fn draw_blinded_box(svg: &mut Svg, frame: Frame) -> Result<(), AllocError> {
     let paint = Paint {
         tone: Tone::Quiet,
         fill: Fill::Clear,
     };
     svg.begin_group("dashed")?;
-    svg.rectangle(view_box.frame, paint)?;
+    svg.rectangle(frame, paint)?;
     svg.end_group()
+}
+
+fn draw_box(svg: &mut Svg, view_box: &ViewBox) -> Result<(), AllocError> {
+    match view_box.kind {
+        BoxKind::Tinted => draw_shown_box(svg, view_box.frame, Fill::Tint),
+        BoxKind::Plain => draw_shown_box(svg, view_box.frame, Fill::Page),
+        BoxKind::Blinded => draw_blinded_box(svg, view_box.frame),
+    }
 }
 
 fn look_of(kind: LineKind) -> (Font, Tone) {
@@ -55,7 +60,7 @@ fn look_of(kind: LineKind) -> (Font, Tone) {
         LineKind::Detail => (Font::Small, Tone::Quiet),
         LineKind::View => (Font::Small, Tone::Accent),
         LineKind::Action => (Font::Code, Tone::Ink),
-        LineKind::Blind => (Font::Code, Tone::Quiet),
+        LineKind::Blinded => (Font::Code, Tone::Quiet),
     }
 }
 
@@ -112,5 +117,11 @@ fn draw_chip(alloc: Global, svg: &mut Svg, chip: &Chip) -> Result<(), AllocError
     let mut text = String::from_str(alloc, chip.name.as_str())?;
     text.push_str(" ")?;
     text.push_str(Chip::word(chip.confirms))?;
-    draw_text(alloc, svg, &label, text.as_str(), letters_in(frame.size.width))
+    draw_text(
+        alloc,
+        svg,
+        &label,
+        text.as_str(),
+        letters_in(frame.size.width),
+    )
 }

@@ -25,4 +25,4 @@ pub use drawing::drawn;
 pub use line::{Line, LineKind};
 pub use picture::{MOST_ENTRIES, Picture, picture_of};
 pub use piece::{Piece, PieceList};
-pub use view_box::{ViewBox, ViewBoxList};
+pub use view_box::{BoxKind, ViewBox, ViewBoxList};

@@ -16,7 +16,7 @@ pub enum LineKind {
     /// An action.
     Action,
     /// A hash in place of what isn't shown.
-    Blind,
+    Blinded,
 }
 
 /// A line of text, where it begins at its foot, and how many letters have room.

@@ -16,6 +16,7 @@ pub const MOST_ENTRIES: usize = 500;
 
 /// How wide a picture is, and how much of that is left free at each edge, in units.
 const WIDTH: u32 = 960;
+
 const MARGIN: u32 = 24;
 
 /// The requests of a log with their views, as boxes, lines and chips. A text of the lines is as long as it is, whether it has room or not.
@@ -85,10 +86,16 @@ fn title_of(
 fn put_key(sheet: &mut Sheet, span: Span, has_blind: bool) -> Result<(), AllocError> {
     sheet.skip(6);
     let alloc = sheet.alloc;
-    let boxes = Text::of(alloc, "A box is a view. Each participant that sees it has a chip, which is filled where it confirms the view.")?;
+    let boxes = Text::of(
+        alloc,
+        "A box is a view. Each participant that sees it has a chip, which is filled where it confirms the view.",
+    )?;
     sheet.put_line(LineKind::Detail, span, boxes)?;
     if has_blind {
-        let blind = Text::of(alloc, "What isn't shown has a box of dashes with its hash, cut to eight digits.")?;
+        let blind = Text::of(
+            alloc,
+            "What isn't shown has a box of dashes with its hash, cut to eight digits.",
+        )?;
         sheet.put_line(LineKind::Detail, span, blind)?;
     }
     Ok(())
@@ -96,7 +103,10 @@ fn put_key(sheet: &mut Sheet, span: Span, has_blind: bool) -> Result<(), AllocEr
 
 fn put_end(sheet: &mut Sheet, span: Span) -> Result<(), AllocError> {
     sheet.skip(12);
-    let mut out = String::from_str(sheet.alloc, "The log goes on. Drawn are the requests of its first ")?;
+    let mut out = String::from_str(
+        sheet.alloc,
+        "The log goes on. Drawn are the requests of its first ",
+    )?;
     put_number(&mut out, MOST_ENTRIES as u64)?;
     out.push_str(" entries.")?;
     sheet.put_line(LineKind::Detail, span, Text::of_string(out))

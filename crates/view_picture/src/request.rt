@@ -14,6 +14,9 @@ use std::alloc::{AllocError, Global};
 /// Units above a request.
 const ABOVE: u32 = 18;
 
+/// Units between a request's head and its views.
+const BELOW_HEAD: u32 = 4;
+
 /// Puts the request at a place: all that its messages disclose, or what the envelope to one participant does.
 pub(crate) fn put_request(
     sheet: &mut Sheet,
@@ -36,6 +39,7 @@ pub(crate) fn put_request(
     };
     let text = told_text(alloc, &disclosure)?;
     sheet.put_line(LineKind::Detail, span, text)?;
+    sheet.skip(BELOW_HEAD);
     let spot = Spot::root(alloc, span);
     put_vertices(sheet, topology, &disclosure, &spot, &disclosure.tree.views)
 }

@@ -2,19 +2,24 @@
 use crate::chip::Chip;
 use crate::line::{Line, LineKind};
 use crate::piece::{Piece, PieceList};
-use crate::span::{INSIDE, Span, width_of};
-use crate::view_box::{ViewBox, ViewBoxList};
+use crate::span::{INSIDE, Span, letters_of, width_of};
+use crate::view_box::{BoxKind, ViewBox, ViewBoxList};
 use ledger_terms::{Name, Text};
 use std::alloc::{AllocError, Global};
 use svg_text::{Frame, Point, Size};
 
 /// Units from one line to the next, and from a line's top to its foot.
 const LINE: u32 = 20;
+
 const FOOT: u32 = 14;
 
 /// How high a chip is, and how much is left round it.
 const CHIP: u32 = 18;
+
 const CHIP_GAP: u32 = 6;
+
+/// How many letters have room in a chip beside its two words.
+const CHIP_LETTERS: u32 = 3;
 
 /// What was put into a picture so far, and how far down that goes. Heights past what a u32 holds stay at its greatest.
 #[derive(Drop)]
@@ -23,6 +28,12 @@ pub(crate) struct Sheet {
     pub bottom: u32,
     pub boxes: ViewBoxList,
     pub pieces: PieceList,
+}
+
+/// How wide a chip wants to be.
+fn chip_width(name: Name, confirms: bool) -> u32 {
+    let letters = letters_of(name.as_str()).saturating_add(letters_of(Chip::word(confirms)));
+    width_of(letters.saturating_add(CHIP_LETTERS))
 }
 
 impl Sheet {
@@ -65,8 +76,7 @@ impl Sheet {
         name: Name,
         confirms: bool,
     ) -> Result<u32, AllocError> {
-        let letters = name.as_str().len() + Chip::word(confirms).len() + 3;
-        let width = width_of(letters as u32).min(span.width());
+        let width = chip_width(name, confirms).min(span.width());
         let mut left = left;
         if left > span.left && left.saturating_add(width) > span.right {
             self.skip(CHIP + CHIP_GAP);
@@ -104,7 +114,7 @@ impl Sheet {
     }
 
     /// Ends the box that began at `top`.
-    pub fn end_box(&mut self, span: Span, top: u32, shown: bool) -> Result<(), AllocError> {
+    pub fn end_box(&mut self, span: Span, top: u32, kind: BoxKind) -> Result<(), AllocError> {
         self.skip(INSIDE / 2);
         let frame = Frame {
             corner: Point {
@@ -118,6 +128,6 @@ impl Sheet {
             radius: INSIDE / 2,
         };
         self.skip(INSIDE);
-        self.boxes.push(ViewBox { frame, shown })
+        self.boxes.push(ViewBox { frame, kind })
     }
 }

@@ -53,3 +53,11 @@ pub(crate) fn width_of(letters: u32) -> u32 {
 pub(crate) fn letters_in(width: u32) -> u32 {
     width / LETTER
 }
+
+/// The greatest number of letters that anything is made wide for.
+const MOST_LETTERS: usize = 1_000;
+
+/// How many letters an ASCII text has, as far as that counts.
+pub(crate) fn letters_of(text: &str) -> u32 {
+    text.len().min(MOST_LETTERS) as u32
+}

@@ -32,4 +32,13 @@ impl Spot {
             told: told.clone()?,
         })
     }
+
+    /// That of the views below one whose box is here.
+    pub fn inside(&self) -> Result<Spot, AllocError> {
+        Ok(Spot {
+            path: self.path.clone()?,
+            span: self.span.inside(),
+            told: self.told.clone()?,
+        })
+    }
 }

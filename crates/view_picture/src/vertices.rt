@@ -3,6 +3,7 @@ use crate::disclosure::Disclosure;
 use crate::line::LineKind;
 use crate::sheet::Sheet;
 use crate::spot::Spot;
+use crate::view_box::BoxKind;
 use crate::views::{put_roles, put_view};
 use crate::words::{blind_text, hash_line};
 use blind_tree::{Leaf, Vertex, VertexList};
@@ -35,10 +36,9 @@ pub(crate) fn put_vertices(
                 let top = sheet.begin_box();
                 put_blind_head(sheet, topology, disclosure, &spot, informees)?;
                 put_leaf(sheet, &spot, "contents: hash ", contents)?;
-                let mut inside = spot.below(0, spot.span.inside(), &spot.told)?;
-                inside.path = spot.path.clone()?;
+                let inside = spot.inside()?;
                 put_vertices(sheet, topology, disclosure, &inside, subviews)?;
-                sheet.end_box(spot.span, top, false)?;
+                sheet.end_box(spot.span, top, BoxKind::Blinded)?;
             }
         }
     }
@@ -49,11 +49,11 @@ pub(crate) fn put_vertices(
 fn put_hash_box(sheet: &mut Sheet, spot: &Spot, hash: &Hash) -> Result<(), AllocError> {
     let top = sheet.begin_box();
     let inside = spot.span.inside();
-    let text = blind_text(sheet.alloc, &spot.path, ", blind")?;
+    let text = blind_text(sheet.alloc, &spot.path, ", blinded")?;
     sheet.put_line(LineKind::View, inside, text)?;
     let text = hash_line(sheet.alloc, "hash ", hash)?;
-    sheet.put_line(LineKind::Blind, inside, text)?;
-    sheet.end_box(spot.span, top, false)
+    sheet.put_line(LineKind::Blinded, inside, text)?;
+    sheet.end_box(spot.span, top, BoxKind::Blinded)
 }
 
 /// Puts which view it is whose contents aren't shown, with what the mediator is told of it.
@@ -65,11 +65,9 @@ fn put_blind_head(
     informees: &Leaf,
 ) -> Result<(), AllocError> {
     match disclosure.roles_at(&spot.path) {
-        Some((informees, confirmers)) => {
-            put_roles(sheet, topology, spot, informees, confirmers)
-        }
+        Some((informees, confirmers)) => { put_roles(sheet, topology, spot, informees, confirmers) }
         None => {
-            let text = blind_text(sheet.alloc, &spot.path, ", blind")?;
+            let text = blind_text(sheet.alloc, &spot.path, ", blinded")?;
             sheet.put_line(LineKind::View, spot.span.inside(), text)?;
             put_leaf(sheet, spot, "informees: hash ", informees)
         }
@@ -77,16 +75,11 @@ fn put_blind_head(
 }
 
 /// Puts the hash of a leaf that isn't shown.
-fn put_leaf(
-    sheet: &mut Sheet,
-    spot: &Spot,
-    what: &str,
-    leaf: &Leaf,
-) -> Result<(), AllocError> {
+fn put_leaf(sheet: &mut Sheet, spot: &Spot, what: &str, leaf: &Leaf) -> Result<(), AllocError> {
     match leaf {
         Leaf::Blind(hash) => {
             let text = hash_line(sheet.alloc, what, hash)?;
-            sheet.put_line(LineKind::Blind, spot.span.inside(), text)
+            sheet.put_line(LineKind::Blinded, spot.span.inside(), text)
         }
         Leaf::Plain { .. } => Ok(()),
     }

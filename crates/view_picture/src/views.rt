@@ -4,9 +4,10 @@ use crate::line::LineKind;
 use crate::sheet::Sheet;
 use crate::span::Span;
 use crate::spot::Spot;
-use crate::steps::{Step, steps_of};
+use crate::steps::{StepList, steps_of};
+use crate::view_box::BoxKind;
 use crate::words::view_text;
-use ledger_terms::{PartySet, Topology};
+use ledger_terms::{PartySet, Path, Topology};
 use std::alloc::AllocError;
 use view_split::View;
 
@@ -20,19 +21,34 @@ pub(crate) fn put_view(
     let top = sheet.begin_box();
     let inside = spot.span.inside();
     let told = spot.told.union(&view.root.informees)?;
-    put_roles(sheet, topology, spot, &view.root.informees, &view.root.confirmers)?;
+    put_roles(
+        sheet,
+        topology,
+        spot,
+        &view.root.informees,
+        &view.root.confirmers,
+    )?;
     let steps = steps_of(sheet.alloc, &view.root)?;
-    let mut steps = steps.as_slice();
+    let mut next = 0;
     let mut at: u16 = 0;
     for below in view.below.as_slice() {
-        let (level, rest) = put_core(sheet, inside, steps)?;
-        let spot_below = spot.below(at, inside.at_level(level), &told)?;
+        let hole = put_core(sheet, inside, &steps, next)?;
+        let spot_below = spot.below(at, inside.at_level(hole.level), &told)?;
         put_view(sheet, topology, &spot_below, below)?;
-        steps = rest;
+        next = hole.next;
         at = at.saturating_add(1);
     }
-    put_core(sheet, inside, steps)?;
-    sheet.end_box(spot.span, top, true)
+    put_core(sheet, inside, &steps, next)?;
+    sheet.end_box(spot.span, top, kind_at(&spot.path))
+}
+
+/// How the box of a shown view looks, so that it can be told from the one around it.
+fn kind_at(path: &Path) -> BoxKind {
+    if path.len() % 2 == 1 {
+        BoxKind::Tinted
+    } else {
+        BoxKind::Plain
+    }
 }
 
 /// Puts what is told of a view: who it is for, and a chip for each participant that sees it.
@@ -50,22 +66,32 @@ pub(crate) fn put_roles(
     put_chips(sheet, topology, inside, &told, confirmers)
 }
 
-/// Puts the actions of a core up to the next hole, and says at which level that is and what is left after it.
-fn put_core<'s>(
+/// A hole in a core: its level, and the number of the step after it.
+#[derive(Clone, Copy)]
+struct Hole {
+    level: u32,
+    next: usize,
+}
+
+/// Puts the actions of a core from a step on, up to the next hole.
+fn put_core(
     sheet: &mut Sheet,
     span: Span,
-    steps: &'s [Step],
-) -> Result<(u32, &'s [Step]), AllocError> {
-    let mut left = steps;
-    while let Some((step, rest)) = left.split_first() {
-        left = rest;
+    steps: &StepList,
+    from: usize,
+) -> Result<Hole, AllocError> {
+    for (at, step) in steps.as_slice().iter().enumerate().skip(from) {
+        let level = step.level;
         match &step.action {
             Some(action) => {
-                let text = action.clone()?;
-                sheet.put_line(LineKind::Action, span.at_level(step.level), text)?;
+                sheet.put_line(LineKind::Action, span.at_level(level), action.clone()?)?;
             }
-            None => return Ok((step.level, rest)),
+            None => {
+                let next = at.saturating_add(1);
+                return Ok(Hole { level, next });
+            }
         }
     }
-    Ok((0, left))
+    let next = steps.len();
+    Ok(Hole { level: 0, next })
 }
