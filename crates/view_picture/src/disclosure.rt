@@ -90,6 +90,12 @@ impl Disclosure {
         None
     }
 
+    /// The informees of the view at a path, as the mediator is told them.
+    pub fn informees_at(&self, path: &Path) -> Option<&PartySet> {
+        let (informees, _) = self.roles_at(path)?;
+        Some(informees)
+    }
+
     /// The requesters, where an envelope tells them.
     pub fn requesters(&self) -> Option<&PartySet> {
         for part in self.opened.as_slice() {

@@ -3,7 +3,7 @@ use ledger_terms::Text;
 use svg_text::Point;
 
 /// What a line says.
-#[derive(Clone, Copy, PartialEq, Eq)]
+#[derive(Clone, Copy)]
 pub enum LineKind {
     /// What the picture shows.
     Title,

@@ -14,9 +14,6 @@ use std::alloc::{AllocError, Global};
 /// Units above a request.
 const ABOVE: u32 = 18;
 
-/// Units between a request's head and its views.
-const BELOW_HEAD: u32 = 4;
-
 /// Puts the request at a place: all that its messages disclose, or what the envelope to one participant does.
 pub(crate) fn put_request(
     sheet: &mut Sheet,
@@ -39,7 +36,6 @@ pub(crate) fn put_request(
     };
     let text = told_text(alloc, &disclosure)?;
     sheet.put_line(LineKind::Detail, span, text)?;
-    sheet.skip(BELOW_HEAD);
     let spot = Spot::root(alloc, span);
     put_vertices(sheet, topology, &disclosure, &spot, &disclosure.tree.views)
 }

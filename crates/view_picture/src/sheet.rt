@@ -13,6 +13,9 @@ const LINE: u32 = 20;
 
 const FOOT: u32 = 14;
 
+/// Units above a box.
+const BOX_GAP: u32 = 4;
+
 /// How high a chip is, and how much is left round it.
 const CHIP: u32 = 18;
 
@@ -108,6 +111,7 @@ impl Sheet {
 
     /// Begins a box, and says where its top is.
     pub fn begin_box(&mut self) -> u32 {
+        self.skip(BOX_GAP);
         let top = self.bottom;
         self.skip(INSIDE);
         top

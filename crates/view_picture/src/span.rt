@@ -1,7 +1,7 @@
 //! Parts of a picture's width.
 
 /// From where to where a part of the picture goes, in units from the left.
-#[derive(Clone, Copy, PartialEq, Eq)]
+#[derive(Clone, Copy)]
 pub(crate) struct Span {
     pub left: u32,
     pub right: u32,

@@ -33,12 +33,16 @@ impl Spot {
         })
     }
 
-    /// That of the views below one whose box is here.
-    pub fn inside(&self) -> Result<Spot, AllocError> {
+    /// That of the views below the one here, with its informees where they are told.
+    pub fn inside(&self, informees: Option<&PartySet>) -> Result<Spot, AllocError> {
+        let told = match informees {
+            Some(informees) => self.told.union(informees)?,
+            None => self.told.clone()?,
+        };
         Ok(Spot {
             path: self.path.clone()?,
             span: self.span.inside(),
-            told: self.told.clone()?,
+            told,
         })
     }
 }

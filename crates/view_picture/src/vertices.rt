@@ -36,7 +36,7 @@ pub(crate) fn put_vertices(
                 let top = sheet.begin_box();
                 put_blind_head(sheet, topology, disclosure, &spot, informees)?;
                 put_leaf(sheet, &spot, "contents: hash ", contents)?;
-                let inside = spot.inside()?;
+                let inside = spot.inside(disclosure.informees_at(&spot.path))?;
                 put_vertices(sheet, topology, disclosure, &inside, subviews)?;
                 sheet.end_box(spot.span, top, BoxKind::Blinded)?;
             }

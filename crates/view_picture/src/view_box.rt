@@ -3,7 +3,7 @@ use ledger_terms::ListOf;
 use svg_text::Frame;
 
 /// How a box looks.
-#[derive(Clone, Copy, PartialEq, Eq)]
+#[derive(Clone, Copy)]
 pub enum BoxKind {
     /// That of a view on an odd level, where roots stand on the first.
     Tinted,
@@ -14,7 +14,7 @@ pub enum BoxKind {
 }
 
 /// The box round a view's actions. Of a view that isn't shown it holds hashes alone.
-#[derive(Clone, Copy, PartialEq, Eq)]
+#[derive(Clone, Copy)]
 pub struct ViewBox {
     pub frame: Frame,
     pub kind: BoxKind,
