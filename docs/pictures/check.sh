@@ -1,23 +1,37 @@
 #!/bin/sh
-# check.sh: makes the pictures of this folder again, by programs that are compiled with checks and not proved, and compares them. Ends with
-# another status than 0 where one differs.
-set -eu
-
-here=$(dirname "$(readlink -f "$0")")
-root=$(readlink -f "$here/../..")
-cases=$(mktemp -d)
-trap 'rm -rf "$cases"' EXIT
-
-# compare KIND SUFFIX: the pictures NAME.KIND.svg are what the program of that kind makes of the examples NAME.SUFFIX
-compare() {
-    mkdir "$cases/$1"
-    for picture in "$here"/*."$1".svg; do
-        name=$(basename "$picture" ".$1.svg")
-        cp "$root/examples/$name.$2" "$cases/$1/$name"
-        cp "$picture" "$cases/$1/$name.stdout"
-    done
-    (cd "$root/crates/canton_$1" && rt try --cases "$cases/$1")
-}
-
-compare chart report
-compare views json
+# check.sh PROGRAM..: draws each report of examples/ and those of reports.py with the program, `./canton chart` where none is given.
+# A good report has to give a picture that xmllint (of Debian's libxml2-utils) parses, a broken one its line and its status and
+# nothing else. Prints what is amiss, and the number of faults. Not a part of the gate.
+set -u
+root=$(dirname "$(dirname "$(dirname "$(readlink -f "$0")")")")
+[ $# -gt 0 ] || set -- "$root/canton" chart
+work=$(mktemp -d) || exit 1
+trap 'rm -rf "$work"' EXIT
+"$root/docs/pictures/reports.py" "$work" || exit 1
+for report in "$root"/examples/*.report; do
+    name=$(basename "$report" .report)
+    cp "$report" "$work/$name.report"
+    echo 0 >"$work/$name.status"
+    : >"$work/$name.line"
+done
+faults=0
+count=0
+for report in "$work"/*.report; do
+    base=${report%.report}
+    "$@" <"$report" >"$base.svg" 2>"$base.err"
+    status=$?
+    why=
+    [ "$status" = "$(cat "$base.status")" ] || why="status $status"
+    cmp -s "$base.err" "$base.line" || why="$why, standard error: $(head -c 200 "$base.err")"
+    if [ "$(cat "$base.status")" = 0 ]; then
+        xmllint --noout "$base.svg" 2>/dev/null || why="$why, no XML"
+    elif [ -s "$base.svg" ]; then
+        why="$why, bytes on standard output"
+    fi
+    count=$((count + 1))
+    [ -z "$why" ] && continue
+    echo "$(basename "$base"): $why"
+    faults=$((faults + 1))
+done
+echo "$count reports, $faults faults"
+[ "$faults" = 0 ]

@@ -10,11 +10,27 @@ use Rattle.svg_text.specs.declared.paint.Paint.{Paint}
 use Rattle.svg_text.specs.declared.point.Point.{Point}
 use Rattle.svg_text.specs.declared.size.Size.{Size}
 use Rattle.svg_text.specs.declared.stroke.Stroke.{Stroke}
-use Rattle.svg_text.specs.declared.tone.Tone.{Tone}
 
 -- a blank, a name and a number
 abbrev pub number_attribute : List ℕ → ℕ → List ℕ
 number_attribute name number = codes " " ++ name ++ codes "=\"" ++ decimal number ++ codes "\""
+
+-- an attribute up to its first quote
+abbrev pub attribute_start : List ℕ → List ℕ
+attribute_start name = codes " " ++ name ++ codes "=\""
+
+-- two numbers with a blank between them
+abbrev pub pair : ℕ → ℕ → List ℕ
+pair first second = decimal first ++ codes " " ++ decimal second
+
+-- an attribute with two numbers between other words
+abbrev pub pair_attribute : List ℕ → List ℕ → ℕ → ℕ → List ℕ → List ℕ
+pair_attribute name before first second behind =
+    attribute_start name ++ before ++ pair first second ++ behind ++ codes "\""
+
+-- an attribute with a word between other words
+abbrev pub joined_attribute : List ℕ → List ℕ → List ℕ → List ℕ → List ℕ
+joined_attribute name before word behind = attribute_start name ++ before ++ word ++ behind ++ codes "\""
 
 -- a blank, a name and a text
 abbrev pub attribute : List ℕ → List ℕ → List ℕ
@@ -55,13 +71,13 @@ abbrev pub line_element : Point → Point → Stroke → List ℕ
 line_element from to stroke =
     codes "<line" ++ ends from to ++ class_attribute (tone_word stroke.tone) (dash_word stroke.dash) ++ codes "/>\n"
 
--- the end of a line as an arrow's tip of this tone
-abbrev pub tip : Tone → List ℕ
-tip tone = codes " marker-end=\"url(#tip-" ++ tone_word tone ++ codes ")\""
+-- the end of a line as the tip of an arrow of the tone with this word
+unfoldable pub tip : List ℕ → List ℕ
+tip word = joined_attribute (codes "marker-end") (codes "url(#tip-") word (codes ")")
 
 abbrev pub arrow_element : Point → Point → Stroke → List ℕ
 arrow_element from to stroke =
-    codes "<line" ++ ends from to ++ class_attribute (tone_word stroke.tone) (dash_word stroke.dash) ++ tip stroke.tone ++ codes "/>\n"
+    codes "<line" ++ ends from to ++ class_attribute (tone_word stroke.tone) (dash_word stroke.dash) ++ tip (tone_word stroke.tone) ++ codes "/>\n"
 
 abbrev pub paint_class : Paint → List ℕ
 paint_class paint = class_attribute (tone_word paint.tone) (fill_word paint.fill)
@@ -79,7 +95,7 @@ abbrev pub circle_element : Point → ℕ → Paint → List ℕ
 circle_element at radius paint = codes "<circle" ++ round at radius ++ paint_class paint ++ codes "/>\n"
 
 abbrev pub shift : Point → List ℕ
-shift at = codes " transform=\"translate(" ++ decimal at.x ++ codes " " ++ decimal at.y ++ codes ")\""
+shift at = pair_attribute (codes "transform") (codes "translate(") at.x at.y (codes ")")
 
 abbrev pub mark_element : Point → Mark → List ℕ
 mark_element at mark =
@@ -87,7 +103,3 @@ mark_element at mark =
 
 abbrev pub group_start : List ℕ → List ℕ
 group_start class = codes "<g" ++ attribute (codes "class") class ++ codes ">"
-
--- the root's size, once as its own and once as that of its units
-abbrev pub sheet : Size → List ℕ
-sheet size = extent size ++ codes " viewBox=\"0 0 " ++ decimal size.width ++ codes " " ++ decimal size.height ++ codes "\""

@@ -9,7 +9,8 @@ is_kept byte = byte == 38 || (byte == 60 || (byte == 62 || (byte == 34 || byte =
 -- the entity of a byte that XML keeps for itself
 abbrev pub entity : ℕ → List ℕ
 entity byte =
-    if byte == 38 then codes "&amp;" else (if byte == 60 then codes "&lt;" else (if byte == 62 then codes "&gt;" else (if byte == 34 then codes "&quot;" else codes "&apos;")))
+    if byte == 38 then codes "&amp;" else (if byte == 60 then codes "&lt;" else (if byte == 62 then codes "&gt;"
+    else (if byte == 34 then codes "&quot;" else codes "&apos;")))
 
 abbrev pub escaped_byte : ℕ → List ℕ
 escaped_byte byte = if is_kept byte then entity byte else byte ∷ []

@@ -1,15 +1,29 @@
 -- What stands before the first element of a picture.
-use Rattle.std.specs.Prelude.{ℕ, List, ◌++◌, codes}
-use Rattle.svg_text.specs.Elements.{sheet, extent}
+use Rattle.std.specs.Prelude.{ℕ, List, [], ◌++◌, codes}
+use Rattle.svg_text.specs.Elements.{extent, pair_attribute}
 use Rattle.svg_text.specs.Escape.{escaped}
 use Rattle.svg_text.specs.declared.size.Size.{Size}
-use Rattle.svg_text.specs.declared.style.TheConstants.{STYLE, TIPS}
+use Rattle.svg_text.specs.declared.style.TheConstants.{ROOT, STYLE, TIPS}
 
--- the title and the description for those who don't see the picture
-abbrev pub caption : List ℕ → List ℕ → List ℕ
-caption title description =
-    codes " role=\"img\" aria-labelledby=\"title description\">\n<title id=\"title\">" ++ escaped title ++ codes "</title>\n<desc id=\"description\">"
-    ++ escaped description ++ codes "</desc>\n"
+-- the part of the plane that is drawn
+abbrev pub view_box : Size → List ℕ
+view_box size = pair_attribute (codes "viewBox") (codes "0 0 ") size.width size.height []
+
+abbrev pub root : Size → List ℕ
+root size = ROOT.now ++ extent size ++ view_box size ++ codes ">\n"
+
+abbrev pub described_start : List ℕ → List ℕ
+described_start name = codes "<" ++ name ++ codes " id=\"" ++ name ++ codes "\">"
+
+abbrev pub described_end : List ℕ → List ℕ
+described_end name = codes "</" ++ name ++ codes ">\n"
+
+-- an element that holds a text alone, with its own name for an id: the title and the description
+abbrev pub described : List ℕ → List ℕ → List ℕ
+described name text = described_start name ++ escaped text ++ described_end name
+
+abbrev pub sheets : List ℕ
+sheets = STYLE.now ++ TIPS.now
 
 -- the page under everything
 abbrev pub page : Size → List ℕ
@@ -17,4 +31,4 @@ page size = codes "<rect class=\"sheet\"" ++ extent size ++ codes "/>\n"
 
 abbrev pub opening : Size → List ℕ → List ℕ → List ℕ
 opening size title description =
-    codes "<svg xmlns=\"http://www.w3.org/2000/svg\"" ++ sheet size ++ caption title description ++ STYLE.now ++ TIPS.now ++ page size
+    root size ++ described (codes "title") title ++ described (codes "desc") description ++ sheets ++ page size

@@ -34,7 +34,8 @@ is_front (a ∷ front) (b ∷ text) = a == b && is_front front text
 -- whether one of the five entities stands here, behind its ampersand
 abbrev pub begins_name : List ℕ → Bool
 begins_name text =
-    is_front (codes "amp;") text || (is_front (codes "lt;") text || (is_front (codes "gt;") text || (is_front (codes "quot;") text || is_front (codes "apos;") text)))
+    is_front (codes "amp;") text || (is_front (codes "lt;") text || (is_front (codes "gt;") text
+    || (is_front (codes "quot;") text || is_front (codes "apos;") text)))
 
 -- whether each ampersand begins one of the five entities
 abbrev pub ampersands_begin_entities : List ℕ → Bool

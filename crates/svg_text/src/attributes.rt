@@ -1,6 +1,6 @@
 //! Attributes of elements.
 ghost use Rattle.std.specs.Prelude.{◌≡◌, ◌++◌, OnOk, string_bytes, decimal};
-ghost use Rattle.svg_text.specs.Elements.{attribute, number_attribute, class_attribute, place, extent, ends};
+ghost use Rattle.svg_text.specs.Elements.{attribute, attribute_start, number_attribute, pair, pair_attribute, class_attribute, place, extent, ends, joined_attribute};
 ghost use Rattle.svg_text.specs.Escape.{escaped};
 
 use crate::escape::put_escaped;
@@ -14,6 +14,61 @@ pub(crate) fn put_number(out: &mut String, number: u32) -> Result<(), AllocError
 {
     let mut buffer = Buffer::new();
     out.push_str(buffer.format(number))
+}
+
+/// Two numbers with a blank between them.
+fn put_pair(out: &mut String, first: u32, second: u32) -> Result<(), AllocError>
+    ensures { OnOk result (string_bytes out.new ≡ string_bytes out.old ++ pair first second) }
+{
+    put_number(out, first)?;
+    out.push_str(" ")?;
+    put_number(out, second)
+}
+
+/// An attribute up to its first quote.
+fn put_attribute_start(out: &mut String, name: &str) -> Result<(), AllocError>
+    ensures { OnOk result (string_bytes out.new ≡ string_bytes out.old ++ attribute_start name.now) }
+{
+    out.push_str(" ")?;
+    out.push_str(name)?;
+    out.push_str("=\"")
+}
+
+/// An attribute with two numbers between other words.
+pub(crate) fn put_pair_attribute(
+    out: &mut String,
+    name: &str,
+    before: &str,
+    first: u32,
+    second: u32,
+    behind: &str,
+) -> Result<(), AllocError>
+    ensures { OnOk result (string_bytes out.new ≡ string_bytes out.old
+        ++ pair_attribute name.now before.now first second behind.now) }
+{
+    put_attribute_start(out, name)?;
+    out.push_str(before)?;
+    put_pair(out, first, second)?;
+    out.push_str(behind)?;
+    out.push_str("\"")
+}
+
+/// An attribute with a word between other words.
+pub(crate) fn put_joined_attribute(
+    out: &mut String,
+    name: &str,
+    before: &str,
+    word: &str,
+    behind: &str,
+) -> Result<(), AllocError>
+    ensures { OnOk result (string_bytes out.new ≡ string_bytes out.old
+        ++ joined_attribute name.now before.now word.now behind.now) }
+{
+    put_attribute_start(out, name)?;
+    out.push_str(before)?;
+    out.push_str(word)?;
+    out.push_str(behind)?;
+    out.push_str("\"")
 }
 
 /// A blank, a name and a number.

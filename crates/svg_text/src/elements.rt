@@ -1,17 +1,19 @@
 //! Parts of elements.
 ghost use Rattle.std.specs.Prelude.{◌≡◌, ◌++◌, OnOk, string_bytes};
-ghost use Rattle.svg_text.specs.Elements.{title_element, label_class, label_start, tip, paint_class, outline, round, shift, sheet};
-ghost use Rattle.svg_text.specs.Opening.{caption, page, opening};
+ghost use Rattle.svg_text.specs.Elements.{title_element, label_class, label_start, tip, paint_class, outline, round, shift};
+ghost use Rattle.svg_text.specs.Opening.{described, described_end, described_start, page, opening, root, sheets, view_box};
 
-use crate::attributes::{put_class, put_extent, put_number, put_number_attribute, put_place};
+use crate::attributes::{
+    put_class, put_extent, put_joined_attribute, put_number_attribute, put_pair_attribute,
+    put_place,
+};
 use crate::escape::put_escaped;
 use crate::frame::Frame;
 use crate::label::Label;
 use crate::paint::Paint;
 use crate::point::Point;
 use crate::size::Size;
-use crate::style::{STYLE, TIPS};
-use crate::tone::Tone;
+use crate::style::{ROOT, STYLE, TIPS};
 use std::alloc::AllocError;
 
 /// A title inside its element.
@@ -45,13 +47,12 @@ pub(crate) fn put_label_start(out: &mut String, label: &Label) -> Result<(), All
     out.push_str(">")
 }
 
-/// An arrow's tip.
-pub(crate) fn put_tip(out: &mut String, tone: Tone) -> Result<(), AllocError>
-    ensures { OnOk result (string_bytes out.new ≡ string_bytes out.old ++ tip tone) }
+/// The tip of an arrow of the tone with this word.
+#[tactic(auto, unfolding(crate::specs::Elements::tip))]
+pub(crate) fn put_tip(out: &mut String, word: &str) -> Result<(), AllocError>
+    ensures { OnOk result (string_bytes out.new ≡ string_bytes out.old ++ tip word.now) }
 {
-    out.push_str(" marker-end=\"url(#tip-")?;
-    out.push_str(tone.word())?;
-    out.push_str(")\"")
+    put_joined_attribute(out, "marker-end", "url(#tip-", word, ")")
 }
 
 pub(crate) fn put_paint(out: &mut String, paint: Paint) -> Result<(), AllocError>
@@ -82,32 +83,40 @@ pub(crate) fn put_round(out: &mut String, at: Point, radius: u32) -> Result<(), 
 pub(crate) fn put_shift(out: &mut String, at: Point) -> Result<(), AllocError>
     ensures { OnOk result (string_bytes out.new ≡ string_bytes out.old ++ shift at) }
 {
-    out.push_str(" transform=\"translate(")?;
-    put_number(out, at.x)?;
-    out.push_str(" ")?;
-    put_number(out, at.y)?;
-    out.push_str(")\"")
+    put_pair_attribute(out, "transform", "translate(", at.x, at.y, ")")
 }
 
-fn put_sheet(out: &mut String, size: Size) -> Result<(), AllocError>
-    ensures { OnOk result (string_bytes out.new ≡ string_bytes out.old ++ sheet size) }
+fn put_view_box(out: &mut String, size: Size) -> Result<(), AllocError>
+    ensures { OnOk result (string_bytes out.new ≡ string_bytes out.old ++ view_box size) }
 {
-    put_extent(out, size)?;
-    out.push_str(" viewBox=\"0 0 ")?;
-    put_number(out, size.width)?;
-    out.push_str(" ")?;
-    put_number(out, size.height)?;
-    out.push_str("\"")
+    put_pair_attribute(out, "viewBox", "0 0 ", size.width, size.height, "")
 }
 
-fn put_caption(out: &mut String, title: &str, description: &str) -> Result<(), AllocError>
-    ensures { OnOk result (string_bytes out.new ≡ string_bytes out.old ++ caption title.now description.now) }
+fn put_described_start(out: &mut String, name: &str) -> Result<(), AllocError>
+    ensures { OnOk result (string_bytes out.new ≡ string_bytes out.old ++ described_start name.now) }
 {
-    out.push_str(" role=\"img\" aria-labelledby=\"title description\">\n<title id=\"title\">")?;
-    put_escaped(out, title)?;
-    out.push_str("</title>\n<desc id=\"description\">")?;
-    put_escaped(out, description)?;
-    out.push_str("</desc>\n")
+    out.push_str("<")?;
+    out.push_str(name)?;
+    out.push_str(" id=\"")?;
+    out.push_str(name)?;
+    out.push_str("\">")
+}
+
+fn put_described_end(out: &mut String, name: &str) -> Result<(), AllocError>
+    ensures { OnOk result (string_bytes out.new ≡ string_bytes out.old ++ described_end name.now) }
+{
+    out.push_str("</")?;
+    out.push_str(name)?;
+    out.push_str(">\n")
+}
+
+/// An element that holds a text alone, with its own name for an id.
+fn put_described(out: &mut String, name: &str, text: &str) -> Result<(), AllocError>
+    ensures { OnOk result (string_bytes out.new ≡ string_bytes out.old ++ described name.now text.now) }
+{
+    put_described_start(out, name)?;
+    put_escaped(out, text)?;
+    put_described_end(out, name)
 }
 
 fn put_page(out: &mut String, size: Size) -> Result<(), AllocError>
@@ -127,10 +136,25 @@ pub(crate) fn put_opening(
 ) -> Result<(), AllocError>
     ensures { OnOk result (string_bytes out.new ≡ string_bytes out.old ++ opening size title.now description.now) }
 {
-    out.push_str("<svg xmlns=\"http://www.w3.org/2000/svg\"")?;
-    put_sheet(out, size)?;
-    put_caption(out, title, description)?;
-    out.push_str(STYLE)?;
-    out.push_str(TIPS)?;
+    put_root(out, size)?;
+    put_described(out, "title", title)?;
+    put_described(out, "desc", description)?;
+    put_sheets(out)?;
     put_page(out, size)
+}
+
+fn put_root(out: &mut String, size: Size) -> Result<(), AllocError>
+    ensures { OnOk result (string_bytes out.new ≡ string_bytes out.old ++ root size) }
+{
+    out.push_str(ROOT)?;
+    put_extent(out, size)?;
+    put_view_box(out, size)?;
+    out.push_str(">\n")
+}
+
+fn put_sheets(out: &mut String) -> Result<(), AllocError>
+    ensures { OnOk result (string_bytes out.new ≡ string_bytes out.old ++ sheets) }
+{
+    out.push_str(STYLE)?;
+    out.push_str(TIPS)
 }

@@ -5,15 +5,15 @@ ghost use Rattle.svg_text.specs.Words.{font_word};
 /// How a text is set.
 #[derive(Clone, Copy, PartialEq, Eq)]
 pub enum Font {
-    /// 13 units high.
+    /// 14 units high.
     Plain,
-    /// 13 units high, and bold.
+    /// 14 units high, and bold.
     Strong,
-    /// 12 units high, and each letter is 7.3 units wide.
+    /// 13 units high, and each letter is 7.8 units wide.
     Code,
-    /// 11 units high.
+    /// 12 units high.
     Small,
-    /// 18 units high, and bold.
+    /// 20 units high, and bold.
     Title,
 }
 

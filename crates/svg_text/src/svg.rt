@@ -117,7 +117,7 @@ impl Svg {
         self.out.push_str("<line")?;
         put_ends(&mut self.out, from, to)?;
         put_class(&mut self.out, stroke.tone.word(), stroke.dash.word())?;
-        put_tip(&mut self.out, stroke.tone)?;
+        put_tip(&mut self.out, stroke.tone.word())?;
         self.out.push_str("/>\n")
     }
 

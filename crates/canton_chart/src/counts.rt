@@ -1,0 +1,84 @@
+//! What a report has, counted.
+use report_read::{Answer, Ending, Report, SubmitResult};
+use std::alloc::{AllocError, Global};
+
+/// How many entries, requests by their endings, and refused submissions a report has.
+#[derive(Clone, Copy)]
+pub struct Counts {
+    pub entries: usize,
+    pub requests: usize,
+    pub approved: usize,
+    pub rejected: usize,
+    pub timed_out: usize,
+    pub expired: usize,
+    pub undecided: usize,
+    pub refused: usize,
+}
+
+impl Counts {
+    pub fn of(report: &Report<'_>) -> Counts {
+        Counts {
+            entries: report.entries.len(),
+            requests: report.outcomes.len(),
+            approved: ending_count(report, Ending::Approved),
+            rejected: ending_count(report, Ending::Rejected),
+            timed_out: ending_count(report, Ending::TimedOut),
+            expired: ending_count(report, Ending::Expired),
+            undecided: ending_count(report, Ending::Undecided),
+            refused: report
+                .results
+                .as_slice()
+                .iter()
+                .filter(|answered| is_refused(answered))
+                .count(),
+        }
+    }
+}
+
+fn ending_count(report: &Report<'_>, ending: Ending) -> usize {
+    report
+        .outcomes
+        .as_slice()
+        .iter()
+        .filter(|outcome| outcome.decision.ending == ending)
+        .count()
+}
+
+pub fn is_refused(answered: &SubmitResult<'_>) -> bool {
+    match answered.answer {
+        Answer::Refused(_) => true,
+        Answer::Sent(_) => false,
+    }
+}
+
+/// The title of the picture.
+pub fn title_of(alloc: Global, counts: &Counts) -> Result<String, AllocError> {
+    let Counts {
+        entries,
+        requests,
+        ..
+    } = counts;
+    format!(in alloc; "The log of a run: entries {entries}, requests {requests}")
+}
+
+/// How the requests ended, in words.
+pub fn endings_of(alloc: Global, counts: &Counts) -> Result<String, AllocError> {
+    let Counts {
+        approved,
+        rejected,
+        timed_out,
+        ..
+    } = counts;
+    let decided = format!(in alloc;
+        "Approved {approved}, rejected {rejected}, timed out {timed_out}"
+    )?;
+    let Counts {
+        expired,
+        undecided,
+        refused,
+        ..
+    } = counts;
+    format!(in alloc;
+        "{decided}, expired {expired}, undecided {undecided}; submissions refused {refused}"
+    )
+}

@@ -1,0 +1,268 @@
+//! The rows of entries.
+use crate::heading::{label, quiet};
+use crate::layout::{LEFT, ROW_HEIGHT, SAYS_LEFT, WIDTH, at};
+use crate::limits::MOST_ROWS;
+use crate::outcomes::{mark_of, outcome_at, recipients_at, round_at};
+use crate::sheet::Sheet;
+use report_read::{Decision, Entry, Lane, LaneSet, Message, Report};
+use std::alloc::AllocError;
+use svg_text::{Anchor, Dash, Fill, Font, Frame, Label, Paint, Size, Stroke, Tone};
+
+/// Letters that have room beside the lanes, in the first line and in the second, and in the column of times.
+const SAYS_LETTERS: u32 = 38;
+
+const BECAME_LETTERS: u32 = 39;
+
+const TIME_LETTERS: u32 = 16;
+
+/// How far from the row's top its upper and its lower line are drawn and written.
+const UPPER: u32 = 16;
+
+const LOWER: u32 = 34;
+
+const MIDDLE: u32 = 24;
+
+/// How far the foot of a text is below the middle of its letters.
+const FOOT: u32 = 5;
+
+/// Room for a mark before its words.
+const MARK_WIDTH: u32 = 20;
+
+/// Draws a row for each entry, up to the most that is drawn.
+pub fn draw_entries(sheet: &mut Sheet, report: &Report<'_>) -> Result<(), AllocError> {
+    for entry in report.entries.as_slice().iter().take(MOST_ROWS) {
+        draw_entry(sheet, report, entry)?;
+        sheet.skip(ROW_HEIGHT);
+    }
+    let count = report.entries.len();
+    if count > MOST_ROWS {
+        let y = sheet.y.saturating_add(MIDDLE);
+        let note = format!(in sheet.alloc;
+            "The log has {count} entries. The picture ends behind the first {MOST_ROWS}."
+        )?;
+        sheet
+            .svg
+            .text(&label(at(LEFT, y), Font::Strong), note.as_str())?;
+    }
+    sheet.skip(ROW_HEIGHT);
+    Ok(())
+}
+
+fn draw_entry(sheet: &mut Sheet, report: &Report<'_>, entry: &Entry<'_>) -> Result<(), AllocError> {
+    sheet.svg.begin_titled_group("entry", entry.line)?;
+    if let Message::Request { .. } = entry.message {
+        draw_panel(sheet)?;
+    }
+    draw_place(sheet, entry)?;
+    match entry.message {
+        Message::Request {
+            sender,
+            command,
+            recipients,
+        } => {
+            draw_request(sheet, report, sender, &recipients)?;
+            say_request(sheet, report, entry.place, command, sender)
+        }
+        Message::Response {
+            from,
+            request,
+            views,
+            all_approve,
+        } => {
+            draw_response(sheet, from, all_approve)?;
+            say_response(sheet, request, views, all_approve)
+        }
+        Message::Verdict { request, decision } => {
+            let recipients = recipients_at(report, request);
+            draw_verdict(sheet, report, &recipients, decision)?;
+            say_verdict(sheet, request, decision)
+        }
+        Message::Tick => draw_tick(sheet, entry.time),
+    }?;
+    sheet.svg.end_group()
+}
+
+/// Draws what stands behind a request, so that its row is found.
+fn draw_panel(sheet: &mut Sheet) -> Result<(), AllocError> {
+    let frame = Frame {
+        corner: at(8, sheet.y),
+        size: Size {
+            width: WIDTH.saturating_sub(16),
+            height: ROW_HEIGHT,
+        },
+        radius: 6,
+    };
+    let paint = Paint {
+        tone: Tone::Quiet,
+        fill: Fill::Tint,
+    };
+    sheet.svg.rectangle(frame, paint)
+}
+
+fn draw_place(sheet: &mut Sheet, entry: &Entry<'_>) -> Result<(), AllocError> {
+    let Entry { place, time, .. } = entry;
+    let place = format!(in sheet.alloc; "{place}")?;
+    let upper = at(LEFT, sheet.y.saturating_add(UPPER + FOOT));
+    sheet.words(&label(upper, Font::Strong), place.as_str(), TIME_LETTERS)?;
+    let time = format!(in sheet.alloc; "{time}")?;
+    let lower = at(LEFT, sheet.y.saturating_add(LOWER + FOOT));
+    sheet.words(&quiet(lower, Font::Small), time.as_str(), TIME_LETTERS)
+}
+
+fn solid(tone: Tone) -> Stroke {
+    Stroke {
+        tone,
+        dash: Dash::Solid,
+    }
+}
+
+fn dashed(tone: Tone) -> Stroke {
+    Stroke {
+        tone,
+        dash: Dash::Dashed,
+    }
+}
+
+/// Draws a dot: where something begins it is full.
+fn draw_dot(sheet: &mut Sheet, x: u32, y: u32, tone: Tone) -> Result<(), AllocError> {
+    let paint = Paint {
+        tone,
+        fill: Fill::Full,
+    };
+    sheet.svg.circle(at(x, y), 4, paint)
+}
+
+/// Draws the request from its sender to the log, and from there to each recipient.
+fn draw_request(
+    sheet: &mut Sheet,
+    report: &Report<'_>,
+    sender: Lane,
+    recipients: &LaneSet,
+) -> Result<(), AllocError> {
+    let upper = sheet.y.saturating_add(UPPER);
+    let from = sheet.lanes.participant(sender);
+    let log = sheet.lanes.sequencer();
+    draw_dot(sheet, from, upper, Tone::Ink)?;
+    sheet
+        .svg
+        .arrow(at(from, upper), at(log, upper), solid(Tone::Ink))?;
+    let lower = sheet.y.saturating_add(LOWER);
+    draw_dot(sheet, log, lower, Tone::Ink)?;
+    draw_arrows(sheet, report, log, lower, recipients, solid(Tone::Ink))
+}
+
+/// Draws an arrow to each of some participants.
+fn draw_arrows(
+    sheet: &mut Sheet,
+    report: &Report<'_>,
+    from: u32,
+    y: u32,
+    recipients: &LaneSet,
+    stroke: Stroke,
+) -> Result<(), AllocError> {
+    for index in 0..report.hosts.len() {
+        let lane = Lane(index);
+        if recipients.contains(lane) {
+            let to = sheet.lanes.participant(lane);
+            sheet.svg.arrow(at(from, y), at(to, y), stroke)?;
+        }
+    }
+    Ok(())
+}
+
+fn draw_response(sheet: &mut Sheet, from: Lane, all_approve: bool) -> Result<(), AllocError> {
+    let y = sheet.y.saturating_add(MIDDLE);
+    let tone = if all_approve { Tone::Good } else { Tone::Bad };
+    let from = sheet.lanes.participant(from);
+    let to = sheet.lanes.mediator();
+    draw_dot(sheet, from, y, tone)?;
+    sheet.svg.arrow(at(from, y), at(to, y), solid(tone))
+}
+
+fn draw_verdict(
+    sheet: &mut Sheet,
+    report: &Report<'_>,
+    recipients: &LaneSet,
+    decision: Decision<'_>,
+) -> Result<(), AllocError> {
+    let y = sheet.y.saturating_add(MIDDLE);
+    let tone = mark_of(decision.ending).tone();
+    let from = sheet.lanes.mediator();
+    draw_dot(sheet, from, y, tone)?;
+    draw_arrows(sheet, report, from, y, recipients, dashed(tone))
+}
+
+/// Draws the gap in time that an entry makes which says nothing else.
+fn draw_tick(sheet: &mut Sheet, time: u64) -> Result<(), AllocError> {
+    let y = sheet.y.saturating_add(MIDDLE);
+    let left = sheet.lanes.participant(Lane(0)).saturating_sub(24);
+    let right = sheet.lanes.mediator().saturating_add(24);
+    sheet
+        .svg
+        .line(at(left, y), at(right, y), dashed(Tone::Quiet))?;
+    let words = format!(in sheet.alloc; "time moves to {time}")?;
+    let middle = at(SAYS_LEFT, y.saturating_add(FOOT));
+    sheet.words(&quiet(middle, Font::Plain), words.as_str(), SAYS_LETTERS)
+}
+
+/// Writes the upper line of what an entry says.
+fn say(sheet: &mut Sheet, words: &str, font: Font) -> Result<(), AllocError> {
+    let upper = at(SAYS_LEFT, sheet.y.saturating_add(UPPER + FOOT));
+    sheet.words(&label(upper, font), words, SAYS_LETTERS)
+}
+
+/// Writes the lower line with a mark.
+fn say_ending(sheet: &mut Sheet, decision: Decision<'_>) -> Result<(), AllocError> {
+    let mark = mark_of(decision.ending);
+    let y = sheet.y.saturating_add(LOWER);
+    sheet.svg.mark(at(SAYS_LEFT + 7, y), mark)?;
+    let words = Label {
+        at: at(SAYS_LEFT + MARK_WIDTH, y.saturating_add(FOOT)),
+        anchor: Anchor::Start,
+        font: Font::Small,
+        tone: mark.tone(),
+    };
+    sheet.words(&words, decision.words, BECAME_LETTERS)
+}
+
+fn say_request(
+    sheet: &mut Sheet,
+    report: &Report<'_>,
+    place: u64,
+    command: &str,
+    sender: Lane,
+) -> Result<(), AllocError> {
+    let name = report.hosts.name(sender).unwrap_or("");
+    let words = match round_at(report, place) {
+        Some(round) => format!(in sheet.alloc; "{name} {command}, round {round}"),
+        None => format!(in sheet.alloc; "{name} {command}"),
+    }?;
+    say(sheet, words.as_str(), Font::Strong)?;
+    match outcome_at(report, place) {
+        Some(decision) => say_ending(sheet, decision),
+        None => Ok(()),
+    }
+}
+
+fn say_response(
+    sheet: &mut Sheet,
+    request: u64,
+    views: &str,
+    all_approve: bool,
+) -> Result<(), AllocError> {
+    let words = format!(in sheet.alloc; "answers {request}")?;
+    say(sheet, words.as_str(), Font::Plain)?;
+    let lower = Label {
+        at: at(SAYS_LEFT, sheet.y.saturating_add(LOWER + FOOT)),
+        anchor: Anchor::Start,
+        font: Font::Small,
+        tone: if all_approve { Tone::Good } else { Tone::Bad },
+    };
+    sheet.words(&lower, views, BECAME_LETTERS)
+}
+
+fn say_verdict(sheet: &mut Sheet, request: u64, decision: Decision<'_>) -> Result<(), AllocError> {
+    let words = format!(in sheet.alloc; "decides {request}")?;
+    say(sheet, words.as_str(), Font::Plain)?;
+    say_ending(sheet, decision)
+}

@@ -1,0 +1,131 @@
+//! The lists below the entries.
+use crate::counts::is_refused;
+use crate::heading::{label, quiet};
+use crate::layout::{LEFT, LINE_HEIGHT, LIST_GAP, at};
+use crate::limits::{MOST_ACTIVES, MOST_REFUSED};
+use crate::sheet::Sheet;
+use report_read::{Active, Answer, Lane, Report, Standing, SubmitResult};
+use std::alloc::AllocError;
+use svg_text::{Font, Mark};
+
+/// Letters that have room in a line of a list.
+const LINE_LETTERS: u32 = 120;
+
+/// How far the lines of a list stand to the right of its title.
+const INDENT: u32 = 24;
+
+/// Lists the refused submissions, if there are any.
+pub fn draw_refused(
+    sheet: &mut Sheet,
+    report: &Report<'_>,
+    count: usize,
+) -> Result<(), AllocError> {
+    if count == 0 {
+        return Ok(());
+    }
+    draw_title(sheet, "Refused submissions, of which nothing was sent")?;
+    let results = report.results.as_slice().iter();
+    for answered in results
+        .filter(|answered| is_refused(answered))
+        .take(MOST_REFUSED)
+    {
+        draw_refusal(sheet, report, answered)?;
+    }
+    draw_rest(sheet, "refused submissions", count, MOST_REFUSED)
+}
+
+fn draw_refusal(
+    sheet: &mut Sheet,
+    report: &Report<'_>,
+    answered: &SubmitResult<'_>,
+) -> Result<(), AllocError> {
+    let name = report.hosts.name(answered.participant).unwrap_or("");
+    let SubmitResult { round, command, .. } = answered;
+    let fault = match answered.answer {
+        Answer::Refused(fault) => fault,
+        Answer::Sent(_) => "",
+    };
+    let y = sheet.y.saturating_sub(5);
+    sheet.svg.mark(at(LEFT + 7, y), Mark::Rejected)?;
+    let words = format!(in sheet.alloc; "round {round}: {name} {command} refused, {fault}")?;
+    draw_line(sheet, words.as_str(), Font::Plain)
+}
+
+/// Lists what each participant knows at the end, with its active contracts.
+pub fn draw_standings(sheet: &mut Sheet, report: &Report<'_>) -> Result<(), AllocError> {
+    draw_title(sheet, "What each participant knows at the end")?;
+    for standing in report.standings.as_slice() {
+        draw_standing(sheet, report, standing)?;
+        let actives = report.actives.as_slice().iter().take(MOST_ACTIVES);
+        for active in actives.filter(|active| active.participant == standing.participant) {
+            draw_active(sheet, active)?;
+        }
+    }
+    draw_rest(
+        sheet,
+        "active contracts",
+        report.actives.len(),
+        MOST_ACTIVES,
+    )
+}
+
+fn draw_standing(
+    sheet: &mut Sheet,
+    report: &Report<'_>,
+    standing: &Standing,
+) -> Result<(), AllocError> {
+    let name = report.hosts.name(standing.participant).unwrap_or("");
+    let Standing { clean, time, .. } = standing;
+    let known = format!(in sheet.alloc; "{name}: clean to place {clean}, time {time}")?;
+    let Standing {
+        commits,
+        actions,
+        actives,
+        ..
+    } = standing;
+    let words = format!(in sheet.alloc;
+        "{known}; commits {commits}, actions {actions}, active contracts {actives}"
+    )?;
+    let place = at(LEFT, sheet.y);
+    sheet.words(&label(place, Font::Plain), words.as_str(), LINE_LETTERS)?;
+    sheet.skip(LINE_HEIGHT);
+    Ok(())
+}
+
+fn draw_active(sheet: &mut Sheet, active: &Active<'_>) -> Result<(), AllocError> {
+    let Active {
+        place,
+        instance,
+        ..
+    } = active;
+    let words = format!(in sheet.alloc; "{place} {instance}")?;
+    draw_line(sheet, words.as_str(), Font::Code)
+}
+
+fn draw_title(sheet: &mut Sheet, title: &str) -> Result<(), AllocError> {
+    let place = at(LEFT, sheet.y);
+    sheet.svg.text(&label(place, Font::Strong), title)?;
+    sheet.skip(LINE_HEIGHT);
+    Ok(())
+}
+
+fn draw_line(sheet: &mut Sheet, words: &str, font: Font) -> Result<(), AllocError> {
+    let place = at(LEFT + INDENT, sheet.y);
+    sheet.words(&label(place, font), words, LINE_LETTERS)?;
+    sheet.skip(LINE_HEIGHT);
+    Ok(())
+}
+
+/// Says how many of a list aren't drawn, if there are such, and leaves a gap.
+fn draw_rest(sheet: &mut Sheet, what: &str, count: usize, most: usize) -> Result<(), AllocError> {
+    if count > most {
+        let words = format!(in sheet.alloc;
+            "The report has {count} {what}, of which {most} are drawn."
+        )?;
+        let place = at(LEFT, sheet.y);
+        sheet.svg.text(&quiet(place, Font::Plain), words.as_str())?;
+        sheet.skip(LINE_HEIGHT);
+    }
+    sheet.skip(LIST_GAP);
+    Ok(())
+}

@@ -1,0 +1,46 @@
+//! What is known elsewhere in the report of a request.
+use report_read::{Answer, Decision, Ending, LaneSet, Message, Report};
+use svg_text::Mark;
+
+/// What became of the request at a place.
+pub fn outcome_at<'t>(report: &Report<'t>, place: u64) -> Option<Decision<'t>> {
+    for outcome in report.outcomes.as_slice() {
+        if outcome.place == place {
+            return Some(outcome.decision);
+        }
+    }
+    None
+}
+
+/// The round that sent the request at a place.
+pub fn round_at(report: &Report<'_>, place: u64) -> Option<u64> {
+    for result in report.results.as_slice() {
+        if let Answer::Sent(sent) = result.answer {
+            if sent == place {
+                return Some(result.round);
+            }
+        }
+    }
+    None
+}
+
+/// Who received the request at a place, or everybody where none stands there.
+pub fn recipients_at(report: &Report<'_>, place: u64) -> LaneSet {
+    if let Some(entry) = report.entries.get(place as usize) {
+        if let Message::Request { recipients, .. } = entry.message {
+            return recipients;
+        }
+    }
+    LaneSet::first(report.hosts.len())
+}
+
+/// The mark of an ending.
+pub fn mark_of(ending: Ending) -> Mark {
+    match ending {
+        Ending::Approved => Mark::Approved,
+        Ending::Rejected => Mark::Rejected,
+        Ending::TimedOut => Mark::TimedOut,
+        Ending::Expired => Mark::Expired,
+        Ending::Undecided => Mark::Undecided,
+    }
+}

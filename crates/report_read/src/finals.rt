@@ -1,0 +1,123 @@
+//! The lines of what each participant knows.
+use crate::active::{Active, ActiveList};
+use crate::expected::Expected;
+use crate::hosts::Hosts;
+use crate::lane::Lane;
+use crate::lines::Lines;
+use crate::report_fault::ReportFault;
+use crate::scan::{is_action, is_instance, level_of};
+use crate::standing::{Standing, StandingList};
+use crate::words::Words;
+
+/// What each participant knows, and the contracts that are active for it.
+pub(crate) fn read_finals<'t>(
+    lines: &mut Lines<'t>,
+    hosts: &Hosts<'t>,
+    standings: &mut StandingList,
+    actives: &mut ActiveList<'t>,
+) -> Result<(), ReportFault> {
+    for at in 0..hosts.len() {
+        let lane = Lane(at);
+        let line = lines.next(Expected::ParticipantOrEnd)?;
+        let mut standing = lines.read(read_standing(line, lane, hosts))?;
+        read_commits(lines, &mut standing)?;
+        standing.actives = read_actives(lines, lane, actives)?;
+        standings.push(standing)?;
+    }
+    Ok(())
+}
+
+fn read_standing<'t>(line: &'t str, lane: Lane, hosts: &Hosts<'t>) -> Result<Standing, Expected> {
+    let mut words = Words::of(line);
+    words.literal("participant", Expected::ParticipantOrEnd)?;
+    if words.participant(hosts)? != lane {
+        return Err(Expected::Participant);
+    }
+    words.literal("clean", Expected::Clean)?;
+    let clean = words.number(Expected::Clean)?;
+    words.literal("time", Expected::Clean)?;
+    let time = words.number(Expected::Clean)?;
+    words.end()?;
+    Ok(Standing {
+        participant: lane,
+        clean,
+        time,
+        commits: 0,
+        actions: 0,
+        actives: 0,
+    })
+}
+
+/// Commits with their actions, which are counted.
+fn read_commits<'t>(lines: &mut Lines<'t>, standing: &mut Standing) -> Result<(), ReportFault> {
+    for _ in 0..u64::MAX {
+        if !lines.begins_with("commit ") {
+            break;
+        }
+        let line = lines.next(Expected::ParticipantOrEnd)?;
+        lines.read(read_commit(line))?;
+        standing.commits = standing.commits.saturating_add(1);
+        let actions = read_actions(lines)?;
+        standing.actions = standing.actions.saturating_add(actions);
+    }
+    Ok(())
+}
+
+fn read_commit(line: &str) -> Result<(), Expected> {
+    let mut words = Words::of(line);
+    words.literal("commit", Expected::ParticipantOrEnd)?;
+    words.number(Expected::Request)?;
+    words.end()
+}
+
+/// The actions that come next: the first is a root, and none is more than one level below the one before.
+fn read_actions(lines: &mut Lines<'_>) -> Result<u64, ReportFault> {
+    let mut count = 0u64;
+    let mut before = 0usize;
+    for _ in 0..u64::MAX {
+        if !lines.begins_with(" ") {
+            break;
+        }
+        let line = lines.next(Expected::Action)?;
+        let level = level_of(line);
+        if level > before.saturating_add(1) || !is_action(line) {
+            return Err(lines.fault(Expected::Action));
+        }
+        before = level;
+        count = count.saturating_add(1);
+    }
+    Ok(count)
+}
+
+/// The active contracts that come next, which are counted.
+fn read_actives<'t>(
+    lines: &mut Lines<'t>,
+    lane: Lane,
+    actives: &mut ActiveList<'t>,
+) -> Result<u64, ReportFault> {
+    let mut count = 0u64;
+    for _ in 0..u64::MAX {
+        if !lines.begins_with("active ") {
+            break;
+        }
+        let line = lines.next(Expected::ParticipantOrEnd)?;
+        let active = lines.read(read_active(line, lane))?;
+        actives.push(active)?;
+        count = count.saturating_add(1);
+    }
+    Ok(count)
+}
+
+fn read_active(line: &str, lane: Lane) -> Result<Active<'_>, Expected> {
+    let mut words = Words::of(line);
+    words.literal("active", Expected::ParticipantOrEnd)?;
+    let place = words.number(Expected::Instance)?;
+    match words.rest() {
+        Some(instance) if is_instance(instance) => Ok(Active {
+            participant: lane,
+            place,
+            instance,
+        }),
+        _ => Err(Expected::Instance),
+    }
+}

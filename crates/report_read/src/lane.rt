@@ -1,0 +1,44 @@
+//! Lanes: a report's participants by their order.
+
+/// How many participants a report may have.
+const MOST_LANES: usize = 8;
+
+/// A participant by its index in the report.
+#[derive(Clone, Copy, PartialEq, Eq)]
+pub struct Lane(pub usize);
+
+/// Participants of a report.
+#[derive(Clone, Copy)]
+pub struct LaneSet {
+    lanes: [bool; MOST_LANES],
+}
+
+impl LaneSet {
+    /// Nobody.
+    pub fn none() -> LaneSet {
+        LaneSet {
+            lanes: [false; MOST_LANES],
+        }
+    }
+
+    /// All of the first so many.
+    pub fn first(count: usize) -> LaneSet {
+        let mut lanes = LaneSet::none();
+        for at in 0..count {
+            lanes.insert(Lane(at));
+        }
+        lanes
+    }
+
+    /// Adds a participant, if it is one of the first eight.
+    pub fn insert(&mut self, lane: Lane) {
+        if lane.0 < MOST_LANES {
+            self.lanes[lane.0] = true;
+        }
+    }
+
+    /// Whether a participant is in the set.
+    pub fn contains(&self, lane: Lane) -> bool {
+        lane.0 < MOST_LANES && self.lanes[lane.0]
+    }
+}

@@ -1,0 +1,57 @@
+//! Reports.
+use crate::active::ActiveList;
+use crate::entries::read_entries;
+use crate::entry::EntryList;
+use crate::expected::Expected;
+use crate::finals::read_finals;
+use crate::hosts::Hosts;
+use crate::lines::Lines;
+use crate::outcome::OutcomeList;
+use crate::report_fault::ReportFault;
+use crate::results::{read_outcomes, read_results};
+use crate::standing::StandingList;
+use crate::submit_result::SubmitResultList;
+use std::alloc::Global;
+
+/// A report. What is said in the words of its text borrows from it.
+#[derive(Drop)]
+pub struct Report<'t> {
+    pub hosts: Hosts<'t>,
+    pub entries: EntryList<'t>,
+    pub results: SubmitResultList<'t>,
+    pub outcomes: OutcomeList<'t>,
+    pub standings: StandingList,
+    pub actives: ActiveList<'t>,
+}
+
+/// The report that a text is (docs/FORMATS.md, 'The report'), or the first line that isn't as it has to be.
+pub fn read_report<'t>(alloc: Global, text: &'t str) -> Result<Report<'t>, ReportFault> {
+    let hosts = Hosts::of(alloc, text)?;
+    let mut lines = Lines::new(text);
+    let entries = read_entries(alloc, &mut lines, &hosts)?;
+    let results = read_results(alloc, &mut lines, &hosts)?;
+    let outcomes = read_outcomes(alloc, &mut lines, &hosts)?;
+    let mut standings = StandingList::new(alloc);
+    let mut actives = ActiveList::new(alloc);
+    read_finals(&mut lines, &hosts, &mut standings, &mut actives)?;
+    read_end(&mut lines)?;
+    Ok(Report {
+        hosts,
+        entries,
+        results,
+        outcomes,
+        standings,
+        actives,
+    })
+}
+
+/// The last line, with nothing behind it.
+fn read_end(lines: &mut Lines<'_>) -> Result<(), ReportFault> {
+    if lines.next(Expected::ParticipantOrEnd)? != "end" {
+        return Err(lines.fault(Expected::ParticipantOrEnd));
+    }
+    if lines.is_empty() {
+        return Ok(());
+    }
+    Err(lines.fault_behind(Expected::NothingMore))
+}
