@@ -1,10 +1,9 @@
 //! Lines of text.
+use crate::span::letters_in;
 use ledger_terms::Text;
 use svg_text::Point;
 
-/// How wide letters of the font of code are, and others.
-const CODE_LETTER: u32 = 8;
-
+/// How wide a letter of the other fonts is, in units: more than most are.
 const TEXT_LETTER: u32 = 7;
 
 /// What a line says.
@@ -25,11 +24,13 @@ pub enum LineKind {
 }
 
 impl LineKind {
-    /// How wide a letter of it is, in units, at most but for a few wide ones.
-    pub(crate) fn letter(self) -> u32 {
+    /// How many of its letters have room in a width.
+    pub(crate) fn letters_in(self, width: u32) -> u32 {
         match self {
-            LineKind::Action | LineKind::Blinded => CODE_LETTER,
-            LineKind::Title | LineKind::Request | LineKind::Detail | LineKind::View => TEXT_LETTER,
+            LineKind::Action | LineKind::Blinded => letters_in(width),
+            LineKind::Title | LineKind::Request | LineKind::Detail | LineKind::View => {
+                width / TEXT_LETTER
+            }
         }
     }
 }

@@ -61,7 +61,7 @@ impl Sheet {
             x: span.left,
             y: self.bottom.saturating_add(FOOT),
         };
-        let letters = span.letters();
+        let letters = kind.letters_in(span.width());
         self.skip(LINE);
         self.pieces.push(Piece::Line(Line {
             kind,

@@ -13,7 +13,7 @@ pub(crate) const INSIDE: u32 = 10;
 /// Units by which a consequence stands more to the right than its action.
 const LEVEL: u32 = 20;
 
-/// How wide a letter is.
+/// How wide a letter of the font of code is, and more than most others are, in units.
 const LETTER: u32 = 8;
 
 impl Span {
@@ -36,11 +36,6 @@ impl Span {
     /// How wide it is.
     pub fn width(&self) -> u32 {
         self.right.saturating_sub(self.left)
-    }
-
-    /// How many letters have room.
-    pub fn letters(&self) -> u32 {
-        letters_in(self.width())
     }
 }
 
