@@ -54,6 +54,6 @@ pub(crate) fn script_picture(
     };
     let setup = Setup { topology, checked };
     let played = run_script(alloc, &setup, &rounds, MOST_PLACES as u64)?;
-    let picture = picture_of(alloc, &setup.topology, &played.log, me)?;
+    let picture = picture_of(alloc, &setup.topology, &played.log, me.as_ref())?;
     Ok(drawn(alloc, &picture)?)
 }

@@ -34,7 +34,7 @@ pub fn picture_of(
     alloc: Global,
     topology: &Topology,
     log: &EntryList,
-    reader: Option<ParticipantId>,
+    reader: Option<&ParticipantId>,
 ) -> Result<Picture, AllocError> {
     let span = Span {
         left: MARGIN,
@@ -71,13 +71,13 @@ pub fn picture_of(
 fn title_of(
     alloc: Global,
     topology: &Topology,
-    reader: Option<ParticipantId>,
+    reader: Option<&ParticipantId>,
 ) -> Result<Text, AllocError> {
     let Some(me) = reader else {
         return Text::of(alloc, "Transactions with their views");
     };
     let mut out = String::from_str(alloc, "Transactions as ")?;
-    put_host(&mut out, &topology.hosts, me)?;
+    put_host(&mut out, &topology.hosts, *me)?;
     out.push_str(" is shown them")?;
     Ok(Text::of_string(out))
 }
@@ -117,7 +117,7 @@ fn put_requests(
     topology: &Topology,
     span: Span,
     log: &EntryList,
-    reader: Option<ParticipantId>,
+    reader: Option<&ParticipantId>,
 ) -> Result<(), AllocError> {
     for (place, entry) in (0..MOST_ENTRIES as u64).zip(log.as_slice()) {
         if let Message::Request(request) = &entry.message {

@@ -21,14 +21,14 @@ pub(crate) fn put_request(
     span: Span,
     place: u64,
     request: &Request,
-    reader: Option<ParticipantId>,
+    reader: Option<&ParticipantId>,
 ) -> Result<(), AllocError> {
     let alloc = sheet.alloc;
     sheet.skip(ABOVE);
     let text = request_text(alloc, topology, place, request)?;
     sheet.put_line(LineKind::Request, span, text)?;
     let disclosure = match reader {
-        Some(me) => Disclosure::to(alloc, request, me)?,
+        Some(me) => Disclosure::to(alloc, request, *me)?,
         None => Disclosure::of_all(alloc, request)?,
     };
     let Some(disclosure) = disclosure else {
