@@ -1,0 +1,59 @@
+//! From a script to its picture.
+ghost use Rattle.script_read.specs.Kept.{IsAccepted};
+
+use canton_run::run_script;
+use confirm_reply::Setup;
+use ledger_terms::limits::MOST_PLACES;
+use ledger_terms::{Name, ParticipantId, Text, Topology};
+use script_read::Script;
+use std::alloc::{AllocError, Global};
+use view_picture::{drawn, picture_of};
+
+/// The participant with a name.
+fn participant_of(topology: &Topology, name: Name) -> Option<ParticipantId> {
+    for (at, host) in (0..=255u8).zip(topology.hosts.as_slice()) {
+        if host.name == name {
+            return Some(ParticipantId(at));
+        }
+    }
+    None
+}
+
+/// Why there is no picture of a script.
+#[derive(Drop)]
+pub(crate) enum PictureFault {
+    NoParticipant(Name),
+    Memory,
+}
+
+impl From<AllocError> for PictureFault {
+    fn from(_error: AllocError) -> PictureFault {
+        PictureFault::Memory
+    }
+}
+
+/// Runs a script and draws its requests, for one participant where a name is given.
+pub(crate) fn script_picture(
+    alloc: Global,
+    script: Script,
+    reader: Option<Name>,
+) -> Result<Text, PictureFault>
+    requires { IsAccepted script }
+{
+    let Script {
+        topology,
+        checked,
+        rounds,
+    } = script;
+    let me = match reader {
+        Some(name) => match participant_of(&topology, name) {
+            Some(me) => Some(me),
+            None => return Err(PictureFault::NoParticipant(name)),
+        },
+        None => None,
+    };
+    let setup = Setup { topology, checked };
+    let played = run_script(alloc, &setup, &rounds, MOST_PLACES as u64)?;
+    let picture = picture_of(alloc, &setup.topology, &played.log, me.as_ref())?;
+    Ok(drawn(alloc, &picture)?)
+}

@@ -1,0 +1,69 @@
+//! The top call: words, a source and a sink in, and how it ended out.
+use crate::asked::Asked;
+use crate::end::End;
+use crate::script_picture::{PictureFault, script_picture};
+use crate::words::read_words;
+use canton_run::ended;
+use cli_words::{WordList, WordsFault};
+use cn_io::{ReadFault, Sink, Source, read_all, write_all};
+use ledger_terms::limits::MOST_SCRIPT_BYTES;
+use ledger_terms::{Name, Text};
+use script_read::{ScriptFault, read_script};
+use std::alloc::Global;
+
+fn stopped(alloc: Global, status: u8) -> End {
+    End::AsRun(ended(alloc, status, None))
+}
+
+/// The script's picture.
+fn picture_text(alloc: Global, bytes: &[u8], reader: Option<Name>) -> Result<Text, End> {
+    let script = match read_script(alloc, bytes) {
+        Ok(script) => script,
+        Err(ScriptFault::Memory) => return Err(stopped(alloc, 70)),
+        Err(fault) => return Err(End::AsRun(ended(alloc, 3, Some(fault)))),
+    };
+    match script_picture(alloc, script, reader) {
+        Ok(text) => Ok(text),
+        Err(PictureFault::NoParticipant(name)) => Err(End::NoParticipant(name)),
+        Err(PictureFault::Memory) => Err(stopped(alloc, 70)),
+    }
+}
+
+fn source_picture<S: Source>(
+    alloc: Global,
+    source: &mut S,
+    reader: Option<Name>,
+) -> Result<Text, End> {
+    match read_all(alloc, source, MOST_SCRIPT_BYTES) {
+        Ok(bytes) => picture_text(alloc, bytes.as_slice(), reader),
+        Err(ReadFault::Failed) => Err(stopped(alloc, 4)),
+        Err(ReadFault::TooLong) => Err(stopped(alloc, 6)),
+        Err(ReadFault::Memory) => Err(stopped(alloc, 70)),
+    }
+}
+
+fn written<K: Sink>(alloc: Global, sink: &mut K, text: &Text) -> End {
+    match write_all(sink, text.as_str().as_bytes()) {
+        Ok(()) => stopped(alloc, 0),
+        Err(_) => stopped(alloc, 5),
+    }
+}
+
+/// Does what the words ask for: writes the help, or reads a script from the source, runs it and writes its picture. The picture is
+/// made whole before anything of it is written.
+pub(crate) fn run<S: Source, K: Sink>(
+    alloc: Global,
+    words: &WordList,
+    source: &mut S,
+    sink: &mut K,
+) -> End {
+    match read_words(alloc, words) {
+        Ok(Asked::Help(text)) => written(alloc, sink, &text),
+        Ok(Asked::Picture { reader }) => match source_picture(alloc, source, reader) {
+            Ok(text) => written(alloc, sink, &text),
+            Err(end) => end,
+        },
+        Err(WordsFault::Usage) => stopped(alloc, 2),
+        Err(WordsFault::Memory) => stopped(alloc, 70),
+    }
+}

@@ -1,0 +1,127 @@
+//! From a picture to its text.
+use crate::chip::Chip;
+use crate::cut::cut;
+use crate::line::{Line, LineKind};
+use crate::picture::Picture;
+use crate::piece::Piece;
+use crate::span::letters_in;
+use crate::view_box::{BoxKind, ViewBox};
+use ledger_terms::Text;
+use std::alloc::{AllocError, Global};
+use svg_text::{Anchor, Fill, Font, Frame, Label, Paint, Point, Svg, Tone};
+
+/// The picture as SVG. Boxes stand below those inside them, and all of them below the lines and the chips.
+pub fn drawn(alloc: Global, picture: &Picture) -> Result<Text, AllocError> {
+    let mut svg = Svg::new(
+        alloc,
+        picture.size,
+        picture.title.as_str(),
+        "For each request its views as boxes, one in the other, with the actions of each in order and the participants that see it.",
+    )?;
+    for view_box in picture.boxes.as_slice().iter().rev() {
+        draw_box(&mut svg, view_box)?;
+    }
+    for piece in picture.pieces.as_slice() {
+        match piece {
+            Piece::Line(line) => draw_line(alloc, &mut svg, line)?,
+            Piece::Chip(chip) => draw_chip(alloc, &mut svg, chip)?,
+        }
+    }
+    svg.finish()
+}
+
+fn draw_shown_box(svg: &mut Svg, frame: Frame, fill: Fill) -> Result<(), AllocError> {
+    let tone = Tone::Accent;
+    svg.rectangle(frame, Paint { tone, fill })
+}
+
+fn draw_blinded_box(svg: &mut Svg, frame: Frame) -> Result<(), AllocError> {
+    let paint = Paint {
+        tone: Tone::Quiet,
+        fill: Fill::Clear,
+    };
+    svg.begin_group("dashed")?;
+    svg.rectangle(frame, paint)?;
+    svg.end_group()
+}
+
+fn draw_box(svg: &mut Svg, view_box: &ViewBox) -> Result<(), AllocError> {
+    match view_box.kind {
+        BoxKind::Tinted => draw_shown_box(svg, view_box.frame, Fill::Tint),
+        BoxKind::Plain => draw_shown_box(svg, view_box.frame, Fill::Page),
+        BoxKind::Blinded => draw_blinded_box(svg, view_box.frame),
+    }
+}
+
+fn look_of(kind: LineKind) -> (Font, Tone) {
+    match kind {
+        LineKind::Title => (Font::Title, Tone::Ink),
+        LineKind::Request => (Font::Strong, Tone::Ink),
+        LineKind::Detail => (Font::Small, Tone::Quiet),
+        LineKind::View => (Font::Small, Tone::Accent),
+        LineKind::Action => (Font::Code, Tone::Ink),
+        LineKind::Blinded => (Font::Code, Tone::Quiet),
+    }
+}
+
+/// Draws a line, cut where it has no room, and then with the whole text as its title.
+fn draw_line(alloc: Global, svg: &mut Svg, line: &Line) -> Result<(), AllocError> {
+    let (font, tone) = look_of(line.kind);
+    let label = Label {
+        at: line.at,
+        anchor: Anchor::Start,
+        font,
+        tone,
+    };
+    draw_text(alloc, svg, &label, line.text.as_str(), line.letters)
+}
+
+fn draw_text(
+    alloc: Global,
+    svg: &mut Svg,
+    label: &Label,
+    text: &str,
+    letters: u32,
+) -> Result<(), AllocError> {
+    let whole = svg_text::drawable(alloc, text)?;
+    match cut(alloc, whole.as_str(), letters)? {
+        Some(part) => svg.titled_text(label, part.as_str(), whole.as_str()),
+        None => svg.text(label, whole.as_str()),
+    }
+}
+
+/// Draws a chip: the name and what the participant does, in a frame that is filled where it confirms.
+fn draw_chip(alloc: Global, svg: &mut Svg, chip: &Chip) -> Result<(), AllocError> {
+    let (fill, tone) = if chip.confirms {
+        (Fill::Full, Tone::Paper)
+    } else {
+        (Fill::Page, Tone::Accent)
+    };
+    let frame = chip.frame;
+    svg.rectangle(
+        frame,
+        Paint {
+            tone: Tone::Accent,
+            fill,
+        },
+    )?;
+    let label = Label {
+        at: Point {
+            x: frame.corner.x.saturating_add(frame.size.width / 2),
+            y: frame.corner.y.saturating_add(13),
+        },
+        anchor: Anchor::Middle,
+        font: Font::Small,
+        tone,
+    };
+    let mut text = String::from_str(alloc, chip.name.as_str())?;
+    text.push_str(" ")?;
+    text.push_str(Chip::word(chip.confirms))?;
+    draw_text(
+        alloc,
+        svg,
+        &label,
+        text.as_str(),
+        letters_in(frame.size.width),
+    )
+}

@@ -1,0 +1,28 @@
+//! Pictures of requests: the tree of each transaction with its views, as its messages tell it.
+#![tactic(auto)]
+
+mod chip;
+mod chips;
+mod cut;
+mod disclosure;
+mod drawing;
+mod line;
+mod picture;
+mod piece;
+mod request;
+mod sheet;
+mod span;
+mod spot;
+mod steps;
+mod told;
+mod vertices;
+mod view_box;
+mod views;
+mod words;
+
+pub use chip::Chip;
+pub use drawing::drawn;
+pub use line::{Line, LineKind};
+pub use picture::{MOST_ENTRIES, Picture, picture_of};
+pub use piece::{Piece, PieceList};
+pub use view_box::{BoxKind, ViewBox, ViewBoxList};

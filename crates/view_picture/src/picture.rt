@@ -1,0 +1,128 @@
+//! Pictures of logs.
+use crate::line::LineKind;
+use crate::piece::PieceList;
+use crate::request::put_request;
+use crate::sheet::Sheet;
+use crate::span::Span;
+use crate::view_box::ViewBoxList;
+use canton_model::{EntryList, Message};
+use ledger_terms::{ParticipantId, Text, Topology};
+use report_text::{put_host, put_number};
+use std::alloc::{AllocError, Global};
+use svg_text::Size;
+
+/// Of how many entries the requests are drawn.
+pub const MOST_ENTRIES: usize = 500;
+
+/// How wide a picture is, and how much of that is left free at each edge, in units.
+const WIDTH: u32 = 960;
+
+const MARGIN: u32 = 24;
+
+/// The requests of a log with their views, as boxes, lines and chips. A text of the lines is as long as it is, whether it has room or not.
+#[derive(Drop)]
+pub struct Picture {
+    pub title: Text,
+    pub size: Size,
+    pub boxes: ViewBoxList,
+    pub pieces: PieceList,
+}
+
+/// The picture of the requests of a log's first entries: all that the messages of each disclose, or what the envelope to one
+/// participant does.
+pub fn picture_of(
+    alloc: Global,
+    topology: &Topology,
+    log: &EntryList,
+    reader: Option<&ParticipantId>,
+) -> Result<Picture, AllocError> {
+    let span = Span {
+        left: MARGIN,
+        right: WIDTH - MARGIN,
+    };
+    let mut sheet = Sheet::new(alloc);
+    sheet.skip(MARGIN);
+    let title = title_of(alloc, topology, reader)?;
+    sheet.put_line(LineKind::Title, span, title.clone()?)?;
+    put_key(&mut sheet, span, reader.is_some())?;
+    put_requests(&mut sheet, topology, span, log, reader)?;
+    if log.len() > MOST_ENTRIES {
+        put_end(&mut sheet, span)?;
+    }
+    sheet.skip(MARGIN);
+    let Sheet {
+        bottom,
+        boxes,
+        pieces,
+        ..
+    } = sheet;
+    let size = Size {
+        width: WIDTH,
+        height: bottom,
+    };
+    Ok(Picture {
+        title,
+        size,
+        boxes,
+        pieces,
+    })
+}
+
+fn title_of(
+    alloc: Global,
+    topology: &Topology,
+    reader: Option<&ParticipantId>,
+) -> Result<Text, AllocError> {
+    let Some(me) = reader else {
+        return Text::of(alloc, "Transactions with their views");
+    };
+    let mut out = String::from_str(alloc, "Transactions as ")?;
+    put_host(&mut out, &topology.hosts, *me)?;
+    out.push_str(" is shown them")?;
+    Ok(Text::of_string(out))
+}
+
+/// Puts what boxes and chips mean.
+fn put_key(sheet: &mut Sheet, span: Span, has_blind: bool) -> Result<(), AllocError> {
+    sheet.skip(6);
+    let alloc = sheet.alloc;
+    let boxes = Text::of(
+        alloc,
+        "A box is a view. Each participant that sees it has a chip, which is filled where it confirms the view.",
+    )?;
+    sheet.put_line(LineKind::Detail, span, boxes)?;
+    if has_blind {
+        let blind = Text::of(
+            alloc,
+            "What isn't shown has a box of dashes with its hash, cut to eight digits.",
+        )?;
+        sheet.put_line(LineKind::Detail, span, blind)?;
+    }
+    Ok(())
+}
+
+fn put_end(sheet: &mut Sheet, span: Span) -> Result<(), AllocError> {
+    sheet.skip(12);
+    let mut out = String::from_str(
+        sheet.alloc,
+        "The log goes on. Drawn are the requests of its first ",
+    )?;
+    put_number(&mut out, MOST_ENTRIES as u64)?;
+    out.push_str(" entries.")?;
+    sheet.put_line(LineKind::Detail, span, Text::of_string(out))
+}
+
+fn put_requests(
+    sheet: &mut Sheet,
+    topology: &Topology,
+    span: Span,
+    log: &EntryList,
+    reader: Option<&ParticipantId>,
+) -> Result<(), AllocError> {
+    for (place, entry) in (0..MOST_ENTRIES as u64).zip(log.as_slice()) {
+        if let Message::Request(request) = &entry.message {
+            put_request(sheet, topology, span, place, request, reader)?;
+        }
+    }
+    Ok(())
+}

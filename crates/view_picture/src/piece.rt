@@ -1,0 +1,14 @@
+//! What stands in a picture.
+use crate::chip::Chip;
+use crate::line::Line;
+use ledger_terms::ListOf;
+
+/// A line of text or a chip.
+#[derive(Drop)]
+pub enum Piece {
+    Line(Line),
+    Chip(Chip),
+}
+
+/// Lines and chips, in the order in which they are read.
+pub type PieceList = ListOf<Piece>;

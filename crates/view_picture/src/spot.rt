@@ -1,0 +1,48 @@
+//! Where a view stands.
+use crate::span::Span;
+use ledger_terms::{PartySet, Path};
+use std::alloc::{AllocError, Global};
+
+/// Where a view, or the list of views below one, stands: its path in the tree of views, its part of the picture's width, and the
+/// informees of the views above it that are shown.
+#[derive(Drop)]
+pub(crate) struct Spot {
+    pub path: Path,
+    pub span: Span,
+    pub told: PartySet,
+}
+
+impl Spot {
+    /// That of a transaction's views.
+    pub fn root(alloc: Global, span: Span) -> Spot {
+        Spot {
+            path: Path::new(alloc),
+            span,
+            told: PartySet::new(alloc),
+        }
+    }
+
+    /// That of the view with this number below.
+    pub fn below(&self, at: u16, span: Span, told: &PartySet) -> Result<Spot, AllocError> {
+        let mut path = self.path.clone()?;
+        path.push(at)?;
+        Ok(Spot {
+            path,
+            span,
+            told: told.clone()?,
+        })
+    }
+
+    /// That of the views below the one here, with its informees where they are told.
+    pub fn inside(&self, informees: Option<&PartySet>) -> Result<Spot, AllocError> {
+        let told = match informees {
+            Some(informees) => self.told.union(informees)?,
+            None => self.told.clone()?,
+        };
+        Ok(Spot {
+            path: self.path.clone()?,
+            span: self.span.inside(),
+            told,
+        })
+    }
+}

@@ -1,0 +1,47 @@
+//! The core of a view, line by line.
+use crate::words::action_text;
+use ledger_terms::{ListOf, Text};
+use std::alloc::{AllocError, Global};
+use view_split::{CoreChild, CoreChildList, SplitView};
+
+/// A step of the walk through a core in pre-order, with its level below the view's first action: an action, or a hole, where a
+/// view below starts.
+#[derive(Drop)]
+pub(crate) struct Step {
+    pub level: u32,
+    pub action: Option<Text>,
+}
+
+/// Steps.
+pub(crate) type StepList = ListOf<Step>;
+
+/// The walk through a view's core.
+pub(crate) fn steps_of(alloc: Global, view: &SplitView) -> Result<StepList, AllocError> {
+    let mut steps = StepList::new(alloc);
+    let action = Some(action_text(alloc, &view.first.action)?);
+    steps.push(Step { level: 0, action })?;
+    put_steps(alloc, &view.below, 1, &mut steps)?;
+    Ok(steps)
+}
+
+fn put_steps(
+    alloc: Global,
+    children: &CoreChildList,
+    level: u32,
+    steps: &mut StepList,
+) -> Result<(), AllocError> {
+    for child in children.as_slice() {
+        match child {
+            CoreChild::Inner(node) => {
+                let action = Some(action_text(alloc, &node.action)?);
+                steps.push(Step { level, action })?;
+                put_steps(alloc, &node.children, level.saturating_add(1), steps)?;
+            }
+            CoreChild::Hole => steps.push(Step {
+                level,
+                action: None,
+            })?,
+        }
+    }
+    Ok(())
+}

@@ -1,0 +1,40 @@
+//! What is told of a request as a whole.
+use crate::disclosure::Disclosure;
+use crate::words::{put_hash, put_parties};
+use blind_tree::{Leaf, OpenedTree};
+use ledger_terms::Text;
+use report_text::put_number;
+use std::alloc::{AllocError, Global};
+
+/// Sender, ledger time and requesters, as an envelope tells them.
+pub(crate) fn told_text(alloc: Global, disclosure: &Disclosure) -> Result<Text, AllocError> {
+    let mut out = String::new(alloc);
+    if let Some(part) = disclosure.opened.get(0) {
+        put_head(&mut out, part)?;
+    }
+    put_requesters(alloc, disclosure, &mut out)?;
+    Ok(Text::of_string(out))
+}
+
+fn put_head(out: &mut String, part: &OpenedTree) -> Result<(), AllocError> {
+    out.push_str("sender ")?;
+    out.push_str(part.sender.as_str())?;
+    out.push_str(", ledger time ")?;
+    put_number(out, part.ledger_time)?;
+    out.push_str(", ")
+}
+
+fn put_requesters(
+    alloc: Global,
+    disclosure: &Disclosure,
+    out: &mut String,
+) -> Result<(), AllocError> {
+    match (disclosure.requesters(), &disclosure.tree.requesters) {
+        (Some(parties), _) => put_parties(out, "requesters ", parties),
+        (None, Leaf::Blind(hash)) => {
+            out.push_str("requesters: hash ")?;
+            put_hash(alloc, out, hash)
+        }
+        (None, Leaf::Plain { .. }) => Ok(()),
+    }
+}

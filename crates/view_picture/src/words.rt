@@ -1,0 +1,60 @@
+//! The words of a picture.
+use ledger_terms::{Action, Hash, PartySet, Path, Text};
+use report_text::{put_action, put_names, put_path};
+use std::alloc::{AllocError, Global};
+
+/// How many bytes of a hash are printed.
+const SHORT_HASH: usize = 4;
+
+/// An action, as a report has it.
+pub(crate) fn action_text(alloc: Global, action: &Action) -> Result<Text, AllocError> {
+    let mut out = String::new(alloc);
+    put_action(&mut out, action)?;
+    Ok(Text::of_string(out))
+}
+
+/// Which view it is, with its informees and confirmers.
+pub(crate) fn view_text(
+    alloc: Global,
+    path: &Path,
+    informees: &PartySet,
+    confirmers: &PartySet,
+) -> Result<Text, AllocError> {
+    let mut out = String::from_str(alloc, "view ")?;
+    put_path(&mut out, path)?;
+    put_parties(&mut out, ": informees ", informees)?;
+    put_parties(&mut out, "; confirmers ", confirmers)?;
+    Ok(Text::of_string(out))
+}
+
+/// Which view it is, with what isn't shown of it.
+pub(crate) fn blind_text(alloc: Global, path: &Path, what: &str) -> Result<Text, AllocError> {
+    let mut out = String::from_str(alloc, "view ")?;
+    put_path(&mut out, path)?;
+    out.push_str(what)?;
+    Ok(Text::of_string(out))
+}
+
+/// What is blind, with its hash.
+pub(crate) fn hash_line(alloc: Global, what: &str, hash: &Hash) -> Result<Text, AllocError> {
+    let mut out = String::from_str(alloc, what)?;
+    put_hash(alloc, &mut out, hash)?;
+    Ok(Text::of_string(out))
+}
+
+/// Puts the beginning of a hash at the end.
+pub(crate) fn put_hash(alloc: Global, out: &mut String, hash: &Hash) -> Result<(), AllocError> {
+    let digits = hex::encode(alloc, &hash.as_bytes()[..SHORT_HASH])?;
+    out.push_str(digits.as_str())?;
+    out.push_str("..")
+}
+
+/// Puts a word and parties at the end.
+pub(crate) fn put_parties(
+    out: &mut String,
+    word: &str,
+    parties: &PartySet,
+) -> Result<(), AllocError> {
+    out.push_str(word)?;
+    put_names(out, parties.as_slice())
+}

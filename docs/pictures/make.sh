@@ -1,0 +1,11 @@
+#!/bin/sh
+# make.sh: makes the two pictures of each lesson of docs/EXAMPLES.md in this folder: the chart of its report, and its requests with their views.
+set -eu
+
+here=$(dirname "$(readlink -f "$0")")
+root=$(readlink -f "$here/../..")
+
+for name in one-note transfer two-spends clock-skew timeout expired wrong-child lease; do
+    "$root/canton" chart <"$root/examples/$name.report" >"$here/$name.chart.svg"
+    "$root/canton" views <"$root/examples/$name.json" >"$here/$name.views.svg"
+done
