@@ -1,5 +1,5 @@
 //! How the program ends.
-use canton_run::Finish;
+use canton_run::{Finish, ended};
 use ledger_terms::Name;
 use std::alloc::{AllocError, Global};
 
@@ -11,6 +11,11 @@ pub(crate) enum End {
 }
 
 impl End {
+    /// The end of a run with a status and no fault of its script.
+    pub fn of_status(alloc: Global, status: u8) -> End {
+        End::AsRun(ended(alloc, status, None))
+    }
+
     pub fn status(&self) -> u8 {
         match self {
             End::AsRun(finish) => finish.status,

@@ -1,12 +1,13 @@
 //! From a script to its picture.
 ghost use Rattle.script_read.specs.Kept.{IsAccepted};
 
+use crate::end::End;
 use canton_run::run_script;
 use confirm_reply::Setup;
 use ledger_terms::limits::MOST_PLACES;
 use ledger_terms::{Name, ParticipantId, Text, Topology};
 use script_read::Script;
-use std::alloc::{AllocError, Global};
+use std::alloc::Global;
 use view_picture::{drawn, picture_of};
 
 /// The participant with a name.
@@ -19,25 +20,12 @@ fn participant_of(topology: &Topology, name: Name) -> Option<ParticipantId> {
     None
 }
 
-/// Why there is no picture of a script.
-#[derive(Drop)]
-pub(crate) enum PictureFault {
-    NoParticipant(Name),
-    Memory,
-}
-
-impl From<AllocError> for PictureFault {
-    fn from(_error: AllocError) -> PictureFault {
-        PictureFault::Memory
-    }
-}
-
-/// Runs a script and draws its requests, for one participant where a name is given.
+/// Runs a script and draws its requests, for one participant where a name is given. Without a picture there is how the program ends.
 pub(crate) fn script_picture(
     alloc: Global,
     script: Script,
     reader: Option<Name>,
-) -> Result<Text, PictureFault>
+) -> Result<Text, End>
     requires { IsAccepted script }
 {
     let Script {
@@ -48,12 +36,19 @@ pub(crate) fn script_picture(
     let me = match reader {
         Some(name) => match participant_of(&topology, name) {
             Some(me) => Some(me),
-            None => return Err(PictureFault::NoParticipant(name)),
+            None => return Err(End::NoParticipant(name)),
         },
         None => None,
     };
     let setup = Setup { topology, checked };
-    let played = run_script(alloc, &setup, &rounds, MOST_PLACES as u64)?;
-    let picture = picture_of(alloc, &setup.topology, &played.log, me.as_ref())?;
-    Ok(drawn(alloc, &picture)?)
+    let Ok(played) = run_script(alloc, &setup, &rounds, MOST_PLACES as u64) else {
+        return Err(End::of_status(alloc, 70));
+    };
+    let Ok(picture) = picture_of(alloc, &setup.topology, &played.log, me.as_ref()) else {
+        return Err(End::of_status(alloc, 70));
+    };
+    match drawn(alloc, &picture) {
+        Ok(text) => Ok(text),
+        Err(_) => Err(End::of_status(alloc, 70)),
+    }
 }

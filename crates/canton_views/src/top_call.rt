@@ -1,7 +1,7 @@
 //! The top call: words, a source and a sink in, and how it ended out.
 use crate::asked::Asked;
 use crate::end::End;
-use crate::script_picture::{PictureFault, script_picture};
+use crate::script_picture::script_picture;
 use crate::words::read_words;
 use canton_run::ended;
 use cli_words::{WordList, WordsFault};
@@ -11,21 +11,12 @@ use ledger_terms::{Name, Text};
 use script_read::{ScriptFault, read_script};
 use std::alloc::Global;
 
-fn stopped(alloc: Global, status: u8) -> End {
-    End::AsRun(ended(alloc, status, None))
-}
-
 /// The script's picture.
 fn picture_text(alloc: Global, bytes: &[u8], reader: Option<Name>) -> Result<Text, End> {
-    let script = match read_script(alloc, bytes) {
-        Ok(script) => script,
-        Err(ScriptFault::Memory) => return Err(stopped(alloc, 70)),
-        Err(fault) => return Err(End::AsRun(ended(alloc, 3, Some(fault)))),
-    };
-    match script_picture(alloc, script, reader) {
-        Ok(text) => Ok(text),
-        Err(PictureFault::NoParticipant(name)) => Err(End::NoParticipant(name)),
-        Err(PictureFault::Memory) => Err(stopped(alloc, 70)),
+    match read_script(alloc, bytes) {
+        Ok(script) => script_picture(alloc, script, reader),
+        Err(ScriptFault::Memory) => Err(End::of_status(alloc, 70)),
+        Err(fault) => Err(End::AsRun(ended(alloc, 3, Some(fault)))),
     }
 }
 
@@ -36,16 +27,16 @@ fn source_picture<S: Source>(
 ) -> Result<Text, End> {
     match read_all(alloc, source, MOST_SCRIPT_BYTES) {
         Ok(bytes) => picture_text(alloc, bytes.as_slice(), reader),
-        Err(ReadFault::Failed) => Err(stopped(alloc, 4)),
-        Err(ReadFault::TooLong) => Err(stopped(alloc, 6)),
-        Err(ReadFault::Memory) => Err(stopped(alloc, 70)),
+        Err(ReadFault::Failed) => Err(End::of_status(alloc, 4)),
+        Err(ReadFault::TooLong) => Err(End::of_status(alloc, 6)),
+        Err(ReadFault::Memory) => Err(End::of_status(alloc, 70)),
     }
 }
 
 fn written<K: Sink>(alloc: Global, sink: &mut K, text: &Text) -> End {
     match write_all(sink, text.as_str().as_bytes()) {
-        Ok(()) => stopped(alloc, 0),
-        Err(_) => stopped(alloc, 5),
+        Ok(()) => End::of_status(alloc, 0),
+        Err(_) => End::of_status(alloc, 5),
     }
 }
 
@@ -63,7 +54,7 @@ pub(crate) fn run<S: Source, K: Sink>(
             Ok(text) => written(alloc, sink, &text),
             Err(end) => end,
         },
-        Err(WordsFault::Usage) => stopped(alloc, 2),
-        Err(WordsFault::Memory) => stopped(alloc, 70),
+        Err(WordsFault::Usage) => End::of_status(alloc, 2),
+        Err(WordsFault::Memory) => End::of_status(alloc, 70),
     }
 }
