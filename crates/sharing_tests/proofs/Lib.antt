@@ -1,0 +1,2 @@
+mod Hosted
+mod Sharing
