@@ -1,2 +1,2 @@
+mod CanShare
 mod Hosted
-mod Sharing
