@@ -17,6 +17,7 @@ use std::test::Fail;
 pub(crate) const CAPACITY: u64 = 20;
 
 /// The Bank on P1 owes 10 to Alice on P2, in the first round, who transfers the debt to Carol on P3, in the second.
+#[tactic(auto, using(crate::proofs::Hosted::names_hosted))]
 pub(crate) fn transfer(alloc: Global) -> Result<(Setup, RoundList), Fail>
     ensures { IfOk result (λ r. NameHosted r.0 r.1) }
 {
