@@ -1,0 +1,2 @@
+mod CanShare
+mod Hosted

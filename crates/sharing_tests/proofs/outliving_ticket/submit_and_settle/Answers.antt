@@ -1,0 +1,9 @@
+use Rattle.sharing_tests.proofs.CanShare.{in_time, kept_can}
+use Rattle.sharing_tests.proofs.outliving_ticket.submit_and_settle.Goals as goal
+
+pub returns-clause-world : goal.returns-clause-world
+returns-clause-world g c =
+    kept_can _ _ _ _ _ c.into_parts-world.ensures.nodes c.into_parts-world.ensures.world c.settle.ensures.set_up c.settle.ensures.lawful
+    c.settle.ensures.now
+    (in_time c.of-shared.result c.begin_round.new.self c.submit_and_ask.new.shared _ _ _ _ c.of-shared.ensures c.in_ok-begin_round.ensures.round
+    c.in_ok-answered.ensures.round c.into_parts-world.ensures.now c.requires.world.now)
