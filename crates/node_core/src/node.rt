@@ -188,10 +188,10 @@ impl<'s> Node<'s> {
         ensures decided { IfSome result (λ at. is_decided_there self.now place ≡ true) }
         ensures decided_at { IfSome result (λ at. at ≡ decided_since (params_of self.now) (items_of self.now) place) }
     {
-        if self.inbox.is_decided(place) {
-            return Some(self.inbox.decided_since(place));
+        if !self.inbox.is_decided(place) {
+            return None;
         }
-        None
+        Some(self.inbox.decided_since(place))
     }
 
     /// Whether a job of the request at a place was claimed and neither finished nor put back.
