@@ -5,9 +5,11 @@ ghost use Rattle.std.specs.List.{AllWithin};
 ghost use Rattle.canton_model.specs.Mediation.{first_rejection};
 ghost use Rattle.mediator.specs.OpenCases.{Rising, expired, marked, responded, at_place, without_case, open_after, first_due, after_giving};
 ghost use Rattle.mediator.specs.Settling.{BeginsSettled, SentRises};
+ghost use Rattle.mediator.specs.Due.{DueWithin, case_due};
 
-use crate::copies::{copy_decision, copy_participants, copy_path};
+use crate::copies::{copy_participants, copy_path};
 use crate::open_case::OpenCase;
+use crate::span::Span;
 use canton_model::{
     Decision, Entry, LocalVerdict, Message, Request, Response, Verdict, ViewVerdict,
 };
@@ -24,18 +26,22 @@ pub struct OpenCases {
     settled: usize,
     // Where the times of all are known to rise, a time that none of them passes.
     sent_to: Option<u64>,
+    // Where those stand whose verdicts are due.
+    due: Span,
 }
 
 impl Model for OpenCases {
     ghost use Rattle.std.specs.Prelude.{IfSome};
     ghost use Rattle.mediator.specs.Settling.{BeginsSettled, Held, SentRises};
+    ghost use Rattle.mediator.specs.Due.{DueWithin};
 
     ghost Value = { Held };
 
     ghost view = { λ o. record { items = o.cases.items } };
 
     ghost invariant = { λ o. BeginsSettled o.settled o.cases.items
-        × IfSome o.sent_to (λ high. SentRises 0 o.cases.items high) };
+        × IfSome o.sent_to (λ high. SentRises 0 o.cases.items high)
+        × DueWithin o.due.from o.due.to 0 o.cases.items };
 }
 
 // How many from the front on are settled, where at least so many are.
@@ -51,7 +57,8 @@ fn settled_from(cases: &VecDeque<OpenCase>, settled: usize) -> usize
     cases.len()
 }
 
-// The first ones are settled. Where the times rise, what follows one that isn't past its deadline isn't either.
+// The first ones are settled. Where the times rise, what follows one that isn't past its deadline isn't either. The result is
+// where it stopped.
 fn expire_from(
     alloc: Global,
     cases: &mut VecDeque<OpenCase>,
@@ -59,17 +66,19 @@ fn expire_from(
     time: u64,
     settled: usize,
     rises: bool,
-)
+) -> usize
     requires settled { BeginsSettled settled cases.old.items }
     requires rises { rises ≡ true → (high : ℕ) × SentRises 0 cases.old.items high }
-    ensures { cases.new.items ≡ map (expired wait time) cases.old.items }
+    ensures all { cases.new.items ≡ map (expired wait time) cases.old.items }
+    ensures reached { cases.new.items ≡ map (expired wait time) (take result cases.old.items) ++ drop result cases.old.items }
 {
     for at in settled..cases.len() {
         cases[at].expire(alloc, wait, time);
         if rises && cases[at].decision.is_none() {
-            return;
+            return at;
         }
     }
+    cases.len()
 }
 
 fn first_from(cases: &VecDeque<OpenCase>, place: u64) -> usize
@@ -108,6 +117,7 @@ impl OpenCases {
             cases: VecDeque::new(alloc),
             settled: 0,
             sent_to: Some(0),
+            due: Span::none(),
         }
     }
 
@@ -118,14 +128,9 @@ impl OpenCases {
     fn expire(&mut self, alloc: Global, wait: u64, time: u64)
         ensures { self.new.items ≡ map (expired wait time) self.old.items }
     {
-        expire_from(
-            alloc,
-            &mut self.cases,
-            wait,
-            time,
-            self.settled,
-            self.sent_to.is_some(),
-        );
+        let rises = self.sent_to.is_some();
+        let reached = expire_from(alloc, &mut self.cases, wait, time, self.settled, rises);
+        self.due = self.due.with_run(self.settled, reached);
         self.settled = settled_from(&self.cases, self.settled);
     }
 
@@ -136,6 +141,9 @@ impl OpenCases {
     {
         if let Some(at) = index_of(&self.cases, place) {
             self.cases[at].mark(place, is_given);
+            self.due = self
+                .due
+                .with_one(at, self.cases.len(), self.cases[at].is_due());
         }
     }
 
@@ -145,6 +153,9 @@ impl OpenCases {
     {
         if let Some(at) = index_of(&self.cases, response.request) {
             self.cases[at].respond(alloc, response.from, rejection);
+            self.due = self
+                .due
+                .with_one(at, self.cases.len(), self.cases[at].is_due());
         }
     }
 
@@ -154,6 +165,7 @@ impl OpenCases {
     {
         if let Some(at) = index_of(&self.cases, place) {
             take_out(&mut self.cases, at);
+            self.due = self.due.nearer();
             if at < self.settled {
                 self.settled -= 1;
             }
@@ -187,31 +199,34 @@ fn sent_with(sent_to: Option<u64>, time: u64) -> Option<u64>
     Some(time)
 }
 
-fn next_verdict(cases: &[OpenCase]) -> Result<Option<Verdict>, AllocError>
-    ensures { IfOk result (λ verdict. verdict ≡ first_due cases.now) }
+// The first that is due.
+fn due_index(cases: &VecDeque<OpenCase>, due: Span) -> Option<usize>
+    requires { DueWithin due.from due.to 0 cases.now.items }
+    ensures { MatchOption result (first_due cases.now.items ≡ None)
+        (λ i. (i < length cases.now.items) × DueWithin i due.to 0 cases.now.items
+        × IsSomeAnd (slice_get cases.now.items i) (λ c. case_due c ≡ first_due cases.now.items)) }
 {
-    for case in cases {
-        if case.is_given {
-            continue;
-        }
-        if let Some(decision) = &case.decision {
-            let decision = copy_decision(decision)?;
-            return Ok(Some(Verdict {
-                request: case.place,
-                decision,
-            }));
+    let end = due.end(cases.len());
+    for at in due.from..end {
+        if cases[at].is_due() {
+            return Some(at);
         }
     }
-    Ok(None)
+    None
 }
 
-fn verdict_of_both(front: &[OpenCase], back: &[OpenCase]) -> Result<Option<Verdict>, AllocError>
-    ensures { IfOk result (λ verdict. verdict ≡ first_due (front.now ++ back.now)) }
+fn verdict_at(
+    cases: &VecDeque<OpenCase>,
+    found: Option<usize>,
+) -> Result<Option<Verdict>, AllocError>
+    requires { IfSome found (λ at. at < length cases.now.items) }
+    ensures { IfOk result (λ verdict. MatchOption found (verdict ≡ None)
+        (λ at. IsSomeAnd (slice_get cases.now.items at) (λ c. verdict ≡ case_due c))) }
 {
-    match next_verdict(front)? {
-        Some(verdict) => Ok(Some(verdict)),
-        None => next_verdict(back),
-    }
+    let Some(at) = found else {
+        return Ok(None);
+    };
+    cases[at].verdict()
 }
 
 impl OpenCases {
@@ -286,11 +301,13 @@ impl OpenCases {
         Ok(())
     }
 
-    fn next_verdict(&self) -> Result<Option<Verdict>, AllocError>
-        ensures { IfOk result (λ verdict. verdict ≡ first_due self.now.items) }
+    fn next_verdict(&mut self) -> Result<Option<Verdict>, AllocError>
+        ensures verdict { IfOk result (λ verdict. verdict ≡ first_due self.old.items) }
+        ensures same { self.new.items ≡ self.old.items }
     {
-        let (front, back) = self.cases.as_slices();
-        verdict_of_both(front, back)
+        let found = due_index(&self.cases, self.due);
+        self.due = self.due.from_found(found);
+        verdict_at(&self.cases, found)
     }
 
     /// Takes the decision on the first request that is settled and whose verdict isn't given, and notes that it is.
