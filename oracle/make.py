@@ -166,7 +166,8 @@ def main():
     write('check_cases', [
         ('Views', view_rows()), ('Jobs', job_rows()),
         ('Trackers', call_rows('tracker', check_cases.Tracker(), checks.TRACKERS)),
-        ('Stores', call_rows('store', check_cases.Store(), checks.STORES))])
+        ('Stores', call_rows('store', check_cases.Store(), checks.STORES)),
+        ('Requests beside plain lists', call_rows('requests', check_cases.Requests(), checks.REQUESTS))])
     write('load_cases', [('Words', word_rows()), ('Generated scripts', generated_rows())])
     write('run_cases', [('Whole runs', run_rows())])
     write('world_cases', [('Events', world_rows())])
