@@ -20,7 +20,7 @@ pub(crate) struct Requests {
 }
 
 /// What a request asks for, and what becomes of it.
-#[derive(Clone, Copy)]
+#[derive(Drop)]
 struct Asked {
     change: Change,
     package: Name,
@@ -76,13 +76,13 @@ impl Requests {
         };
         for i in 0..count {
             let number = first.wrapping_add(i.wrapping_mul(step)) % CONTRACTS;
-            self.follow(alloc, asked, number)?;
+            self.follow(alloc, &asked, number)?;
         }
         Ok(())
     }
 
     /// Follows a request at the next place, from its hold to what becomes of it.
-    fn follow(&mut self, alloc: Global, asked: Asked, number: u64) -> Result<(), AllocError> {
+    fn follow(&mut self, alloc: Global, asked: &Asked, number: u64) -> Result<(), AllocError> {
         let place = self.plain.read();
         let known = known_of(alloc, asked.package, number);
         change_one(alloc, &mut self.store, Change::Hold, known, place)?;
@@ -95,7 +95,7 @@ impl Requests {
     fn settle(
         &mut self,
         alloc: Global,
-        asked: Asked,
+        asked: &Asked,
         number: u64,
         place: u64,
     ) -> Result<(), AllocError> {
