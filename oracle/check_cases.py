@@ -151,11 +151,13 @@ class Tracker:
                 self.requests[place][1] = rest[1]
         return place
 
+    def clean(self):
+        return min([p for p, r in self.requests.items() if r[1] == 'undecided'] + [self.cursor])
+
     def line(self, *words):
         place = self.call(*words)
-        clean = min([p for p, r in self.requests.items() if r[1] == 'undecided'] + [self.cursor])
         outcome = self.requests[place][1] if place in self.requests else 'none'
-        return 'tracker %s - cursor %d clean %d outcome %s' % (' '.join(words), self.cursor, clean, outcome)
+        return 'tracker %s - cursor %d clean %d outcome %s' % (' '.join(words), self.cursor, self.clean(), outcome)
 
 
 class Store:
@@ -214,3 +216,28 @@ class Store:
         row = self.rows[at]
         created, consumed = ('never' if row[w] is None else row[w] for w in ('create', 'consume'))
         return '%s created %s consumed %s' % (yes(row['number'] == number), created, consumed)
+
+
+class Requests:
+    """A tracker and a store that follow the same requests, each of which holds one contract until it is decided."""
+
+    def __init__(self):
+        self.tracker, self.store = Tracker(), Store()
+
+    def follow(self, change, number, outcome):
+        place = self.tracker.cursor
+        self.store.change('hold', number, place)
+        self.tracker.call('begin', place, 0)
+        self.tracker.call('advance', 1)
+        if outcome != 'undecided':
+            self.tracker.call('settle', place, outcome)
+            self.store.release(place)
+        if outcome == 'approved':
+            self.store.change(change, number, place)
+
+    def line(self, change, first, step, count, outcome):
+        for i in range(int(count)):
+            self.follow(change, (int(first) + i * int(step)) % 1000, outcome)
+        told = len(self.store.rows), len(self.store.holds), self.tracker.clean()
+        words = ' '.join([change, first, step, count, outcome])
+        return 'requests %s - rows %d holds %d clean %d as plain lists yes' % (words, *told)

@@ -134,6 +134,12 @@ def run_rows():
         yield 'run %s %d %d %s %s' % (name, take, put, words, source), lines + ['|' + written for written in text.splitlines()]
 
 
+def sure_run_rows():
+    for name, source, text in runs.SURE_RUNS:
+        lines = ['run ' + name, 'status 0'] + ['|' + written for written in text.splitlines()]
+        yield 'surely %s %d run %s' % (name, len(text), source), lines
+
+
 def world_rows():
     for name, script, words, worked in worlds.CASES:
         lines = world_cases.case_lines(script, words)
@@ -166,9 +172,10 @@ def main():
     write('check_cases', [
         ('Views', view_rows()), ('Jobs', job_rows()),
         ('Trackers', call_rows('tracker', check_cases.Tracker(), checks.TRACKERS)),
-        ('Stores', call_rows('store', check_cases.Store(), checks.STORES))])
+        ('Stores', call_rows('store', check_cases.Store(), checks.STORES)),
+        ('Requests beside plain lists', call_rows('requests', check_cases.Requests(), checks.REQUESTS))])
     write('load_cases', [('Words', word_rows()), ('Generated scripts', generated_rows())])
-    write('run_cases', [('Whole runs', run_rows())])
+    write('run_cases', [('Whole runs', run_rows()), ('Whole runs within room', sure_run_rows())])
     write('world_cases', [('Events', world_rows())])
 
 

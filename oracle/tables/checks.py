@@ -145,3 +145,16 @@ STORES = (
        ('row 0 5', 'yes created never consumed 9'), ('create 5 1 1 4', 'rows 1 kept 0'), ('row 0 5', 'yes created 4 consumed 9'),
        ('create 5 1 1 2', None), ('create 5 1 1 3', None), ('consume 5 1 1 10', None), ('row 0 5', 'yes created 2 consumed 9'),
        ('create 6 1 1 8', 'rows 2 kept 0'), ('contract 6', 'active held no found yes yes'), ('row 1 6', 'yes created 8 consumed never')])
+
+# 1,000 requests that create contracts, 500 that consume them in another order, and between these three that aren't decided: what is done,
+# the first contract, what is added for the next, how many requests, what becomes of each. Each request has the next place.
+REQUESTS = [
+    ('create 0 1 1000 approved', 'rows 1000 holds 0 clean 1000 as plain lists yes'),
+    ('consume 3 7 250 approved', 'rows 1000 holds 0 clean 1250 as plain lists yes'),
+    ('consume 503 1 1 undecided', 'rows 1000 holds 1 clean 1250 as plain lists yes'),
+    ('consume 753 7 249 approved', 'rows 1000 holds 1 clean 1250 as plain lists yes'),
+    ('consume 510 1 1 undecided', 'rows 1000 holds 2 clean 1250 as plain lists yes'),
+    ('consume 496 7 1 approved', 'rows 1000 holds 2 clean 1250 as plain lists yes'),
+    ('consume 517 1 1 undecided', 'rows 1000 holds 3 clean 1250 as plain lists yes'),
+    # what is rejected is held no more, and changes nothing
+    ('consume 0 1 3 rejected', 'rows 1000 holds 3 clean 1250 as plain lists yes')]

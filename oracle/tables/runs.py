@@ -98,6 +98,50 @@ active 3 Iou.Iou(Bank,Carol,10)
 end
 '''
 
+# the same debt, which Alice transfers to Carol twice in the second round
+TWO_SPENDS = json.dumps(
+    {"participants": HOSTS, "packages": [IOU], "rounds": [
+        {"submits": [asked('P1', 'c1', ['Bank'], iou('Alice', 10))]},
+        {"submits": [asked('P2', 't1', ['Alice'], transfer(of='c1')), asked('P2', 't2', ['Alice'], transfer(of='c1'))]}]},
+    separators=(',', ':'))
+SPENT_ONCE = '''entries 11
+0 1 request P1 c1 to P1 P2
+1 2 response P1 for 0 0=approve
+2 3 verdict for 0 approved
+3 4 request P2 t1 to P1 P2 P3
+4 5 request P2 t2 to P1 P2 P3
+5 6 response P1 for 3 0=approve 0.0=approve
+6 7 response P1 for 4 0=Locked 0.0=approve
+7 8 response P2 for 3 0=approve
+8 9 response P2 for 4 0=Locked
+9 10 verdict for 3 approved
+10 11 verdict for 4 rejected P1 0 Locked
+result 0 P1 c1 sent 0
+result 1 P2 t1 sent 3
+result 1 P2 t2 sent 4
+outcome 0 approved
+outcome 3 approved
+outcome 4 rejected P1 0 Locked
+participant P1 clean 11 time 11
+commit 0
+  create Iou.Iou(Bank,Alice,10)
+commit 3
+  consume Iou.Iou(Bank,Alice,10) Transfer(Carol) by Alice = ()
+    create Iou.Iou(Bank,Carol,10)
+active 3 Iou.Iou(Bank,Carol,10)
+participant P2 clean 11 time 11
+commit 0
+  create Iou.Iou(Bank,Alice,10)
+commit 3
+  consume Iou.Iou(Bank,Alice,10) Transfer(Carol) by Alice = ()
+    create Iou.Iou(Bank,Carol,10)
+participant P3 clean 11 time 11
+commit 3
+  create Iou.Iou(Bank,Carol,10)
+active 3 Iou.Iou(Bank,Carol,10)
+end
+'''
+
 # two requests over a log of four places, of which the first needs all
 FULL = json.dumps(
     {"participants": HOSTS, "packages": [IOU], "rounds": [{"submits": [
@@ -173,6 +217,11 @@ RUNS = [
     ('fourth-put-fails', 'run', HI, 0, 4, 5, 'canton_cli: write fault', report('hi')[:3 * MOST_PIECE]),
     ('put-of-a-fault', 'run', '{', 0, 1, 3, 'canton_cli: script NotJson', ''),
     ('nothing', 'run', '', 0, 0, 3, 'canton_cli: script NotJson', '')]
+
+# a name, the source and the text, over a source that never fails and a sink with room for the text
+SURE_RUNS = [
+    ('transfer-within-room', TRANSFER, TRANSFERRED),
+    ('two-spends-within-room', TWO_SPENDS, SPENT_ONCE)]
 
 
 def line_of(fault):

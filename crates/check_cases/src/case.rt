@@ -1,6 +1,7 @@
 //! Cases.
 use crate::jobs::put_job;
 use crate::lines::put_asked;
+use crate::requests::Requests;
 use crate::stores::{Change, change_all, put_contract, put_row, put_store};
 use crate::trackers::{advance, begin, outcome_of, put_tracker};
 use crate::verdicts::put_view;
@@ -11,11 +12,12 @@ use futures::test::MockTask;
 use request_track::Tracker;
 use std::alloc::{AllocError, Global};
 
-/// The tracker and the store that lines call.
+/// The tracker and the store that lines call, and the requests that lines follow.
 #[derive(Drop)]
 pub(crate) struct Cases {
     tracker: Tracker,
     store: Store,
+    requests: Requests,
 }
 
 impl Cases {
@@ -23,6 +25,7 @@ impl Cases {
         Cases {
             tracker: Tracker::new(alloc),
             store: Store::new(alloc),
+            requests: Requests::new(alloc),
         }
     }
 
@@ -51,6 +54,7 @@ impl Cases {
             "job" => put_job(alloc, task, words, out),
             "tracker" => self.tracker_call(alloc, words, line, out),
             "store" => self.store_call(alloc, words, line, out),
+            "requests" => self.follow_requests(alloc, words, line, out),
             _ => put_line(out, &[line]),
         }
     }
@@ -77,6 +81,18 @@ impl Cases {
             _ => place = words.number(),
         }
         put_tracker(alloc, &self.tracker, place, out)
+    }
+
+    /// Follows requests, and puts at the end what the store and the tracker that follow them tell then.
+    fn follow_requests(
+        &mut self,
+        alloc: Global,
+        mut words: Words<'_>,
+        line: &str,
+        out: &mut String,
+    ) -> Result<(), AllocError> {
+        put_asked(out, line)?;
+        self.requests.follow_all(alloc, &mut words, out)
     }
 
     /// Calls the store, and puts at the end what it tells then.

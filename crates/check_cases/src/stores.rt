@@ -13,7 +13,7 @@ use ledger_terms::{
 use std::alloc::{AllocError, Global};
 
 // How many contracts there are.
-const CONTRACTS: u64 = 1_000;
+pub(crate) const CONTRACTS: u64 = 1_000;
 
 /// What is done to a contract.
 #[derive(Clone, Copy)]
@@ -30,11 +30,11 @@ fn hash_of(number: u64, last: u8) -> Hash {
     Hash(bytes)
 }
 
-fn id_of(number: u64) -> Hash {
+pub(crate) fn id_of(number: u64) -> Hash {
     hash_of(number, 1)
 }
 
-fn salt_of(number: u64) -> Hash {
+pub(crate) fn salt_of(number: u64) -> Hash {
     hash_of(number, 2)
 }
 
@@ -77,7 +77,7 @@ fn change_each(
 }
 
 /// A contract of the template that has the package's name.
-fn known_of(alloc: Global, package: Name, number: u64) -> Known {
+pub(crate) fn known_of(alloc: Global, package: Name, number: u64) -> Known {
     Known {
         id: id_of(number),
         salt: salt_of(number),
@@ -91,7 +91,7 @@ fn known_of(alloc: Global, package: Name, number: u64) -> Known {
     }
 }
 
-fn change_one(
+pub(crate) fn change_one(
     alloc: Global,
     store: &mut Store,
     change: Change,

@@ -6,10 +6,15 @@ use fixtures::put_line;
 use request_track::Tracker;
 use std::alloc::{AllocError, Global};
 
-/// Tracks one more request, where none is tracked at its place.
+/// Tracks one more request, with the place and the decision time that the words say.
 pub(crate) fn begin(tracker: &mut Tracker, words: &mut Words<'_>) -> Result<(), AllocError> {
     let place = words.number();
     let decision = words.number();
+    track(tracker, place, decision)
+}
+
+/// Tracks one more request, where none is tracked at its place.
+pub(crate) fn track(tracker: &mut Tracker, place: u64, decision: u64) -> Result<(), AllocError> {
     if tracker.outcome(place).is_none() {
         tracker.begin(place, decision)?;
     }

@@ -15,12 +15,12 @@ pub(crate) fn answer(alloc: Global, case: &Case<'_>) -> Result<String, AllocErro
     let (finish, sink) = played(alloc, case)?;
     let mut out = format!(in alloc; "run {}\nstatus {}\n", case.name, finish.status)?;
     put_line(alloc, &finish, &mut out)?;
-    put_written(&sink, &mut out)?;
+    put_written(sink.written(), &mut out)?;
     Ok(out)
 }
 
 /// Puts the line for the status at the end, where it isn't 0.
-fn put_line(alloc: Global, finish: &Finish, out: &mut String) -> Result<(), AllocError> {
+pub(crate) fn put_line(alloc: Global, finish: &Finish, out: &mut String) -> Result<(), AllocError> {
     if finish.status != 0 {
         let text = line(alloc, finish)?;
         out.push_str(text.as_str())?;
@@ -30,8 +30,8 @@ fn put_line(alloc: Global, finish: &Finish, out: &mut String) -> Result<(), Allo
 }
 
 /// Puts what the sink was given at the end.
-fn put_written(sink: &MemSink, out: &mut String) -> Result<(), AllocError> {
-    let text = str::from_utf8(sink.written()).unwrap_or("no text");
+pub(crate) fn put_written(written: &[u8], out: &mut String) -> Result<(), AllocError> {
+    let text = str::from_utf8(written).unwrap_or("no text");
     for line in text.lines() {
         out.push_str("|")?;
         out.push_str(line)?;
@@ -40,7 +40,7 @@ fn put_written(sink: &MemSink, out: &mut String) -> Result<(), AllocError> {
     Ok(())
 }
 
-fn words_of(alloc: Global, words: &str) -> Result<WordList, AllocError> {
+pub(crate) fn words_of(alloc: Global, words: &str) -> Result<WordList, AllocError> {
     let mut list = WordList::new(alloc);
     for word in words.split(',') {
         list.push(Text::of(alloc, word)?)?;
