@@ -1,15 +1,18 @@
-//! Hashes of strings of 200 bytes.
+//! Hashes of strings of 200 and of 33 bytes.
 use hash_id::contract_id_of_bytes;
 use ledger_terms::Hash;
 
-// With the tag and the salt before it, a string of 200 bytes.
-const INSTANCE: [u8; 167] = [90; 167];
+/// With the tag and the salt before it, a string of 200 bytes: four blocks of SHA-256.
+pub(crate) const LONG: [u8; 167] = [90; 167];
 
-/// The last of so many ids, each with the one before as its salt. The first salt is 32 zeros.
-pub(crate) fn last_of(count: u32) -> Hash {
+/// With the tag and the salt before it, a string of 33 bytes: one block.
+pub(crate) const SHORT: [u8; 0] = [];
+
+/// The last of so many ids of contracts with this instance, each with the one before as its salt. The first salt is 32 zeros.
+pub(crate) fn last_of(count: u32, instance: &[u8]) -> Hash {
     let mut last = Hash([0; 32]);
     for _ in 0..count {
-        last = contract_id_of_bytes(&last, &INSTANCE);
+        last = contract_id_of_bytes(&last, instance);
     }
     last
 }

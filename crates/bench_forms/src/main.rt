@@ -1,10 +1,11 @@
-//! Work to take the time of. `hash N` makes N hashes of strings of 200 bytes, each from the one before, and writes the last.
-//! `wire N` encodes N actions into one buffer, decodes them and encodes them again, and writes how many bytes they took, how
-//! many actions were decoded, and whether their bytes are the same again. `blind N` makes and verifies the four trees of a
-//! transfer N times, and writes how many hashes were made and how many trees were verified. `request N` makes the request of that
-//! transfer N times from its command, and writes how many bytes the requests have and how many hashes they took; `strings N`
-//! makes as many hashes of as long strings and nothing else. `script N` reads standard input N times as a script, and writes how
-//! many bytes it has and how many submissions, or its fault. `json N` reads it N times as a JSON value and no more.
+//! Work to take the time of. `hash N` makes N hashes of strings of 200 bytes, each from the one before, and writes the last, and
+//! `short N` of strings of 33 bytes. `wire N` encodes N actions into one buffer, decodes them and encodes them again, and writes
+//! how many bytes they took, how many actions were decoded, and whether their bytes are the same again. `blind N` makes and
+//! verifies the four trees of a transfer N times, and writes how many hashes were made and how many trees were verified. `request
+//! N` makes the request of that transfer N times from its command, and writes how many bytes the requests have and how many hashes
+//! they took; `strings N` makes as many hashes of as long strings and nothing else. `script N` reads standard input N times as a
+//! script, and writes how many bytes it has and how many submissions, or its fault. `json N` reads it N times as a JSON value and
+//! no more.
 #![tactic(auto)]
 
 mod actions;
@@ -17,12 +18,13 @@ mod trees;
 mod work;
 
 use crate::actions::round_trip;
-use crate::hashes::last_of;
+use crate::hashes::{LONG, SHORT, last_of};
 use crate::requests::{hash_strings, make_requests};
 use crate::scripts::{Found, read_often, read_source};
 use crate::trees::make_and_verify;
 use crate::work::Work;
 use cn_io::ReadSource;
+use ledger_terms::Hash;
 use std::alloc::Global;
 use std::io::Print;
 use std::{env, io};
@@ -47,12 +49,8 @@ fn main(rt: HostRuntime) -> io::Result<()> {
 
 fn run(rt: &impl Print, alloc: Global, work: Work, count: u32) -> io::Result<()> {
     match work {
-        Work::Hash => {
-            for byte in last_of(count).0 {
-                print!(rt; "{byte:02x}")?;
-            }
-            println!(rt; "")
-        }
+        Work::Hash => print_hash(rt, &last_of(count, &LONG)),
+        Work::Short => print_hash(rt, &last_of(count, &SHORT)),
         Work::Wire => {
             let trip = round_trip(alloc, count)?;
             let again = if trip.is_same { "the same" } else { "other" };
@@ -75,6 +73,13 @@ fn run(rt: &impl Print, alloc: Global, work: Work, count: u32) -> io::Result<()>
         }
         Work::Script | Work::Json => Ok(()),
     }
+}
+
+fn print_hash(rt: &impl Print, hash: &Hash) -> io::Result<()> {
+    for byte in hash.0 {
+        print!(rt; "{byte:02x}")?;
+    }
+    println!(rt; "")
 }
 
 fn run_source(rt: &HostRuntime, work: Work, count: u32) -> io::Result<()> {

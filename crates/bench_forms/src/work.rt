@@ -4,6 +4,7 @@
 #[derive(Clone, Copy, PartialEq, Eq)]
 pub(crate) enum Work {
     Hash,
+    Short,
     Wire,
     Blind,
     Request,
@@ -17,6 +18,7 @@ impl Work {
     pub(crate) fn named(name: &str) -> Option<Work> {
         match name {
             "hash" => Some(Work::Hash),
+            "short" => Some(Work::Short),
             "wire" => Some(Work::Wire),
             "blind" => Some(Work::Blind),
             "request" => Some(Work::Request),
