@@ -6,7 +6,7 @@ ghost use Rattle.prepare_request.specs.Within.{parties_in_what};
 ghost use Rattle.sharing_tests.specs.Sharings.{CanBeShared};
 ghost use Rattle.sync_shared.specs.SetUp.{IsSetUp};
 
-use crate::sharing::{Answered, is_approved_over, is_host, submit_and_ask};
+use crate::sharing::{Answered, Left, is_approved_over, is_host, stands_in_log, submit_and_ask};
 use crate::sharing_script::{CAPACITY, first_of, transfer};
 use confirm_reply::Setup;
 use ledger_terms::{ParticipantId, ParticipantIdList, Submission};
@@ -20,11 +20,12 @@ use std::test::Fail;
 use sync_shared::{LEDGER_PARTS, Session, Synchroniser, Ticket};
 use world_play::{World, settle};
 
-// A settled synchroniser, with what its last client was told.
+// A settled synchroniser, with what its last client was told, and whether what that had seen stands in the log.
 #[derive(Drop)]
 struct Settled<'r> {
     world: World<'r>,
     answered: Option<Answered<'r>>,
+    stands: bool,
 }
 
 // A client submits in a round of its own and asks at once, and the synchroniser settles.
@@ -50,18 +51,25 @@ fn submit_and_settle<'r, S: Session, R: Wait>(
         return Ok(Settled {
             world,
             answered: None,
+            stands: false,
         });
     }
     let nobody = ParticipantIdList::new(alloc);
     let mut shared = Synchroniser::<'r, S>::of(alloc, world, blank);
     shared.begin_round(0, &nobody, false)?;
-    let answered = submit_and_ask(rt, &mut shared, what, 0)?;
+    let Left { last, answered } = submit_and_ask(rt, &mut shared, what, 0)?;
     let mut world = shared.into_parts();
     settle(alloc, &mut world, &nobody, false)?;
-    Ok(Settled { world, answered })
+    let stands = stands_in_log(&mut world, last);
+    Ok(Settled {
+        world,
+        answered,
+        stands,
+    })
 }
 
-// What a new client of the ticket's participant is told of it, where there is such a participant.
+// What a new client of the ticket's participant is told of it, where there is such a participant and what the client has seen then
+// stands in the log.
 fn ask<'r, S: Session, R: Wait>(
     rt: &R,
     alloc: Global,
@@ -83,7 +91,11 @@ fn ask<'r, S: Session, R: Wait>(
     let mut shared = Synchroniser::<'r, S>::of(alloc, world, blank);
     let mut client = shared.client(ticket.participant());
     let completion = shared.completion(rt, &mut client, ticket)?;
-    let _ = shared.retire(client);
+    let last = shared.retire(client);
+    let mut world = shared.into_parts();
+    if !stands_in_log(&mut world, last) {
+        return Ok(None);
+    }
     Ok(Some(completion))
 }
 
@@ -109,7 +121,11 @@ fn a_ticket_outlives_its_round(rt: HostRuntime) -> Result<(), Fail> {
     let transfer = first_of(&rounds, 1)?;
     let blank = Blank::new(LEDGER_PARTS);
     let second = submit_and_settle::<Brand, _>(&rt, alloc, &setup, first.world, blank, transfer)?;
-    let Settled { world, answered } = second;
+    let Settled {
+        world,
+        answered,
+        stands,
+    } = second;
     let Some(mut answered) = answered else {
         return Err(Fail::new("no ticket"));
     };
@@ -119,6 +135,6 @@ fn a_ticket_outlives_its_round(rt: HostRuntime) -> Result<(), Fail> {
         Some(completion) => is_approved_over(&completion, 7),
         None => false,
     };
-    assert!(rt; is_sent_at_three(&answered) && approved);
+    assert!(rt; is_sent_at_three(&answered) && approved && first.stands && stands);
     Ok(())
 }

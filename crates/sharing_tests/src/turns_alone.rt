@@ -6,7 +6,7 @@ ghost use Rattle.prepare_request.specs.Within.{parties_in_what};
 ghost use Rattle.sync_shared.specs.SetUp.{IsSetUp};
 ghost use Rattle.world_play.specs.Machines.{machine_of};
 
-use crate::sharing::{Answered, is_approved_over, is_host, submit_and_ask};
+use crate::sharing::{Answered, Left, is_approved_over, is_host, stands_in_log, submit_and_ask};
 use crate::sharing_script::{CAPACITY, first_of, transfer};
 use canton_model::{Decision, Message};
 use confirm_reply::Setup;
@@ -90,9 +90,10 @@ fn is_approved_by_turns<'r, S: Session, R: Wait>(
     }
     let mut shared = Synchroniser::<'r, S>::new(alloc, setup, row, CAPACITY, blank)?;
     shared.begin_round(0, &ParticipantIdList::new(alloc), false)?;
-    let answered = submit_and_ask(rt, &mut shared, what, TURNS)?;
+    let Left { last, answered } = submit_and_ask(rt, &mut shared, what, TURNS)?;
     let mut world = shared.into_parts();
-    Ok(is_approved_at_once(&answered) && is_request_approved(&mut world.sequencer))
+    let stands = stands_in_log(&mut world, last);
+    Ok(stands && is_approved_at_once(&answered) && is_request_approved(&mut world.sequencer))
 }
 
 #[test]
