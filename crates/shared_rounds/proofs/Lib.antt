@@ -1,0 +1,5 @@
+mod OneAnswer
+mod OwnResults
+mod Gathering
+mod Joining
+mod Queued
