@@ -4,8 +4,7 @@ ghost use Rattle.world_model.specs.Mediator.{MediatorState, new_mediator, read_b
 ghost use Rattle.world_model.specs.Mediator.{next_verdict as first_settled};
 ghost use Rattle.mediator.specs.Kept.{Keeps, taken};
 
-use crate::open_case::OpenCase;
-use crate::open_cases::{give, mark, read};
+use crate::open_cases::OpenCases;
 use canton_model::{Entry, Verdict};
 use ledger_terms::{Params, Topology};
 use std::alloc::{AllocError, Global};
@@ -17,7 +16,7 @@ use std::marker::Model;
 pub struct Mediator {
     params: Params,
     cursor: u64,
-    cases: Vec<OpenCase>,
+    cases: OpenCases,
 }
 
 impl Model for Mediator {
@@ -40,7 +39,7 @@ impl Mediator {
         Mediator {
             params: topology.params,
             cursor: 0,
-            cases: Vec::new(alloc),
+            cases: OpenCases::new(alloc),
         }
     }
 
@@ -60,7 +59,7 @@ impl Mediator {
         ensures err { OnErr result (self.new ≡ self.old) }
     {
         let alloc = *self.cases.allocator();
-        read(alloc, &self.params, self.cursor, &mut self.cases, entry)?;
+        self.cases.read(alloc, &self.params, self.cursor, entry)?;
         self.cursor += 1;
         Ok(())
     }
@@ -73,7 +72,7 @@ impl Mediator {
         ensures params { self.new.params ≡ self.old.params }
         ensures err { OnErr result (self.new ≡ self.old) }
     {
-        give(&mut self.cases)
+        self.cases.give()
     }
 
     /// The verdict on this request counts as not taken.
@@ -81,6 +80,6 @@ impl Mediator {
         ensures state { (state : MediatorState) → Keeps self.old state → Keeps self.new (given_back state request) }
         ensures params { self.new.params ≡ self.old.params }
     {
-        mark(&mut self.cases, request, false);
+        self.cases.mark(request, false);
     }
 }

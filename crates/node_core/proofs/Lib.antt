@@ -9,3 +9,4 @@ pub mod ReadSteps
 pub mod Alike
 pub mod Preparing
 pub mod OfferedNames
+pub mod DecidedSince

@@ -1,5 +1,5 @@
 -- What contracts see of a participant.
-use Rattle.std.specs.Prelude.{◌≡◌, ◌+◌, ℕ, suc, zero, take, Bool, ◌&&◌, List, [], ◌∷◌, Option, is_some, length, if◌then◌else◌}
+use Rattle.std.specs.Prelude.{◌≡◌, ◌+◌, ◌<◌, ◌≤◌, ℕ, suc, zero, take, Bool, true, false, ◌&&◌, List, [], ◌∷◌, Option, is_some, length, if◌then◌else◌}
 use Rattle.ledger_terms.specs.declared.topology.Topology.{Topology}
 use Rattle.ledger_model.specs.Terms.{ParticipantId}
 use Rattle.canton_model.specs.Log.{Params}
@@ -53,6 +53,12 @@ response_there p k = response_at (reading_of p) (params_of p) p.me (items_of p) 
 
 abbrev pub is_decided_there : Participant → ℕ → Bool
 is_decided_there p k = is_decided_now (params_of p) (items_of p) k
+
+-- the least place up to the cursor at which the request at place k is decided
+pub record IsDecidedSince (p : Participant) (k at : ℕ) : Type 0 where
+  pub up_to : at ≤ length (items_of p)
+  pub decided : is_decided_in (params_of p) (items_of p) k at ≡ true
+  pub undecided : (i : ℕ) → i < at → is_decided_in (params_of p) (items_of p) k i ≡ false
 
 -- the place that it claims next
 abbrev pub next_place : Participant → Option ℕ

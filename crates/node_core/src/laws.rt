@@ -7,9 +7,10 @@ ghost use Rattle.world_model.specs.Lawful.{NodeHas};
 ghost use Rattle.lang_eval.specs.Named.{AreKnown};
 ghost use Rattle.interpret.specs.NamedParties.{parties_in_contracts};
 ghost use Rattle.sealed_form.specs.Within.{is_hosted};
+ghost use Rattle.node_inbox.specs.InboxState.{decided_since};
 ghost use Rattle.node_core.specs.Answers.{AreAlike, IsOf, answers_of};
-ghost use Rattle.node_core.specs.Participant.{CanRead, Participant, items_of, next_place, owed_there, owes_there, reading_of, response_there};
-ghost use Rattle.node_core.specs.Participant.{with_state};
+ghost use Rattle.node_core.specs.Participant.{CanRead, IsDecidedSince, Participant, is_decided_there, items_of, next_place, owed_there, owes_there};
+ghost use Rattle.node_core.specs.Participant.{params_of, reading_of, response_there, with_state};
 ghost use Rattle.node_core.specs.Preparing.{offered_by};
 
 /// Two nodes of one participant and setup with equal inboxes, claims, outboxes and flags answer alike, whatever else the logs hold.
@@ -56,4 +57,9 @@ pub fn node_offers_known_parties()
         → NodeHas m p.me read p.state
         → GenuineLog m read
         → AreKnown (is_hosted p.topology) (parties_in_contracts (offered_by p)) }
+{}
+
+/// Where a request is decided at the cursor, the place since when it is decided is the least at which it is.
+pub fn decided_since_is_least()
+    ensures { (p : Participant) (k : ℕ) → is_decided_there p k ≡ true → IsDecidedSince p k (decided_since (params_of p) (items_of p) k) }
 {}

@@ -180,6 +180,20 @@ impl<'s> Node<'s> {
         Ok(())
     }
 
+    /// The least place up to the cursor at which the request that it received at a place is decided. Goes through what was read from
+    /// there on.
+    pub fn decided_at(&self, place: u64) -> Option<u64>
+        requires { is_some (shown_at (items_of self.now) place) ≡ true }
+        ensures undecided { IfNone result (is_decided_there self.now place ≡ false) }
+        ensures decided { IfSome result (λ at. is_decided_there self.now place ≡ true) }
+        ensures decided_at { IfSome result (λ at. at ≡ decided_since (params_of self.now) (items_of self.now) place) }
+    {
+        if !self.inbox.is_decided(place) {
+            return None;
+        }
+        Some(self.inbox.decided_since(place))
+    }
+
     /// Whether a job of the request at a place was claimed and neither finished nor put back.
     pub fn unfinished(&self, place: u64) -> bool
         ensures { result ≡ has_place self.now.state.unfinished place }
