@@ -3,3 +3,5 @@ mod OwnResults
 mod Gathering
 mod Joining
 mod Queued
+mod Captures
+mod Crossings
