@@ -1,6 +1,6 @@
 -- What all clients of a round brought, put together.
 use Rattle.std.proofs.Common.{◌≡◌, ℕ, zero, suc, ◌+◌, ◌<◌, List, [], ◌∷◌, length, map, Some, refl, sym, ap, ◌∙◌, subst, arith}
-use Rattle.std.specs.Prelude.{All, slice_get, sum_by}
+use Rattle.std.specs.Prelude.{All, slice_get, slice_index_or, sum_by}
 use Rattle.std.proofs.lemmas.List.{length-map}
 use Rattle.std.proofs.lemmas.List.Sums.{sum_by-cons}
 use Rattle.std.proofs.lemmas.Option.{get_or_from_slice_get, slice_get_within}
@@ -18,6 +18,7 @@ use Rattle.world_model.specs.Machine.{Machine}
 use Rattle.world_model.specs.Rounds as r
 use Rattle.world_model.specs.Settled.{sum_below}
 use Rattle.world_play.specs.Results.{IsPlainResult, results_of}
+use Rattle.world_play.proofs.Passing.{item_at}
 use Rattle.world_play.proofs.Plays.{each_of}
 use Rattle.sync_shared.specs.Clients.{Seen}
 use Rattle.shared_rounds.specs.declared.served.Served.{Served}
@@ -26,7 +27,7 @@ use Rattle.shared_rounds.specs.Queues.{queue_at, queued}
 use Rattle.shared_rounds.specs.Retired.{list_seen, results_brought, tickets_brought}
 use Rattle.shared_rounds.specs.Served.{IsServed}
 
-at_of_map : {X Y : Type 0} (f : X → Y) (xs : List X) (k : ℕ) (x : X) → slice_get xs k ≡ Some x → slice_get (map f xs) k ≡ Some (f x)
+pub at_of_map : {X Y : Type 0} (f : X → Y) (xs : List X) (k : ℕ) (x : X) → slice_get xs k ≡ Some x → slice_get (map f xs) k ≡ Some (f x)
 at_of_map f [] k x e = cc
 at_of_map f (y ∷ xs) zero x e = let same : y ≡ x = cc in ap (λ (z : _). Some (f z)) same
 at_of_map f (y ∷ xs) (suc k) x e = at_of_map f xs k x e
@@ -49,6 +50,12 @@ some_at : {X : Type 0} (xs : List X) (p : ℕ) → p < length xs → (x : X) × 
 some_at [] p lt = absurd (omega (arith, lt))
 some_at (x ∷ xs) zero lt = (x, refl)
 some_at (x ∷ xs) (suc p) lt = some_at xs p (omega (arith, lt))
+
+-- clients that nobody has used yet
+pub all_fresh : (start : List Entry) (clients : List Seen)
+    → ((p : ℕ) (c : Seen) → slice_get clients p ≡ Some c → c ≡ record { list = start; tickets = 0; me = p })
+    → All (λ (client : Seen). client.tickets ≡ 0) clients
+all_fresh start clients new = λ k d lt. ap (λ (s : Seen). s.tickets) (new k (slice_index_or clients k d) (item_at clients k d lt))
 
 -- what each client was served, by the place of its participant
 pub each_of_clients : {S : Type 0} (m : Machine) (why : r.Why SubmitFault) (time now : ℕ) (rules paused : List ParticipantId) (start : List Entry)
