@@ -14,7 +14,9 @@ serve_one-requires g c =
     let k = c.submits.what-index in
     let x = c.what-item.result in
     let at = item_at c.args.submits.now k x c.submits-test.true ∙ ap Some (sym c.what-item.is) in
-    each_of (λ (what : Submission). AreKnown (is_hosted g.S.Session.topology) (parties_in_what what.what)) c.args.submits.now k x c.requires.named at
+    record {
+      named = each_of (λ (what : Submission). AreKnown (is_hosted g.S.Session.topology) (parties_in_what what.what)) c.args.submits.now k x c.requires.named at;
+    }
 
 pub submits-preserved : goal.submits-preserved
 submits-preserved g c =
