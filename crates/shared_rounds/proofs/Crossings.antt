@@ -96,9 +96,19 @@ what_sync =
 
 pub submission_sync : IsSync Submission.the_row
 submission_sync =
-    declared_sync Submission.the_type
-    (participant_id.the_sync, (name.the_sync, (party_set.the_sync, (search (sendable, option.the_sync, option.the_field_sync, as_row_sync) depth 12,
-    (what_sync, tt)))))
+    declared_sync Submission.the_type (
+      participant_id.the_sync,
+      (
+        name.the_sync,
+        (
+          party_set.the_sync,
+          (
+            search (sendable, option.the_sync, option.the_field_sync, as_row_sync) depth 12,
+            (what_sync, tt),
+          ),
+        ),
+      ),
+    )
 
 pub locked_node_send : (κ : NamedLft) (T N : RattleType) (g : Session.Ghosts T.Denot) (h : Row.Ghosts T.Denot) (l : Ledger.Ghosts T.Denot)
     → IsSend (LockedNode.the_row κ T N g h l)
@@ -113,30 +123,57 @@ locked_nodes_sync κ T g h l =
 pub shared_sync : (κ : NamedLft) (T : RattleType) (g : Session.Ghosts T.Denot) (h : Row.Ghosts T.Denot) (l : Ledger.Ghosts T.Denot)
     → IsSync (Shared.the_row κ T g h l)
 shared_sync κ T g h l =
-    declared_sync (Shared.the_type κ T g h l)
-    (round_rules.the_sync, (search (sendable, heap.the_sync), (search (sendable, crosses, locked_log.the_send, as_row_sync),
-    (search (sendable, crosses, locked_mediator.the_send, as_row_sync), (locked_nodes_sync κ T g h l, tt)))))
+    declared_sync (Shared.the_type κ T g h l) (
+      round_rules.the_sync,
+      (
+        search (sendable, heap.the_sync),
+        (
+          search (sendable, crosses, locked_log.the_send, as_row_sync),
+          (search (sendable, crosses, locked_mediator.the_send, as_row_sync), (locked_nodes_sync κ T g h l, tt)),
+        ),
+      ),
+    )
 
 pub clients_sync : (ν : List ℕ) (a b c d : Lifetime) (α β γ δ : Lft) (κ : NamedLft) (T R : RattleType) (g : Session.Ghosts T.Denot)
     (h : Row.Ghosts T.Denot) (l : Ledger.Ghosts T.Denot) → IsSync R
     → IsSync (TupleAt ν (ShrRef a α R ∷ ShrRef b β Global.the_row ∷ ShrRef c γ (Shared.the_row κ T g h l) ∷ ShrSlice d δ Submission.the_row ∷ []))
 clients_sync ν a b c d α β γ δ κ T R g h l r =
-    declared_sync (type_at ν (ShrRef a α R ∷ ShrRef b β Global.the_row ∷ ShrRef c γ (Shared.the_row κ T g h l) ∷ ShrSlice d δ Submission.the_row ∷ []))
-    (ref_sync a α R r, (ref_sync b β Global.the_row heap.the_sync, (ref_sync c γ (Shared.the_row κ T g h l) (shared_sync κ T g h l),
-    (slice_sync d δ Submission.the_row submission_sync, tt))))
+    declared_sync (type_at ν (ShrRef a α R ∷ ShrRef b β Global.the_row ∷ ShrRef c γ (Shared.the_row κ T g h l) ∷ ShrSlice d δ Submission.the_row ∷ [])) (
+      ref_sync a α R r,
+      (
+        ref_sync b β Global.the_row heap.the_sync,
+        (
+          ref_sync c γ (Shared.the_row κ T g h l) (shared_sync κ T g h l),
+          (slice_sync d δ Submission.the_row submission_sync, tt),
+        ),
+      ),
+    )
 
 pub lane_work_sync : (κ ν : NamedLft) (T R G : RattleType) (g : Session.Ghosts T.Denot) (h : Row.Ghosts T.Denot) (l : Ledger.Ghosts T.Denot)
     → IsSync R → IsSync G → IsSync (LaneWork.the_row κ ν T R G g h l)
 lane_work_sync κ ν T R G g h l r q =
-    declared_sync (LaneWork.the_type κ ν T R G g h l)
-    (search (sendable, as_row_sync), (search (sendable, as_row_sync),
-    (as_row_sync (shr_ref_field κ (Shared.the_row ν T g h l) tt) (shr_sync κ.mir κ.lft (Shared.the_row ν T g h l) (shared_sync ν T g h l)),
-    (search (sendable, as_row_sync), tt))))
+    declared_sync (LaneWork.the_type κ ν T R G g h l) (
+      search (sendable, as_row_sync),
+      (
+        search (sendable, as_row_sync),
+        (
+          as_row_sync (shr_ref_field κ (Shared.the_row ν T g h l) tt) (shr_sync κ.mir κ.lft (Shared.the_row ν T g h l) (shared_sync ν T g h l)),
+          (search (sendable, as_row_sync), tt),
+        ),
+      ),
+    )
 
 pub lanes_send : (ν : List ℕ) (a b c d : Lifetime) (α β γ δ : Lft) (κ μ : NamedLft) (T R G : RattleType) (g : Session.Ghosts T.Denot)
     (h : Row.Ghosts T.Denot) (l : Ledger.Ghosts T.Denot) → IsSync R → IsSync G
     → IsSend (TupleAt ν (ShrRef a α R ∷ ShrRef b β (UInt w32) ∷ ShrRef c γ (UInt w64) ∷ ShrRef d δ (LaneWork.the_row κ μ T R G g h l) ∷ []))
 lanes_send ν a b c d α β γ δ κ μ T R G g h l r q =
-    declared_send (type_at ν (ShrRef a α R ∷ ShrRef b β (UInt w32) ∷ ShrRef c γ (UInt w64) ∷ ShrRef d δ (LaneWork.the_row κ μ T R G g h l) ∷ []))
-    (ref_send a α R r, (ref_send b β (UInt w32) (search sendable), (ref_send c γ (UInt w64) (search sendable),
-    (ref_send d δ (LaneWork.the_row κ μ T R G g h l) (lane_work_sync κ μ T R G g h l r q), tt))))
+    declared_send (type_at ν (ShrRef a α R ∷ ShrRef b β (UInt w32) ∷ ShrRef c γ (UInt w64) ∷ ShrRef d δ (LaneWork.the_row κ μ T R G g h l) ∷ [])) (
+      ref_send a α R r,
+      (
+        ref_send b β (UInt w32) (search sendable),
+        (
+          ref_send c γ (UInt w64) (search sendable),
+          (ref_send d δ (LaneWork.the_row κ μ T R G g h l) (lane_work_sync κ μ T R G g h l r q), tt),
+        ),
+      ),
+    )

@@ -7,6 +7,7 @@ mod lane_work;
 mod merging;
 mod result_queue;
 mod retiring;
+mod round_input;
 mod served;
 mod serving;
 mod submitting;

@@ -26,6 +26,7 @@ use crate::lane_work::LaneWork;
 use crate::merging::in_order;
 use crate::result_queue::ResultQueue;
 use crate::retiring::{results_of_each, retire_each};
+use crate::round_input::RoundInput;
 use crate::served::Served;
 use crate::serving::serve_each;
 use crate::workers::Workers;
@@ -107,32 +108,32 @@ fn serve_beside<'r, S: Session + Send + Sync, R: Threads + Wait + Sync, G: Gate 
 // The parts of the synchroniser go behind locks, its clients submit beside the lanes, and the parts come back.
 fn gather<'r, S: Session + Send + Sync, R: Threads + Wait + Sync, G: Gate + Sync>(
     workers: &Workers<'_, R, G>,
+    setup: &Setup,
     world: World<'r>,
     blank: Blank,
-    paused: &ParticipantIdList,
-    hold_verdicts: bool,
-    submits: &[Submission],
+    input: RoundInput<'_>,
 ) -> Result<Gathered<'r>, AllocError>
+    requires topology { setup.now.topology ≡ S.topology }
     requires set_up { IsSetUp S.topology S.packages S.machine S.why }
     requires nodes { AreSetUp S.topology S.packages (world.nodes).items }
     requires world { (state : MediatorState) × IsWorldOf S.machine state world × Lawful S.machine (world_of state world) }
     requires history { ((world.sequencer).row ≡ S.history) × ((world.sequencer).list ≡ S.start) }
     requires now { world.now ≤ 10 ^ 16 }
     requires ledger { (blank.name ≡ S.name) × (blank.parts ≡ S.parts) × (S.parts ≡ 1025) }
-    requires named { All (λ (what : Submission). AreKnown (is_hosted S.topology) (parties_in_what what.what)) submits.now }
+    requires named { All (λ (what : Submission). AreKnown (is_hosted S.topology) (parties_in_what what.what)) input.submits.now }
     ensures nodes { IfOk result (λ all. AreSetUp S.topology S.packages (all.world.nodes).items) }
     ensures world { IfOk result (λ all. (state : MediatorState) × IsWorldOf S.machine state all.world × Lawful S.machine (world_of state all.world)) }
     ensures history { IfOk result (λ all. ((all.world.sequencer).row ≡ S.history) × IsFor S.machine all.world.sequencer) }
     ensures now { IfOk result (λ all. all.world.now ≡ world.entry.now) }
-    ensures answered { IfOk result (λ all. AreAnswered S.machine S.why world.entry.now paused.now S.start submits.now (all.world.sequencer).list
-        all.queues.items) }
+    ensures answered { IfOk result (λ all. AreAnswered S.machine S.why world.entry.now input.entry.paused.now S.start input.entry.submits.now
+        (all.world.sequencer).list all.queues.items) }
 {
     let alloc = workers.alloc;
-    let hosts = world.nodes.len();
+    let hosts = setup.topology.hosts.len();
     let mut shared = Synchroniser::<'r, S>::of(alloc, world, blank);
-    shared.begin_round(0, paused, hold_verdicts)?;
+    shared.begin_round(0, input.paused, input.hold_verdicts)?;
     let clients = clients_of(alloc, &mut shared, hosts)?;
-    let all = serve_beside(workers, &*shared, clients, submits)?;
+    let all = serve_beside(workers, &*shared, clients, input.submits)?;
     let retired = retire_each(alloc, &mut shared, all)?;
     let mut world = shared.into_parts();
     let queues = results_of_each(alloc, &mut world.sequencer, retired)?;
@@ -171,14 +172,12 @@ pub fn submit_shared<'r, R: Threads + Wait + Sync, G: Gate + Sync>(
         (world.entry.sequencer).list (a.world.sequencer).list (results_of submits.now a.results)) }
 {
     let blank = Blank::new(LEDGER_PARTS);
-    let Gathered { world, queues } = gather::<Brand, R, G>(
-        workers,
-        world,
-        blank,
+    let input = RoundInput {
         paused,
         hold_verdicts,
-        submits.as_slice(),
-    )?;
+        submits: submits.as_slice(),
+    };
+    let Gathered { world, queues } = gather::<Brand, R, G>(workers, setup, world, blank, input)?;
     let results = in_order(workers.alloc, submits.as_slice(), queues)?;
     Ok(Answered { world, results })
 }

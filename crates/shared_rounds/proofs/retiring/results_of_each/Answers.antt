@@ -32,8 +32,8 @@ retired-preserved c =
     let begins : IsPrefix (list_left one) log = subst (λ (s : Sequenced). IsPrefix (list_left one) s.list) inv.0 c.reaches.ensures.begins in (
       c.reaches.ensures.same ∙ inv.0,
       ap (λ (xs : List (List SubmitResult)). xs ++ map results_left rest) pushed
-      ∙ (append_assoc before (results_left one ∷ []) (map results_left rest)
-      ∙ (ap (λ (xs : List Retired). before ++ map results_left xs) (sym steps) ∙ inv.1)),
+          ∙ (append_assoc before (results_left one ∷ []) (map results_left rest)
+          ∙ (ap (λ (xs : List Retired). before ++ map results_left xs) (sym steps) ∙ inv.1)),
       All-tail (IsLeftIn c.args.sequencer.now.row) one rest left,
       λ h. inv.3
           (subst (λ (xs : List Retired). All (λ (list : List Entry). IsPrefix list log) (map list_left xs)) (sym steps)

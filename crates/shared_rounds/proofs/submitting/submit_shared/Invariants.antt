@@ -11,9 +11,9 @@ ghosts-gather-S-Ledger g a = record { name = a.blank.name; parts = a.blank.parts
 abbrev pub ghosts-gather-S-Session : goal.ghosts-gather-S-Session
 ghosts-gather-S-Session g a =
     record {
-      topology = a.setup.topology;
-      packages = a.setup.checked;
-      machine = machine_in a.setup a.world;
-      why = why_of a.setup.topology a.setup.checked;
+      topology = a.setup.now.topology;
+      packages = a.setup.now.checked;
+      machine = machine_in a.setup.now a.world;
+      why = why_of a.setup.now.topology a.setup.now.checked;
       start = a.world.sequencer.list;
     }
