@@ -22,4 +22,4 @@ returns-clause-each g c =
     each_of_all (λ all. all.items)
     (λ p client served. IsServed g.S.Session.machine g.S.Session.why round.time round.paused client.list c.args.submits.now client.me served.client
     served.results) c.args.clients.items c.in_ok-brought.field-0.items c.all_of.result
-    (of_ok _ c.in_ok-brought.field-0 _ c.in_ok-brought.was c.join-ran.ensures.second.each) c.all_of.ensures
+    (of_ok _ c.in_ok-brought.field-0 _ c.in_ok-brought.was c.join-ran.ensures.second.1) c.all_of.ensures
