@@ -6,7 +6,7 @@ use denote.RattleType.{RattleType}
 use denote.Ref.{ShrRef}
 use denote.Slice.{ShrSlice}
 use denote.Struct.Field.{row_field}
-use denote.Param.Send.{IsSend, IsSync, shr_send, shr_sync, shr_slice_send, shr_slice_sync}
+use denote.Param.Send.{IsSend, IsSync, shr_send, shr_sync, shr_slice_sync}
 use denote.Param.SendFields.{as_row_send, as_row_sync}
 
 pub ref_sync : (ℓ : Lifetime) (κ : Lft) (R : RattleType) → IsSync R → IsSync (as_row (row_field (ShrRef ℓ κ R)))

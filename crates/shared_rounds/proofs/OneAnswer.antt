@@ -1,5 +1,5 @@
 -- What one submission was answered, as its client knows it.
-use Rattle.std.proofs.Common.{◌≡◌, ◌≢◌, ℕ, ◌+◌, List, [], ◌∷◌, ◌++◌, Some, None, refl, sym, ap, ◌∙◌, subst, arith}
+use Rattle.std.proofs.Common.{◌≡◌, ◌≢◌, ℕ, List, [], ◌∷◌, ◌++◌, Some, refl, sym, subst}
 use Rattle.std.specs.Prelude.{IfSome}
 use mathlib.Core.List.{IsPrefix}
 use Rattle.ledger_terms.specs.declared.submission.Submission.{Submission}
@@ -8,7 +8,6 @@ use Rattle.node_core.specs.declared.submit_result.SubmitResult.{SubmitResult}
 use Rattle.node_core.specs.declared.submit_result.SubmitResult.TheVariants.{Sent, Refused}
 use Rattle.prepare_request.specs.declared.submit_fault.SubmitFault.{SubmitFault}
 use Rattle.prepare_request.specs.declared.submit_fault.SubmitFault.TheVariants as fault
-use Rattle.threads_model.specs.Inputs.{is_sent, one_if}
 use Rattle.threads_model.specs.Clients.{ClientAnswers, ClientStep}
 use Rattle.threads_model.proofs.Begins.{begins_itself}
 use Rattle.threads_model.proofs.Chains.{answers_longer, answers_more}

@@ -1,5 +1,5 @@
 -- Results that wait in queues, one for each participant.
-use Rattle.std.specs.Prelude.{◌≡◌, ℕ, ◌<◌, All, List, [], length, slice_index_or}
+use Rattle.std.specs.Prelude.{◌≡◌, ◌<◌, All, List, [], length, slice_index_or}
 use Rattle.ledger_terms.specs.declared.submission.Submission.{Submission}
 use Rattle.ledger_model.specs.Terms.{ParticipantId}
 use Rattle.node_core.specs.declared.submit_result.SubmitResult.{SubmitResult}

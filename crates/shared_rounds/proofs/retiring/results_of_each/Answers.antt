@@ -1,6 +1,6 @@
 use Rattle.std.proofs.Common.{rules, ◌≡◌, ◌++◌, ◌∷◌, [], List, append_assoc, map, refl, sym, ap, ◌∙◌, subst}
 use Rattle.std.specs.Prelude.{All}
-use Rattle.std.proofs.lemmas.List.Elements.{All-cons, All-head, All-tail}
+use Rattle.std.proofs.lemmas.List.Elements.{All-cons, All-tail}
 use mathlib.Core.List.{IsPrefix}
 use Rattle.world_model.specs.Messages.{Entry}
 use Rattle.node_core.specs.declared.submit_result.SubmitResult.{SubmitResult}

@@ -1,15 +1,11 @@
-use Rattle.std.proofs.Common.{rules, ◌≡◌, ◌+◌, ℕ, List, length, map, sym, ap, ◌∙◌, subst, arith}
+use Rattle.std.proofs.Common.{rules, ◌≡◌, List, length, map, sym, ◌∙◌, subst}
 use Rattle.std.specs.Prelude.{All, sum_by}
 use mathlib.Core.List.{IsPrefix}
-use Rattle.ledger_model.specs.Terms.{ParticipantId}
 use Rattle.seq_log.specs.Sequenced.{Sequenced}
 use Rattle.world_model.specs.Lawful.{Lawful}
-use Rattle.world_model.specs.Machine.{Machine}
 use Rattle.world_model.specs.Mediator.{MediatorState}
 use Rattle.world_model.specs.Messages.{Entry}
-use Rattle.threads_model.specs.Behind.{LogBehind}
 use Rattle.world_play.specs.WorldOf.{IsWorldOf, world_of}
-use Rattle.world_play.specs.declared.world.World.{World}
 use Rattle.shared_rounds.specs.Joined.{AreAnswered}
 use Rattle.shared_rounds.specs.Retired.{list_seen, tickets_brought}
 use Rattle.shared_rounds.proofs.Gathering.{all_fresh, each_of_clients, gathered}

@@ -1,9 +1,6 @@
 use denote.Exit.{yes}
 use denote.Param.{param}
 use denote.Param.Send.{param_send, arg_send}
-use Rattle.std.proofs.Common.{ℕ, Ok, Some, ◌≡◌, subst}
-use Rattle.std.specs.Prelude.{IfOk, slice_get, vec_len}
-use Rattle.sync_shared.specs.Clients.{Seen}
 use Rattle.shared_rounds.specs.Served.{IsServed}
 use Rattle.shared_rounds.proofs.Crossings.{lanes_send}
 use Rattle.shared_rounds.proofs.Gathering.{each_of_all, of_ok}
