@@ -1,0 +1,7 @@
+mod OneAnswer
+mod OwnResults
+mod Gathering
+mod Joining
+mod Queued
+mod Captures
+mod Crossings

@@ -1,0 +1,26 @@
+-- What is known once all clients of a round are retired.
+use Rattle.std.specs.Prelude.{◌≡◌, ℕ, ◌+◌, ◌≤◌, ◌<◌, List, length}
+use mathlib.Core.List.{IsPrefix}
+use Rattle.ledger_terms.specs.declared.submission.Submission.{Submission}
+use Rattle.ledger_model.specs.Terms.{ParticipantId}
+use Rattle.node_core.specs.declared.submit_result.SubmitResult.{SubmitResult}
+use Rattle.prepare_request.specs.declared.submit_fault.SubmitFault.{SubmitFault}
+use Rattle.threads_model.specs.Inputs.{inputs, tickets}
+use Rattle.threads_model.specs.Shared.{ClientHas}
+use Rattle.world_model.specs.Messages.{Entry}
+use Rattle.world_model.specs.Machine.{Machine, GenuineLog}
+use Rattle.world_model.specs.Rounds.{Why}
+use Rattle.world_model.specs.Sequencing.{reserved}
+use Rattle.world_model.specs.Settled.{sum_below}
+use Rattle.shared_rounds.specs.Queues.{AreQueuesOf, queued}
+
+-- The log, which was `first` when the round's submissions began, with a queue of results for each participant.
+pub record AreAnswered (m : Machine) (why : Why SubmitFault) (now : ℕ) (paused : List ParticipantId) (first : List Entry) (submits : List Submission)
+    (log : List Entry) (queues : List (List SubmitResult)) : Type 0 where
+  pub genuine : GenuineLog m log
+  pub within_capacity : reserved log ≤ m.capacity
+  pub begins : IsPrefix first log
+  pub hosts : length queues ≡ m.hosts
+  pub queues_of : AreQueuesOf submits queues
+  pub clients : (p : ParticipantId) → p < m.hosts → ClientHas m why now paused first log (queued submits queues p)
+  pub count : inputs log ≡ inputs first + sum_below (λ (p : ParticipantId). tickets (queued submits queues p)) m.hosts

@@ -1,0 +1,5 @@
+pub mod Queues
+pub mod Served
+pub mod Retired
+pub mod Joined
+pub mod Machine

@@ -1,0 +1,27 @@
+-- What clients bring back, and what is left of them.
+use Rattle.std.specs.Prelude.{ℕ, List}
+use Rattle.node_core.specs.declared.submit_result.SubmitResult.{SubmitResult}
+use Rattle.world_model.specs.Messages.{Entry}
+use Rattle.log_row.specs.LogPrefix.{RowName}
+use Rattle.sync_shared.specs.Slips.{read_to, InRow}
+use Rattle.shared_rounds.specs.declared.served.Served.{Served}
+use Rattle.shared_rounds.specs.declared.served.Retired.{Retired}
+
+abbrev pub list_seen : {S : Type 0} → Served S → List Entry
+list_seen served = (served.client).list
+
+abbrev pub results_brought : {S : Type 0} → Served S → List SubmitResult
+results_brought served = served.results
+
+abbrev pub tickets_brought : {S : Type 0} → Served S → ℕ
+tickets_brought served = (served.client).tickets
+
+abbrev pub list_left : Retired → List Entry
+list_left retired = read_to retired.last
+
+abbrev pub results_left : Retired → List SubmitResult
+results_left retired = retired.results
+
+-- its slip is of this history
+abbrev pub IsLeftIn : RowName → Retired → Type 0
+IsLeftIn row retired = InRow row retired.last

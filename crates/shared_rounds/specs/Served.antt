@@ -1,0 +1,23 @@
+-- What a client knows of its own submissions.
+use Rattle.std.specs.Prelude.{◌≡◌, ℕ, All, List, length}
+use Rattle.ledger_terms.specs.declared.submission.Submission.{Submission}
+use Rattle.ledger_model.specs.Terms.{ParticipantId}
+use Rattle.node_core.specs.declared.submit_result.SubmitResult.{SubmitResult}
+use Rattle.prepare_request.specs.declared.submit_fault.SubmitFault.{SubmitFault}
+use Rattle.threads_model.specs.Inputs as inputs
+use Rattle.threads_model.specs.Inputs.{submissions_of}
+use Rattle.threads_model.specs.Clients.{ClientAnswers}
+use Rattle.world_model.specs.Messages.{Entry}
+use Rattle.world_model.specs.Machine.{Machine}
+use Rattle.world_model.specs.Rounds.{Why}
+use Rattle.world_play.specs.Results.{IsPlainResult, results_of}
+use Rattle.sync_shared.specs.Clients.{Seen}
+
+-- Participant p's client, which had seen `first` when it began, with the results of its own among these submissions.
+pub record IsServed (m : Machine) (why : Why SubmitFault) (now : ℕ) (paused : List ParticipantId) (first : List Entry) (submits : List Submission)
+    (p : ParticipantId) (client : Seen) (results : List SubmitResult) : Type 0 where
+  pub mine : client.me ≡ p
+  pub many : length results ≡ length (submissions_of p submits)
+  pub plain : All IsPlainResult results
+  pub answers : ClientAnswers m why now paused first (results_of (submissions_of p submits) results) client.list
+  pub counted : client.tickets ≡ inputs.tickets (results_of (submissions_of p submits) results)

@@ -1,0 +1,42 @@
+//! Clients of all participants.
+ghost use Rattle.std.specs.Prelude.{◌≡◌, ◌≤◌, ℕ, Some, Ok, IfOk, OnOk, length, map, slice_get, vec_len};
+ghost use Rattle.sync_shared.specs.Clients.{Seen};
+
+use crate::served::Served;
+use ledger_terms::ParticipantId;
+use std::alloc::{AllocError, Global};
+use sync_shared::{Client, Session, Synchroniser};
+
+/// A client for each participant, in their order.
+pub fn clients_of<'r, S: Session>(
+    alloc: Global,
+    shared: &mut Synchroniser<'r, S>,
+    hosts: usize,
+) -> Result<Vec<Client<'r, S>>, AllocError>
+    requires hosts { (hosts ≡ length (S.topology).hosts) × (hosts ≤ 8) }
+    requires none { shared.old.out ≡ 0 }
+    ensures out { OnOk result (shared.new ≡ record shared.old { out = hosts }) }
+    ensures many { IfOk result (λ clients. vec_len clients ≡ hosts) }
+    ensures each { IfOk result (λ clients. (p : ℕ) (client : Seen) → slice_get clients.items p ≡ Some client
+        → client ≡ record { list = S.start; tickets = 0; me = p }) }
+{
+    let mut clients = Vec::new(alloc);
+    'hosts: for at in 0..hosts {
+        clients.push(shared.client(ParticipantId(at as u8)))?;
+    }
+    Ok(clients)
+}
+
+/// What all clients brought, unless one of them found no memory.
+pub fn all_of<'r, S: Session>(
+    alloc: Global,
+    brought: Vec<Result<Served<'r, S>, AllocError>>,
+) -> Result<Vec<Served<'r, S>>, AllocError>
+    ensures { IfOk result (λ all. map Ok all.items ≡ brought.entry.items) }
+{
+    let mut all = Vec::new(alloc);
+    'brought: for one in brought {
+        all.push(one?)?;
+    }
+    Ok(all)
+}

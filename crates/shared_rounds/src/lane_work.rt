@@ -1,0 +1,26 @@
+//! What lanes do.
+use lane_pool::{Gate, Lane};
+use std::alloc::AllocError;
+use std::sync::Wait;
+use sync_shared::{Session, Shared};
+
+/// The work of so many lanes: that of the participants and of the mediator.
+#[derive(Clone, Copy)]
+pub struct LaneWork<'a, 'r, S: Session, R: Wait + Sync, G: Gate + Sync> {
+    pub rt: &'a R,
+    pub gate: &'a G,
+    pub shared: &'a Shared<'r, S>,
+    pub lanes: u32,
+}
+
+impl<'r, S: Session + Send + Sync, R: Wait + Sync, G: Gate + Sync> Lane
+    for LaneWork<'_, 'r, S, R, G> {
+    ghost may_fail = { λ _ _. Unit {0} };
+
+    fn turn(&self, lane: u32) -> Result<(), AllocError> {
+        if self.lanes == 0 {
+            return Ok(());
+        }
+        self.shared.turn(self.rt, lane, self.lanes, self.gate)
+    }
+}
