@@ -22,7 +22,7 @@ pub struct NodeView {
 pub type NodeViewList = ListOf<NodeView>;
 
 impl NodeView {
-    /// What a participant knows over what it has read. Opens each approved request again.
+    /// What a participant knows over what it has read. Goes through the requests below the clean place.
     pub fn of(alloc: Global, node: &Node<'_>) -> Result<NodeView, AllocError>
         ensures { IfOk result (λ view. view ≡ view_of node.now) }
     {

@@ -12,7 +12,6 @@ use Rattle.ledger_terms.specs.Grown.{forest_of, tree_of}
 use Rattle.ledger_terms.specs.Trees.{ActionNode, Actions}
 use Rattle.ledger_terms.proofs.Grow.{join-assoc, join-end}
 use Rattle.ledger_model.specs.Forest.{acts}
-use Rattle.ledger_model.specs.Terms.{Hash}
 use Rattle.contract_store.specs.Written.{is_change}
 use Rattle.interpret.specs.Ids.{is_authentic}
 use Rattle.view_split.specs.Holed.{fill}
@@ -22,7 +21,7 @@ use Rattle.view_split.specs.SeenViews.{put_back}
 use Rattle.view_split.specs.Split.{assembled}
 use Rattle.view_split.specs.declared.split_view.SplitView.{SplitView}
 use Rattle.view_split.specs.declared.placed_view.PlacedView.{PlacedView}
-use Rattle.inbox_standing.specs.ChangeLists.{change_of, changes_of, id_in}
+use Rattle.inbox_standing.specs.ChangeLists.{change_of, changes_of}
 use Rattle.inbox_standing.specs.declared.change.Change.{Change}
 use Rattle.node_inbox.specs.Acts.{acts_in, is_authentic_change}
 
@@ -67,19 +66,6 @@ changes_step found i b old new all lt at pushed before =
 
 pub changes_end : (found : List (Bor Act)) (i : ℕ) (old all : List Change) → length found ≤ i → old ++ of_rest (drop i found) ≡ all → old ≡ all
 changes_end found i old all past before = sym (append-nil old) ∙ (rw (drop_of_length-le found past) at before)
-
-pub ids_step : (found : List (Bor Act)) (i : ℕ) (b : Bor Act) (old new all : List Hash) → i < length found → b ≡ get_or found i b
-    → new ≡ old ++ map id_in (map change_of (filter is_authentic_change (b.now ∷ []))) → old ++ map id_in (of_rest (drop i found)) ≡ all
-    → new ++ map id_in (of_rest (drop (i + 1) found)) ≡ all
-ids_step found i b old new all lt at pushed before =
-    ap (λ (cs : List Hash). cs ++ map id_in (of_rest (drop (i + 1) found))) pushed
-    ∙ append_assoc old (map id_in (map change_of (filter is_authentic_change (b.now ∷ [])))) (map id_in (of_rest (drop (i + 1) found)))
-    ∙ ap (λ (cs : List Hash). old ++ cs)
-    (sym (map-append id_in (map change_of (filter is_authentic_change (b.now ∷ []))) (of_rest (drop (i + 1) found))) ∙ ap (map id_in) (sym (rest_next found i b lt at)))
-    ∙ before
-
-pub ids_end : (found : List (Bor Act)) (i : ℕ) (old all : List Hash) → length found ≤ i → old ++ map id_in (of_rest (drop i found)) ≡ all → old ≡ all
-ids_end found i old all past before = sym (append-nil old) ∙ (rw (drop_of_length-le found past) at before)
 
 -- ---- views put back
 

@@ -6,7 +6,6 @@ use Rattle.std.specs.List.{list_any}
 use Rattle.std.specs.Str.{bytes_eq}
 use Rattle.std.proofs.lemmas.Bool.{cases_Bool}
 use Rattle.std.proofs.lemmas.List.Elements.{All-contains}
-use Rattle.std.proofs.lemmas.Option.{same_Some}
 use Rattle.std.proofs.lemmas.Slice.Eq.{bytes_eq-Decides}
 use Rattle.ledger_terms.specs.declared.act.Act.{Act}
 use Rattle.ledger_terms.specs.declared.topology.Topology.{Topology}
@@ -22,7 +21,7 @@ use Rattle.world_model.specs.Node.{owed_at, owes_at}
 use Rattle.lang_eval.specs.Found.{Packages}
 use Rattle.view_split.specs.Placed.{shown_by as shown_of_tree}
 use Rattle.view_split.specs.declared.opened_tree.OpenedTree.{OpenedTree}
-use Rattle.sealed_form.specs.SealedForm.{IsSealedForm, opened_in}
+use Rattle.sealed_form.specs.SealedForm.{IsSealedForm}
 use Rattle.sealed_form.specs.SealedReading.{sealed_reading}
 use Rattle.sealed_form.proofs.Decided.{form_decides}
 use Rattle.confirm_reply.specs.Facts.{AreAsAt, fact_on}
@@ -38,7 +37,7 @@ use Rattle.validate_job.specs.Owed.{CanCheck, owed_on_each}
 use Rattle.validate_job.specs.OwedAt.{IsInputAt, confirmed_paths}
 use Rattle.validate_job.proofs.OwedAt.{can_check_confirmed, owed_is}
 use Rattle.node_inbox.specs.Items.{model_items}
-use Rattle.node_inbox.specs.JobInput.{IsInputOf}
+use Rattle.node_inbox.specs.JobInput.{input_of}
 use Rattle.node_inbox.specs.Kept.{AreKept, IsKept, kept_at}
 use Rattle.node_inbox.specs.declared.kept_item.KeptItem.{KeptItem}
 use Rattle.node_inbox.specs.declared.kept_item.KeptRequest.{KeptRequest}
@@ -99,11 +98,8 @@ module _ (s : Bor Setup) (me : ℕ) (items : List KeptItem) (k : ℕ) (request :
   abbrev is_kept : IsKept topology packages me then_read k request
   is_kept = found_at topology packages me items are k request at
 
-  pub opens_some : IsSome (opened_in request.bytes)
-  opens_some = rw (is_kept.came).is_opened refl
-
   abbrev tree : OpenedTree
-  tree = (is_kept.came).tree
+  tree = request.tree
 
   sealed : IsSealedForm topology packages (is_kept.came).request
   sealed = (form_decides topology packages (is_kept.came).request).0 (is_kept.came).is_sealed
@@ -127,7 +123,7 @@ module _ (s : Bor Setup) (me : ℕ) (items : List KeptItem) (k : ℕ) (request :
 
   module _ (time : ℕ) (is_time : time ≡ item_time (slice_get (model_items items) k)) where
     abbrev made : CheckInput
-    made = record { setup = s; me = me; time = time; tree = tree; facts = request.facts }
+    made = input_of s me time request
 
     core_known : (view : OpenedView) → Contains (shown_of_tree tree).views view → (a : ℕ × Act) → Contains view.core a → IsSome (fact_on request.facts (id_of (a.1).action))
     core_known view there a i =
@@ -151,20 +147,15 @@ module _ (s : Bor Setup) (me : ℕ) (items : List KeptItem) (k : ℕ) (request :
           };
         }
 
-    made_is : (input : CheckInput) → IsInputOf s me time request input → made ≡ input
-    made_is input of =
-        let same : tree ≡ input.tree = same_Some tree input.tree (sym (is_kept.came).is_opened ∙ of.is_opened) in
-        ap (λ (t : OpenedTree). record { setup = s; me = me; time = time; tree = t; facts = request.facts }) same ∙ sym of.is
-
-    pub are_owed : (input : CheckInput) → IsInputOf s me time request input
+    pub are_owed : (input : CheckInput) → input ≡ input_of s me time request
         → owed_on_each input request.views ≡ owed_at reading topology.params me (model_items items) k
-    are_owed input of =
-        ap (λ (i : CheckInput). owed_on_each i request.views) (sym (made_is input of))
+    are_owed input is =
+        ap (λ (i : CheckInput). owed_on_each i request.views) is
         ∙ (ap (owed_on_each made) are_confirmed ∙ owed_is reading then_read k made fits)
 
-    pub can_check : (input : CheckInput) → IsInputOf s me time request input → All (CanCheck input) request.views
-    can_check input of =
-        subst (λ (i : CheckInput). All (CanCheck i) request.views) (made_is input of)
+    pub can_check : (input : CheckInput) → input ≡ input_of s me time request → All (CanCheck input) request.views
+    can_check input is =
+        subst (λ (i : CheckInput). All (CanCheck i) request.views) (sym is)
         (subst (All (CanCheck made)) (sym are_confirmed)
         (can_check_confirmed reading made (λ view there.
         All-contains (CanBeChecked packages (shown_of_tree tree)) (shown_of_tree tree).views view

@@ -198,15 +198,15 @@ paths_are reading topology p tree same filled =
     ∙ ap (λ (confirms : ℕ → List ℕ → Bool). map (λ (view : OpenedView). view.path)
     (filter (λ (view : OpenedView). list_any (confirms p) view.confirmers) (shown_by tree).views)) (sym same)
 
--- bytes that open a tree spell one that opens it
-pub tree_behind : (bytes : List ℕ) (opened : OpenedTree) → opened_in bytes ≡ Some opened → (tree : Tree) × (tree_in bytes ≡ Some tree) × (tree_opened tree ≡ Ok opened)
-tree_behind bytes opened e = by (tree_in bytes) refl e
+-- behind what an envelope opens is a tree that opens it
+pub tree_behind : (envelope : Option (List ℕ)) (opened : OpenedTree) → option_and_then opened_in envelope ≡ Some opened → (tree : Tree) × (tree_opened tree ≡ Ok opened)
+tree_behind None opened e = absurd (none-some opened e)
+tree_behind (Some bytes) opened e = by (tree_in bytes) e
   where
     found_is : (r : Result OpenedTree WireFault) → found r ≡ Some opened → r ≡ Ok opened
     found_is (Ok x) e = ap Ok (same_Some x opened e)
     found_is (Err fault) e = absurd (none-some opened e)
 
-    by : (o : Option Tree) → tree_in bytes ≡ o → option_and_then (λ (tree : Tree). found (tree_opened tree)) o ≡ Some opened
-        → (tree : Tree) × (tree_in bytes ≡ Some tree) × (tree_opened tree ≡ Ok opened)
-    by None t e = absurd (none-some opened e)
-    by (Some tree) t e = (tree, t, found_is (tree_opened tree) e)
+    by : (o : Option Tree) → option_and_then (λ (tree : Tree). found (tree_opened tree)) o ≡ Some opened → (tree : Tree) × (tree_opened tree ≡ Ok opened)
+    by None e = absurd (none-some opened e)
+    by (Some tree) e = (tree, found_is (tree_opened tree) e)

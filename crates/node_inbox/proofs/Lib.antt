@@ -17,4 +17,5 @@ pub mod Approved
 pub mod ActiveRows
 pub mod AddedIds
 pub mod Told
+mod Copies
 mod FirstVerdict

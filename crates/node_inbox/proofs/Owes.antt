@@ -14,6 +14,7 @@ use Rattle.view_split.specs.Numbered.{map_forest}
 use Rattle.view_split.specs.Placed.{placed_forest, shown_by as shown_by_tree}
 use Rattle.view_split.specs.declared.opened_tree.OpenedTree.{OpenedTree}
 use Rattle.view_split.specs.declared.split_view.SplitView.{SplitView}
+use Rattle.sealed_form.specs.SealedForm.{envelope_to}
 use Rattle.sealed_form.specs.SealedReading.{sealed_reading}
 use Rattle.world_model.specs.Node.{owes_at}
 use Rattle.std.specs.Prelude.{Ok}
@@ -63,12 +64,12 @@ module _ (topology : Topology) (packages : Packages) (me : ParticipantId) (items
     kept_is = found_at topology packages me items each k r e
 
     abbrev pub tree : OpenedTree
-    tree = kept_is.came.tree
+    tree = r.tree
 
     pub views_are : r.views ≡ map (λ (view : OpenedView). view.path) (filter mine (shown_by_tree tree).views)
     views_are =
-        let t = tree_behind r.bytes tree kept_is.came.is_opened in
-        kept_is.views ∙ paths_are (sealed_reading topology packages) topology me tree refl (filled t.0 tree t.2)
+        let t = tree_behind (envelope_to me kept_is.came.request.envelopes) tree kept_is.came.is_to in
+        kept_is.views ∙ paths_are (sealed_reading topology packages) topology me tree refl (filled t.0 tree t.1)
 
     owes_is : owes_at (sealed_reading topology packages) me (model_items items) k ≡ list_any mine (shown_by_tree tree).views
     owes_is = ap (λ (o : Option Shown). list_any mine (views_in o)) (shown_tree topology packages me items each k r e)

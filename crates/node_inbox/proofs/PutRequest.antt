@@ -1,6 +1,6 @@
 -- A request is put behind the items that were read.
-use Rattle.std.proofs.Common.{◌≡◌, ℕ, ◌+◌, ◌-◌, ◌^◌, ◌<◌, ◌≤◌, Bool, true, List, [], ◌∷◌, ◌++◌, length, map, filter, Option, None, refl, sym, ap, ◌∙◌, subst, arith}
-use Rattle.std.specs.Prelude.{All, option_map, if◌then◌else◌}
+use Rattle.std.proofs.Common.{◌≡◌, ℕ, ◌+◌, ◌-◌, ◌^◌, ◌<◌, ◌≤◌, Bool, true, List, [], ◌∷◌, ◌++◌, length, map, filter, None, refl, sym, ap, ◌∙◌, subst, arith}
+use Rattle.std.specs.Prelude.{All, if◌then◌else◌}
 use Rattle.std.proofs.lemmas.List.Elements.{All-cons, All-nil}
 use Rattle.ledger_terms.specs.declared.act.Act.{Act}
 use Rattle.ledger_terms.specs.declared.topology.Topology.{Topology}
@@ -8,7 +8,7 @@ use Rattle.ledger_model.specs.Forest.{acts}
 use Rattle.ledger_model.specs.Opening.{roots_in}
 use Rattle.ledger_model.specs.Terms.{Hash, ParticipantId, id_of}
 use Rattle.canton_model.specs.declared.outcome.Outcome.TheVariants as kind
-use Rattle.canton_model.specs.Inbox.{Content, Item, Received, is_received, last_time, moments, received, shown_by, verdict_in}
+use Rattle.canton_model.specs.Inbox.{Item, Received, is_received, last_time, moments, shown_by, verdict_in}
 use Rattle.canton_model.specs.Reading.{Reading}
 use Rattle.lang_eval.specs.Found.{Packages}
 use Rattle.contract_store.specs.Stored.{Stored}
@@ -31,7 +31,7 @@ use Rattle.inbox_standing.proofs.Told.{locked_told, status_told}
 use Rattle.inbox_standing.proofs.Tracked.{in_step_from, none_at_end, pairs_push}
 use Rattle.node_inbox.specs.Acts.{blank_fact, fact_in}
 use Rattle.node_inbox.specs.Coming.{IsComing}
-use Rattle.node_inbox.specs.Items.{model_content, model_items, shown_in_bytes}
+use Rattle.node_inbox.specs.Items.{model_content, model_items, shown_of}
 use Rattle.node_inbox.specs.Kept.{IsInbox, IsKept}
 use Rattle.node_inbox.specs.Reads.{HasRead, item_with, kept_with}
 use Rattle.node_inbox.specs.declared.coming.ComingRequest.{ComingRequest}
@@ -66,22 +66,19 @@ module _ (topology : Topology) (packages : Packages) (me : ParticipantId) (old :
   reading = sealed_reading topology packages
 
   abbrev x : Item
-  x = item_with time (received (shown_in_bytes (coming.kept).bytes))
+  x = item_with time (Received (shown_of coming.kept))
 
   abbrev tree : OpenedTree
-  tree = comes.came.tree
-
-  content_is : x.content ≡ Received (shown_by_tree tree)
-  content_is = ap (λ (o : Option OpenedTree). received (option_map shown_by_tree o)) comes.came.is_opened
+  tree = (coming.kept).tree
 
   got : is_received x.content ≡ true
-  got = ap is_received content_is
+  got = refl
 
   quiet : verdict_in x.content ≡ None
-  quiet = ap verdict_in content_is
+  quiet = refl
 
   below : IsBelow (length (model_items old)) (verdict_in x.content)
-  below = subst (λ o. IsBelow (length (model_items old)) o) (sym quiet) tt
+  below = tt
 
   module _ (stands mid : Stands) (i : IsInbox topology packages me old stands) (c : Comes reading topology.params (model_items old) x mid) where
     fact_is : (fact : IdFacts) → IsFactAt reading topology.params (model_items old ++ x ∷ []) (length old) (fact_in mid.store fact)
@@ -94,6 +91,7 @@ module _ (topology : Topology) (packages : Packages) (me : ParticipantId) (old :
     kept_is : IsKept topology packages me (model_items old ++ x ∷ []) (length old) (kept_with coming.kept mid.store)
     kept_is = record {
       came = comes.came;
+      changes = comes.parts.changes_are;
       views = comes.views;
       facts = all_mapped (IsFactAt reading topology.params (model_items old ++ x ∷ []) (length old)) (fact_in mid.store) (coming.kept).facts fact_is;
       all_ids = same_ids mid.store (coming.kept).facts ∙ ap (map (λ (fact : IdFacts). fact.id)) comes.parts.facts_are ∙ blank_ids (acts (shown_by_tree tree).roots);
@@ -116,7 +114,7 @@ module _ (topology : Topology) (packages : Packages) (me : ParticipantId) (old :
       let c = request_comes reading topology.params (model_items old) x stands begun mid got quiet fits later i.order i.follows rows holds pairs cursor rows2 pairs2 holds2 cursor2 in
       let here : place ≡ length (model_items old) = at ∙ cursor ∙ i.follows.cursor in
       let ids : coming.ids ≡ map id_in (changes_of (filter is_authentic (acts (roots_in (shown_by x.content))))) =
-      comes.parts.ids_are ∙ ap (λ (w : Content). map id_in (changes_of (filter is_authentic (acts (roots_in (shown_by w)))))) (sym content_is) in
+      comes.ids ∙ ap (map id_in) comes.parts.changes_are in
       has_read topology packages me old new (record { time = time; content = kept.Received (kept_with coming.kept mid.store) }) stands stands' i later below
       (kept_is stands mid i c)
       (follows_request reading topology.params (model_items old) x mid stands' got quiet later i.order c rows3

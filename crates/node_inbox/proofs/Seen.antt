@@ -1,6 +1,7 @@
 -- What is kept of requests, and what the items say of them.
 use Rattle.std.proofs.Common.{◌≡◌, ℕ, zero, suc, ◌+◌, ◌-◌, ◌<◌, ◌≤◌, Bool, true, false, List, [], ◌∷◌, length, filter, take, Option, Some, None, is_some, refl, sym, ap, ◌∙◌, subst, arith}
-use Rattle.std.specs.Prelude.{slice_get, option_map, if◌then◌else◌, ◌&&◌, ◌||◌}
+use Rattle.std.specs.Borrow.{Bor}
+use Rattle.std.specs.Prelude.{IfSome, slice_get, option_copied, option_map, if◌then◌else◌, ◌&&◌, ◌||◌}
 use Rattle.std.proofs.lemmas.List.{take_all}
 use Rattle.std.proofs.lemmas.Option.{none-some, same_Some}
 use Rattle.ledger_terms.specs.declared.topology.Topology.{Topology}
@@ -12,25 +13,23 @@ use Rattle.canton_model.specs.declared.decision.Decision.{Decision}
 use Rattle.canton_model.specs.declared.decision.Decision.TheVariants.{Approved, Rejected, TimedOut}
 use Rattle.canton_model.specs.declared.verdict.Verdict.{Verdict}
 use Rattle.canton_model.specs.Timeline.{Decided, is_approval, kind_of, outcome_from, outcome_of, verdict_on, is_past}
-use Rattle.canton_model.specs.Inbox.{Content, Item, clean, clean_time, decision_time_in, is_decided_in, item_time, last_time, moments, received, shown_at, shown_by, shown_in, Told, Nothing}
+use Rattle.canton_model.specs.Inbox.{Item, clean, clean_time, decision_time_in, is_decided_in, item_time, last_time, moments, opened_at, shown_at, shown_by, shown_in}
 use Rattle.lang_eval.specs.Found.{Packages}
 use Rattle.interpret.specs.Ids.{is_authentic}
 use Rattle.request_track.specs.Pairs.{Pair, clean_of, outcome_at}
 use Rattle.request_track.proofs.CleanSame.{clean_same}
 use Rattle.canton_model.proofs.InboxFacts.{clean_is_clean}
-use Rattle.sealed_form.specs.SealedForm.{opened_in}
 use Rattle.sealed_form.specs.SealedReading.{sealed_reading}
-use Rattle.view_split.specs.Placed.{shown_by as shown_by_tree}
-use Rattle.view_split.specs.declared.opened_tree.OpenedTree.{OpenedTree}
 use Rattle.inbox_standing.specs.ChangeLists.{changes_of}
 use Rattle.inbox_standing.specs.Changes.{authentic_at}
 use Rattle.inbox_standing.specs.Requests.{outcome_received, pairs_in}
 use Rattle.inbox_standing.specs.Standing.{Stands}
 use Rattle.inbox_standing.proofs.Tracked.{as_many_moments, outcome_is, tracks}
-use Rattle.node_inbox.specs.Coming.{IsTelling, changes_in_tree, changes_opened, is_told}
-use Rattle.node_inbox.specs.Decided.{is_closed}
-use Rattle.node_inbox.specs.Items.{model_item, model_items}
-use Rattle.node_inbox.specs.Kept.{AreKept, IsInbox, IsKept, kept_at, request_in, request_in_item}
+use Rattle.node_inbox.specs.Approved.{KeepChanges}
+use Rattle.node_inbox.specs.Coming.{IsTelling, is_told}
+use Rattle.node_inbox.specs.Decided.{is_closed, is_without_verdict}
+use Rattle.node_inbox.specs.Items.{model_content, model_item, model_items, shown_of}
+use Rattle.node_inbox.specs.Kept.{AreKept, IsInbox, IsKept, kept_at, opened_changes, request_in, request_in_item}
 use Rattle.node_inbox.specs.declared.kept_item.KeptContent.{KeptContent}
 use Rattle.node_inbox.specs.declared.kept_item.KeptContent.TheVariants as kept
 use Rattle.node_inbox.specs.declared.kept_item.KeptItem.{KeptItem}
@@ -48,6 +47,27 @@ item_of : (content : KeptContent) (r : KeptRequest) → request_in content ≡ S
 item_of (kept.Received x) r e = ap kept.Received (same_Some x r e)
 item_of (kept.Told v) r e = absurd (none-some r e)
 item_of kept.Nothing r e = absurd (none-some r e)
+
+-- what is shown of what is kept
+kept_shown : (items : List KeptItem) (k : ℕ) → shown_at (model_items items) k ≡ option_map shown_of (kept_at items k)
+kept_shown items k = ap shown_in (model_get items k) ∙ by (slice_get items k)
+  where
+    of_content : (content : KeptContent) → shown_by (model_content content) ≡ option_map shown_of (request_in content)
+    of_content (kept.Received x) = refl
+    of_content (kept.Told v) = refl
+    of_content kept.Nothing = refl
+
+    by : (o : Option KeptItem) → shown_in (option_map model_item o) ≡ option_map shown_of (request_in_item o)
+    by None = refl
+    by (Some item) = of_content item.content
+
+pub opened_is : (items : List KeptItem) (k : ℕ) → roots_in (option_map shown_of (kept_at items k)) ≡ opened_at (model_items items) k
+opened_is items k = ap roots_in (sym (kept_shown items k))
+
+pub with_changes : (items : List KeptItem) (k : ℕ) (o : Option (Bor KeptRequest)) → KeepChanges items → option_copied o ≡ kept_at items k
+    → IfSome o (λ (r : Bor KeptRequest). (r.now.changes).items ≡ opened_changes r.now.tree)
+with_changes items k None keep at = tt
+with_changes items k (Some r) keep at = keep k r.now (sym at)
 
 module _ (topology : Topology) (packages : Packages) (me : ParticipantId) (items : List KeptItem) (each : AreKept topology packages me items) where
   -- a request that is kept
@@ -70,43 +90,15 @@ module _ (topology : Topology) (packages : Packages) (me : ParticipantId) (items
           of_content kept.Nothing i e = absurd (none-some r e)
 
   -- what is shown of it
-  pub shown_is : (k : ℕ) (r : KeptRequest) → kept_at items k ≡ Some r → shown_at (model_items items) k ≡ shown_by (received (option_map shown_by_tree (opened_in r.bytes)))
-  shown_is k r e = ap shown_in (model_get items k) ∙ by (slice_get items k) e
-    where
-      by : (o : Option KeptItem) → request_in_item o ≡ Some r
-          → shown_in (option_map model_item o) ≡ shown_by (received (option_map shown_by_tree (opened_in r.bytes)))
-      by None e = absurd (none-some r e)
-      by (Some item) e = of_content item.content e
-        where
-          of_content : (content : KeptContent) → request_in content ≡ Some r
-              → shown_by (elim content as (λ x. Content) [
-                | kept.Received x ↦ received (option_map shown_by_tree (opened_in x.bytes))
-                | kept.Told v ↦ Told v
-                | kept.Nothing ↦ Nothing
-              ]) ≡ shown_by (received (option_map shown_by_tree (opened_in r.bytes)))
-          of_content (kept.Received x) e = ap (λ (y : KeptRequest). shown_by (received (option_map shown_by_tree (opened_in y.bytes)))) (same_Some x r e)
-          of_content (kept.Told v) e = absurd (none-some r e)
-          of_content kept.Nothing e = absurd (none-some r e)
-
-  pub shown_tree : (k : ℕ) (r : KeptRequest) (e : kept_at items k ≡ Some r) → shown_at (model_items items) k ≡ Some (shown_by_tree (found_at k r e).came.tree)
-  shown_tree k r e = shown_is k r e ∙ ap (λ (o : Option OpenedTree). shown_by (received (option_map shown_by_tree o))) (found_at k r e).came.is_opened
+  pub shown_tree : (k : ℕ) (r : KeptRequest) → kept_at items k ≡ Some r → shown_at (model_items items) k ≡ Some (shown_of r)
+  shown_tree k r e = kept_shown items k ∙ ap (λ (o : Option KeptRequest). option_map shown_of o) e
 
   pub none_shown : (k : ℕ) → kept_at items k ≡ None → shown_at (model_items items) k ≡ None
-  none_shown k e = ap shown_in (model_get items k) ∙ by (slice_get items k) e
-    where
-      by : (o : Option KeptItem) → request_in_item o ≡ None → shown_in (option_map model_item o) ≡ None
-      by None e = refl
-      by (Some item) e = of_content item.content e
-        where
-          of_content : (content : KeptContent) → request_in content ≡ None
-              → shown_by (elim content as (λ x. Content) [
-                | kept.Received x ↦ received (option_map shown_by_tree (opened_in x.bytes))
-                | kept.Told v ↦ Told v
-                | kept.Nothing ↦ Nothing
-              ]) ≡ None
-          of_content (kept.Received x) e = absurd (none-some x (sym e))
-          of_content (kept.Told v) e = refl
-          of_content kept.Nothing e = refl
+  none_shown k e = kept_shown items k ∙ ap (λ (o : Option KeptRequest). option_map shown_of o) e
+
+  -- what it changes
+  pub keep_changes : KeepChanges items
+  keep_changes k r e = (found_at k r e).changes
 
 -- ---- outcomes
 
@@ -149,6 +141,20 @@ closed_is params items m = by (shown_at items m)
     by None = refl
     by (Some shown) = closed_kind (verdict_on m (moments items)) (is_past (decision_time_in params items m) (moments items)) ∙ sym over
 
+-- no verdict was told of it
+pub none_told : (params : Params) (items : List Item) (m : ℕ) → is_without_verdict (outcome_received params items m) ≡ true → verdict_on m (moments items) ≡ None
+none_told params items m e = by (shown_at items m) (verdict_on m (moments items)) e
+  where
+    past : Bool
+    past = is_past (decision_time_in params items m) (moments items)
+
+    by : (o : Option Shown) (d : Option Decision) → is_without_verdict (option_map (λ (s : Shown). kind_of (outcome_from d past)) o) ≡ true → d ≡ None
+    by None d e = absurd (cc)
+    by (Some shown) None e = refl
+    by (Some shown) (Some Approved) e = absurd (cc)
+    by (Some shown) (Some (Rejected from view reason)) e = absurd (cc)
+    by (Some shown) (Some (TimedOut missing)) e = absurd (cc)
+
 -- ---- questions
 
 module _ (topology : Topology) (packages : Packages) (me : ParticipantId) (items : List KeptItem) (stands : Stands) (i : IsInbox topology packages me items stands) where
@@ -163,22 +169,20 @@ module _ (topology : Topology) (packages : Packages) (me : ParticipantId) (items
 
   -- what a verdict on a request that is kept brings
   changes_at : (k : ℕ) (r : KeptRequest) → kept_at items k ≡ Some r
-      → changes_opened r.bytes ≡ changes_of (authentic_at (sealed_reading topology packages) (model_items items) k)
+      → r.changes.items ≡ changes_of (authentic_at (sealed_reading topology packages) (model_items items) k)
   changes_at k r e =
-      let f = found_at topology packages me items i.each k r e in
-      ap changes_in_tree f.came.is_opened
+      (found_at topology packages me items i.each k r e).changes
       ∙ ap (λ (o : Option Shown). changes_of (filter is_authentic (acts (roots_in o)))) (sym (shown_tree topology packages me items i.each k r e))
 
   pub tells_first : (v : Verdict) (r : KeptRequest) (coming : ComingVerdict) → kept_at items v.request ≡ Some r
       → is_told (outcome_at (stands.tracking).pairs v.request) ≡ false
       → coming.verdict ≡ v → coming.first ≡ Some (kind_of (Decided v.decision))
-      → coming.changes.items ≡ (if is_approval (Some v.decision) then changes_opened r.bytes else [])
+      → coming.changes.items ≡ (if is_approval (Some v.decision) then r.changes.items else [])
       → IsTelling (sealed_reading topology packages) (model_items items) v coming
   tells_first v r coming e told is first changes =
-      let f = found_at topology packages me items i.each v.request r e in
       let shown = shown_tree topology packages me items i.each v.request r e in
       let none : is_some (verdict_on v.request (moments (model_items items))) ≡ false =
-      sym (told_before topology.params (model_items items) v.request (shown_by_tree f.came.tree) shown) ∙ ap is_told (sym (outcome_at_is v.request)) ∙ told in
+      sym (told_before topology.params (model_items items) v.request (shown_of r) shown) ∙ ap is_told (sym (outcome_at_is v.request)) ∙ told in
       record {
         received = ap is_some shown;
         verdict_is = is;
@@ -186,7 +190,7 @@ module _ (topology : Topology) (packages : Packages) (me : ParticipantId) (items
         changes_are = rw none (changes ∙ by (is_approval (Some v.decision)));
       }
     where
-      by : (b : Bool) → (if b then changes_opened r.bytes else [])
+      by : (b : Bool) → (if b then r.changes.items else [])
           ≡ changes_of (if b then authentic_at (sealed_reading topology packages) (model_items items) v.request else [])
       by true = changes_at v.request r e
       by false = refl
@@ -196,10 +200,9 @@ module _ (topology : Topology) (packages : Packages) (me : ParticipantId) (items
       → coming.verdict ≡ v → coming.first ≡ None → coming.changes.items ≡ []
       → IsTelling (sealed_reading topology packages) (model_items items) v coming
   tells_later v r coming e told is first changes =
-      let f = found_at topology packages me items i.each v.request r e in
       let shown = shown_tree topology packages me items i.each v.request r e in
       let some : is_some (verdict_on v.request (moments (model_items items))) ≡ true =
-      sym (told_before topology.params (model_items items) v.request (shown_by_tree f.came.tree) shown) ∙ ap is_told (sym (outcome_at_is v.request)) ∙ told in
+      sym (told_before topology.params (model_items items) v.request (shown_of r) shown) ∙ ap is_told (sym (outcome_at_is v.request)) ∙ told in
       record {
         received = ap is_some shown;
         verdict_is = is;

@@ -4,10 +4,9 @@ use Rattle.std.specs.Prelude.{◌||◌, nat_le, Result, Ok, Err, OnOk, OnErr}
 use Rattle.ledger_terms.specs.declared.active_row.ActiveRow.{ActiveRow}
 use Rattle.ledger_terms.specs.declared.known.Known.{Known}
 use Rattle.ledger_terms.specs.declared.topology.Topology.{Topology}
-use Rattle.ledger_model.specs.Opening.{Shown}
 use Rattle.ledger_model.specs.Terms.{Hash, ParticipantId}
 use Rattle.ledger_model.proofs.Lists.{In, contains_from_In}
-use Rattle.canton_model.specs.Inbox.{Item, Told, received, verdict_in}
+use Rattle.canton_model.specs.Inbox.{Item, Told, verdict_in}
 use Rattle.canton_model.specs.Reading.{Reading}
 use Rattle.lang_eval.specs.Found.{Packages}
 use Rattle.contract_store.specs.Active.{active, active_rows, in_order, in_order_if, knowns}
@@ -75,10 +74,6 @@ module _ (topology : Topology) (packages : Packages) (me : ParticipantId) (old n
       → OnErr r (IsUnread topology packages me old new stands') → at_rows ids stands → IsInbox topology packages me new stands' × at_rows ids stands'
   told_anyway (Ok u) x none ok err told = (ok.inbox, told_same x none ok told)
   told_anyway (Err e) x none ok err told = (err.inbox, told_unread err told)
-
-pub no_verdict : (o : Option Shown) → verdict_in (received o) ≡ None
-no_verdict None = refl
-no_verdict (Some shown) = refl
 
 -- ---- what is offered
 

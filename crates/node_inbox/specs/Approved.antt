@@ -10,10 +10,17 @@ use Rattle.canton_model.specs.declared.outcome.Outcome.TheVariants.{Undecided, A
 use Rattle.request_track.specs.Pairs.{outcome_at}
 use Rattle.inbox_standing.specs.Requests.{outcome_received}
 use Rattle.inbox_standing.specs.Standing.{Stands}
+use Rattle.node_inbox.specs.Kept.{kept_at, opened_changes}
+use Rattle.node_inbox.specs.declared.kept_item.KeptItem.{KeptItem}
+use Rattle.node_inbox.specs.declared.kept_item.KeptRequest.{KeptRequest}
 
 -- what is tracked of each request is what became of it
 abbrev pub TellsOutcomes : Params → List Item → Stands → Type 0
 TellsOutcomes params items stands = (k : ℕ) → outcome_at (stands.tracking).pairs k ≡ outcome_received params items k
+
+-- each request that is kept has the changes of what is opened of it
+abbrev pub KeepChanges : List KeptItem → Type 0
+KeepChanges items = (k : ℕ) (request : KeptRequest) → kept_at items k ≡ Some request → (request.changes).items ≡ opened_changes request.tree
 
 abbrev pub is_approved : Option Outcome → Bool
 is_approved None = false

@@ -10,3 +10,12 @@ is_closed (Some kind.Approved) = true
 is_closed (Some kind.Rejected) = true
 is_closed (Some kind.TimedOut) = true
 is_closed (Some kind.Expired) = true
+
+-- no verdict came on the request
+abbrev pub is_without_verdict : Option Kind → Bool
+is_without_verdict None = false
+is_without_verdict (Some kind.Undecided) = true
+is_without_verdict (Some kind.Approved) = false
+is_without_verdict (Some kind.Rejected) = false
+is_without_verdict (Some kind.TimedOut) = false
+is_without_verdict (Some kind.Expired) = true

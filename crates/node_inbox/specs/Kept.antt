@@ -1,5 +1,5 @@
 -- What the items of an inbox keep beside what came.
-use Rattle.std.specs.Prelude.{◌≡◌, ℕ, suc, true, All, List, Option, Some, None, map, slice_get, take}
+use Rattle.std.specs.Prelude.{◌≡◌, ℕ, suc, true, All, List, Option, Some, None, filter, map, slice_get, take}
 use Rattle.ledger_terms.specs.declared.act.Act.{Act}
 use Rattle.ledger_terms.specs.declared.topology.Topology.{Topology}
 use Rattle.ledger_model.specs.Forest.{acts}
@@ -9,12 +9,15 @@ use Rattle.canton_model.specs.declared.request.Request.{Request}
 use Rattle.ledger_terms.specs.Hosting.{confirms_at}
 use Rattle.node_inbox.specs.Confirmed.{confirmed_placed}
 use Rattle.lang_eval.specs.Found.{Packages}
+use Rattle.interpret.specs.Ids.{is_authentic}
 use Rattle.view_split.specs.Placed.{shown_by}
 use Rattle.view_split.specs.declared.opened_tree.OpenedTree.{OpenedTree}
-use Rattle.sealed_form.specs.SealedForm.{opened_in, opened_to}
+use Rattle.sealed_form.specs.SealedForm.{opened_to}
 use Rattle.sealed_form.specs.SealedReading.{sealed_reading}
+use Rattle.inbox_standing.specs.ChangeLists.{changes_of}
 use Rattle.inbox_standing.specs.Order.{IsInOrder}
 use Rattle.inbox_standing.specs.Standing.{Follows, Stands}
+use Rattle.inbox_standing.specs.declared.change.Change.{Change}
 use Rattle.confirm_reply.specs.Facts.{IsFactAt}
 use Rattle.confirm_reply.specs.declared.id_facts.IdFacts.{IdFacts}
 use Rattle.node_inbox.specs.declared.kept_item.KeptItem.{KeptItem}
@@ -31,21 +34,24 @@ confirmed_paths topology p tree = confirmed_placed (confirms_at topology.hosts p
 abbrev pub opened_ids : OpenedTree → List Hash
 opened_ids tree = map (λ (act : Act). id_of act.action) (acts (shown_by tree).roots)
 
--- Bytes that came in an envelope of a sealed request to the participant, and the tree that they open.
-pub record Came (topology : Topology) (packages : Packages) (me : ParticipantId) (bytes : List ℕ) : Type 0 where
+-- the changes among the authentic actions that are opened
+abbrev pub opened_changes : OpenedTree → List Change
+opened_changes tree = changes_of (filter is_authentic (acts (shown_by tree).roots))
+
+-- A tree that the envelope of a sealed request to the participant opens.
+pub record Came (topology : Topology) (packages : Packages) (me : ParticipantId) (tree : OpenedTree) : Type 0 where
   pub request : Request
   pub is_sealed : (sealed_reading topology packages).is_sealed request ≡ true
-  pub tree : OpenedTree
-  pub is_opened : opened_in bytes ≡ Some tree
   pub is_to : opened_to me request ≡ Some tree
 
--- A request at place k of an inbox that ends with it: its bytes came in an envelope, the paths are those of the views that the
--- participant confirms, and the facts say of each contract in it what the inbox says.
+-- A request at place k of an inbox that ends with it: its tree came in an envelope, the changes are those in it, the paths are those
+-- of the views that the participant confirms, and the facts say of each contract in it what the inbox says.
 pub record IsKept (topology : Topology) (packages : Packages) (me : ParticipantId) (items : List Item) (k : ℕ) (kept : KeptRequest) : Type 0 where
-  pub came : Came topology packages me kept.bytes
-  pub views : kept.views ≡ confirmed_paths topology me came.tree
+  pub came : Came topology packages me kept.tree
+  pub changes : (kept.changes).items ≡ opened_changes kept.tree
+  pub views : kept.views ≡ confirmed_paths topology me kept.tree
   pub facts : All (IsFactAt (sealed_reading topology packages) topology.params items k) kept.facts
-  pub all_ids : map (λ (fact : IdFacts). fact.id) kept.facts ≡ opened_ids came.tree
+  pub all_ids : map (λ (fact : IdFacts). fact.id) kept.facts ≡ opened_ids kept.tree
 
 abbrev pub IsKeptContent : Topology → Packages → ParticipantId → List Item → ℕ → KeptContent → Type 0
 IsKeptContent topology packages me items k (Received kept) = IsKept topology packages me items k kept

@@ -8,7 +8,7 @@ ghost use Rattle.wire_form.specs.Spellable.{IsSpellableInstance};
 ghost use Rattle.interpret.specs.Ids.{is_authentic};
 ghost use Rattle.view_split.specs.Placed.{placed_forest};
 ghost use Rattle.view_split.specs.SeenViews.{put_back};
-ghost use Rattle.inbox_standing.specs.ChangeLists.{change_of, changes_of, id_in};
+ghost use Rattle.inbox_standing.specs.ChangeLists.{change_of, changes_of};
 ghost use Rattle.node_inbox.specs.Acts.{acts_in, blank_fact, is_authentic_change};
 
 use blind_tree::PlacedViewList;
@@ -16,7 +16,7 @@ use confirm_reply::{IdFacts, IdFactsList};
 use inbox_standing::Change;
 use interpret::is_authentic;
 use ledger_model::Status;
-use ledger_terms::{Act, Action, ActionNodeList, Exact, Hash, HashList, Known};
+use ledger_terms::{Act, Action, ActionNodeList, Exact, Hash, Known};
 use std::alloc::{AllocError, Global};
 use view_split::assemble;
 
@@ -107,28 +107,6 @@ pub fn changes_of(alloc: Global, found: &[&Act]) -> Result<Vec<Change>, AllocErr
         push_change(alloc, act, &mut changes)?;
     }
     Ok(changes)
-}
-
-fn push_id(alloc: Global, act: &Act, ids: &mut HashList) -> Result<(), AllocError>
-    requires { IsSpellableInstance (instance_of act.now.action) }
-    ensures { OnOk result (ids.new ≡ ids.old ++ map id_in (map change_of (filter is_authentic_change (act.now ∷ [])))) }
-{
-    if is_authentic_change(alloc, act)? {
-        ids.push(act.action.id())?;
-    }
-    Ok(())
-}
-
-/// The contracts of these changes.
-pub fn changed_ids(alloc: Global, found: &[&Act]) -> Result<HashList, AllocError>
-    requires { All (λ (act : ActValue). IsSpellableInstance (instance_of act.action)) (acts_in found.now) }
-    ensures { IfOk result (λ ids. ids ≡ map id_in (changes_of (filter is_authentic (acts_in found.now)))) }
-{
-    let mut ids = HashList::new(alloc);
-    for act in found {
-        push_id(alloc, act, &mut ids)?;
-    }
-    Ok(ids)
 }
 
 /// A place for what is known of the contract of each action, with nothing known yet.

@@ -9,12 +9,12 @@ ghost use Rattle.contract_store.specs.Below.{placed_below};
 ghost use Rattle.contract_store.specs.Written.{written};
 ghost use Rattle.sealed_form.specs.SealedReading.{sealed_reading};
 ghost use Rattle.inbox_standing.specs.ChangeLists.{changes_of, write_changes};
-ghost use Rattle.node_inbox.specs.Approved.{TellsOutcomes, approved_at};
+ghost use Rattle.node_inbox.specs.Approved.{KeepChanges, TellsOutcomes, approved_at};
 ghost use Rattle.node_inbox.specs.Items.{model_items};
 ghost use Rattle.node_inbox.specs.Listed.{after_if, after_others, after_row, is_offered};
 
-use crate::actions::{acts_of, changes_of, roots_of};
 use crate::applied::approved_at;
+use crate::change_lists::changes_copy;
 use crate::kept_item::KeptItem;
 use canton_model::Outcome;
 use confirm_reply::Setup;
@@ -32,15 +32,12 @@ fn changes_at(
     standing: &Standing,
     place: u64,
 ) -> Result<Vec<Change>, AllocError>
-    requires { TellsOutcomes setup.now.topology.params (model_items items.now) standing.now }
+    requires told { TellsOutcomes setup.now.topology.params (model_items items.now) standing.now }
+    requires kept { KeepChanges items.now }
     ensures { IfOk result (λ changes. changes.items ≡ changes_of (filter is_authentic (acts (approved_at (model_items items.now) place)))) }
 {
-    match approved_at(alloc, setup, items, standing, place)? {
-        Some(tree) => {
-            let roots = roots_of(alloc, &tree.views)?;
-            let found = acts_of(alloc, &roots)?;
-            changes_of(alloc, found.as_slice())
-        }
+    match approved_at(setup, items, standing, place) {
+        Some(kept) => changes_copy(alloc, kept.changes.as_slice()),
         None => Ok(Vec::new(alloc)),
     }
 }
@@ -62,7 +59,8 @@ fn store_below(
     standing: &Standing,
     end: u64,
 ) -> Result<Standing, AllocError>
-    requires { TellsOutcomes setup.now.topology.params (model_items items.now) standing.now }
+    requires told { TellsOutcomes setup.now.topology.params (model_items items.now) standing.now }
+    requires kept { KeepChanges items.now }
     ensures { IfOk result (λ scratch. scratch.store.rows
         ≡ written (placed_below (sealed_reading setup.now.topology setup.now.checked) (model_items items.now) end) []) }
 {
@@ -155,7 +153,7 @@ fn hosted_rows(
 }
 
 /// The contracts with a hosted stakeholder that the approved requests below a place create and none of them consumes, in order
-/// of creation. Opens each of these requests again.
+/// of creation.
 pub fn active_rows(
     alloc: Global,
     setup: &Setup,
@@ -164,7 +162,8 @@ pub fn active_rows(
     standing: &Standing,
     end: u64,
 ) -> Result<ActiveRowList, AllocError>
-    requires { TellsOutcomes setup.now.topology.params (model_items items.now) standing.now }
+    requires told { TellsOutcomes setup.now.topology.params (model_items items.now) standing.now }
+    requires kept { KeepChanges items.now }
     ensures { IfOk result (λ rows. rows ≡ node_active (sealed_reading setup.now.topology setup.now.checked) me (model_items items.now) end) }
 {
     let scratch = store_below(alloc, setup, items, standing, end)?;

@@ -1,22 +1,16 @@
 //! What the approved requests open.
-ghost use Rattle.std.specs.Prelude.{◌≡◌, ◌++◌, true, All, IfOk, IfSome, OnOk, option_map};
-ghost use Rattle.ledger_terms.specs.declared.act.Act.{Act as ActValue};
-ghost use Rattle.ledger_model.specs.Forest.{acts};
+ghost use Rattle.std.specs.Prelude.{◌≡◌, ◌++◌, true, IfOk, IfSome, OnOk, option_copied, option_map};
 ghost use Rattle.ledger_model.specs.Opening.{roots_in};
-ghost use Rattle.ledger_model.specs.Terms.{instance_of};
 ghost use Rattle.canton_model.specs.Inbox.{moments, opened_at, part_if, parts_below};
 ghost use Rattle.canton_model.specs.Timeline.{is_approved_in};
-ghost use Rattle.wire_form.specs.Spellable.{IsSpellableInstance};
-ghost use Rattle.view_split.specs.Placed.{shown_by};
 ghost use Rattle.request_track.specs.Pairs.{outcome_at};
-ghost use Rattle.node_inbox.specs.Approved.{TellsOutcomes, approved_at, is_approved};
-ghost use Rattle.node_inbox.specs.Items.{model_items};
+ghost use Rattle.node_inbox.specs.Approved.{KeepChanges, TellsOutcomes, approved_at, is_approved};
+ghost use Rattle.node_inbox.specs.Items.{model_items, shown_of};
+ghost use Rattle.node_inbox.specs.Kept.{opened_changes};
 
 use crate::actions::roots_of;
 use crate::items::request_at;
-use crate::kept_item::KeptItem;
-use crate::opening::open;
-use blind_tree::OpenedTree;
+use crate::kept_item::{KeptItem, KeptRequest};
 use canton_model::Outcome;
 use confirm_reply::Setup;
 use inbox_standing::Standing;
@@ -37,39 +31,31 @@ fn is_approved(standing: &Standing, place: u64) -> bool
     }
 }
 
-// What is opened of the request at a place.
-fn opened_at(
-    alloc: Global,
-    items: &[KeptItem],
-    place: u64,
-) -> Result<Option<OpenedTree>, AllocError>
-    ensures exact { IfOk result (λ o. roots_in (option_map shown_by o) ≡ opened_at (model_items items.now) place) }
-    ensures spellable { IfOk result (λ o. IfSome o (λ tree.
-        All (λ (act : ActValue). IsSpellableInstance (instance_of act.action)) (acts (shown_by tree).roots))) }
+// The request at a place, of which something is opened.
+fn opened_at(items: &[KeptItem], place: u64) -> Option<&KeptRequest>
+    requires { KeepChanges items.now }
+    ensures exact { roots_in (option_map shown_of (option_copied result)) ≡ opened_at (model_items items.now) place }
+    ensures changes { IfSome result (λ kept. kept.now.changes.items ≡ opened_changes kept.now.tree) }
 {
-    match request_at(items, place) {
-        Some(kept) => open(alloc, kept.bytes.as_slice()),
-        None => Ok(None),
-    }
+    request_at(items, place)
 }
 
-/// What is opened of the request at a place, where it is approved. Opens its envelope again.
-pub fn approved_at(
-    alloc: Global,
+/// The request at a place, where it is approved.
+pub fn approved_at<'i>(
     setup: &Setup,
-    items: &[KeptItem],
+    items: &'i [KeptItem],
     standing: &Standing,
     place: u64,
-) -> Result<Option<OpenedTree>, AllocError>
-    requires { TellsOutcomes setup.now.topology.params (model_items items.now) standing.now }
-    ensures exact { IfOk result (λ o. roots_in (option_map shown_by o) ≡ approved_at (model_items items.now) place) }
-    ensures spellable { IfOk result (λ o. IfSome o (λ tree.
-        All (λ (act : ActValue). IsSpellableInstance (instance_of act.action)) (acts (shown_by tree).roots))) }
+) -> Option<&'i KeptRequest>
+    requires told { TellsOutcomes setup.now.topology.params (model_items items.now) standing.now }
+    requires kept { KeepChanges items.now }
+    ensures exact { roots_in (option_map shown_of (option_copied result)) ≡ approved_at (model_items items.now) place }
+    ensures changes { IfSome result (λ kept. kept.now.changes.items ≡ opened_changes kept.now.tree) }
 {
     if is_approved(standing, place) {
-        opened_at(alloc, items, place)
+        opened_at(items, place)
     } else {
-        Ok(None)
+        None
     }
 }
 
@@ -89,24 +75,27 @@ fn push_commit(
 
 // The request at a place, where it is approved and something is opened of it.
 fn push_approved(
-    alloc: Global,
     setup: &Setup,
     items: &[KeptItem],
     standing: &Standing,
     place: u64,
     commits: &mut CommitList,
 ) -> Result<(), AllocError>
-    requires { TellsOutcomes setup.now.topology.params (model_items items.now) standing.now }
+    requires told { TellsOutcomes setup.now.topology.params (model_items items.now) standing.now }
+    requires kept { KeepChanges items.now }
     ensures { OnOk result (commits.new ≡ commits.old
         ++ part_if (is_approved_in place (moments (model_items items.now))) place (opened_at (model_items items.now) place)) }
 {
-    match approved_at(alloc, setup, items, standing, place)? {
-        Some(tree) => push_commit(place, roots_of(alloc, &tree.views)?, commits),
+    match approved_at(setup, items, standing, place) {
+        Some(kept) => {
+            let roots = roots_of(*commits.allocator(), &kept.tree.views)?;
+            push_commit(place, roots, commits)
+        }
         None => Ok(()),
     }
 }
 
-/// The approved requests below a place, as they are opened. Opens each again.
+/// The approved requests below a place, as they are opened.
 pub fn applied(
     alloc: Global,
     setup: &Setup,
@@ -114,12 +103,13 @@ pub fn applied(
     standing: &Standing,
     end: u64,
 ) -> Result<CommitList, AllocError>
-    requires { TellsOutcomes setup.now.topology.params (model_items items.now) standing.now }
+    requires told { TellsOutcomes setup.now.topology.params (model_items items.now) standing.now }
+    requires kept { KeepChanges items.now }
     ensures { IfOk result (λ commits. commits ≡ parts_below (model_items items.now) end) }
 {
     let mut commits = CommitList::new(alloc);
     'places: for place in 0..end {
-        push_approved(alloc, setup, items, standing, place, &mut commits)?;
+        push_approved(setup, items, standing, place, &mut commits)?;
     }
     Ok(commits)
 }

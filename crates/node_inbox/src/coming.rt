@@ -1,22 +1,24 @@
 //! What comes of an entry before it is read: all that takes memory.
-ghost use Rattle.std.specs.Prelude.{◌≡◌, true, All, None, IfNone, IfOk, IfSome};
+ghost use Rattle.std.specs.Prelude.{◌≡◌, true, All, None, Some, IfNone, IfOk, IfSome};
 ghost use Rattle.ledger_terms.specs.declared.act.Act.{Act as ActValue};
 ghost use Rattle.ledger_model.specs.Forest.{acts};
 ghost use Rattle.ledger_model.specs.Terms.{instance_of};
 ghost use Rattle.wire_form.specs.Spellable.{IsSpellableInstance};
 ghost use Rattle.view_split.specs.Placed.{shown_by};
-ghost use Rattle.sealed_form.specs.SealedForm.{opened_in, opened_to};
+ghost use Rattle.sealed_form.specs.SealedForm.{opened_to};
 ghost use Rattle.sealed_form.specs.SealedReading.{sealed_reading};
 ghost use Rattle.node_inbox.specs.Coming.{AreParts, IsComing};
 
-use crate::actions::{acts_of, blank_facts, changed_ids, roots_of};
+use crate::actions::{acts_of, blank_facts, changes_of, roots_of};
+use crate::change_lists::ids_of;
 use crate::confirmed::confirmed;
 use crate::kept_item::KeptRequest;
 use crate::opening::{envelope_to, hash_of, opened_of, tree_in};
 use blind_tree::OpenedTree;
 use canton_model::Request;
 use confirm_reply::{IdFactsList, Setup};
-use ledger_terms::{Exact, HashList, ParticipantId};
+use inbox_standing::Change;
+use ledger_terms::{HashList, ParticipantId};
 use std::alloc::{AllocError, Global};
 
 /// A request that comes, with the contracts that it will hold.
@@ -27,15 +29,15 @@ pub struct ComingRequest {
 }
 
 // What is made of what is opened.
-fn parts_of(alloc: Global, tree: &OpenedTree) -> Result<(IdFactsList, HashList), AllocError>
+fn parts_of(alloc: Global, tree: &OpenedTree) -> Result<(IdFactsList, Vec<Change>), AllocError>
     requires { All (λ (act : ActValue). IsSpellableInstance (instance_of act.action)) (acts (shown_by tree.now).roots) }
-    ensures { IfOk result (λ parts. AreParts tree.now parts.0 parts.1) }
+    ensures { IfOk result (λ parts. AreParts tree.now parts.0 (parts.1).items) }
 {
     let roots = roots_of(alloc, &tree.views)?;
     let found = acts_of(alloc, &roots)?;
     let facts = blank_facts(alloc, found.as_slice())?;
-    let ids = changed_ids(alloc, found.as_slice())?;
-    Ok((facts, ids))
+    let changes = changes_of(alloc, found.as_slice())?;
+    Ok((facts, changes))
 }
 
 /// What comes of a request, and none exactly where nothing is opened to the participant.
@@ -48,7 +50,7 @@ pub fn coming(
     requires { (sealed_reading setup.now.topology setup.now.checked).is_sealed request.now ≡ true }
     ensures none { IfOk result (λ o. IfNone o (opened_to me request.now ≡ None)) }
     ensures some { IfOk result (λ o. IfSome o (λ coming. IsComing setup.now.topology setup.now.checked me coming)) }
-    ensures shown { IfOk result (λ o. IfSome o (λ coming. opened_to me request.now ≡ opened_in (coming.kept).bytes)) }
+    ensures shown { IfOk result (λ o. IfSome o (λ coming. opened_to me request.now ≡ Some (coming.kept).tree)) }
 {
     let Some(envelope) = envelope_to(me, request.envelopes.as_slice()) else {
         return Ok(None);
@@ -60,14 +62,15 @@ pub fn coming(
         return Ok(None);
     };
     let root = hash_of(alloc, &tree)?;
-    let bytes = envelope.copied()?;
     let views = confirmed(alloc, &setup.topology, me, &opened)?;
-    let (facts, ids) = parts_of(alloc, &opened)?;
+    let (facts, changes) = parts_of(alloc, &opened)?;
+    let ids = ids_of(alloc, changes.as_slice())?;
     let kept = KeptRequest {
         sender: request.sender,
         command: request.command,
         root,
-        bytes,
+        tree: opened,
+        changes,
         views,
         facts,
     };

@@ -41,7 +41,7 @@ fn items_from(items: &[KeptItem], place: u64) -> &[KeptItem]
     &items[(place as usize).min(items.len())..]
 }
 
-/// The decision of the verdict on the request at a place. Goes through what was read from that place on.
+/// The decision of the verdict on the request at a place. Goes through what was read from that place up to the verdict.
 pub fn decision_at(items: &[KeptItem], place: u64) -> Option<&Decision>
     requires behind { VerdictsBehind 0 (model_items items.now) }
     ensures { option_copied result ≡ verdict_on place (moments (model_items items.now)) }

@@ -16,7 +16,7 @@ ghost use Rattle.inbox_standing.specs.Requests.{outcome_received};
 ghost use Rattle.validate_job.specs.Owed.{owed_on_each};
 ghost use Rattle.prepare_request.specs.Hosted.{hosted_rows};
 ghost use Rattle.node_inbox.specs.Coming.{IsTelling};
-ghost use Rattle.node_inbox.specs.Decided.{is_closed};
+ghost use Rattle.node_inbox.specs.Decided.{is_closed, is_without_verdict};
 ghost use Rattle.node_inbox.specs.Entries.{item_from, told_if_received};
 ghost use Rattle.node_inbox.specs.InboxState.{begun, decided_since, params_of, reading_of, with_item};
 ghost use Rattle.node_inbox.specs.Offered.{offered};
@@ -230,10 +230,14 @@ impl<'s> Inbox<'s> {
         self.standing.outcome(place)
     }
 
-    /// The decision of the verdict on the request at a place. Goes through what was read from that place on.
+    /// The decision of the verdict on the request at a place. Goes through what was read from that place up to the verdict, and
+    /// through nothing where none came on a request that was received.
     pub fn decision(&self, place: u64) -> Option<&Decision>
         ensures { option_copied result ≡ verdict_on place (moments self.now.items) }
     {
+        if is_without_verdict(self.outcome(place)) {
+            return None;
+        }
         decision_at(self.items.as_slice(), place)
     }
 
@@ -287,8 +291,7 @@ impl<'s> Inbox<'s> {
         decided_since(&self.setup.topology.params, self.items.as_slice(), place)
     }
 
-    /// The check that the participant owes to the request at a place, by what it had read when it had read that. Opens the
-    /// envelope again.
+    /// The check that the participant owes to the request at a place, by what it had read when it had read that.
     pub fn job(&self, alloc: Global, place: u64) -> Result<ValidateJob<'s>, AllocError>
         requires { owes_at (reading_of self.now) self.now.me self.now.items place ≡ true }
         ensures place { IfOk result (λ job. job.given.place ≡ place) }
@@ -300,7 +303,7 @@ impl<'s> Inbox<'s> {
         job(alloc, self.setup, self.me, self.items.as_slice(), place)
     }
 
-    /// The approved requests before the clean place, as they are opened. Opens each again.
+    /// The approved requests before the clean place, as they are opened.
     pub fn applied(&self, alloc: Global) -> Result<CommitList, AllocError>
         ensures { IfOk result (λ commits. commits ≡ node_log (params_of self.now) self.now.items) }
     {
@@ -337,6 +340,20 @@ fn is_decided(outcome: Option<Outcome>) -> bool
         Some(Outcome::Approved) => true,
         Some(Outcome::Rejected) => true,
         Some(Outcome::TimedOut) => true,
+        Some(Outcome::Expired) => true,
+        None => false,
+    }
+}
+
+// Whether an outcome is one of a request without a verdict.
+fn is_without_verdict(outcome: Option<Outcome>) -> bool
+    ensures { result ≡ is_without_verdict outcome }
+{
+    match outcome {
+        Some(Outcome::Undecided) => true,
+        Some(Outcome::Approved) => false,
+        Some(Outcome::Rejected) => false,
+        Some(Outcome::TimedOut) => false,
         Some(Outcome::Expired) => true,
         None => false,
     }

@@ -1,16 +1,15 @@
 //! The check that a participant owes to a request.
-ghost use Rattle.std.specs.Prelude.{◌≡◌, ◌<◌, true, IfOk, IsSome, length};
-ghost use Rattle.sealed_form.specs.SealedForm.{opened_in};
+ghost use Rattle.std.specs.Prelude.{◌≡◌, ◌<◌, true, IfOk, length};
 ghost use Rattle.sealed_form.specs.SealedReading.{sealed_reading};
 ghost use Rattle.world_model.specs.Node.{owed_at, owes_at};
 ghost use Rattle.validate_job.specs.Owed.{owed_on_each};
 ghost use Rattle.node_inbox.specs.Items.{model_items};
-ghost use Rattle.node_inbox.specs.JobInput.{IsInputOf};
+ghost use Rattle.node_inbox.specs.JobInput.{input_of};
 ghost use Rattle.node_inbox.specs.Kept.{AreKept};
 
 use crate::items::{request_at, time_at};
 use crate::kept_item::{KeptItem, KeptRequest};
-use crate::opening::open;
+use crate::tree_copy::tree_copy;
 use confirm_reply::{CheckInput, IdFactsList, Setup};
 use ledger_terms::{Exact, ParticipantId};
 use std::alloc::{AllocError, Global};
@@ -26,7 +25,7 @@ fn copy_facts(alloc: Global, facts: &IdFactsList) -> Result<IdFactsList, AllocEr
     Ok(copy)
 }
 
-// What the request is checked by. Opens the envelope again.
+// What the request is checked by.
 fn input_of<'s>(
     alloc: Global,
     setup: &'s Setup,
@@ -34,12 +33,9 @@ fn input_of<'s>(
     time: u64,
     kept: &KeptRequest,
 ) -> Result<CheckInput<'s>, AllocError>
-    requires { IsSome (opened_in kept.now.bytes) }
-    ensures { IfOk result (λ input. IsInputOf setup.entry me time kept.now input) }
+    ensures { IfOk result (λ input. input ≡ input_of setup.entry me time kept.now) }
 {
-    let Some(tree) = open(alloc, kept.bytes.as_slice())? else {
-        unreachable!()
-    };
+    let tree = tree_copy(&kept.tree)?;
     let facts = copy_facts(alloc, &kept.facts)?;
     Ok(CheckInput {
         setup,

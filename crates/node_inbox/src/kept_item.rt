@@ -1,17 +1,21 @@
 //! The items of an inbox.
 use canton_model::Verdict;
 use confirm_reply::IdFactsList;
-use ledger_terms::{Bytes, Hash, Name, ParticipantId, PathList};
+use inbox_standing::Change;
+use ledger_terms::{Hash, Name, ParticipantId, PathList};
+use view_split::OpenedTree;
 
 /// What a participant keeps of a request that it received: who sent it, the name that the sender gave the command, the hash of its
-/// tree and the envelope's bytes. Beside these are the paths of the views that the participant confirms, and what it knew of
-/// the contracts in what is opened when it had read the request.
+/// tree, what is opened of it and the changes among the authentic actions in that, so that nothing is opened or hashed again. Beside
+/// these are the paths of the views that the participant confirms, and what it knew of the contracts in what is opened when it had
+/// read the request.
 #[derive(Drop)]
 pub struct KeptRequest {
     pub sender: ParticipantId,
     pub command: Name,
     pub root: Hash,
-    pub bytes: Bytes,
+    pub tree: OpenedTree,
+    pub changes: Vec<Change>,
     pub views: PathList,
     pub facts: IdFactsList,
 }

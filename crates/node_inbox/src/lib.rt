@@ -6,6 +6,7 @@ mod actions;
 mod active_rows;
 mod added_ids;
 mod applied;
+mod change_lists;
 mod coming;
 mod confirmed;
 mod decided_since;
@@ -19,6 +20,7 @@ pub mod laws;
 mod opening;
 mod putting;
 mod telling;
+mod tree_copy;
 
 pub use inbox::Inbox;
 pub use kept_item::{KeptContent, KeptItem, KeptRequest};

@@ -12,7 +12,7 @@ ghost use Rattle.blind_tree.specs.InRange.{IsTree};
 ghost use Rattle.blind_tree.specs.Opening.{tree_opened};
 ghost use Rattle.blind_tree.specs.TreeHashes.{hash_of_root};
 ghost use Rattle.sha2.specs.Sha256.{sha256};
-ghost use Rattle.sealed_form.specs.SealedForm.{envelope_to, found, opened_in, tree_in};
+ghost use Rattle.sealed_form.specs.SealedForm.{envelope_to, found, tree_in};
 
 use blind_tree::laws::{opened_actions_are_spellable, opened_views_are_spellable};
 use blind_tree::{OpenedTree, Tree, decode_tree, opened, root_of};
@@ -67,15 +67,4 @@ pub fn hash_of(alloc: Global, tree: &Tree) -> Result<Hash, AllocError>
     ensures { IfOk result (λ hash. hash ≡ hash_of_root sha256 tree.now) }
 {
     root_of(alloc, tree)
-}
-
-/// What bytes open, and none exactly where they open nothing.
-pub fn open(alloc: Global, bytes: &[u8]) -> Result<Option<OpenedTree>, AllocError>
-    ensures exact { IfOk result (λ o. o ≡ opened_in bytes.now) }
-    ensures spellable { IfOk result (λ o. IfSome o (λ tree. All (λ (act : Act). IsSpellableInstance (instance_of act.action)) (acts (shown_by tree).roots))) }
-{
-    match tree_in(alloc, bytes)? {
-        Some(tree) => opened_of(alloc, &tree),
-        None => Ok(None),
-    }
 }

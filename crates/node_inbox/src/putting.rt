@@ -106,7 +106,8 @@ fn with_facts(kept: KeptRequest, standing: &Standing) -> KeptRequest
         sender,
         command,
         root,
-        bytes,
+        tree,
+        changes,
         views,
         facts,
     } = kept;
@@ -114,7 +115,8 @@ fn with_facts(kept: KeptRequest, standing: &Standing) -> KeptRequest
         sender,
         command,
         root,
-        bytes,
+        tree,
+        changes,
         views,
         facts: filled(standing.store(), facts),
     }

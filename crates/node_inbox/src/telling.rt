@@ -2,19 +2,14 @@
 ghost use Rattle.std.specs.Prelude.{◌≡◌, IfOk, IfNone, IfSome, None, Some, [], if◌then◌else◌};
 ghost use Rattle.canton_model.specs.Inbox.{shown_at};
 ghost use Rattle.canton_model.specs.Timeline.{is_approval, Decided, kind_of};
-ghost use Rattle.interpret.specs.Ids.{is_authentic};
-ghost use Rattle.ledger_model.specs.Forest.{acts};
-ghost use Rattle.view_split.specs.Placed.{shown_by};
 ghost use Rattle.sealed_form.specs.SealedReading.{sealed_reading};
-ghost use Rattle.inbox_standing.specs.ChangeLists.{changes_of};
-ghost use Rattle.node_inbox.specs.Coming.{IsTelling, changes_opened, is_told};
+ghost use Rattle.node_inbox.specs.Coming.{IsTelling, is_told};
 ghost use Rattle.node_inbox.specs.Items.{model_items};
 ghost use Rattle.node_inbox.specs.Kept.{IsInbox};
 
-use crate::actions::{acts_of, changes_of, roots_of};
+use crate::change_lists::changes_copy;
 use crate::items::request_at;
 use crate::kept_item::KeptItem;
-use crate::opening::open;
 use canton_model::{Decision, Outcome, Verdict};
 use confirm_reply::Setup;
 use inbox_standing::{Change, Standing};
@@ -71,26 +66,16 @@ fn copy_of(verdict: &Verdict) -> Result<Verdict, AllocError>
     Ok(copy)
 }
 
-// The changes among the authentic actions that bytes open.
-fn changes_opened(alloc: Global, bytes: &[u8]) -> Result<Vec<Change>, AllocError>
-    ensures { IfOk result (λ changes. changes.items ≡ changes_opened bytes.now) }
-{
-    match open(alloc, bytes)? {
-        Some(tree) => {
-            let roots = roots_of(alloc, &tree.views)?;
-            let found = acts_of(alloc, &roots)?;
-            changes_of(alloc, found.as_slice())
-        }
-        None => Ok(Vec::new(alloc)),
-    }
-}
-
-// What a first verdict changes.
-fn changes_by(alloc: Global, decision: &Decision, bytes: &[u8]) -> Result<Vec<Change>, AllocError>
-    ensures { IfOk result (λ changes. changes.items ≡ (if is_approval (Some decision.now) then changes_opened bytes.now else [])) }
+// What a first verdict changes, where an approval makes these changes.
+fn changes_by(
+    alloc: Global,
+    decision: &Decision,
+    changes: &[Change],
+) -> Result<Vec<Change>, AllocError>
+    ensures { IfOk result (λ made. made.items ≡ (if is_approval (Some decision.now) then changes.now else [])) }
 {
     if is_approval(decision) {
-        changes_opened(alloc, bytes)
+        changes_copy(alloc, changes)
     } else {
         Ok(Vec::new(alloc))
     }
@@ -121,7 +106,7 @@ pub fn telling(
             changes: Vec::new(alloc),
         }));
     }
-    let changes = changes_by(alloc, &verdict.decision, kept.bytes.as_slice())?;
+    let changes = changes_by(alloc, &verdict.decision, kept.changes.as_slice())?;
     Ok(Some(ComingVerdict {
         verdict: told,
         first: Some(outcome_by(&verdict.decision)),

@@ -27,7 +27,6 @@ use Rattle.ledger_terms.proofs.topology.Topology.TheSendSync as topology
 use Rattle.ledger_terms.proofs.participant_id.ParticipantId.TheSendSync as participant_id
 use Rattle.inbox_standing.proofs.standing.Standing.TheSendSync as standing
 use Rattle.prepare_request.proofs.hosted_ids.HostedIds.TheSendSync as hosted_ids
-use Rattle.node_inbox.proofs.kept_item.KeptItem.TheSendSync as kept_item
 use Rattle.node_core.proofs.duties.Duties.TheSendSync as duties
 use Rattle.lang_eval.specs.contracts.checked.Checked as Checked
 use Rattle.confirm_reply.specs.contracts.setup.Setup as Setup
@@ -58,6 +57,7 @@ use Rattle.sync_shared.specs.contracts.shared.Shared as Shared
 use Rattle.sync_shared.specs.declared.session.Session as Session
 use Rattle.shared_rounds.specs.contracts.lane_work.LaneWork as LaneWork
 use Rattle.shared_rounds.proofs.Captures.{ref_sync, slice_sync, ref_send}
+use Rattle.shared_rounds.proofs.KeptCrossings.{kept_item_send, kept_item_sync}
 
 ruleset of_terms = (sendable, crosses, list.the_sync, name.the_sync, kind.the_sync, kind.the_field_sync, field_decl.the_sync, field_decl.the_field_sync, text.the_sync, value.the_sync, value.the_field_sync, hash.the_sync, party_set.the_sync, template_name.the_sync, template_name.the_field_sync)
 
@@ -78,11 +78,11 @@ setup_sync = search (of_terms, topology.the_field_sync, checked_sync) depth 40 f
 
 pub inbox_send : (κ : NamedLft) → IsSend (Inbox.the_row κ)
 inbox_send κ =
-    search (sendable, crosses, setup_sync, participant_id.the_send, kept_item.the_send, standing.the_send, hosted_ids.the_send) depth 40 fits 10000
+    search (sendable, crosses, setup_sync, participant_id.the_send, kept_item_send, standing.the_send, hosted_ids.the_send) depth 40 fits 10000
 
 pub inbox_sync : (κ : NamedLft) → IsSync (Inbox.the_row κ)
 inbox_sync κ =
-    search (sendable, crosses, setup_sync, participant_id.the_sync, kept_item.the_sync, standing.the_sync, hosted_ids.the_sync) depth 40 fits 10000
+    search (sendable, crosses, setup_sync, participant_id.the_sync, kept_item_sync, standing.the_sync, hosted_ids.the_sync) depth 40 fits 10000
 
 pub node_send : (κ : NamedLft) → IsSend (Node.the_row κ)
 node_send κ = search (sendable, crosses, setup_sync, participant_id.the_send, inbox_send, duties.the_send) depth 40 fits 10000

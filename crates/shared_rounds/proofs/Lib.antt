@@ -4,4 +4,5 @@ mod Gathering
 mod Joining
 mod Queued
 mod Captures
+mod KeptCrossings
 mod Crossings

@@ -1,14 +1,20 @@
 use Rattle.std.proofs.Common.{sym, ap, ◌∙◌}
 use Rattle.std.specs.Prelude.{option_copied}
-use Rattle.node_inbox.proofs.Came.{coming_is}
+use Rattle.node_inbox.proofs.Came.{coming_is, is_opened_to}
 use Rattle.node_inbox.proofs.coming.coming.Goals as goal
+
+pub returns-clause-shown : goal.returns-clause-shown
+returns-clause-shown c =
+    is_opened_to c.args.me c.args.request.now c.in-Some.envelope.now c.in-Some-2.tree c.in-Some-3.opened
+    (rw (c.as_slice.ensures) at (sym c.envelope_to.ensures ∙ ap option_copied c.in-Some.is))
+    (rw (c.as_slice-2.ensures) at (sym c.in_ok-tree.ensures.exact ∙ c.in-Some-2.is))
+    (sym c.in_ok-opened.ensures.exact ∙ c.in-Some-3.is)
 
 pub returns-clause-some : goal.returns-clause-some
 returns-clause-some c =
-    coming_is c.args.setup.now.topology c.args.setup.now.checked c.args.me c.args.request.now _ c.in-Some.envelope.now c.in-Some-2.tree c.in-Some-3.opened
-    c.requires
+    coming_is c.args.setup.now.topology c.args.setup.now.checked c.args.me c.args.request.now _ c.requires
+    (is_opened_to c.args.me c.args.request.now c.in-Some.envelope.now c.in-Some-2.tree c.in-Some-3.opened
     (rw (c.as_slice.ensures) at (sym c.envelope_to.ensures ∙ ap option_copied c.in-Some.is))
-    c.in_ok-bytes.ensures
     (rw (c.as_slice-2.ensures) at (sym c.in_ok-tree.ensures.exact ∙ c.in-Some-2.is))
-    (sym c.in_ok-opened.ensures.exact ∙ c.in-Some-3.is)
-    c.in_ok-views.ensures c.in_ok-facts.ensures
+    (sym c.in_ok-opened.ensures.exact ∙ c.in-Some-3.is))
+    c.in_ok-views.ensures c.in_ok-facts.ensures (rw (c.as_slice-3.ensures.value) at c.in_ok-ids.ensures)

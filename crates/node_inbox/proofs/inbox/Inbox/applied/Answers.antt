@@ -1,7 +1,12 @@
-use Rattle.node_inbox.proofs.Seen.{outcome_at_is}
+use Rattle.node_inbox.proofs.Seen.{keep_changes, outcome_at_is}
 use Rattle.node_inbox.proofs.inbox.Inbox.applied.Goals as goal
 
-pub applied-requires : goal.applied-requires
-applied-requires c =
+pub applied-requires-clause-told : goal.applied-requires-clause-told
+applied-requires-clause-told c =
     rw (c.as_slice.ensures.value)
     (outcome_at_is c.self.inside.setup.now.topology c.self.inside.setup.now.checked c.self.inside.me c.self.inside.items.items c.self.inside.standing c.self.invariant.0)
+
+pub applied-requires-clause-kept : goal.applied-requires-clause-kept
+applied-requires-clause-kept c =
+    rw (c.as_slice.ensures.value)
+    (keep_changes c.self.inside.setup.now.topology c.self.inside.setup.now.checked c.self.inside.me c.self.inside.items.items c.self.invariant.0.each)

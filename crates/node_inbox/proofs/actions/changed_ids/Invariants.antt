@@ -1,7 +1,0 @@
-use Rattle.std.proofs.Common.{◌≡◌, ◌++◌, drop, filter, map}
-use Rattle.inbox_standing.specs.ChangeLists.{change_of, id_in}
-use Rattle.node_inbox.specs.Acts.{acts_in, is_authentic_change}
-use Rattle.node_inbox.proofs.actions.changed_ids.Given as goal
-
-abbrev pub invariant-loop-act : goal.invariant-loop-act
-invariant-loop-act l = l.ids ++ map id_in (map change_of (filter is_authentic_change (acts_in (drop l.act-index l.found)))) ≡ map id_in (map change_of (filter is_authentic_change (acts_in l.found)))
