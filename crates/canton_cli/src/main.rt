@@ -3,9 +3,12 @@
 
 use canton_run::{Finish, ended, line, run, status_without_words, words_after_name};
 use cli_words::WordList;
-use cn_io::{ReadSource, WriteSink};
+use cn_io::{ReadSource, Sink, Source, WriteSink};
+use lane_pool::FreeGate;
 use std::alloc::Global;
 use std::process::ExitCode;
+use std::sync::Wait;
+use std::thread::Threads;
 use std::{env, io};
 
 /// The words after the program's name.
@@ -14,20 +17,26 @@ fn words_of(rt: &HostRuntime) -> io::Result<WordList> {
     Ok(words_after_name(rt.alloc(), all.as_slice())?)
 }
 
-fn finish_of(rt: &HostRuntime, alloc: Global) -> Finish {
-    match words_of(rt) {
-        Ok(words) => {
-            let mut source = ReadSource::new(rt.stdin());
-            let mut sink = WriteSink::new(rt.stdout());
-            run(alloc, &words, &mut source, &mut sink)
-        }
+/// What the words ask for, where they can be had.
+fn finish_of<R: Threads + Wait + Sync, S: Source, K: Sink>(
+    rt: &R,
+    alloc: Global,
+    words: io::Result<WordList>,
+    source: &mut S,
+    sink: &mut K,
+) -> Finish {
+    match words {
+        Ok(words) => run(rt, &FreeGate, alloc, &words, source, sink),
         Err(error) => ended(alloc, status_without_words(error.kind()), None),
     }
 }
 
 fn main(rt: HostRuntime) -> ExitCode {
     let alloc = rt.alloc();
-    let finish = finish_of(&rt, alloc);
+    let words = words_of(&rt);
+    let mut source = ReadSource::new(rt.stdin());
+    let mut sink = WriteSink::new(rt.stdout());
+    let finish = finish_of(&rt, alloc, words, &mut source, &mut sink);
     if finish.status != 0 {
         let _ = match line(alloc, &finish) {
             Ok(text) => eprintln!(rt; "{text}"),

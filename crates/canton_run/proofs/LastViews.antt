@@ -1,15 +1,13 @@
 -- What participants know when they have read the whole log.
-use Rattle.std.proofs.Common.{◌≡◌, ℕ, zero, suc, ◌+◌, List, [], ◌∷◌, ◌++◌, length, take, map, Some, refl, sym, ap, ◌∙◌, subst, arith}
+use Rattle.std.proofs.Common.{◌≡◌, ℕ, suc, ◌+◌, List, [], ◌∷◌, ◌++◌, length, take, map, Some, refl, sym, ap, ◌∙◌, subst, arith}
 use Rattle.std.specs.Prelude.{slice_get}
 use Rattle.std.proofs.lemmas.List.{map-append}
 use Rattle.world_model.proofs.Steps.{take_next}
-use Rattle.ledger_terms.specs.declared.topology.Topology.{Topology}
-use Rattle.lang_eval.specs.Found.{Packages}
 use Rattle.canton_model.specs.Inbox.{Item, inbox}
 use Rattle.canton_model.specs.Log.{Params}
 use Rattle.canton_model.specs.Reading.{Reading}
 use Rattle.canton_model.specs.declared.entry.Entry.{Entry}
-use Rattle.node_core.specs.Participant.{Participant as NodeValue, items_of, params_of, reading_of}
+use Rattle.node_core.specs.Participant.{Participant as NodeValue, items_of, params_of}
 use Rattle.node_core.specs.Views.{view_of, view_over, views_from, views_over}
 use Rattle.node_core.specs.declared.node_view.NodeView.{NodeView}
 use Rattle.script_read.specs.declared.script.Script.{Script}

@@ -1,33 +1,30 @@
 -- A round is played after those before it.
-use Rattle.std.proofs.Common.{◌≡◌, ℕ, suc, ◌+◌, ◌*◌, ◌≤◌, ◌<◌, List, [], ◌∷◌, ◌++◌, length, take, Some, refl, sym, ap, ◌∙◌, subst, arith, length-take}
+use Rattle.std.proofs.Common.{◌≡◌, ℕ, suc, ◌+◌, ◌*◌, ◌≤◌, List, [], ◌∷◌, ◌++◌, length, take, sym, ap, ◌∙◌, subst, arith, length-take}
 use Rattle.std.specs.Prelude.{◌^◌, All}
 use Rattle.std.proofs.lemmas.List.{length-append}
 use Rattle.std.proofs.lemmas.List.Elements.{All-append, All-take}
 use Rattle.std.proofs.lemmas.List.Sums.{sum_by_push, sum_by-le}
-use Rattle.ledger_terms.specs.declared.submission.Submission.{Submission}
-use Rattle.ledger_model.specs.Terms.{ParticipantId}
-use Rattle.node_core.specs.Participant.{Participant as NodeValue}
 use Rattle.node_core.specs.declared.submit_result.SubmitResult.{SubmitResult}
-use Rattle.script_read.specs.Kept.{IsRound, IsSubmission}
+use Rattle.script_read.specs.Kept.{IsRound}
 use Rattle.script_read.specs.declared.round.Round.{Round}
 use Rattle.script_read.specs.declared.script.Script.{Script}
-use Rattle.world_model.specs.Messages.{Entry}
+use Rattle.threads_model.specs.Shared.{SharedPart, SharedRounds}
 use Rattle.world_model.specs.Machine.{Machine}
 use Rattle.world_model.specs.Mediator.{MediatorState}
 use Rattle.world_model.specs.Lawful.{Lawful}
-use Rattle.world_model.specs.Plain.{PlainPart, PlainRounds, Submitted}
 use Rattle.world_model.specs.Rounds.{begun}
 use Rattle.world_model.specs.Settled.{left, passes}
 use Rattle.world_model.proofs.Steps.{take_next}
+use Rattle.world_play.specs.Flags.{ArePaused}
 use Rattle.world_play.specs.Results.{IsPlainResult, results_of}
 use Rattle.world_play.specs.Submitting.{AreSetUp, CanSubmit}
 use Rattle.world_play.specs.WorldOf.{IsWorldOf, world_of}
 use Rattle.world_play.specs.declared.world.World.{World}
 use Rattle.world_play.proofs.Plays.{each_of}
 use Rattle.canton_run.specs.Answered.{answered, round_of}
-use Rattle.canton_run.specs.Between.{ArePlayed, IsRoundOf, time_in}
+use Rattle.canton_run.specs.Between.{ArePlayed, CanBeAnswered, IsRoundOf, SettlesAsPart, time_in}
 use Rattle.canton_run.specs.Run.{machine_for, submissions_in, why_for}
-use Rattle.canton_run.proofs.Hosted.{can_submit}
+use Rattle.canton_run.proofs.Hosted.{can_submit, hosted}
 use Rattle.canton_run.proofs.OneMore.{one_more}
 
 module _ (script : Script) (count : ℕ) (round : Round) (is : IsRoundOf script count round) where
@@ -60,10 +57,25 @@ module _ (script : Script) (count : ℕ) (round : Round) (is : IsRoundOf script 
   pub can_each : All (CanSubmit script.topology script.checked) round.submits
   can_each k d lt = can_submit script is.accepted _ (is_round.submits k d lt)
 
-  pub there_each : (nodes : List NodeValue) → AreSetUp script.topology script.checked nodes
-      → All (λ (what : Submission). what.participant < length nodes) round.submits
-  there_each nodes set_up k d lt =
-      let there = (is_round.submits k d lt).participant in let many = set_up.many in omega (arith, there, many)
+  -- it has begun in the second of these worlds
+  pub can_be_answered : (capacity : ℕ) (world w1 : World) (results : List SubmitResult) (ends : List ℕ)
+      (p : ArePlayed script capacity count world results ends) → w1.now ≡ world.now + round.advance
+      → IsWorldOf (machine_for script capacity) p.state w1 × Lawful (machine_for script capacity) (world_of p.state w1)
+      → AreSetUp script.topology script.checked (w1.nodes).items → ArePaused round.paused (w1.nodes).items → CanBeAnswered script capacity round w1
+  can_be_answered capacity world w1 results ends p now1 is1 set_up paused =
+      record {
+        machine = p.machine;
+        state = p.state;
+        is = is1.0;
+        lawful = is1.1;
+        set_up = set_up;
+        now = let fits = time_fits world.now p.now in omega (arith, now1, fits);
+        paused = paused;
+        valid = (is.accepted).topology;
+        named = hosted script.topology _ ((is.accepted).packages).hosted;
+        within = can_each;
+        there = λ k d lt. (is_round.submits k d lt).participant;
+      }
 
   -- a round begins in the first of these worlds, is answered in the second and settles in the third
   module _ (capacity : ℕ) (world w1 w2 w3 : World) (results answers : List SubmitResult) (ends : List ℕ) (end : ℕ)
@@ -71,8 +83,7 @@ module _ (script : Script) (count : ℕ) (round : Round) (is : IsRoundOf script 
       (now1 : w1.now ≡ world.now + round.advance) (now2 : w2.now ≡ w1.now) (now3 : w3.now ≡ w2.now)
       (begins : (w1.sequencer).list ≡ begun (machine_for script capacity) (world.now + round.advance) (round_of round) (world.sequencer).list)
       (many : length answers ≡ length round.submits) (plain : All IsPlainResult answers)
-      (submitted : Submitted (machine_for script capacity) (why_for script) w1.now (round_of round) (w1.sequencer).list
-      (results_of round.submits answers) (w2.sequencer).list)
+      (settles_as : SettlesAsPart script capacity round w1 w2 answers)
       (settles : (w3.sequencer).list ≡ passes (machine_for script capacity) w2.now round.paused round.hold_verdicts
       (left (machine_for script capacity).hosts (w2.sequencer).list) (w2.sequencer).list)
       (ends_at : end ≡ length (w3.sequencer).list) where
@@ -82,19 +93,18 @@ module _ (script : Script) (count : ℕ) (round : Round) (is : IsRoundOf script 
     abbrev time : ℕ
     time = world.now + round.advance
 
-    part : PlainPart m (why_for script) time (round_of round) (results_of round.submits answers) (world.sequencer).list (w3.sequencer).list
-    part = (
-      (w2.sequencer).list,
-      subst (λ (xs : List Entry). Submitted m (why_for script) time (round_of round) xs (results_of round.submits answers) (w2.sequencer).list) begins
-          (subst
-          (λ (n : ℕ). Submitted m (why_for script) n (round_of round) (w1.sequencer).list (results_of round.submits answers) (w2.sequencer).list)
-          now1 submitted),
-      settles ∙ ap (λ (n : ℕ). passes m n round.paused round.hold_verdicts (left m.hosts (w2.sequencer).list) (w2.sequencer).list) (now2 ∙ now1),
-    )
+    part : SharedPart m (why_for script) time (round_of round) (results_of round.submits answers) (world.sequencer).list (w3.sequencer).list
+    part =
+        subst
+        (λ (n : ℕ). SharedPart m (why_for script) n (round_of round) (results_of round.submits answers) (world.sequencer).list (w3.sequencer).list)
+        now1
+        (settles_as (world.sequencer).list (w3.sequencer).list ((p.lawful).genuine, (p.lawful).within_capacity)
+        (begins ∙ ap (λ (n : ℕ). begun m n (round_of round) (world.sequencer).list) (sym now1))
+        (settles ∙ ap (λ (n : ℕ). passes m n round.paused round.hold_verdicts (left m.hosts (w2.sequencer).list) (w2.sequencer).list) now2))
 
-    played : PlainRounds m (why_for script) 0 [] (answered (take (count + 1) script.rounds) (results ++ answers) (ends ++ end ∷ [])) (w3.sequencer).list
+    played : SharedRounds m (why_for script) 0 [] (answered (take (count + 1) script.rounds) (results ++ answers) (ends ++ end ∷ [])) (w3.sequencer).list
     played =
-        subst (λ (xs : List Round). PlainRounds m (why_for script) 0 [] (answered xs (results ++ answers) (ends ++ end ∷ [])) (w3.sequencer).list) (sym next)
+        subst (λ (xs : List Round). SharedRounds m (why_for script) 0 [] (answered xs (results ++ answers) (ends ++ end ∷ [])) (w3.sequencer).list) (sym next)
         (one_more m (why_for script) round answers many end (world.sequencer).list (w3.sequencer).list ends_at world.now part (take count script.rounds)
         results ends 0 [] p.each_result p.each_end (let at = p.now in omega (arith, at)) p.played)
 
@@ -102,6 +112,7 @@ module _ (script : Script) (count : ℕ) (round : Round) (is : IsRoundOf script 
         → ArePlayed script capacity (count + 1) w3 (results ++ answers) (ends ++ end ∷ [])
     plays_on s set_up =
         record {
+          machine = p.machine;
           state = s.0;
           is = s.1;
           lawful = s.2;

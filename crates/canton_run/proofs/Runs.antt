@@ -1,5 +1,5 @@
 -- What was played is a run of its script.
-use Rattle.std.proofs.Common.{◌≡◌, ℕ, ◌+◌, ◌≤◌, List, [], length, take, refl, sym, ap, ◌∙◌, subst, arith}
+use Rattle.std.proofs.Common.{◌≡◌, ℕ, ◌≤◌, List, [], length, take, refl, sym, ap, ◌∙◌, subst, arith}
 use Rattle.std.proofs.lemmas.List.{take_all}
 use Rattle.canton_model.specs.declared.entry.Entry.{Entry}
 use Rattle.node_core.specs.declared.submit_result.SubmitResult.{SubmitResult}
@@ -9,14 +9,13 @@ use Rattle.script_read.specs.declared.round.Round.{Round}
 use Rattle.script_read.specs.declared.script.Script.{Script}
 use Rattle.sealed_form.proofs.Logs.{are_sealed}
 use Rattle.sealed_form.proofs.OneId.{no_collision}
+use Rattle.threads_model.specs.Shared.{SharedRounds}
+use Rattle.threads_model.proofs.RunShared.{run_holds}
 use Rattle.world_model.specs.Machine.{Machine, IsMachine}
 use Rattle.world_model.specs.Mediator.{new_mediator}
-use Rattle.world_model.specs.Plain.{PlainRounds}
-use Rattle.world_model.specs.Rounds.{RunHolds}
 use Rattle.world_model.specs.World as w
 use Rattle.world_model.specs.Lawful.{Lawful}
 use Rattle.world_model.proofs.HeadlineFacts.{headline}
-use Rattle.world_model.proofs.RunFacts.{run_holds}
 use Rattle.world_model.proofs.Steps.{new_lawful}
 use Rattle.world_play.specs.Submitting.{AreSetUp}
 use Rattle.world_play.specs.WorldOf.{IsWorldOf, world_of}
@@ -31,10 +30,11 @@ module _ (script : Script) (capacity : ℕ) where
   m = machine_for script capacity
 
   -- on a new synchroniser no rounds were played
-  pub none_played : (world : World) → IsWorldOf m new_mediator world → world_of new_mediator world ≡ w.new_world m
+  pub none_played : IsMachine m → (world : World) → IsWorldOf m new_mediator world → world_of new_mediator world ≡ w.new_world m
       → AreSetUp script.topology script.checked (world.nodes).items → ArePlayed script capacity 0 world [] []
-  none_played world is new set_up =
+  none_played machine world is new set_up =
       record {
+        machine = machine;
         state = new_mediator;
         is = is;
         lawful = subst (Lawful m) (sym new) (new_lawful m);
@@ -52,8 +52,8 @@ module _ (script : Script) (capacity : ℕ) where
     is_run world p log same =
         let all : take (length script.rounds) script.rounds ≡ script.rounds = take_all (length script.rounds) script.rounds (omega arith) in
         let played =
-        subst (λ (xs : List Entry). PlainRounds m (why_for script) 0 [] (answered script.rounds results ends) xs) (sym same)
-        (subst (λ (xs : List Round). PlainRounds m (why_for script) 0 [] (answered xs results ends) (world.sequencer).list) all p.played) in
+        subst (λ (xs : List Entry). SharedRounds m (why_for script) 0 [] (answered script.rounds results ends) xs) (sym same)
+        (subst (λ (xs : List Round). SharedRounds m (why_for script) 0 [] (answered xs results ends) (world.sequencer).list) all p.played) in
         let cut = run_holds m (why_for script) machine (answered script.rounds results ends) log played in
         let holds = headline m.reading m.params log machine.is_reading cut.genuine in
         let few : length script.rounds ≤ 2048 = (accepted.rounds).few in

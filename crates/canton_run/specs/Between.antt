@@ -1,18 +1,29 @@
 -- What holds between two rounds of a run.
-use Rattle.std.specs.Prelude.{◌≡◌, ℕ, List, [], Some, All, length, slice_get, sum_by, take}
+use Rattle.std.specs.Prelude.{◌≡◌, ℕ, ◌<◌, ◌≤◌, ◌^◌, List, [], Some, All, length, slice_get, sum_by, take}
+use Rattle.confirm_reply.specs.declared.setup.Setup.{Setup}
+use Rattle.ledger_terms.specs.Topologies.{IsValid}
+use Rattle.ledger_terms.specs.declared.submission.Submission.{Submission}
+use Rattle.lang_eval.specs.Named.{AreKnown, parties_in_packages}
 use Rattle.node_core.specs.declared.submit_result.SubmitResult.{SubmitResult}
 use Rattle.script_read.specs.Kept.{IsAccepted}
 use Rattle.script_read.specs.declared.round.Round.{Round}
 use Rattle.script_read.specs.declared.script.Script.{Script}
+use Rattle.sealed_form.specs.Within.{is_hosted}
+use Rattle.threads_model.specs.Shared.{SharedPart, SharedRounds}
 use Rattle.world_model.specs.Lawful.{Lawful}
+use Rattle.world_model.specs.Machine.{GenuineLog, IsMachine}
 use Rattle.world_model.specs.Mediator.{MediatorState}
-use Rattle.world_model.specs.Plain.{PlainRounds}
-use Rattle.world_play.specs.Results.{IsPlainResult}
-use Rattle.world_play.specs.Submitting.{AreSetUp}
+use Rattle.world_model.specs.Messages.{Entry}
+use Rattle.world_model.specs.Rounds.{begun}
+use Rattle.world_model.specs.Sequencing.{reserved}
+use Rattle.world_model.specs.Settled.{left, passes}
+use Rattle.world_play.specs.Flags.{ArePaused}
+use Rattle.world_play.specs.Results.{IsPlainResult, results_of}
+use Rattle.world_play.specs.Submitting.{AreSetUp, CanSubmit}
 use Rattle.world_play.specs.WorldOf.{IsWorldOf, world_of}
 use Rattle.world_play.specs.declared.world.World.{World}
-use Rattle.canton_run.specs.Answered.{answered}
-use Rattle.canton_run.specs.Run.{machine_for, submissions_in, why_for}
+use Rattle.canton_run.specs.Answered.{answered, round_of}
+use Rattle.canton_run.specs.Run.{machine_for, script_with, submissions_in, why_for}
 
 -- by how much the rounds move time in all
 abbrev pub time_in : List Round → ℕ
@@ -23,8 +34,47 @@ pub record IsRoundOf (script : Script) (count : ℕ) (round : Round) : Type 0 wh
   pub accepted : IsAccepted script
   pub there : slice_get script.rounds count ≡ Some round
 
--- So many rounds of the script were played on its synchroniser by one thread, with these results and ends.
+-- the script's participants and packages are those of the setup
+abbrev pub IsSetupOf : Script → Setup → Type 0
+IsSetupOf script setup = script ≡ script_with setup script.rounds
+
+-- The round has begun on the script's synchroniser, and its submissions are within the topology.
+pub record CanBeAnswered (script : Script) (capacity : ℕ) (round : Round) (world : World) : Type 0 where
+  pub machine : IsMachine (machine_for script capacity)
+  pub state : MediatorState
+  pub is : IsWorldOf (machine_for script capacity) state world
+  pub lawful : Lawful (machine_for script capacity) (world_of state world)
+  pub set_up : AreSetUp script.topology script.checked (world.nodes).items
+  pub now : world.now ≤ 10 ^ 16
+  pub paused : ArePaused round.paused (world.nodes).items
+  pub valid : IsValid script.topology
+  pub named : AreKnown (is_hosted script.topology) (parties_in_packages script.checked)
+  pub within : All (CanSubmit script.topology script.checked) round.submits
+  pub there : All (λ (what : Submission). what.participant < length (script.topology).hosts) round.submits
+
+-- Once the synchroniser has settled, the round with these answers is a part of the run, whatever log it began on.
+abbrev pub SettlesAsPart : Script → (capacity : ℕ) → Round → (before after : World) → List SubmitResult → Type 0
+SettlesAsPart script capacity round before after results =
+    (first settled : List Entry) → GenuineLog (machine_for script capacity) first × (reserved first ≤ (machine_for script capacity).capacity)
+    → (before.sequencer).list ≡ begun (machine_for script capacity) before.now (round_of round) first
+    → settled ≡ passes (machine_for script capacity) before.now round.paused round.hold_verdicts
+    (left (machine_for script capacity).hosts (after.sequencer).list) (after.sequencer).list
+    → SharedPart (machine_for script capacity) (why_for script) before.now (round_of round) (results_of round.submits results) first settled
+
+-- All submissions of the round have these results, in their order, and the synchroniser hasn't settled.
+pub record IsAnsweredRound (script : Script) (capacity : ℕ) (round : Round) (before after : World) (results : List SubmitResult) : Type 0 where
+  pub state : MediatorState
+  pub is : IsWorldOf (machine_for script capacity) state after
+  pub lawful : Lawful (machine_for script capacity) (world_of state after)
+  pub set_up : AreSetUp script.topology script.checked (after.nodes).items
+  pub now : after.now ≡ before.now
+  pub each_result : length results ≡ length round.submits
+  pub plain : All IsPlainResult results
+  pub part : SettlesAsPart script capacity round before after results
+
+-- So many rounds of the script were played on its synchroniser, with whatever numbers of workers, with these results and ends.
 pub record ArePlayed (script : Script) (capacity count : ℕ) (world : World) (results : List SubmitResult) (ends : List ℕ) : Type 0 where
+  pub machine : IsMachine (machine_for script capacity)
   pub state : MediatorState
   pub is : IsWorldOf (machine_for script capacity) state world
   pub lawful : Lawful (machine_for script capacity) (world_of state world)
@@ -33,4 +83,4 @@ pub record ArePlayed (script : Script) (capacity count : ℕ) (world : World) (r
   pub each_result : length results ≡ submissions_in (take count script.rounds)
   pub each_end : length ends ≡ length (take count script.rounds)
   pub plain : All IsPlainResult results
-  pub played : PlainRounds (machine_for script capacity) (why_for script) 0 [] (answered (take count script.rounds) results ends) (world.sequencer).list
+  pub played : SharedRounds (machine_for script capacity) (why_for script) 0 [] (answered (take count script.rounds) results ends) (world.sequencer).list

@@ -1,13 +1,20 @@
 //! The rounds of a script, one after another.
-ghost use Rattle.std.specs.Prelude.{◌≡◌, ◌+◌, ℕ, [], length, IfOk, OnOk};
+ghost use Rattle.std.specs.Prelude.{◌≡◌, ◌+◌, ◌++◌, ◌<◌, ◌≤◌, ◌^◌, ℕ, All, [], length, IfOk, OnOk};
 ghost use Rattle.script_read.specs.Kept.{IsAccepted};
 ghost use Rattle.script_read.specs.declared.script.Script.{Script};
-ghost use Rattle.canton_run.specs.Between.{ArePlayed, IsRoundOf};
+ghost use Rattle.world_play.specs.Results.{IsPlainResult, results_of};
+ghost use Rattle.canton_run.specs.Answered.{round_of};
+ghost use Rattle.canton_run.specs.Between.{ArePlayed, CanBeAnswered, IsAnsweredRound, IsRoundOf, IsSetupOf};
 
+use confirm_reply::Setup;
+use lane_pool::Gate;
 use ledger_terms::U64List;
 use node_core::SubmitResultList;
 use script_read::{Round, RoundList};
+use shared_rounds::{Answered, Workers, submit_shared};
 use std::alloc::{AllocError, Global};
+use std::sync::Wait;
+use std::thread::Threads;
 use world_play::{World, begin_round, settle, submit_each};
 
 /// The results of submissions, in their order, and the length of the log at the end of each round.
@@ -17,42 +24,109 @@ pub struct Answers {
     pub ends: U64List,
 }
 
-// Time moves on, each submission is handed in, and the world settles.
-fn play_round(
+/// The synchroniser after rounds, with what they answered.
+#[derive(Drop)]
+pub struct PlayedRounds<'r> {
+    pub world: World<'r>,
+    pub answers: Answers,
+}
+
+// The submissions of a round by one thread.
+fn submit_alone<'r>(
     alloc: Global,
-    world: &mut World<'_>,
+    world: World<'r>,
+    round: &Round,
+) -> Result<Answered<'r>, AllocError>
+    requires { (script : Script) × (capacity : ℕ) × CanBeAnswered script capacity round.now world }
+    ensures { IfOk result (λ a. (script : Script) (capacity : ℕ) → CanBeAnswered script capacity round.now world.entry
+        → IsAnsweredRound script capacity round.now world.entry a.world a.results) }
+{
+    let mut world = world;
+    let mut results = SubmitResultList::new(alloc);
+    submit_each(alloc, &mut world, &round.submits, &mut results)?;
+    Ok(Answered { world, results })
+}
+
+// The submissions of a round: by one thread, or by clients beside lanes where there are workers.
+fn submit_round<'r, R: Threads + Wait + Sync, G: Gate + Sync>(
+    workers: &Workers<'_, R, G>,
+    setup: &Setup,
+    world: World<'r>,
+    round: &Round,
+) -> Result<Answered<'r>, AllocError>
+    requires answerable { (script : Script) × (capacity : ℕ) × IsSetupOf script setup.now × CanBeAnswered script capacity round.now world }
+    ensures { IfOk result (λ a. (script : Script) (capacity : ℕ) → IsSetupOf script setup.now → CanBeAnswered script capacity round.now world.entry
+        → IsAnsweredRound script capacity round.now world.entry a.world a.results) }
+{
+    if workers.count == 0 {
+        return submit_alone(workers.alloc, world, round);
+    }
+    submit_shared(
+        workers,
+        setup,
+        world,
+        &round.paused,
+        round.hold_verdicts,
+        &round.submits,
+    )
+}
+
+// Puts results behind others.
+fn append(results: &mut SubmitResultList, more: SubmitResultList) -> Result<(), AllocError>
+    ensures { OnOk result (results.new ≡ results.old ++ more) }
+{
+    'more: for one in more.into_vec() {
+        results.push(one)?;
+    }
+    Ok(())
+}
+
+// Time moves on, each submission is handed in, and the world settles.
+fn play_round<'r, R: Threads + Wait + Sync, G: Gate + Sync>(
+    workers: &Workers<'_, R, G>,
+    setup: &Setup,
+    world: World<'r>,
     round: &Round,
     answers: &mut Answers,
-) -> Result<(), AllocError>
-    requires { (script : Script) × (capacity : ℕ) × (count : ℕ) × IsRoundOf script count round.now
-        × ArePlayed script capacity count world.old answers.old.results answers.old.ends }
-    ensures { OnOk result ((script : Script) (capacity count : ℕ) → IsRoundOf script count round.now
-        → ArePlayed script capacity count world.old answers.old.results answers.old.ends
-        → ArePlayed script capacity (count + 1) world.new answers.new.results answers.new.ends) }
+) -> Result<World<'r>, AllocError>
+    requires played { (script : Script) × (capacity : ℕ) × (count : ℕ) × IsSetupOf script setup.now × IsRoundOf script count round.now
+        × ArePlayed script capacity count world answers.old.results answers.old.ends }
+    ensures { IfOk result (λ played. (script : Script) (capacity count : ℕ) → IsSetupOf script setup.now → IsRoundOf script count round.now
+        → ArePlayed script capacity count world.entry answers.old.results answers.old.ends
+        → ArePlayed script capacity (count + 1) played answers.new.results answers.new.ends) }
 {
-    begin_round(world, round.advance, &round.paused)?;
-    submit_each(alloc, world, &round.submits, &mut answers.results)?;
-    settle(alloc, world, &round.paused, round.hold_verdicts)?;
-    answers.ends.push(world.sequencer.len())
+    let alloc = workers.alloc;
+    let mut world = world;
+    begin_round(&mut world, round.advance, &round.paused)?;
+    let answered = submit_round(workers, setup, world, round)?;
+    let Answered { mut world, results } = answered;
+    settle(alloc, &mut world, &round.paused, round.hold_verdicts)?;
+    append(&mut answers.results, results)?;
+    answers.ends.push(world.sequencer.len())?;
+    Ok(world)
 }
 
 /// Plays the rounds of a script on its new synchroniser.
-pub fn play_rounds(
-    alloc: Global,
-    world: &mut World<'_>,
+pub fn play_rounds<'r, R: Threads + Wait + Sync, G: Gate + Sync>(
+    workers: &Workers<'_, R, G>,
+    setup: &Setup,
+    world: World<'r>,
     rounds: &RoundList,
-) -> Result<Answers, AllocError>
-    requires { (script : Script) × (capacity : ℕ) × IsAccepted script × (script.rounds ≡ rounds.now) × ArePlayed script capacity 0 world.old [] [] }
-    ensures { IfOk result (λ answers. (script : Script) (capacity : ℕ) → IsAccepted script → script.rounds ≡ rounds.now
-        → ArePlayed script capacity 0 world.old [] []
-        → ArePlayed script capacity (length rounds.now) world.new answers.results answers.ends) }
+) -> Result<PlayedRounds<'r>, AllocError>
+    requires played { (script : Script) × (capacity : ℕ) × IsAccepted script × IsSetupOf script setup.now × (script.rounds ≡ rounds.now)
+        × ArePlayed script capacity 0 world [] [] }
+    ensures { IfOk result (λ played. (script : Script) (capacity : ℕ) → IsAccepted script → IsSetupOf script setup.now → script.rounds ≡ rounds.now
+        → ArePlayed script capacity 0 world.entry [] []
+        → ArePlayed script capacity (length rounds.now) played.world (played.answers).results (played.answers).ends) }
 {
+    let alloc = workers.alloc;
+    let mut world = world;
     let mut answers = Answers {
         results: SubmitResultList::new(alloc),
         ends: U64List::new(alloc),
     };
     'rounds: for round in rounds.as_slice() {
-        play_round(alloc, world, round, &mut answers)?;
+        world = play_round(workers, setup, world, round, &mut answers)?;
     }
-    Ok(answers)
+    Ok(PlayedRounds { world, answers })
 }

@@ -7,19 +7,23 @@ ghost use Rattle.canton_run.specs.Run.{IsRun, reading_for, script_with};
 
 use crate::log_copy::log_of;
 use crate::played::Played;
-use crate::rounds::play_rounds;
+use crate::rounds::{PlayedRounds, play_rounds};
 use crate::views::views_of;
 use confirm_reply::Setup;
+use lane_pool::Gate;
 use log_row::LogRow;
 use prepare_request::laws::prepared_requests_make_a_machine;
 use script_read::RoundList;
-use std::alloc::{AllocError, Global};
+use shared_rounds::Workers;
+use std::alloc::AllocError;
+use std::sync::Wait;
+use std::thread::Threads;
 use world_play::World;
 
 /// Plays the rounds of a script over a new synchroniser whose requests may need so many places of the log in all. In the end
 /// every participant, paused or not, reads the whole log.
-pub fn run_script(
-    alloc: Global,
+pub fn run_script<R: Threads + Wait + Sync, G: Gate + Sync>(
+    workers: &Workers<'_, R, G>,
     setup: &Setup,
     rounds: &RoundList,
     capacity: u64,
@@ -32,9 +36,11 @@ pub fn run_script(
 {
     // the prover learns from this call that there is a machine
     prepared_requests_make_a_machine();
+    let alloc = workers.alloc;
     let mut row = LogRow::new(alloc)?;
-    let mut world = World::new(alloc, setup, &mut row, capacity)?;
-    let answers = play_rounds(alloc, &mut world, rounds)?;
+    let new = World::new(alloc, setup, &mut row, capacity)?;
+    let rounds_played = play_rounds(workers, setup, new, rounds)?;
+    let PlayedRounds { mut world, answers } = rounds_played;
     world.catch_up()?;
     let log = log_of(alloc, &mut world.sequencer)?;
     let views = views_of(alloc, world.nodes.as_slice())?;

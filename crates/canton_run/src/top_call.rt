@@ -21,12 +21,16 @@ use crate::script_run::run_script;
 use cli_words::{Job, WordList, WordsFault, read_words};
 use cn_io::{ReadFault, Sink, Source, read_all, write_all};
 use confirm_reply::Setup;
+use lane_pool::Gate;
 use ledger_terms::limits::{MOST_PLACES, MOST_SCRIPT_BYTES};
 use ledger_terms::{Text, Topology};
 use load_gen::{generate, generated_scripts_are_accepted};
 use report_text::{report, summary};
 use script_read::{RoundList, Script, ScriptFault, read_script};
+use shared_rounds::Workers;
 use std::alloc::{AllocError, Global};
+use std::sync::Wait;
+use std::thread::Threads;
 
 // How many places of the log the requests of a job may need.
 fn capacity_of(job: Job) -> u64
@@ -35,6 +39,13 @@ fn capacity_of(job: Job) -> u64
     match job {
         Job::Run { log, .. } => log,
         Job::Gen { .. } => MOST_PLACES as u64,
+    }
+}
+
+// How many lanes work beside the clients of a round.
+fn workers_of(job: Job) -> u32 {
+    match job {
+        Job::Run { workers, .. } | Job::Gen { workers, .. } => workers,
     }
 }
 
@@ -62,7 +73,12 @@ fn text_of(
 }
 
 /// Runs the script and writes the text of the job. The text is made whole before anything of it is written.
-fn carry_out<K: Sink>(alloc: Global, job: Job, script: Script, sink: &mut K) -> Finish
+fn carry_out<R: Threads + Wait + Sync, G: Gate + Sync, K: Sink>(
+    workers: &Workers<'_, R, G>,
+    job: Job,
+    script: Script,
+    sink: &mut K,
+) -> Finish
     requires accepted { IsAccepted script }
     requires room { capacity_of job ≤ MOST_PLACES }
     ensures status { (result.status ≡ 0) ⊎ ((result.status ≡ 5) ⊎ (result.status ≡ 70)) }
@@ -80,8 +96,9 @@ fn carry_out<K: Sink>(alloc: Global, job: Job, script: Script, sink: &mut K) -> 
         checked,
         rounds,
     } = script;
+    let alloc = workers.alloc;
     let setup = Setup { topology, checked };
-    let Ok(played) = run_script(alloc, &setup, &rounds, capacity_of(job)) else {
+    let Ok(played) = run_script(workers, &setup, &rounds, capacity_of(job)) else {
         return ended(alloc, 70, None);
     };
     let Ok(text) = text_of(alloc, job, &setup.topology, &rounds, &played) else {
@@ -101,7 +118,12 @@ fn carry_out<K: Sink>(alloc: Global, job: Job, script: Script, sink: &mut K) -> 
 }
 
 // Reads a script from the source and runs it.
-fn run_source<S: Source, K: Sink>(alloc: Global, job: Job, source: &mut S, sink: &mut K) -> Finish
+fn run_source<R: Threads + Wait + Sync, G: Gate + Sync, S: Source, K: Sink>(
+    workers: &Workers<'_, R, G>,
+    job: Job,
+    source: &mut S,
+    sink: &mut K,
+) -> Finish
     requires room { capacity_of job ≤ MOST_PLACES }
     ensures status { IsRunStatus result.status }
     ensures script { result.status ≡ 3 → ReadsFault (S.left source.old) (S.left source.new) result }
@@ -123,9 +145,10 @@ fn run_source<S: Source, K: Sink>(alloc: Global, job: Job, source: &mut S, sink:
     ensures complete { OffersScript (S.left source.old) → ¬ Rose (S.faults source.old) (S.faults source.new)
         → ¬ Rose (K.faults sink.old) (K.faults sink.new) → (result.status ≡ 0) ⊎ (result.status ≡ 70) }
 {
+    let alloc = workers.alloc;
     match read_all(alloc, source, MOST_SCRIPT_BYTES) {
         Ok(bytes) => match read_script(alloc, bytes.as_slice()) {
-            Ok(script) => carry_out(alloc, job, script, sink),
+            Ok(script) => carry_out(workers, job, script, sink),
             Err(ScriptFault::Memory) => ended(alloc, 70, None),
             Err(fault) => ended(alloc, 3, Some(fault)),
         },
@@ -136,7 +159,13 @@ fn run_source<S: Source, K: Sink>(alloc: Global, job: Job, source: &mut S, sink:
 }
 
 // Runs a generated script. Nothing is read.
-fn run_generated<K: Sink>(alloc: Global, count: u32, seed: u64, job: Job, sink: &mut K) -> Finish
+fn run_generated<R: Threads + Wait + Sync, G: Gate + Sync, K: Sink>(
+    workers: &Workers<'_, R, G>,
+    count: u32,
+    seed: u64,
+    job: Job,
+    sink: &mut K,
+) -> Finish
     requires few { 2 * count ≤ MOST_SUBMISSIONS }
     requires room { capacity_of job ≤ MOST_PLACES }
     ensures status { (result.status ≡ 0) ⊎ ((result.status ≡ 5) ⊎ (result.status ≡ 70)) }
@@ -150,15 +179,19 @@ fn run_generated<K: Sink>(alloc: Global, count: u32, seed: u64, job: Job, sink: 
     ensures count { K.faults sink.old ≤ K.faults sink.new }
 {
     generated_scripts_are_accepted();
+    let alloc = workers.alloc;
     match generate(alloc, count, seed) {
-        Ok(script) => carry_out(alloc, job, script, sink),
+        Ok(script) => carry_out(workers, job, script, sink),
         Err(_) => ended(alloc, 70, None),
     }
 }
 
 /// Does what the words ask for: reads a script from the source, runs it and writes the report to the sink; or runs a generated
-/// script and writes the summary. So far the work is done by one thread, whatever the number of workers.
-pub fn run<S: Source, K: Sink>(
+/// script and writes the summary. With workers each round's submissions come from clients in threads of their own, beside so many
+/// lanes, which pass the gate before each view that they check; without, one thread does all the work and passes no gate.
+pub fn run<R: Threads + Wait + Sync, G: Gate + Sync, S: Source, K: Sink>(
+    rt: &R,
+    gate: &G,
     alloc: Global,
     words: &WordList,
     source: &mut S,
@@ -184,10 +217,18 @@ pub fn run<S: Source, K: Sink>(
         → (result.status ≡ 0) ⊎ (result.status ≡ 70) }
 {
     match read_words(alloc, words) {
-        Ok(job) => match job {
-            Job::Run { .. } => run_source(alloc, job, source, sink),
-            Job::Gen { count, seed, .. } => run_generated(alloc, count, seed, job, sink),
-        },
+        Ok(job) => {
+            let workers = Workers {
+                rt,
+                gate,
+                alloc,
+                count: workers_of(job),
+            };
+            match job {
+                Job::Run { .. } => run_source(&workers, job, source, sink),
+                Job::Gen { count, seed, .. } => run_generated(&workers, count, seed, job, sink),
+            }
+        }
         Err(WordsFault::Usage) => ended(alloc, 2, None),
         Err(WordsFault::Memory) => ended(alloc, 70, None),
     }

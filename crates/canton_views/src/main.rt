@@ -9,10 +9,14 @@ mod words;
 
 use canton_run::{ended, status_without_words, words_after_name};
 use cli_words::WordList;
-use cn_io::{ReadSource, WriteSink};
+use cn_io::{ReadSource, Sink, Source, WriteSink};
 use end::{End, line};
+use lane_pool::FreeGate;
+use shared_rounds::Workers;
 use std::alloc::Global;
 use std::process::ExitCode;
+use std::sync::Wait;
+use std::thread::Threads;
 use std::{env, io};
 use top_call::run;
 
@@ -22,12 +26,23 @@ fn words_of(rt: &HostRuntime) -> io::Result<WordList> {
     Ok(words_after_name(rt.alloc(), all.as_slice())?)
 }
 
-fn end_of(rt: &HostRuntime, alloc: Global) -> End {
-    match words_of(rt) {
+/// Does what the words ask for, where they can be had. The script is run by one thread.
+fn end_of<R: Threads + Wait + Sync, S: Source, K: Sink>(
+    rt: &R,
+    alloc: Global,
+    words: io::Result<WordList>,
+    source: &mut S,
+    sink: &mut K,
+) -> End {
+    match words {
         Ok(words) => {
-            let mut source = ReadSource::new(rt.stdin());
-            let mut sink = WriteSink::new(rt.stdout());
-            run(alloc, &words, &mut source, &mut sink)
+            let workers = Workers {
+                rt,
+                gate: &FreeGate,
+                alloc,
+                count: 0,
+            };
+            run(&workers, &words, source, sink)
         }
         Err(error) => End::AsRun(ended(alloc, status_without_words(error.kind()), None)),
     }
@@ -35,7 +50,10 @@ fn end_of(rt: &HostRuntime, alloc: Global) -> End {
 
 fn main(rt: HostRuntime) -> ExitCode {
     let alloc = rt.alloc();
-    let end = end_of(&rt, alloc);
+    let words = words_of(&rt);
+    let mut source = ReadSource::new(rt.stdin());
+    let mut sink = WriteSink::new(rt.stdout());
+    let end = end_of(&rt, alloc, words, &mut source, &mut sink);
     let status = end.status();
     if status != 0 {
         let _ = match line(alloc, &end) {

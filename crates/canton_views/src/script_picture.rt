@@ -4,10 +4,13 @@ ghost use Rattle.script_read.specs.Kept.{IsAccepted};
 use crate::end::End;
 use canton_run::run_script;
 use confirm_reply::Setup;
+use lane_pool::Gate;
 use ledger_terms::limits::MOST_PLACES;
 use ledger_terms::{Name, ParticipantId, Text, Topology};
 use script_read::Script;
-use std::alloc::Global;
+use shared_rounds::Workers;
+use std::sync::Wait;
+use std::thread::Threads;
 use view_picture::{drawn, picture_of};
 
 /// The participant with a name.
@@ -21,13 +24,14 @@ fn participant_of(topology: &Topology, name: Name) -> Option<ParticipantId> {
 }
 
 /// Runs a script and draws its requests, for one participant where a name is given. Without a picture there is how the program ends.
-pub(crate) fn script_picture(
-    alloc: Global,
+pub(crate) fn script_picture<R: Threads + Wait + Sync, G: Gate + Sync>(
+    workers: &Workers<'_, R, G>,
     script: Script,
     reader: Option<Name>,
 ) -> Result<Text, End>
     requires { IsAccepted script }
 {
+    let alloc = workers.alloc;
     let Script {
         topology,
         checked,
@@ -41,7 +45,7 @@ pub(crate) fn script_picture(
         None => None,
     };
     let setup = Setup { topology, checked };
-    let Ok(played) = run_script(alloc, &setup, &rounds, MOST_PLACES as u64) else {
+    let Ok(played) = run_script(workers, &setup, &rounds, MOST_PLACES as u64) else {
         return Err(End::of_status(alloc, 70));
     };
     let Ok(picture) = picture_of(alloc, &setup.topology, &played.log, me.as_ref()) else {

@@ -7,6 +7,8 @@ mod appending;
 #[cfg(test)]
 mod empty_run;
 #[cfg(test)]
+mod meeting;
+#[cfg(test)]
 mod reading;
 mod surely;
 #[cfg(test)]

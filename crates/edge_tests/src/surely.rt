@@ -6,10 +6,15 @@ ghost use Rattle.edge_tests.specs.Surely.{IsReady};
 use canton_run::{Finish, run};
 use cli_words::WordList;
 use cn_io::{SureSink, SureSource};
+use lane_pool::Gate;
 use std::alloc::Global;
+use std::sync::Wait;
+use std::thread::Threads;
 
 /// Runs words over a source that never fails, which gives the job's script, and a sink that has taken room for the text ahead.
-pub fn run_surely(
+pub fn run_surely<R: Threads + Wait + Sync, G: Gate + Sync>(
+    rt: &R,
+    gate: &G,
     alloc: Global,
     words: &WordList,
     source: &mut SureSource,
@@ -18,5 +23,5 @@ pub fn run_surely(
     requires ready { IsReady words.now source.old sink.old.room }
     ensures { (result.status ≡ 0) ⊎ (result.status ≡ 70) }
 {
-    run(alloc, words, source, sink)
+    run(rt, gate, alloc, words, source, sink)
 }

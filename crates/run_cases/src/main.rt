@@ -20,12 +20,12 @@ fn main(rt: HostRuntime) -> io::Result<()> {
         let line = line?;
         match Case::read(line.as_str()) {
             Some(case) => {
-                let answer = answer(alloc, &case)?;
+                let answer = answer(&rt, alloc, &case)?;
                 print!(rt; "{answer}")?;
             }
             None => match SureCase::read(line.as_str()) {
                 Some(case) => {
-                    let answer = sure_answer(alloc, &case)?;
+                    let answer = sure_answer(&rt, alloc, &case)?;
                     print!(rt; "{answer}")?;
                 }
                 None => println!(rt; "{line}")?,

@@ -3,16 +3,23 @@ use crate::case::Case;
 use canton_run::{Finish, line, run};
 use cli_words::WordList;
 use cn_io::{MemSink, MemSource};
+use lane_pool::FreeGate;
 use ledger_terms::{Bytes, Text, U64List};
 use std::alloc::{AllocError, Global};
 use std::str;
+use std::sync::Wait;
+use std::thread::Threads;
 
 /// How many bytes are moved at most in a call.
 const PIECE: usize = 16;
 
 /// The text that answers a case.
-pub(crate) fn answer(alloc: Global, case: &Case<'_>) -> Result<String, AllocError> {
-    let (finish, sink) = played(alloc, case)?;
+pub(crate) fn answer<R: Threads + Wait + Sync>(
+    rt: &R,
+    alloc: Global,
+    case: &Case<'_>,
+) -> Result<String, AllocError> {
+    let (finish, sink) = played(rt, alloc, case)?;
     let mut out = format!(in alloc; "run {}\nstatus {}\n", case.name, finish.status)?;
     put_line(alloc, &finish, &mut out)?;
     put_written(sink.written(), &mut out)?;
@@ -61,10 +68,14 @@ fn source_of(alloc: Global, case: &Case<'_>) -> Result<MemSource, AllocError> {
     Ok(MemSource::new(bytes, PIECE, only(alloc, case.take)?))
 }
 
-fn played(alloc: Global, case: &Case<'_>) -> Result<(Finish, MemSink), AllocError> {
+fn played<R: Threads + Wait + Sync>(
+    rt: &R,
+    alloc: Global,
+    case: &Case<'_>,
+) -> Result<(Finish, MemSink), AllocError> {
     let words = words_of(alloc, case.words)?;
     let mut source = source_of(alloc, case)?;
     let mut sink = MemSink::new(alloc, PIECE, only(alloc, case.put)?);
-    let finish = run(alloc, &words, &mut source, &mut sink);
+    let finish = run(rt, &FreeGate, alloc, &words, &mut source, &mut sink);
     Ok((finish, sink))
 }

@@ -2,8 +2,11 @@
 use crate::played::{put_line, put_written, words_of};
 use canton_run::{Finish, run};
 use cn_io::{SureSink, SureSource};
+use lane_pool::FreeGate;
 use ledger_terms::Bytes;
 use std::alloc::{AllocError, Global};
+use std::sync::Wait;
+use std::thread::Threads;
 
 /// A case: its name, for how many bytes the sink has room, the words with commas between them, and what the source gives.
 #[derive(Clone, Copy)]
@@ -34,8 +37,12 @@ impl<'a> SureCase<'a> {
 }
 
 /// The text that answers a case.
-pub(crate) fn sure_answer(alloc: Global, case: &SureCase<'_>) -> Result<String, AllocError> {
-    let (finish, sink) = surely_played(alloc, case)?;
+pub(crate) fn sure_answer<R: Threads + Wait + Sync>(
+    rt: &R,
+    alloc: Global,
+    case: &SureCase<'_>,
+) -> Result<String, AllocError> {
+    let (finish, sink) = surely_played(rt, alloc, case)?;
     let mut out = format!(in alloc; "run {}\nstatus {}\n", case.name, finish.status)?;
     put_line(alloc, &finish, &mut out)?;
     put_written(sink.written(), &mut out)?;
@@ -48,11 +55,15 @@ fn source_of(alloc: Global, case: &SureCase<'_>) -> Result<SureSource, AllocErro
     Ok(SureSource::new(bytes))
 }
 
-fn surely_played(alloc: Global, case: &SureCase<'_>) -> Result<(Finish, SureSink), AllocError> {
+fn surely_played<R: Threads + Wait + Sync>(
+    rt: &R,
+    alloc: Global,
+    case: &SureCase<'_>,
+) -> Result<(Finish, SureSink), AllocError> {
     let words = words_of(alloc, case.words)?;
     let mut source = source_of(alloc, case)?;
     let mut sink = SureSink::new(alloc);
     sink.reserve(case.room)?;
-    let finish = run(alloc, &words, &mut source, &mut sink);
+    let finish = run(rt, &FreeGate, alloc, &words, &mut source, &mut sink);
     Ok((finish, sink))
 }

@@ -1,10 +1,11 @@
 use Rattle.std.proofs.Common.{◌≡◌, ℕ, []}
 use Rattle.script_read.specs.Kept.{IsAccepted}
 use Rattle.script_read.specs.declared.script.Script.{Script}
-use Rattle.canton_run.specs.Between.{ArePlayed}
+use Rattle.canton_run.specs.Between.{ArePlayed, IsSetupOf}
 use Rattle.canton_run.proofs.rounds.play_rounds.Given as goal
 
 abbrev pub invariant-rounds : goal.invariant-rounds
-invariant-rounds l =
-    (script : Script) (capacity : ℕ) → IsAccepted script → script.rounds ≡ l.fn.rounds → ArePlayed script capacity 0 l.fn.world [] []
+invariant-rounds g l =
+    (script : Script) (capacity : ℕ) → IsAccepted script → IsSetupOf script l.setup → script.rounds ≡ l.rounds
+    → ArePlayed script capacity 0 l.fn.world [] []
     → ArePlayed script capacity l.round-index l.world (l.answers).results (l.answers).ends

@@ -6,47 +6,48 @@ use Rattle.canton_run.proofs.LastViews.{views_are}
 use Rattle.canton_run.proofs.Runs.{is_run, none_played}
 use Rattle.canton_run.proofs.script_run.run_script.Goals as goal
 
-pub play_rounds-requires : goal.play_rounds-requires
-play_rounds-requires c =
+pub play_rounds-requires-clause-played : goal.play_rounds-requires-clause-played
+play_rounds-requires-clause-played g c κs within =
     let script = script_with c.args.setup.now c.args.rounds.now in
-    let n = c.in_ok-world in (
+    let n = c.in_ok-new in (
       script,
       c.args.capacity,
       c.requires.accepted,
       refl,
-      none_played script c.args.capacity n.world n.ensures.is n.ensures.new n.ensures.set_up,
+      refl,
+      none_played script c.args.capacity (c.prepared_requests_make_a_machine.ensures _ _ _ _) n.new n.ensures.is n.ensures.new n.ensures.set_up,
     )
 
 pub catch_up-requires : goal.catch_up-requires
-catch_up-requires c =
+catch_up-requires g c =
     let script = script_with c.args.setup.now c.args.rounds.now in
-    let n = c.in_ok-world in
+    let n = c.in_ok-new in
     let p =
-    c.in_ok-answers.ensures script c.args.capacity c.requires.accepted refl
-    (none_played script c.args.capacity n.world n.ensures.is n.ensures.new n.ensures.set_up) in
+    c.in_ok-rounds_played.ensures script c.args.capacity c.requires.accepted refl refl
+    (none_played script c.args.capacity (c.prepared_requests_make_a_machine.ensures _ _ _ _) n.new n.ensures.is n.ensures.new n.ensures.set_up) in
     record { lawful = (machine_for script c.args.capacity, p.state, p.is, p.lawful) }
 
 pub returns-clause-run : goal.returns-clause-run
-returns-clause-run c =
+returns-clause-run g c =
     let script = script_with c.args.setup.now c.args.rounds.now in
-    let n = c.in_ok-world in
+    let n = c.in_ok-new in
     let p =
-    c.in_ok-answers.ensures script c.args.capacity c.requires.accepted refl
-    (none_played script c.args.capacity n.world n.ensures.is n.ensures.new n.ensures.set_up) in
+    c.in_ok-rounds_played.ensures script c.args.capacity c.requires.accepted refl refl
+    (none_played script c.args.capacity (c.prepared_requests_make_a_machine.ensures _ _ _ _) n.new n.ensures.is n.ensures.new n.ensures.set_up) in
     is_run script c.args.capacity (c.prepared_requests_make_a_machine.ensures _ _ _ _) c.requires.accepted c.requires.room
-    (c.in_ok-answers.answers).results (c.in_ok-answers.answers).ends c.play_rounds.new.world p c.in_ok-log.log
+    (c.in_ok-rounds_played.rounds_played.answers).results (c.in_ok-rounds_played.rounds_played.answers).ends c.in_ok-rounds_played.rounds_played.world p c.in_ok-log.log
     (c.in_ok-log.ensures.log ∙ ap (λ (q : Sequenced). q.list) c.in_ok-catch_up.ensures.log)
 
 pub returns-clause-views : goal.returns-clause-views
-returns-clause-views c =
+returns-clause-views g c =
     let script = script_with c.args.setup.now c.args.rounds.now in
-    let n = c.in_ok-world in
+    let n = c.in_ok-new in
     let p =
-    c.in_ok-answers.ensures script c.args.capacity c.requires.accepted refl
-    (none_played script c.args.capacity n.world n.ensures.is n.ensures.new n.ensures.set_up) in
+    c.in_ok-rounds_played.ensures script c.args.capacity c.requires.accepted refl refl
+    (none_played script c.args.capacity (c.prepared_requests_make_a_machine.ensures _ _ _ _) n.new n.ensures.is n.ensures.new n.ensures.set_up) in
     let m = machine_for script c.args.capacity in
     c.in_ok-views.ensures
     ∙ (ap (map view_of) c.as_slice.ensures.value
-    ∙ views_are script c.args.capacity c.play_rounds.new.world c.catch_up.new.self p.state (c.in_ok-catch_up.ensures.is m p.state p.is) p.lawful
+    ∙ views_are script c.args.capacity c.in_ok-rounds_played.rounds_played.world c.catch_up.new.self p.state (c.in_ok-catch_up.ensures.is m p.state p.is) p.lawful
     (c.in_ok-catch_up.ensures.ok m p.state p.is p.lawful) (c.in_ok-catch_up.ensures.set_up script.topology script.checked p.set_up) c.in_ok-log.log
     (c.in_ok-log.ensures.log ∙ ap (λ (q : Sequenced). q.list) c.in_ok-catch_up.ensures.log))

@@ -1,8 +1,9 @@
-use Rattle.std.proofs.Common.{[], arith, refl, rules}
+use Rattle.std.proofs.Common.{[], arith, refl, rules, subst, sym}
 use Rattle.std.proofs.KnownBytes.{Consumes-nil, Keeps-refl}
+use Rattle.cli_words.specs.declared.job.Job.{Job}
 use Rattle.cli_words.specs.declared.job.Job.TheVariants.{Gen}
 use Rattle.load_gen.specs.Generated.{generated}
-use Rattle.canton_run.specs.Jobs.{text_of}
+use Rattle.canton_run.specs.Jobs.{GivesScript, text_of}
 use Rattle.canton_run.proofs.Generated.{never_six}
 use Rattle.canton_run.proofs.top_call.run.Goals as goal
 
@@ -25,4 +26,16 @@ returns-in-Gen-clause-cut g c at =
       (job, script, search rules, (Keeps-refl _, refl), c.run_generated.ensures.ran (omega (arith, at)), refl),
       c.run_generated.ensures.sure at,
       c.run_generated.ensures.cut at,
+    )
+
+pub returns-in-Run-clause-cut : goal.returns-in-Run-clause-cut
+returns-in-Run-clause-cut g c at =
+    let job = c.in-Ok.job in
+    let found = c.run_source.ensures.cut at in
+    let gives =
+    subst (λ (j : Job). GivesScript j (g.S.Source.left c.args.source.now) (g.S.Source.left c.run_source.new.source) found.0) (sym c.in-Run.is) found.1 in (
+      text_of job found.0 c.run_source.result,
+      (job, found.0, search rules, gives, found.2, refl),
+      found.3,
+      found.4,
     )
