@@ -36,6 +36,7 @@ use Rattle.ledger_terms.specs.contracts.choice.Choice as Choice
 use Rattle.ledger_terms.specs.contracts.template.Template as Template
 use Rattle.ledger_terms.specs.contracts.package.Package as Package
 use Rattle.std.proofs.option.Option.TheSendSync as option
+use Rattle.once_cell.proofs.race.once_bool.OnceBool.TheSendSync as once_bool
 use Rattle.std.proofs.marker.PhantomData.TheSendSync as phantom
 use Rattle.std.proofs.alloc.Global.TheSendSync as heap
 use Rattle.std.specs.contracts.alloc.Global as Global
@@ -158,22 +159,30 @@ lane_work_sync κ ν T R G g h l r q =
         search (sendable, as_row_sync),
         (
           as_row_sync (shr_ref_field κ (Shared.the_row ν T g h l) tt) (shr_sync κ.mir κ.lft (Shared.the_row ν T g h l) (shared_sync ν T g h l)),
-          (search (sendable, as_row_sync), tt),
+          (
+            search (sendable, as_row_sync),
+            (search (sendable, crosses, once_bool.the_sync, as_row_sync) depth 20, tt),
+          ),
         ),
       ),
     )
 
-pub lanes_send : (ν : List ℕ) (a b c d : Lifetime) (α β γ δ : Lft) (κ μ : NamedLft) (T R G : RattleType) (g : Session.Ghosts T.Denot)
+pub lanes_send : (ν : List ℕ) (a b c d e : Lifetime) (α β γ δ ε : Lft) (κ ι μ : NamedLft) (T R G : RattleType) (g : Session.Ghosts T.Denot)
     (h : Row.Ghosts T.Denot) (l : Ledger.Ghosts T.Denot) → IsSync R → IsSync G
-    → IsSend (TupleAt ν (ShrRef a α R ∷ ShrRef b β (UInt w32) ∷ ShrRef c γ (UInt w64) ∷ ShrRef d δ (LaneWork.the_row κ μ T R G g h l) ∷ []))
-lanes_send ν a b c d α β γ δ κ μ T R G g h l r q =
-    declared_send (type_at ν (ShrRef a α R ∷ ShrRef b β (UInt w32) ∷ ShrRef c γ (UInt w64) ∷ ShrRef d δ (LaneWork.the_row κ μ T R G g h l) ∷ [])) (
+    → IsSend (TupleAt ν (ShrRef a α R ∷ ShrRef b β (UInt w32) ∷ ShrRef c γ (UInt w64) ∷ ShrRef d δ (LaneWork.the_row κ μ T R G g h l)
+    ∷ ShrRef e ε (LaneWork.the_row ι μ T R G g h l) ∷ []))
+lanes_send ν a b c d e α β γ δ ε κ ι μ T R G g h l r q =
+    declared_send (type_at ν (ShrRef a α R ∷ ShrRef b β (UInt w32) ∷ ShrRef c γ (UInt w64) ∷ ShrRef d δ (LaneWork.the_row κ μ T R G g h l)
+    ∷ ShrRef e ε (LaneWork.the_row ι μ T R G g h l) ∷ [])) (
       ref_send a α R r,
       (
         ref_send b β (UInt w32) (search sendable),
         (
           ref_send c γ (UInt w64) (search sendable),
-          (ref_send d δ (LaneWork.the_row κ μ T R G g h l) (lane_work_sync κ μ T R G g h l r q), tt),
+          (
+            ref_send d δ (LaneWork.the_row κ μ T R G g h l) (lane_work_sync κ μ T R G g h l r q),
+            (ref_send e ε (LaneWork.the_row ι μ T R G g h l) (lane_work_sync ι μ T R G g h l r q), tt),
+          ),
         ),
       ),
     )

@@ -31,9 +31,10 @@ use crate::served::Served;
 use crate::serving::serve_each;
 use crate::workers::Workers;
 use confirm_reply::Setup;
-use lane_pool::{Gate, run_lanes};
+use lane_pool::{Gate, Lane, run_lanes};
 use ledger_terms::{ParticipantIdList, Submission, SubmissionList};
 use node_core::SubmitResultList;
+use once_cell::race::OnceBool;
 use std::alloc::AllocError;
 use std::marker::Brand;
 use std::sync::Wait;
@@ -42,7 +43,7 @@ use std::thread::{Threads, join};
 use sync_shared::{Client, LEDGER_PARTS, Session, Shared, Synchroniser};
 use world_play::World;
 
-/// How many turns each lane takes at most for each submission of a round, and as many more.
+/// How many turns each lane takes at most for each submission of a round while clients submit, and how many once they have ended.
 const TURNS_PER_SUBMISSION: u64 = 64;
 
 /// What comes of a round's submissions: the synchroniser then, and the results in the order of the submissions.
@@ -61,7 +62,34 @@ struct Gathered<'r> {
 
 // How many turns each lane takes at most beside so many submissions.
 fn turns_beside(submits: usize) -> u64 {
-    TURNS_PER_SUBMISSION.saturating_mul((submits as u64).saturating_add(1))
+    TURNS_PER_SUBMISSION.saturating_mul(submits as u64)
+}
+
+// What the lanes do until a flag is set.
+fn work_until<'a, 'r, S: Session + Send + Sync, R: Threads + Wait + Sync, G: Gate + Sync>(
+    workers: &Workers<'a, R, G>,
+    shared: &'a Shared<'r, S>,
+    ended: &'a OnceBool,
+) -> LaneWork<'a, 'r, S, R, G> {
+    LaneWork {
+        rt: workers.rt,
+        gate: workers.gate,
+        shared,
+        lanes: workers.count,
+        ended,
+    }
+}
+
+// The lanes take turns beside the clients, and then some more.
+fn run_beside<R: Threads + Wait + Sync, L: Lane>(
+    rt: &R,
+    lanes: u32,
+    turns: u64,
+    beside: &L,
+    after: &L,
+) -> Result<(), AllocError> {
+    run_lanes(rt, lanes, turns, beside)?;
+    run_lanes(rt, lanes, TURNS_PER_SUBMISSION, after)
 }
 
 // The clients submit beside the lanes, until all have ended.
@@ -82,15 +110,12 @@ fn serve_beside<'r, S: Session + Send + Sync, R: Threads + Wait + Sync, G: Gate 
     let alloc = workers.alloc;
     let lanes = workers.count;
     let turns = turns_beside(submits.len());
-    let work = LaneWork {
-        rt,
-        gate: workers.gate,
-        shared,
-        lanes,
-    };
+    let (ended, never) = (OnceBool::new(), OnceBool::new());
+    let beside = work_until(workers, shared, &ended);
+    let after = work_until(workers, shared, &never);
     let (ran, brought) = join(
         rt,
-        || run_lanes(rt, lanes, turns, &work),
+        || run_beside(rt, lanes, turns, &beside, &after),
         || -> Result<Vec<Result<Served<S>, AllocError>>, AllocError>
             requires { All (λ (client : Seen). client.tickets ≡ 0) clients.items
                 × All (λ (what : Submission). AreKnown (is_hosted S.topology) (parties_in_what what.what)) submits.now }
@@ -99,7 +124,11 @@ fn serve_beside<'r, S: Session + Send + Sync, R: Threads + Wait + Sync, G: Gate 
                 → slice_get all.items p ≡ Some one
                 → IfOk one (λ served. IsServed S.machine S.why shared.entry.now.round.time shared.entry.now.round.paused client.list submits.entry.now
                 client.me served.client served.results)) }
-        { serve_each(rt, alloc, shared, clients, submits) },
+        {
+            let all = serve_each(rt, alloc, shared, clients, submits);
+            let _ = ended.set(true);
+            all
+        },
     );
     ran?;
     all_of(alloc, brought?)

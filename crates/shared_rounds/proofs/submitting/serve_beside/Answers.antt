@@ -11,7 +11,7 @@ join-ran-requires-send-F g c κs within =
     let bounds = c.type_bounds in
     param_send 1 _
     (arg_send _ yes _
-    (lanes_send _ _ _ _ _ _ _ _ _ _ _ (param 0 g.row.S) (param 1 g.row.R) (param 2 g.row.G) g.S.Session g.S.Row g.S.Ledger bounds.sync-R bounds.sync-G))
+    (lanes_send _ _ _ _ _ _ _ _ _ _ _ _ _ _ (param 0 g.row.S) (param 1 g.row.R) (param 2 g.row.G) g.S.Session g.S.Row g.S.Ledger bounds.sync-R bounds.sync-G))
 
 pub returns-clause-each : goal.returns-clause-each
 returns-clause-each g c =

@@ -4,8 +4,8 @@ use denote.Param.Send.{param_sync, arg_sync}
 use Rattle.shared_rounds.proofs.Crossings.{lane_work_sync}
 use Rattle.shared_rounds.proofs.submitting.fn.serve_beside.join+arg2.Goals as goal
 
-pub run_lanes-requires-sync-L : goal.run_lanes-requires-sync-L
-run_lanes-requires-sync-L g c κs within =
+pub run_beside-requires-sync-L : goal.run_beside-requires-sync-L
+run_beside-requires-sync-L g c κs within =
     let bounds = c.requires.1.1.1 in
     param_sync 1 _
     (arg_sync _ yes _
