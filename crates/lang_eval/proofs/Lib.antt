@@ -1,5 +1,6 @@
 pub mod Values
 pub mod KindLists
+pub mod Spelled
 pub mod Runs
 pub mod RoleLaws
 pub mod NamesEnd

@@ -1,4 +1,5 @@
 pub mod FaultNames
+pub mod Spellings
 pub mod Names
 pub mod Value
 pub mod Operation

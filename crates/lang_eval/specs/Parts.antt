@@ -35,11 +35,14 @@ this_names t i = with_this t.fields i.fields []
 abbrev pub call_names : TemplateForm → ChoiceForm → ChoiceCall → Names
 call_names t c call = with_args c.params call.args (this_names t call.instance)
 
--- the signatories, of whom there is one, and then the observers
+-- the signatories, of whom there is one, and then the observers, where names have these values
+abbrev pub parties_under : TemplateForm → Names → Result ContractParties EvalFault
+parties_under t names =
+    with_value (parties_of t.signatories names) (λ s. with_value (some_parties s) (λ s.
+    with_value (parties_of t.observers names) (λ o. Ok (record { signatories = s; observers = o }))))
+
 abbrev pub contract_parties_of : TemplateForm → Instance → Result ContractParties EvalFault
-contract_parties_of t i =
-    with_value (parties_of t.signatories (this_names t i)) (λ s. with_value (some_parties s) (λ s.
-    with_value (parties_of t.observers (this_names t i)) (λ o. Ok (record { signatories = s; observers = o }))))
+contract_parties_of t i = parties_under t (this_names t i)
 
 -- before them the `ensure` of a contract that is created
 abbrev pub created_parties_of : TemplateForm → Instance → Result ContractParties EvalFault

@@ -1,9 +1,10 @@
 //! A name with its value.
-use ledger_terms::{Text, Value};
+use crate::bound_name::BoundName;
+use ledger_terms::Value;
 
-/// A name as a variable writes it, as `this.owner`, with its value.
+/// A name with its value.
 #[derive(Drop)]
 pub struct Binding {
-    pub name: Text,
+    pub name: BoundName,
     pub value: Value,
 }

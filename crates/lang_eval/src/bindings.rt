@@ -3,7 +3,8 @@ ghost use Rattle.std.specs.Prelude.{◌≡◌, ◌≤◌, ◌++◌, ◌∷◌, [
 ghost use Rattle.lang_eval.specs.Names.{binding_of, bound_to};
 
 use crate::binding::Binding;
-use ledger_terms::{Name, Text, Value};
+use crate::bound_name::BoundName;
+use ledger_terms::{Text, Value};
 use std::alloc::{AllocError, Global};
 use std::marker::Model;
 
@@ -25,7 +26,9 @@ impl Model for Bindings {
 fn binding_named<'a>(bindings: &'a [Binding], name: &Text) -> Option<&'a Binding>
     ensures { option_copied result ≡ binding_of name.now bindings.now }
 {
-    bindings.iter().find(|binding| binding.name == *name)
+    bindings
+        .iter()
+        .find(|binding| binding.name.is_spelled(name))
 }
 
 impl Bindings {
@@ -57,8 +60,23 @@ impl Bindings {
         binding_named(self.bindings.as_slice(), name)
     }
 
+    /// Makes room for so many more names.
+    pub fn reserve(&mut self, count: usize) -> Result<(), AllocError>
+        ensures { self.new ≡ self.old }
+    {
+        self.bindings.reserve(count)
+    }
+
     /// Binds the name.
     pub fn bind(&mut self, name: Text, value: Value) -> Result<(), AllocError>
+        ensures ok { OnOk result (self.new ≡ bound_to name value self.old) }
+        ensures err { OnErr result (self.new ≡ self.old) }
+    {
+        self.bind_as(BoundName::written(name), value)
+    }
+
+    /// Binds the name, however it is spelled.
+    pub fn bind_as(&mut self, name: BoundName, value: Value) -> Result<(), AllocError>
         ensures ok { OnOk result (self.new ≡ bound_to name value self.old) }
         ensures err { OnErr result (self.new ≡ self.old) }
     {

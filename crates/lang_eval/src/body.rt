@@ -1,58 +1,44 @@
 //! What a choice's body does next.
-ghost use Rattle.std.specs.Prelude.{◌≡◌, ◌≢◌, ◌++◌, [], Err, OnOk, IfOk, codes};
+ghost use Rattle.std.specs.Prelude.{◌≡◌, ◌≢◌, [], Err, OnOk, IfOk};
 ghost use Rattle.ledger_terms.specs.Answers.{UnlessMemory};
 ghost use Rattle.ledger_terms.specs.ExprForms.{expr_form, list_form};
 ghost use Rattle.ledger_terms.specs.StmtForms.{stmt_form, stmt_list_form};
 ghost use Rattle.lang_eval.specs.Names.{bound_to, with_fields, with_this};
 ghost use Rattle.lang_eval.specs.Found.{template_in, fields_of};
+ghost use Rattle.lang_eval.specs.Spellings.{owner_word};
 ghost use Rattle.lang_eval.specs.Next.{Stopped, Went, on_value, asserted, taken, create_step, exercise_step, fetch_step, ran, ran_all, next};
 ghost use Rattle.lang_eval.specs.Next.{next_of, names_of, closed, id_of, value_seen, fields_seen};
 ghost use Rattle.lang_eval.specs.Value.{val, vals, truth};
 ghost use Rattle.lang_eval.specs.RunAnswers.{shown};
 
 use crate::bindings::Bindings;
+use crate::bound_name::BoundName;
 use crate::checked::Checked;
 use crate::eval_fault::EvalFault;
 use crate::evaluate::{eval_expr, eval_list, eval_test};
+use crate::owner::Owner;
 use crate::run::Run;
 use ledger_model::{ChildResult, ChildResultList, ChoiceCall, Step};
 use ledger_terms::{
     Choice, Exact, Expr, ExprList, FieldDecl, Hash, Instance, Name, Stmt, StmtList, Template,
-    TemplateName, Text, Value,
+    TemplateName, Value,
 };
 use std::alloc::{AllocError, Global};
 
-fn bind(names: &mut Bindings, name: Name, value: Value) -> Result<(), AllocError>
-    ensures { OnOk result (names.new ≡ bound_to name value names.old) }
-{
-    let name = Text::of(*names.allocator(), name.as_str())?;
-    names.bind(name, value)?;
-    Ok(())
-}
-
-fn field_name(alloc: Global, first: &str, name: Name) -> Result<Text, AllocError>
-    ensures { IfOk result (λ t. t ≡ first.now ++ codes "." ++ name) }
-{
-    let mut text = Text::of(alloc, first)?;
-    text.push_str(".")?;
-    text.push_str(name.as_str())?;
-    Ok(text)
-}
-
-/// Binds each value under the name of its field, after `first` and a dot.
+/// Binds each value under the name of its field.
 pub(crate) fn bind_fields(
     names: &mut Bindings,
-    first: &str,
+    owner: &Owner,
     decls: &[FieldDecl],
     values: &[Value],
 ) -> Result<(), AllocError>
-    ensures { OnOk result (names.new ≡ with_fields first.now decls.now values.now names.old) }
+    ensures { OnOk result (names.new ≡ with_fields (owner_word owner.now) decls.now values.now names.old) }
 {
+    names.reserve(values.len())?;
     let mut at = 0;
     while at < decls.len() && at < values.len() {
-        let name = field_name(*names.allocator(), first, decls[at].name)?;
         let value = values[at].copied()?;
-        names.bind(name, value)?;
+        names.bind_as(BoundName::field(*owner, decls[at].name), value)?;
         at += 1;
     }
     Ok(())
@@ -105,7 +91,7 @@ fn run_bind<'s>(
         → shown result names.new ≡ on_value (val (expr_form value.now) names.old) (λ v. Went (bound_to name v names.old) seen.now) }
 {
     let value = eval_expr(value, names)?;
-    bind(names, name, value)?;
+    names.bind_as(BoundName::plain(name), value)?;
     Ok(Run::Went(seen))
 }
 
@@ -133,7 +119,7 @@ fn run_value<'s>(
 ) -> Result<Run<'s>, EvalFault>
     ensures { result ≢ Err EvalFault.Memory → shown result names.new ≡ Went (bound_to name (value_seen child.now) names.old) rest.now }
 {
-    bind(names, name, seen_value(child)?)?;
+    names.bind_as(BoundName::plain(name), seen_value(child)?)?;
     Ok(Run::Went(rest))
 }
 
@@ -147,7 +133,7 @@ fn run_fields<'s>(
 ) -> Result<Run<'s>, EvalFault>
     ensures { result ≢ Err EvalFault.Memory → shown result names.new ≡ Went (with_fields name decls.now (fields_seen child.now) names.old) rest.now }
 {
-    bind_fields(names, name.as_str(), decls, seen_fields(child))?;
+    bind_fields(names, &Owner::Fetched(name), decls, seen_fields(child))?;
     Ok(Run::Went(rest))
 }
 
@@ -321,7 +307,7 @@ pub(crate) fn field_names(
     let mut names = Bindings::new(alloc);
     bind_fields(
         &mut names,
-        "this",
+        &Owner::This,
         template.fields.as_slice(),
         instance.fields.as_slice(),
     )?;
@@ -337,16 +323,16 @@ fn body_names(
     ensures { IfOk result (λ n. n ≡ names_of template.now choice.now call.now) }
 {
     let mut names = Bindings::new(alloc);
-    names.bind(Text::of(alloc, "self")?, Value::Contract(call.id))?;
+    names.bind_as(BoundName::itself(), Value::Contract(call.id))?;
     bind_fields(
         &mut names,
-        "this",
+        &Owner::This,
         template.fields.as_slice(),
         call.instance.fields.as_slice(),
     )?;
     bind_fields(
         &mut names,
-        "arg",
+        &Owner::Arguments,
         choice.params.as_slice(),
         call.args.as_slice(),
     )?;

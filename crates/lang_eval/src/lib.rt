@@ -4,6 +4,7 @@
 mod binding;
 mod bindings;
 mod body;
+mod bound_name;
 mod checked;
 mod choice_parties;
 mod contract_parties;
@@ -16,14 +17,17 @@ pub mod laws;
 mod note;
 mod operator;
 mod operators;
+mod owner;
 mod parties;
 mod role_fault;
 mod role_sets;
 mod run;
+mod spelling;
 
 pub use binding::Binding;
 pub use bindings::Bindings;
 pub use body::next_step;
+pub use bound_name::BoundName;
 pub use checked::{Checked, choice_named, package_named, template_named};
 pub use choice_parties::ChoiceParties;
 pub use contract_parties::ContractParties;
@@ -32,6 +36,7 @@ pub use evaluate::{eval_expr, eval_list, eval_test};
 pub use kinds::{call_has_kinds, has_kinds, have_kinds, kind_of};
 pub use ledger_model::{ChildResult, ChildResultList, ChoiceCall, Roles, Step};
 pub use note::{archive_name, note_name, note_package, note_template_name};
+pub use owner::Owner;
 pub use parties::{
     is_consuming_call, observers_of_choice, parties_of_choice, parties_of_contract,
     parties_of_created,

@@ -2,7 +2,7 @@
 ghost use Rattle.std.specs.Prelude.{◌≡◌, IfOk};
 ghost use Rattle.ledger_terms.specs.Answers.{UnlessMemory};
 ghost use Rattle.ledger_terms.specs.ExprForms.{expr_form};
-ghost use Rattle.lang_eval.specs.Parts.{parties_of, call_names, contract_parties_of, created_parties_of, choice_parties_of};
+ghost use Rattle.lang_eval.specs.Parts.{parties_of, call_names, contract_parties_of, created_parties_of, parties_under, choice_parties_of};
 ghost use Rattle.lang_eval.specs.Parts.{choice_observers_of, parties_of_contract, parties_of_created, parties_of_choice};
 ghost use Rattle.lang_eval.specs.Parts.{observers_of_choice, is_consuming_call};
 
@@ -13,6 +13,7 @@ use crate::choice_parties::ChoiceParties;
 use crate::contract_parties::ContractParties;
 use crate::eval_fault::EvalFault;
 use crate::evaluate::{eval_expr, eval_test};
+use crate::owner::Owner;
 use ledger_model::ChoiceCall;
 use ledger_terms::{Choice, Expr, Instance, PartySet, Template, Value};
 use std::alloc::{AllocError, Global};
@@ -37,11 +38,25 @@ fn call_names(
     let mut names = field_names(alloc, template, &call.instance)?;
     bind_fields(
         &mut names,
-        "arg",
+        &Owner::Arguments,
         choice.params.as_slice(),
         call.args.as_slice(),
     )?;
     Ok(names)
+}
+
+fn parties_under(template: &Template, names: &Bindings) -> Result<ContractParties, EvalFault>
+    ensures { UnlessMemory EvalFault.Memory result (parties_under template.now names.now) }
+{
+    let signatories = eval_parties(&template.signatories, names)?;
+    if signatories.as_slice().is_empty() {
+        return Err(EvalFault::NoSignatory);
+    }
+    let observers = eval_parties(&template.observers, names)?;
+    Ok(ContractParties {
+        signatories,
+        observers,
+    })
 }
 
 fn parties_by(
@@ -52,15 +67,7 @@ fn parties_by(
     ensures { UnlessMemory EvalFault.Memory result (contract_parties_of template.now instance.now) }
 {
     let names = field_names(alloc, template, instance)?;
-    let signatories = eval_parties(&template.signatories, &names)?;
-    if signatories.as_slice().is_empty() {
-        return Err(EvalFault::NoSignatory);
-    }
-    let observers = eval_parties(&template.observers, &names)?;
-    Ok(ContractParties {
-        signatories,
-        observers,
-    })
+    parties_under(template, &names)
 }
 
 fn created_by(
@@ -74,7 +81,7 @@ fn created_by(
     if !eval_test(&template.ensure, &names)? {
         return Err(EvalFault::Ensure);
     }
-    parties_by(alloc, template, instance)
+    parties_under(template, &names)
 }
 
 fn choice_by(

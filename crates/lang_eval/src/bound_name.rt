@@ -1,0 +1,97 @@
+//! Names that values are bound under.
+ghost use Rattle.std.specs.Prelude.{◌≡◌, ◌++◌, codes};
+ghost use Rattle.ledger_terms.specs.Parties.{same_name};
+ghost use Rattle.lang_eval.specs.Spellings.{owner_word};
+
+use crate::owner::Owner;
+use crate::spelling::Spelling;
+use ledger_terms::{Name, Text};
+use std::marker::Model;
+
+/// A name as a variable writes it, as `this.owner`, which contracts see as its text. It takes no memory of its own but where
+/// it was given as a text.
+#[derive(Drop)]
+pub struct BoundName {
+    spelling: Spelling,
+}
+
+impl Model for BoundName {
+    ghost use Rattle.std.specs.Prelude.{List, ℕ};
+    ghost use Rattle.lang_eval.specs.Spellings.{spelled};
+
+    ghost Value = { List ℕ };
+
+    ghost view = { λ n. spelled n.spelling };
+}
+
+fn is_dotted(text: &[u8], field: &[u8]) -> bool
+    ensures { result ≡ same_name (codes "." ++ field.now) text.now }
+{
+    match text.split_first() {
+        Some((dot, rest)) => *dot == b'.' && rest == field,
+        None => false,
+    }
+}
+
+fn is_field(text: &[u8], owner: &[u8], field: &[u8]) -> bool
+    ensures { result ≡ same_name (owner.now ++ codes "." ++ field.now) text.now }
+{
+    match text.strip_prefix(owner) {
+        Some(rest) => is_dotted(rest, field),
+        None => false,
+    }
+}
+
+impl BoundName {
+    /// A name that was given as a text.
+    pub fn written(text: Text) -> BoundName
+        ensures { result ≡ text }
+    {
+        BoundName {
+            spelling: Spelling::Written(text),
+        }
+    }
+
+    /// The contract of a choice.
+    pub fn itself() -> BoundName
+        ensures { result ≡ codes "self" }
+    {
+        BoundName {
+            spelling: Spelling::Itself,
+        }
+    }
+
+    /// A name without a dot.
+    pub fn plain(name: Name) -> BoundName
+        ensures { result ≡ name }
+    {
+        BoundName {
+            spelling: Spelling::Plain(name),
+        }
+    }
+
+    /// The name of a field.
+    pub fn field(owner: Owner, name: Name) -> BoundName
+        ensures { result ≡ owner_word owner ++ codes "." ++ name }
+    {
+        BoundName {
+            spelling: Spelling::Field(owner, name),
+        }
+    }
+
+    /// Whether a variable that is written so means this name.
+    pub fn is_spelled(&self, text: &Text) -> bool
+        ensures { result ≡ same_name self.now text.now }
+    {
+        match &self.spelling {
+            Spelling::Written(name) => *name == *text,
+            Spelling::Itself => "self" == text.as_str(),
+            Spelling::Plain(name) => name.as_str() == text.as_str(),
+            Spelling::Field(owner, name) => is_field(
+                text.as_str().as_bytes(),
+                owner.as_str().as_bytes(),
+                name.as_bytes(),
+            ),
+        }
+    }
+}
