@@ -1,48 +1,44 @@
 -- Maps that get more keys.
-use Rattle.std.proofs.Common.{◌≡◌, ℕ, false, ◌+◌, ◌<◌, ◌≤◌, length, get_or, take, subst, List, Option, refl, ◌∙◌, inl, inr}
-use Rattle.std.specs.Prelude.{IsSome}
+use Rattle.std.proofs.Common.{◌≡◌, ℕ, ◌+◌, ◌<◌, ◌≤◌, length, get_or, take, subst, List, Option, Some, None, refl, ap, ◌∙◌}
+use Rattle.std.specs.Prelude.{if◌then◌else◌, unwrap_or}
 use Rattle.std.specs.List.{All}
 use Rattle.std.proofs.lemmas.List.{take_all}
 use Rattle.std.proofs.lemmas.List.Elements.{All-more, All-weaker}
 use Rattle.std.specs.Str.{bytes_eq}
-use Rattle.std.proofs.lemmas.Bool.{cases_Bool}
 use Rattle.contract_store.specs.declared.keys.Behind.{Behind}
-use Rattle.contract_store.specs.Leads.{row_behind, hold_behind, salt_behind}
+use Rattle.contract_store.specs.Leads.{row_behind, hold_behind}
 use Rattle.contract_store.specs.Stored.{Grows}
-use Rattle.contract_store.proofs.Maps.{same_bytes}
+use Rattle.contract_store.proofs.Maps.{part_kept, keys_kept}
 
-pub grows_none : (ids : List ℕ → Option Behind) (salts : List ℕ → Option (Option ℕ)) → Grows ids ids salts salts
-grows_none ids salts = record { by_row = λ c. refl; by_hold = λ c. refl; by_salt = λ c. refl; kept = λ c h. h; both = λ b. b }
+pub grows_none : (ids : List ℕ → Option Behind) → Grows ids ids
+grows_none ids = record { by_row = λ c. refl; by_hold = λ c. refl; kept = λ c h. h }
 
-pub grows_more : (ids1 ids2 ids3 : List ℕ → Option Behind) (salts1 salts2 salts3 : List ℕ → Option (Option ℕ)) → Grows ids1 ids2 salts1 salts2
-    → Grows ids2 ids3 salts2 salts3 → Grows ids1 ids3 salts1 salts3
-grows_more ids1 ids2 ids3 salts1 salts2 salts3 g h = record {
+pub grows_more : (ids1 ids2 ids3 : List ℕ → Option Behind) → Grows ids1 ids2 → Grows ids2 ids3 → Grows ids1 ids3
+grows_more ids1 ids2 ids3 g h = record {
   by_row = λ c. h.by_row c ∙ g.by_row c;
   by_hold = λ c. h.by_hold c ∙ g.by_hold c;
-  by_salt = λ c. h.by_salt c ∙ g.by_salt c;
   kept = λ c e. h.kept c (g.kept c e);
-  both = λ b. h.both (g.both b);
 }
 
--- only the second map gets one
-pub grows_salts : (ids : List ℕ → Option Behind) (salts salts' : List ℕ → Option (Option ℕ))
-    → ((c : List ℕ) → salt_behind (salts' c) ≡ salt_behind (salts c)) → ((c : List ℕ) → IsSome (salts c) → IsSome (salts' c)) → Grows ids ids salts salts'
-grows_salts ids salts salts' e k = record { by_row = λ c. refl; by_hold = λ c. refl; by_salt = e; kept = λ c h. h; both = λ b c h. k c (b c h) }
+-- nothing behind a key
+abbrev pub nothing : Behind
+nothing = record { row = None; hold = None }
 
--- and then the first
-pub grows_ids : (key : List ℕ) (ids ids' : List ℕ → Option Behind) (salts : List ℕ → Option (Option ℕ))
-    → ((c : List ℕ) → row_behind (ids' c) ≡ row_behind (ids c)) → ((c : List ℕ) → hold_behind (ids' c) ≡ hold_behind (ids c))
-    → ((c : List ℕ) → IsSome (ids c) → IsSome (ids' c)) → ((c : List ℕ) → IsSome (ids' c) → bytes_eq key c ≡ false → IsSome (ids c))
-    → IsSome (salts key) → Grows ids ids' salts salts
-grows_ids key ids ids' salts rows holds kept only there = record {
-  by_row = rows;
-  by_hold = holds;
-  by_salt = λ c. refl;
-  kept = kept;
-  both = λ b c h. elim (cases_Bool (bytes_eq key c)) [
-    | inl e ↦ (let w = same_bytes key c e in rw (← w) there)
-    | inr e ↦ b c (only c h e)
-  ];
+same_row : (o : Option Behind) → row_behind (Some (unwrap_or o nothing)) ≡ row_behind o
+same_row None = refl
+same_row (Some b) = refl
+
+same_hold : (o : Option Behind) → hold_behind (Some (unwrap_or o nothing)) ≡ hold_behind o
+same_hold None = refl
+same_hold (Some b) = refl
+
+-- a key with what was behind it, or with nothing where it is new
+pub grows_key : (key : List ℕ) (v : Behind) (ids ids' : List ℕ → Option Behind) → v ≡ unwrap_or (ids key) nothing
+    → ((c : List ℕ) → ids' c ≡ (if bytes_eq key c then Some v else ids c)) → Grows ids ids'
+grows_key key v ids ids' is put = record {
+  by_row = part_kept ids ids' key v put row_behind (ap (λ b. row_behind (Some b)) is ∙ same_row (ids key));
+  by_hold = part_kept ids ids' key v put hold_behind (ap (λ b. hold_behind (Some b)) is ∙ same_hold (ids key));
+  kept = keys_kept ids ids' key v put;
 }
 
 -- one more item, where what holds of the others stays

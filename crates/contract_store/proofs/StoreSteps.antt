@@ -9,7 +9,7 @@ use Rattle.contract_store.specs.declared.hold.Hold.{Hold}
 use Rattle.contract_store.specs.declared.hold.KeptHold.{KeptHold}
 use Rattle.contract_store.specs.declared.row.KeptRow.{KeptRow}
 use Rattle.contract_store.specs.declared.keys.Behind.{Behind}
-use Rattle.contract_store.specs.Leads.{row_behind, hold_behind, salt_behind}
+use Rattle.contract_store.specs.Leads.{row_behind, hold_behind}
 use Rattle.contract_store.specs.Chains.{Link, is_live_at, NoneFrom, IsLast, Chains}
 use Rattle.contract_store.specs.Holds.{link_on, holds_of, LeadsToHolds}
 use Rattle.contract_store.specs.KeptRows.{LeadsToRows}
@@ -31,15 +31,14 @@ empty_chains eq f none = record {
   linked = record { below = λ i l at. absurd (cc); alike = λ i j l at e. absurd (cc); between = λ i j l m at to h u. absurd (cc) };
 }
 
-pub empty_leads : (ids : List ℕ → Option Behind) (salts : List ℕ → Option (Option ℕ)) (places : ℕ → Option ℕ) → ((c : List ℕ) → ids c ≡ None)
+pub empty_leads : (ids : List ℕ → Option Behind) (salts : List ℕ → Option ℕ) (places : ℕ → Option ℕ) → ((c : List ℕ) → ids c ≡ None)
     → ((c : List ℕ) → salts c ≡ None) → ((p : ℕ) → places p ≡ None) → LeadsToAll [] [] ids salts places
 empty_leads ids salts places no_id no_salt no_place = record {
-  to_rows = record { by_id = λ c. ap row_behind (no_id c); by_salt = empty_chains bytes_eq _ (λ c. ap salt_behind (no_salt c)); one_each = tt };
+  to_rows = record { by_id = λ c. ap row_behind (no_id c); by_salt = empty_chains bytes_eq _ no_salt; one_each = tt };
   to_holds = record { on = empty_chains bytes_eq _ (λ c. ap hold_behind (no_id c)); at = empty_chains nat_eq _ no_place };
-  both = λ c h. absurd (let w : false ≡ true = sym (ap is_some (no_id c)) ∙ h in cc);
 }
 
-module _ (rows : List KeptRow) (holds : List KeptHold) (ids : List ℕ → Option Behind) (salts : List ℕ → Option (Option ℕ)) (places : ℕ → Option ℕ)
+module _ (rows : List KeptRow) (holds : List KeptHold) (ids : List ℕ → Option Behind) (salts : List ℕ → Option ℕ) (places : ℕ → Option ℕ)
     (leads : LeadsToAll rows holds ids salts places) where
   same_holds : (ids' : List ℕ → Option Behind) → ((c : List ℕ) → hold_behind (ids' c) ≡ hold_behind (ids c))
       → LeadsToHolds holds (λ c. hold_behind (ids' c)) places
@@ -48,31 +47,25 @@ module _ (rows : List KeptRow) (holds : List KeptHold) (ids : List ℕ → Optio
     at = leads.to_holds.at;
   }
 
-  same_rows : (ids' : List ℕ → Option Behind) (salts' : List ℕ → Option (Option ℕ)) → ((c : List ℕ) → row_behind (ids' c) ≡ row_behind (ids c))
-      → ((c : List ℕ) → salt_behind (salts' c) ≡ salt_behind (salts c)) → LeadsToRows rows (λ c. row_behind (ids' c)) (λ c. salt_behind (salts' c))
-  same_rows ids' salts' e f = record {
+  same_rows : (ids' : List ℕ → Option Behind) → ((c : List ℕ) → row_behind (ids' c) ≡ row_behind (ids c)) → LeadsToRows rows (λ c. row_behind (ids' c)) salts
+  same_rows ids' e = record {
     by_id = λ c. e c ∙ leads.to_rows.by_id c;
-    by_salt = chains_as bytes_eq same_bytes equal_bytes _ (λ c. salt_behind (salts c)) (λ c. salt_behind (salts' c)) leads.to_rows.by_salt f;
+    by_salt = leads.to_rows.by_salt;
     one_each = leads.to_rows.one_each;
   }
 
-  pub rows_changed : (rows' : List KeptRow) (ids' : List ℕ → Option Behind) (salts' : List ℕ → Option (Option ℕ))
-      → LeadsToRows rows' (λ c. row_behind (ids' c)) (λ c. salt_behind (salts' c))
-      → ((c : List ℕ) → hold_behind (ids' c) ≡ hold_behind (ids c)) → ((c : List ℕ) → IsSome (ids' c) → IsSome (ids c))
-      → ((c : List ℕ) → IsSome (salts c) → IsSome (salts' c)) → LeadsToAll rows' holds ids' salts' places
-  rows_changed rows' ids' salts' to_rows e back forth =
-      record { to_rows = to_rows; to_holds = same_holds ids' e; both = λ c h. forth c (leads.both c (back c h)) }
+  pub rows_changed : (rows' : List KeptRow) (ids' : List ℕ → Option Behind) (salts' : List ℕ → Option ℕ)
+      → LeadsToRows rows' (λ c. row_behind (ids' c)) salts' → ((c : List ℕ) → hold_behind (ids' c) ≡ hold_behind (ids c))
+      → LeadsToAll rows' holds ids' salts' places
+  rows_changed rows' ids' salts' to_rows e = record { to_rows = to_rows; to_holds = same_holds ids' e }
 
   pub holds_changed : (holds' : List KeptHold) (ids' : List ℕ → Option Behind) (places' : ℕ → Option ℕ)
       → LeadsToHolds holds' (λ c. hold_behind (ids' c)) places'
-      → ((c : List ℕ) → row_behind (ids' c) ≡ row_behind (ids c)) → ((c : List ℕ) → IsSome (ids' c) → IsSome (ids c))
-      → LeadsToAll rows holds' ids' salts places'
-  holds_changed holds' ids' places' to_holds e back =
-      record { to_rows = same_rows ids' salts e (λ c. refl); to_holds = to_holds; both = λ c h. leads.both c (back c h) }
+      → ((c : List ℕ) → row_behind (ids' c) ≡ row_behind (ids c)) → LeadsToAll rows holds' ids' salts places'
+  holds_changed holds' ids' places' to_holds e = record { to_rows = same_rows ids' e; to_holds = to_holds }
 
-  pub keys_grown : (ids' : List ℕ → Option Behind) (salts' : List ℕ → Option (Option ℕ)) → Grows ids ids' salts salts'
-      → LeadsToAll rows holds ids' salts' places
-  keys_grown ids' salts' g = record { to_rows = same_rows ids' salts' g.by_row g.by_salt; to_holds = same_holds ids' g.by_hold; both = g.both leads.both }
+  pub keys_grown : (ids' : List ℕ → Option Behind) → Grows ids ids' → LeadsToAll rows holds ids' salts places
+  keys_grown ids' g = record { to_rows = same_rows ids' g.by_row; to_holds = same_holds ids' g.by_hold }
 
 abbrev on_it : List ℕ → Hold → Bool
 on_it c h = bytes_eq h.id c
@@ -105,11 +98,15 @@ pub held : (c : List ℕ) (slots : List KeptHold) (o : Option ℕ) → IsLast by
 held c slots None last = sym (none_held c slots last.none)
 held c slots (Some i) last = (let l = last.here i refl in sym (some_held c slots i l.0 l.1 l.2))
 
--- more room for places
-pub places_same : (rows : List KeptRow) (holds : List KeptHold) (ids : List ℕ → Option Behind) (salts : List ℕ → Option (Option ℕ))
-    (places places' : ℕ → Option ℕ) → LeadsToAll rows holds ids salts places → ((p : ℕ) → places' p ≡ places p) → LeadsToAll rows holds ids salts places'
-places_same rows holds ids salts places places' leads e = record {
-  to_rows = leads.to_rows;
+-- more room for salts and places
+pub room_grown : (rows : List KeptRow) (holds : List KeptHold) (ids : List ℕ → Option Behind) (salts salts' : List ℕ → Option ℕ)
+    (places places' : ℕ → Option ℕ) → LeadsToAll rows holds ids salts places → ((c : List ℕ) → salts' c ≡ salts c) → ((p : ℕ) → places' p ≡ places p)
+    → LeadsToAll rows holds ids salts' places'
+room_grown rows holds ids salts salts' places places' leads d e = record {
+  to_rows = record {
+    by_id = leads.to_rows.by_id;
+    by_salt = chains_as bytes_eq same_bytes equal_bytes _ salts salts' leads.to_rows.by_salt d;
+    one_each = leads.to_rows.one_each;
+  };
   to_holds = record { on = leads.to_holds.on; at = chains_as nat_eq same_places equal_places _ places places' leads.to_holds.at e };
-  both = leads.both;
 }

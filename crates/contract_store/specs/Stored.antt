@@ -9,7 +9,7 @@ use Rattle.contract_store.specs.declared.hold.KeptHold.{KeptHold}
 use Rattle.contract_store.specs.declared.row.StoreRow.{StoreRow}
 use Rattle.contract_store.specs.declared.row.KeptRow.{KeptRow}
 use Rattle.contract_store.specs.declared.keys.Behind.{Behind}
-use Rattle.contract_store.specs.Leads.{row_behind, hold_behind, salt_behind}
+use Rattle.contract_store.specs.Leads.{row_behind, hold_behind}
 use Rattle.contract_store.specs.Holds.{LeadsToHolds}
 use Rattle.contract_store.specs.KeptRows.{LeadsToRows}
 
@@ -38,17 +38,14 @@ abbrev pub map_room : {K X S : Type 0} → IndexMap K X S → ℕ
 map_room m = map_spare m
 
 -- the maps lead from each id to the row and the holds with it, from each salt to the rows with it, and from each place to
--- the holds of its request; each key of the first is one of the second
-pub record LeadsToAll (rows : List KeptRow) (holds : List KeptHold) (ids : List ℕ → Option Behind) (salts : List ℕ → Option (Option ℕ))
+-- the holds of its request
+pub record LeadsToAll (rows : List KeptRow) (holds : List KeptHold) (ids : List ℕ → Option Behind) (salts : List ℕ → Option ℕ)
     (places : ℕ → Option ℕ) : Type 0 where
-  pub to_rows : LeadsToRows rows (λ c. row_behind (ids c)) (λ c. salt_behind (salts c))
+  pub to_rows : LeadsToRows rows (λ c. row_behind (ids c)) salts
   pub to_holds : LeadsToHolds holds (λ c. hold_behind (ids c)) places
-  pub both : (c : List ℕ) → IsSome (ids c) → IsSome (salts c)
 
 -- more keys, with nothing behind them
-pub record Grows (ids ids' : List ℕ → Option Behind) (salts salts' : List ℕ → Option (Option ℕ)) : Type 0 where
+pub record Grows (ids ids' : List ℕ → Option Behind) : Type 0 where
   pub by_row : (c : List ℕ) → row_behind (ids' c) ≡ row_behind (ids c)
   pub by_hold : (c : List ℕ) → hold_behind (ids' c) ≡ hold_behind (ids c)
-  pub by_salt : (c : List ℕ) → salt_behind (salts' c) ≡ salt_behind (salts c)
   pub kept : (c : List ℕ) → IsSome (ids c) → IsSome (ids' c)
-  pub both : ((c : List ℕ) → IsSome (ids c) → IsSome (salts c)) → (c : List ℕ) → IsSome (ids' c) → IsSome (salts' c)

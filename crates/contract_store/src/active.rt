@@ -4,7 +4,6 @@ ghost use Rattle.std.specs.Prelude.{None, Some, map, option_map, option_copied};
 ghost use Rattle.std.specs.Prelude.{slice_get, vec_len};
 ghost use Rattle.std.specs.Str.{bytes_eq};
 ghost use Rattle.indexmap.specs.IndexMap.{get};
-ghost use Rattle.contract_store.specs.Leads.{salt_behind};
 ghost use Rattle.contract_store.specs.Chains.{Chains};
 ghost use Rattle.contract_store.specs.KeptRows.{rows_of, salt_link};
 ghost use Rattle.contract_store.specs.Active.{active, sooner, earliest, active_at};
@@ -101,11 +100,11 @@ fn known_at(kept: &Vec<KeptRow>, best: Option<usize>) -> Option<&Known>
 /// The first active contract with a salt that passes the test, in order of creation.
 pub fn first_with_salt<'a, T: ContractTest>(
     kept: &'a Vec<KeptRow>,
-    salts: &IndexMap<Hash, Option<usize>>,
+    salts: &IndexMap<Hash, usize>,
     salt: &Hash,
     test: &T,
 ) -> Option<&'a Known>
-    requires { Chains bytes_eq (map salt_link kept.now.items) (λ c. salt_behind (get bytes_eq salts.now c)) }
+    requires { Chains bytes_eq (map salt_link kept.now.items) (λ c. get bytes_eq salts.now c) }
     ensures { option_copied result ≡ option_map (λ a. a.known)
         (earliest (λ k. T.passes test.now k && bytes_eq k.salt salt.now) (rows_of kept.now.items)) }
 {

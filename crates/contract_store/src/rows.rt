@@ -2,14 +2,14 @@
 ghost use Rattle.std.specs.Prelude.{◌≡◌, ◌+◌, ◌<◌, ◌≤◌, ℕ, [], ◌∷◌, ◌++◌, List, None, Some, find, map, option_copied, IsSome, slice_get, slice_set};
 ghost use Rattle.std.specs.Prelude.{vec_len, vec_capacity};
 ghost use Rattle.std.specs.Str.{bytes_eq};
-ghost use Rattle.indexmap.specs.IndexMap.{get, keys};
-ghost use Rattle.contract_store.specs.Leads.{row_behind, hold_behind, salt_behind};
+ghost use Rattle.indexmap.specs.IndexMap.{get, keys, spare};
+ghost use Rattle.contract_store.specs.Leads.{row_behind, hold_behind};
 ghost use Rattle.contract_store.specs.Rows.{is_of, row_of, smaller, with_created, with_consumed, created, consumed};
 ghost use Rattle.contract_store.specs.KeptRows.{rows_of, LeadsById, LeadsToRows};
 ghost use Rattle.contract_store.specs.declared.row.KeptRow.{KeptRow};
 
 use crate::keys::Behind;
-use crate::lookup::{put_row, put_salt, row_behind, salt_behind};
+use crate::lookup::{put_row, put_salt, row_behind};
 use crate::row::{KeptRow, StoreRow};
 use indexmap::IndexMap;
 use ledger_terms::{Hash, Known};
@@ -87,19 +87,19 @@ fn set_consumed(kept: &mut Vec<KeptRow>, at: usize, place: u64)
 fn push_row(
     kept: &mut Vec<KeptRow>,
     ids: &mut IndexMap<Hash, Behind>,
-    salts: &mut IndexMap<Hash, Option<usize>>,
+    salts: &mut IndexMap<Hash, usize>,
     row: StoreRow,
 )
     requires room { vec_len kept.old < vec_capacity kept.old }
     requires id { IsSome (get bytes_eq ids.old row.known.id) }
-    requires salt { IsSome (get bytes_eq salts.old row.known.salt) }
-    requires leads { LeadsToRows kept.old.items (λ c. row_behind (get bytes_eq ids.old c)) (λ c. salt_behind (get bytes_eq salts.old c)) }
+    requires spare { 0 < spare salts.old }
+    requires leads { LeadsToRows kept.old.items (λ c. row_behind (get bytes_eq ids.old c)) (λ c. get bytes_eq salts.old c) }
     requires absent { row_behind (get bytes_eq ids.old row.known.id) ≡ None }
-    ensures leads { LeadsToRows kept.new.items (λ c. row_behind (get bytes_eq ids.new c)) (λ c. salt_behind (get bytes_eq salts.new c)) }
+    ensures leads { LeadsToRows kept.new.items (λ c. row_behind (get bytes_eq ids.new c)) (λ c. get bytes_eq salts.new c) }
     ensures rows { rows_of kept.new.items ≡ rows_of kept.old.items ++ row ∷ [] }
     ensures holds { (c : List ℕ) → hold_behind (get bytes_eq ids.new c) ≡ hold_behind (get bytes_eq ids.old c) }
     ensures keys { keys ids.new ≡ keys ids.old }
-    ensures salt_keys { keys salts.new ≡ keys salts.old }
+    ensures spare { spare salts.old ≤ spare salts.new + 1 }
     ensures len { vec_len kept.new ≡ vec_len kept.old + 1 }
     ensures capacity { vec_capacity kept.old ≤ vec_capacity kept.new }
 {
@@ -107,29 +107,28 @@ fn push_row(
     let Known { id, salt, .. } = &row.known;
     let id = *id;
     let salt = *salt;
-    let before = salt_behind(salts, &salt);
+    let before = put_salt(salts, salt, at);
     kept.push(KeptRow { row, before }).unwrap();
     put_row(ids, id, at);
-    put_salt(salts, salt, at);
 }
 
 /// The contract is created at a place, in the room that is there.
 pub fn create_row(
     kept: &mut Vec<KeptRow>,
     ids: &mut IndexMap<Hash, Behind>,
-    salts: &mut IndexMap<Hash, Option<usize>>,
+    salts: &mut IndexMap<Hash, usize>,
     known: Known,
     place: u64,
 )
     requires room { vec_len kept.old < vec_capacity kept.old }
     requires id { IsSome (get bytes_eq ids.old known.id) }
-    requires salt { IsSome (get bytes_eq salts.old known.salt) }
-    requires leads { LeadsToRows kept.old.items (λ c. row_behind (get bytes_eq ids.old c)) (λ c. salt_behind (get bytes_eq salts.old c)) }
-    ensures leads { LeadsToRows kept.new.items (λ c. row_behind (get bytes_eq ids.new c)) (λ c. salt_behind (get bytes_eq salts.new c)) }
+    requires spare { 0 < spare salts.old }
+    requires leads { LeadsToRows kept.old.items (λ c. row_behind (get bytes_eq ids.old c)) (λ c. get bytes_eq salts.old c) }
+    ensures leads { LeadsToRows kept.new.items (λ c. row_behind (get bytes_eq ids.new c)) (λ c. get bytes_eq salts.new c) }
     ensures rows { rows_of kept.new.items ≡ created known place (rows_of kept.old.items) }
     ensures holds { (c : List ℕ) → hold_behind (get bytes_eq ids.new c) ≡ hold_behind (get bytes_eq ids.old c) }
     ensures keys { keys ids.new ≡ keys ids.old }
-    ensures salt_keys { keys salts.new ≡ keys salts.old }
+    ensures spare { spare salts.old ≤ spare salts.new + 1 }
     ensures len { vec_len kept.new ≤ vec_len kept.old + 1 }
     ensures capacity { vec_capacity kept.old ≤ vec_capacity kept.new }
 {
@@ -152,19 +151,19 @@ pub fn create_row(
 pub fn consume_row(
     kept: &mut Vec<KeptRow>,
     ids: &mut IndexMap<Hash, Behind>,
-    salts: &mut IndexMap<Hash, Option<usize>>,
+    salts: &mut IndexMap<Hash, usize>,
     known: Known,
     place: u64,
 )
     requires room { vec_len kept.old < vec_capacity kept.old }
     requires id { IsSome (get bytes_eq ids.old known.id) }
-    requires salt { IsSome (get bytes_eq salts.old known.salt) }
-    requires leads { LeadsToRows kept.old.items (λ c. row_behind (get bytes_eq ids.old c)) (λ c. salt_behind (get bytes_eq salts.old c)) }
-    ensures leads { LeadsToRows kept.new.items (λ c. row_behind (get bytes_eq ids.new c)) (λ c. salt_behind (get bytes_eq salts.new c)) }
+    requires spare { 0 < spare salts.old }
+    requires leads { LeadsToRows kept.old.items (λ c. row_behind (get bytes_eq ids.old c)) (λ c. get bytes_eq salts.old c) }
+    ensures leads { LeadsToRows kept.new.items (λ c. row_behind (get bytes_eq ids.new c)) (λ c. get bytes_eq salts.new c) }
     ensures rows { rows_of kept.new.items ≡ consumed known place (rows_of kept.old.items) }
     ensures holds { (c : List ℕ) → hold_behind (get bytes_eq ids.new c) ≡ hold_behind (get bytes_eq ids.old c) }
     ensures keys { keys ids.new ≡ keys ids.old }
-    ensures salt_keys { keys salts.new ≡ keys salts.old }
+    ensures spare { spare salts.old ≤ spare salts.new + 1 }
     ensures len { vec_len kept.new ≤ vec_len kept.old + 1 }
     ensures capacity { vec_capacity kept.old ≤ vec_capacity kept.new }
 {

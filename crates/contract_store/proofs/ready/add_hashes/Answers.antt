@@ -12,7 +12,6 @@ hashes-preserved c =
     let within : c.hashes.hash-index < length c.args.hashes.now = grind (arith, common_steps) in
     record {
       grows = grows_more (λ q. get bytes_eq c.args.ids.now q) (λ q. get bytes_eq c.hashes.ids q) (λ q. get bytes_eq c.add_key.new.ids q)
-          (λ q. get bytes_eq c.args.salts.now q) (λ q. get bytes_eq c.hashes.salts q) (λ q. get bytes_eq c.add_key.new.salts q)
           c.hashes.invariant.grows c.in_ok-add_key.ensures.grows;
       added = all_more (λ (h : Hash). IsSome (get bytes_eq c.hashes.ids h)) (λ (h : Hash). IsSome (get bytes_eq c.add_key.new.ids h))
           c.args.hashes.now c.hashes.hash-index c.hash-item.result (λ h there. c.in_ok-add_key.ensures.grows.kept h there) within

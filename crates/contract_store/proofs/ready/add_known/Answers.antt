@@ -12,7 +12,6 @@ known-preserved c =
     let within : c.known.k-index < length c.args.known.now = grind (arith, common_steps) in
     record {
       grows = grows_more (λ q. get bytes_eq c.args.ids.now q) (λ q. get bytes_eq c.known.ids q) (λ q. get bytes_eq c.add_pair.new.ids q)
-          (λ q. get bytes_eq c.args.salts.now q) (λ q. get bytes_eq c.known.salts q) (λ q. get bytes_eq c.add_pair.new.salts q)
           c.known.invariant.grows c.in_ok-add_pair.ensures.grows;
       added = all_more (λ (k : Known). IsSome (get bytes_eq c.known.ids k.id) × IsSome (get bytes_eq c.known.ids k.salt))
           (λ (k : Known). IsSome (get bytes_eq c.add_pair.new.ids k.id) × IsSome (get bytes_eq c.add_pair.new.ids k.salt))

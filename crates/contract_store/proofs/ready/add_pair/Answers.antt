@@ -6,11 +6,9 @@ use Rattle.contract_store.proofs.ready.add_pair.Goals as goal
 pub returns-in_err-add_key-2-clause-grows : goal.returns-in_err-add_key-2-clause-grows
 returns-in_err-add_key-2-clause-grows c =
     grows_more (λ q. get bytes_eq c.args.ids.now q) (λ q. get bytes_eq c.add_key.new.ids q) (λ q. get bytes_eq c.add_key-2.new.ids q)
-    (λ q. get bytes_eq c.args.salts.now q) (λ q. get bytes_eq c.add_key.new.salts q) (λ q. get bytes_eq c.add_key-2.new.salts q)
     c.add_key.ensures.grows c.add_key-2.ensures.grows
 
 pub returns-clause-grows : goal.returns-clause-grows
 returns-clause-grows c =
     grows_more (λ q. get bytes_eq c.args.ids.now q) (λ q. get bytes_eq c.add_key.new.ids q) (λ q. get bytes_eq c.add_key-2.new.ids q)
-    (λ q. get bytes_eq c.args.salts.now q) (λ q. get bytes_eq c.add_key.new.salts q) (λ q. get bytes_eq c.add_key-2.new.salts q)
     c.add_key.ensures.grows c.add_key-2.ensures.grows

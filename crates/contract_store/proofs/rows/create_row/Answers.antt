@@ -2,7 +2,7 @@ use Rattle.std.proofs.Common.{◌∙◌, sym, refl, arith, None, Some}
 use Rattle.std.specs.Str.{bytes_eq}
 use Rattle.std.proofs.lemmas.Grind.{common_steps}
 use Rattle.indexmap.specs.IndexMap.{get}
-use Rattle.contract_store.specs.Leads.{row_behind, salt_behind}
+use Rattle.contract_store.specs.Leads.{row_behind}
 use Rattle.contract_store.specs.Rows.{with_created}
 use Rattle.contract_store.proofs.Places.{get_some}
 use Rattle.contract_store.proofs.RowSteps.{leads_within, row_changed, changed_rows, pushed_rows}
@@ -21,7 +21,7 @@ returns-in-Some-clause-leads c =
     let k = get_some c.args.kept.now.items c.in-Some.at w in
     rw (c.set_created.ensures.row k.0 k.1)
     (row_changed c.args.kept.now.items c.in-Some.at k.0 (with_created c.args.place k.0.row) (λ q. row_behind (get bytes_eq c.args.ids.now q))
-    (λ q. salt_behind (get bytes_eq c.args.salts.now q)) k.1 refl c.requires.leads)
+    (λ q. get bytes_eq c.args.salts.now q) k.1 refl c.requires.leads)
 
 pub returns-in-Some-clause-rows : goal.returns-in-Some-clause-rows
 returns-in-Some-clause-rows c =

@@ -17,4 +17,5 @@ invariant_of-result c =
       grind (arith, common_steps),
       grind (arith, common_steps),
       grind (arith, common_steps),
+      grind (arith, common_steps),
     )

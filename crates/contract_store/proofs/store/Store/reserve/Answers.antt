@@ -9,20 +9,21 @@ use Rattle.indexmap.specs.IndexMap.{get, keys}
 use Rattle.ledger_model.specs.Terms.{Hash}
 use Rattle.ledger_terms.specs.declared.known.Known.{Known}
 use Rattle.contract_store.specs.Stored.{is_ready}
-use Rattle.contract_store.proofs.StoreSteps.{ready_there, there_ready, keys_grown, places_same}
+use Rattle.contract_store.proofs.StoreSteps.{ready_there, there_ready, keys_grown, room_grown}
 use Rattle.contract_store.proofs.store.Store.reserve.Goals as goal
 
 pub invariant_of-self : goal.invariant_of-self
 invariant_of-self c =
     let e = c.make_room.ensures in (
       rw (e.rows, e.holds)
-          (places_same c.self.inside.rows.items c.self.inside.holds.items (λ q. get bytes_eq c.self.inside.ids q)
-          (λ q. get bytes_eq c.self.inside.salts q) (λ p. get nat_eq c.self.inside.places p) (λ p. get nat_eq c.make_room.new.places p)
-          c.self.invariant.0 (λ p. ap (lookup (nat_eq p)) e.places)),
+          (room_grown c.self.inside.rows.items c.self.inside.holds.items (λ q. get bytes_eq c.self.inside.ids q)
+          (λ q. get bytes_eq c.self.inside.salts q) (λ q. get bytes_eq c.make_room.new.salts q) (λ p. get nat_eq c.self.inside.places p)
+          (λ p. get nat_eq c.make_room.new.places p) c.self.invariant.0 (λ q. ap (lookup (bytes_eq q)) e.salts) (λ p. ap (lookup (nat_eq p)) e.places)),
       grind (arith, common_steps),
       grind (arith, common_steps),
       grind (arith, common_steps),
-      rw e.holds (c.self.invariant.4 ∙ sym e.hold_len),
+      grind (arith, common_steps),
+      rw e.holds (c.self.invariant.5 ∙ sym e.hold_len),
       grind (arith, common_steps),
     )
 
@@ -32,15 +33,16 @@ invariant_of-self-2 c =
     let room = c.in_ok-make_room.ensures.room in (
       rw (e.rows, e.holds)
           (keys_grown c.self.inside.rows.items c.self.inside.holds.items (λ q. get bytes_eq c.self.inside.ids q)
-          (λ q. get bytes_eq c.self.inside.salts q) (λ p. get nat_eq c.make_room.new.places p)
-          (places_same c.self.inside.rows.items c.self.inside.holds.items (λ q. get bytes_eq c.self.inside.ids q)
-          (λ q. get bytes_eq c.self.inside.salts q) (λ p. get nat_eq c.self.inside.places p) (λ p. get nat_eq c.make_room.new.places p)
-          c.self.invariant.0 (λ p. ap (lookup (nat_eq p)) e.places))
-          (λ q. get bytes_eq c.add_all.new.ids q) (λ q. get bytes_eq c.add_all.new.salts q) c.add_all.ensures.grows),
+          (λ q. get bytes_eq c.make_room.new.salts q) (λ p. get nat_eq c.make_room.new.places p)
+          (room_grown c.self.inside.rows.items c.self.inside.holds.items (λ q. get bytes_eq c.self.inside.ids q)
+          (λ q. get bytes_eq c.self.inside.salts q) (λ q. get bytes_eq c.make_room.new.salts q) (λ p. get nat_eq c.self.inside.places p)
+          (λ p. get nat_eq c.make_room.new.places p) c.self.invariant.0 (λ q. ap (lookup (bytes_eq q)) e.salts) (λ p. ap (lookup (nat_eq p)) e.places))
+          (λ q. get bytes_eq c.add_all.new.ids q) c.add_all.ensures.grows),
       grind (arith, common_steps),
       grind (arith, common_steps),
       grind (arith, common_steps),
-      rw e.holds (c.self.invariant.4 ∙ sym e.hold_len),
+      grind (arith, common_steps),
+      rw e.holds (c.self.invariant.5 ∙ sym e.hold_len),
       grind (arith, common_steps),
     )
 
