@@ -5,8 +5,9 @@ use canton_run::{Finish, ended, line, run, status_without_words, words_after_nam
 use cli_words::WordList;
 use cn_io::{ReadSource, Sink, Source, WriteSink};
 use lane_pool::FreeGate;
-use std::alloc::Global;
+use std::alloc::{AllocGlobal, Global};
 use std::process::ExitCode;
+use std::random::RandomSource;
 use std::sync::Wait;
 use std::thread::Threads;
 use std::{env, io};
@@ -18,7 +19,7 @@ fn words_of(rt: &HostRuntime) -> io::Result<WordList> {
 }
 
 /// What the words ask for, where they can be had.
-fn finish_of<R: Threads + Wait + Sync, S: Source, K: Sink>(
+fn finish_of<R: Threads + Wait + Sync + RandomSource + AllocGlobal, S: Source, K: Sink>(
     rt: &R,
     alloc: Global,
     words: io::Result<WordList>,

@@ -12,7 +12,8 @@ use ledger_terms::U64List;
 use node_core::SubmitResultList;
 use script_read::{Round, RoundList};
 use shared_rounds::{Answered, Workers, submit_shared};
-use std::alloc::{AllocError, Global};
+use std::alloc::{AllocError, AllocGlobal, Global};
+use std::random::RandomSource;
 use std::sync::Wait;
 use std::thread::Threads;
 use world_play::{World, begin_round, settle, submit_each};
@@ -48,7 +49,7 @@ fn submit_alone<'r>(
 }
 
 // The submissions of a round: by one thread, or by clients beside lanes where there are workers.
-fn submit_round<'r, R: Threads + Wait + Sync, G: Gate + Sync>(
+fn submit_round<'r, R: Threads + Wait + Sync + RandomSource + AllocGlobal, G: Gate + Sync>(
     workers: &Workers<'_, R, G>,
     setup: &Setup,
     world: World<'r>,
@@ -82,7 +83,7 @@ fn append(results: &mut SubmitResultList, more: SubmitResultList) -> Result<(), 
 }
 
 // Time moves on, each submission is handed in, and the world settles.
-fn play_round<'r, R: Threads + Wait + Sync, G: Gate + Sync>(
+fn play_round<'r, R: Threads + Wait + Sync + RandomSource + AllocGlobal, G: Gate + Sync>(
     workers: &Workers<'_, R, G>,
     setup: &Setup,
     world: World<'r>,
@@ -107,7 +108,7 @@ fn play_round<'r, R: Threads + Wait + Sync, G: Gate + Sync>(
 }
 
 /// Plays the rounds of a script on its new synchroniser.
-pub fn play_rounds<'r, R: Threads + Wait + Sync, G: Gate + Sync>(
+pub fn play_rounds<'r, R: Threads + Wait + Sync + RandomSource + AllocGlobal, G: Gate + Sync>(
     workers: &Workers<'_, R, G>,
     setup: &Setup,
     world: World<'r>,

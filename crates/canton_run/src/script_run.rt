@@ -15,14 +15,15 @@ use log_row::LogRow;
 use prepare_request::laws::prepared_requests_make_a_machine;
 use script_read::RoundList;
 use shared_rounds::Workers;
-use std::alloc::AllocError;
+use std::alloc::{AllocError, AllocGlobal};
+use std::random::RandomSource;
 use std::sync::Wait;
 use std::thread::Threads;
 use world_play::World;
 
 /// Plays the rounds of a script over a new synchroniser whose requests may need so many places of the log in all. In the end
 /// every participant, paused or not, reads the whole log.
-pub fn run_script<R: Threads + Wait + Sync, G: Gate + Sync>(
+pub fn run_script<R: Threads + Wait + Sync + RandomSource + AllocGlobal, G: Gate + Sync>(
     workers: &Workers<'_, R, G>,
     setup: &Setup,
     rounds: &RoundList,

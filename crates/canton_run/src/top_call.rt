@@ -28,7 +28,8 @@ use load_gen::{generate, generated_scripts_are_accepted};
 use report_text::{report, summary};
 use script_read::{RoundList, Script, ScriptFault, read_script};
 use shared_rounds::Workers;
-use std::alloc::{AllocError, Global};
+use std::alloc::{AllocError, AllocGlobal, Global};
+use std::random::RandomSource;
 use std::sync::Wait;
 use std::thread::Threads;
 
@@ -73,7 +74,7 @@ fn text_of(
 }
 
 /// Runs the script and writes the text of the job. The text is made whole before anything of it is written.
-fn carry_out<R: Threads + Wait + Sync, G: Gate + Sync, K: Sink>(
+fn carry_out<R: Threads + Wait + Sync + RandomSource + AllocGlobal, G: Gate + Sync, K: Sink>(
     workers: &Workers<'_, R, G>,
     job: Job,
     script: Script,
@@ -118,12 +119,12 @@ fn carry_out<R: Threads + Wait + Sync, G: Gate + Sync, K: Sink>(
 }
 
 // Reads a script from the source and runs it.
-fn run_source<R: Threads + Wait + Sync, G: Gate + Sync, S: Source, K: Sink>(
-    workers: &Workers<'_, R, G>,
-    job: Job,
-    source: &mut S,
-    sink: &mut K,
-) -> Finish
+fn run_source<
+    R: Threads + Wait + Sync + RandomSource + AllocGlobal,
+    G: Gate + Sync,
+    S: Source,
+    K: Sink,
+>(workers: &Workers<'_, R, G>, job: Job, source: &mut S, sink: &mut K) -> Finish
     requires room { capacity_of job ≤ MOST_PLACES }
     ensures status { IsRunStatus result.status }
     ensures script { result.status ≡ 3 → ReadsFault (S.left source.old) (S.left source.new) result }
@@ -159,7 +160,7 @@ fn run_source<R: Threads + Wait + Sync, G: Gate + Sync, S: Source, K: Sink>(
 }
 
 // Runs a generated script. Nothing is read.
-fn run_generated<R: Threads + Wait + Sync, G: Gate + Sync, K: Sink>(
+fn run_generated<R: Threads + Wait + Sync + RandomSource + AllocGlobal, G: Gate + Sync, K: Sink>(
     workers: &Workers<'_, R, G>,
     count: u32,
     seed: u64,
@@ -189,14 +190,12 @@ fn run_generated<R: Threads + Wait + Sync, G: Gate + Sync, K: Sink>(
 /// Does what the words ask for: reads a script from the source, runs it and writes the report to the sink; or runs a generated
 /// script and writes the summary. With workers each round's submissions come from clients in threads of their own, beside so many
 /// lanes, which pass the gate before each view that they check; without, one thread does all the work and passes no gate.
-pub fn run<R: Threads + Wait + Sync, G: Gate + Sync, S: Source, K: Sink>(
-    rt: &R,
-    gate: &G,
-    alloc: Global,
-    words: &WordList,
-    source: &mut S,
-    sink: &mut K,
-) -> Finish
+pub fn run<
+    R: Threads + Wait + Sync + RandomSource + AllocGlobal,
+    G: Gate + Sync,
+    S: Source,
+    K: Sink,
+>(rt: &R, gate: &G, alloc: Global, words: &WordList, source: &mut S, sink: &mut K) -> Finish
     ensures status { IsStatus result.status }
     ensures words { result.status ≢ 70 → (result.status ≡ 2 ↔ job_of words.now ≡ None) }
     ensures script { result.status ≡ 3 → KeepsFault words.now (S.left source.old) (S.left source.new) result }

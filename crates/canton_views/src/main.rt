@@ -13,8 +13,9 @@ use cn_io::{ReadSource, Sink, Source, WriteSink};
 use end::{End, line};
 use lane_pool::FreeGate;
 use shared_rounds::Workers;
-use std::alloc::Global;
+use std::alloc::{AllocGlobal, Global};
 use std::process::ExitCode;
+use std::random::RandomSource;
 use std::sync::Wait;
 use std::thread::Threads;
 use std::{env, io};
@@ -27,7 +28,7 @@ fn words_of(rt: &HostRuntime) -> io::Result<WordList> {
 }
 
 /// Does what the words ask for, where they can be had. The script is run by one thread.
-fn end_of<R: Threads + Wait + Sync, S: Source, K: Sink>(
+fn end_of<R: Threads + Wait + Sync + RandomSource + AllocGlobal, S: Source, K: Sink>(
     rt: &R,
     alloc: Global,
     words: io::Result<WordList>,

@@ -9,6 +9,8 @@ use ledger_terms::limits::MOST_PLACES;
 use ledger_terms::{Name, ParticipantId, Text, Topology};
 use script_read::Script;
 use shared_rounds::Workers;
+use std::alloc::AllocGlobal;
+use std::random::RandomSource;
 use std::sync::Wait;
 use std::thread::Threads;
 use view_picture::{drawn, picture_of};
@@ -24,7 +26,7 @@ fn participant_of(topology: &Topology, name: Name) -> Option<ParticipantId> {
 }
 
 /// Runs a script and draws its requests, for one participant where a name is given. Without a picture there is how the program ends.
-pub(crate) fn script_picture<R: Threads + Wait + Sync, G: Gate + Sync>(
+pub(crate) fn script_picture<R: Threads + Wait + Sync + RandomSource + AllocGlobal, G: Gate + Sync>(
     workers: &Workers<'_, R, G>,
     script: Script,
     reader: Option<Name>,

@@ -11,12 +11,13 @@ use ledger_terms::limits::MOST_SCRIPT_BYTES;
 use ledger_terms::{Name, Text};
 use script_read::{ScriptFault, read_script};
 use shared_rounds::Workers;
-use std::alloc::Global;
+use std::alloc::{AllocGlobal, Global};
+use std::random::RandomSource;
 use std::sync::Wait;
 use std::thread::Threads;
 
 /// The script's picture.
-fn picture_text<R: Threads + Wait + Sync, G: Gate + Sync>(
+fn picture_text<R: Threads + Wait + Sync + RandomSource + AllocGlobal, G: Gate + Sync>(
     workers: &Workers<'_, R, G>,
     bytes: &[u8],
     reader: Option<Name>,
@@ -29,7 +30,7 @@ fn picture_text<R: Threads + Wait + Sync, G: Gate + Sync>(
     }
 }
 
-fn source_picture<R: Threads + Wait + Sync, G: Gate + Sync, S: Source>(
+fn source_picture<R: Threads + Wait + Sync + RandomSource + AllocGlobal, G: Gate + Sync, S: Source>(
     workers: &Workers<'_, R, G>,
     source: &mut S,
     reader: Option<Name>,
@@ -52,12 +53,12 @@ fn written<K: Sink>(alloc: Global, sink: &mut K, text: &Text) -> End {
 
 /// Does what the words ask for: writes the help, or reads a script from the source, runs it and writes its picture. The picture is
 /// made whole before anything of it is written.
-pub(crate) fn run<R: Threads + Wait + Sync, G: Gate + Sync, S: Source, K: Sink>(
-    workers: &Workers<'_, R, G>,
-    words: &WordList,
-    source: &mut S,
-    sink: &mut K,
-) -> End {
+pub(crate) fn run<
+    R: Threads + Wait + Sync + RandomSource + AllocGlobal,
+    G: Gate + Sync,
+    S: Source,
+    K: Sink,
+>(workers: &Workers<'_, R, G>, words: &WordList, source: &mut S, sink: &mut K) -> End {
     let alloc = workers.alloc;
     match read_words(alloc, words) {
         Ok(Asked::Help(text)) => written(alloc, sink, &text),

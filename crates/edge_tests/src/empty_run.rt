@@ -4,7 +4,8 @@ use cli_words::WordList;
 use cn_io::{SureSink, SureSource};
 use lane_pool::FreeGate;
 use ledger_terms::{Bytes, Text};
-use std::alloc::{AllocError, Global};
+use std::alloc::{AllocError, AllocGlobal, Global};
+use std::random::RandomSource;
 use std::sync::Wait;
 use std::test::Fail;
 use std::thread::Threads;
@@ -13,7 +14,7 @@ const SCRIPT: &[u8] = br#"{"participants":[{"name":"P1","parties":[]}],"rounds":
 
 const REPORT: &[u8] = b"entries 0\nparticipant P1 clean 0 time 0\nend\n";
 
-fn run_script<R: Threads + Wait + Sync>(
+fn run_script<R: Threads + Wait + Sync + RandomSource + AllocGlobal>(
     rt: &R,
     alloc: Global,
     sink: &mut SureSink,

@@ -4,7 +4,8 @@ use cli_words::WordList;
 use cn_io::{SureSink, SureSource};
 use lane_pool::Gate;
 use ledger_terms::{Bytes, Text};
-use std::alloc::{AllocError, Global};
+use std::alloc::{AllocError, AllocGlobal, Global};
+use std::random::RandomSource;
 use std::sync::Wait;
 use std::sync::atomic::{AtomicU64, Ordering};
 use std::test::Fail;
@@ -52,7 +53,7 @@ fn words(alloc: Global) -> Result<WordList, AllocError> {
     Ok(words)
 }
 
-fn run_script<R: Threads + Wait + Sync>(
+fn run_script<R: Threads + Wait + Sync + RandomSource + AllocGlobal>(
     rt: &R,
     alloc: Global,
     gate: &MeetingGate,

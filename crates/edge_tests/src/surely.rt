@@ -7,12 +7,13 @@ use canton_run::{Finish, run};
 use cli_words::WordList;
 use cn_io::{SureSink, SureSource};
 use lane_pool::Gate;
-use std::alloc::Global;
+use std::alloc::{AllocGlobal, Global};
+use std::random::RandomSource;
 use std::sync::Wait;
 use std::thread::Threads;
 
 /// Runs words over a source that never fails, which gives the job's script, and a sink that has taken room for the text ahead.
-pub fn run_surely<R: Threads + Wait + Sync, G: Gate + Sync>(
+pub fn run_surely<R: Threads + Wait + Sync + RandomSource + AllocGlobal, G: Gate + Sync>(
     rt: &R,
     gate: &G,
     alloc: Global,

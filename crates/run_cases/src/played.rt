@@ -5,7 +5,8 @@ use cli_words::WordList;
 use cn_io::{MemSink, MemSource};
 use lane_pool::FreeGate;
 use ledger_terms::{Bytes, Text, U64List};
-use std::alloc::{AllocError, Global};
+use std::alloc::{AllocError, AllocGlobal, Global};
+use std::random::RandomSource;
 use std::str;
 use std::sync::Wait;
 use std::thread::Threads;
@@ -14,7 +15,7 @@ use std::thread::Threads;
 const PIECE: usize = 16;
 
 /// The text that answers a case.
-pub(crate) fn answer<R: Threads + Wait + Sync>(
+pub(crate) fn answer<R: Threads + Wait + Sync + RandomSource + AllocGlobal>(
     rt: &R,
     alloc: Global,
     case: &Case<'_>,
@@ -68,7 +69,7 @@ fn source_of(alloc: Global, case: &Case<'_>) -> Result<MemSource, AllocError> {
     Ok(MemSource::new(bytes, PIECE, only(alloc, case.take)?))
 }
 
-fn played<R: Threads + Wait + Sync>(
+fn played<R: Threads + Wait + Sync + RandomSource + AllocGlobal>(
     rt: &R,
     alloc: Global,
     case: &Case<'_>,

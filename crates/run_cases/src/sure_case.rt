@@ -4,7 +4,8 @@ use canton_run::{Finish, run};
 use cn_io::{SureSink, SureSource};
 use lane_pool::FreeGate;
 use ledger_terms::Bytes;
-use std::alloc::{AllocError, Global};
+use std::alloc::{AllocError, AllocGlobal, Global};
+use std::random::RandomSource;
 use std::sync::Wait;
 use std::thread::Threads;
 
@@ -37,7 +38,7 @@ impl<'a> SureCase<'a> {
 }
 
 /// The text that answers a case.
-pub(crate) fn sure_answer<R: Threads + Wait + Sync>(
+pub(crate) fn sure_answer<R: Threads + Wait + Sync + RandomSource + AllocGlobal>(
     rt: &R,
     alloc: Global,
     case: &SureCase<'_>,
@@ -55,7 +56,7 @@ fn source_of(alloc: Global, case: &SureCase<'_>) -> Result<SureSource, AllocErro
     Ok(SureSource::new(bytes))
 }
 
-fn surely_played<R: Threads + Wait + Sync>(
+fn surely_played<R: Threads + Wait + Sync + RandomSource + AllocGlobal>(
     rt: &R,
     alloc: Global,
     case: &SureCase<'_>,

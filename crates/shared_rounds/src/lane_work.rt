@@ -1,7 +1,8 @@
 //! What lanes do.
 use lane_pool::{Gate, Lane};
 use once_cell::race::OnceBool;
-use std::alloc::AllocError;
+use std::alloc::{AllocError, AllocGlobal};
+use std::random::RandomSource;
 use std::sync::Wait;
 use sync_shared::{Session, Shared};
 
@@ -15,7 +16,7 @@ pub struct LaneWork<'a, 'r, S: Session, R: Wait + Sync, G: Gate + Sync> {
     pub ended: &'a OnceBool,
 }
 
-impl<'r, S: Session + Send + Sync, R: Wait + Sync, G: Gate + Sync> Lane
+impl<'r, S: Session + Send + Sync, R: Wait + Sync + RandomSource + AllocGlobal, G: Gate + Sync> Lane
     for LaneWork<'_, 'r, S, R, G> {
     ghost may_fail = { λ _ _. Unit {0} };
 

@@ -35,8 +35,9 @@ use lane_pool::{Gate, Lane, run_lanes};
 use ledger_terms::{ParticipantIdList, Submission, SubmissionList};
 use node_core::SubmitResultList;
 use once_cell::race::OnceBool;
-use std::alloc::AllocError;
+use std::alloc::{AllocError, AllocGlobal};
 use std::marker::Brand;
+use std::random::RandomSource;
 use std::sync::Wait;
 use std::sync::ledger::Blank;
 use std::thread::{Threads, join};
@@ -93,7 +94,12 @@ fn run_beside<R: Threads + Wait + Sync, L: Lane>(
 }
 
 // The clients submit beside the lanes, until all have ended.
-fn serve_beside<'r, S: Session + Send + Sync, R: Threads + Wait + Sync, G: Gate + Sync>(
+fn serve_beside<
+    'r,
+    S: Session + Send + Sync,
+    R: Threads + Wait + Sync + RandomSource + AllocGlobal,
+    G: Gate + Sync,
+>(
     workers: &Workers<'_, R, G>,
     shared: &Shared<'r, S>,
     clients: Vec<Client<'r, S>>,
@@ -135,7 +141,12 @@ fn serve_beside<'r, S: Session + Send + Sync, R: Threads + Wait + Sync, G: Gate 
 }
 
 // The parts of the synchroniser go behind locks, its clients submit beside the lanes, and the parts come back.
-fn gather<'r, S: Session + Send + Sync, R: Threads + Wait + Sync, G: Gate + Sync>(
+fn gather<
+    'r,
+    S: Session + Send + Sync,
+    R: Threads + Wait + Sync + RandomSource + AllocGlobal,
+    G: Gate + Sync,
+>(
     workers: &Workers<'_, R, G>,
     setup: &Setup,
     world: World<'r>,
@@ -174,7 +185,7 @@ fn gather<'r, S: Session + Send + Sync, R: Threads + Wait + Sync, G: Gate + Sync
 /// client's request is prepared, its participant reads at least what the client has seen. A lane takes at most 64 turns for each of the
 /// submissions, and 64 more. When all have ended the parts of the synchroniser are put together again, and it is not settled. After want of
 /// memory there is no synchroniser any more.
-pub fn submit_shared<'r, R: Threads + Wait + Sync, G: Gate + Sync>(
+pub fn submit_shared<'r, R: Threads + Wait + Sync + RandomSource + AllocGlobal, G: Gate + Sync>(
     workers: &Workers<'_, R, G>,
     setup: &Setup,
     world: World<'r>,

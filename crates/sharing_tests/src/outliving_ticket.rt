@@ -12,8 +12,9 @@ use confirm_reply::Setup;
 use ledger_terms::{ParticipantId, ParticipantIdList, Submission};
 use log_row::LogRow;
 use node_core::Completion;
-use std::alloc::{AllocError, Global};
+use std::alloc::{AllocError, AllocGlobal, Global};
 use std::marker::Brand;
+use std::random::RandomSource;
 use std::sync::Wait;
 use std::sync::ledger::Blank;
 use std::test::Fail;
@@ -29,7 +30,7 @@ struct Settled<'r> {
 }
 
 // A client submits in a round of its own and asks at once, and the synchroniser settles.
-fn submit_and_settle<'r, S: Session, R: Wait>(
+fn submit_and_settle<'r, S: Session, R: Wait + RandomSource + AllocGlobal>(
     rt: &R,
     alloc: Global,
     setup: &Setup,

@@ -10,7 +10,8 @@ use lane_pool::FreeGate;
 use ledger_terms::{ParticipantId, Submission};
 use log_row::Slip;
 use node_core::Completion;
-use std::alloc::AllocError;
+use std::alloc::{AllocError, AllocGlobal};
+use std::random::RandomSource;
 use std::sync::Wait;
 use sync_shared::{Session, Synchroniser, Ticket};
 use world_play::World;
@@ -38,7 +39,7 @@ pub(crate) fn is_host(setup: &Setup, participant: ParticipantId) -> bool
 }
 
 /// A client submits, so many turns are taken as the only lane, and then it asks.
-pub(crate) fn submit_and_ask<'r, S: Session, R: Wait>(
+pub(crate) fn submit_and_ask<'r, S: Session, R: Wait + RandomSource + AllocGlobal>(
     rt: &R,
     shared: &mut Synchroniser<'r, S>,
     what: &Submission,

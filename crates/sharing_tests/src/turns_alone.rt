@@ -13,8 +13,9 @@ use confirm_reply::Setup;
 use ledger_terms::{ParticipantId, ParticipantIdList, Submission};
 use log_row::LogRow;
 use seq_log::Sequencer;
-use std::alloc::{AllocError, Global};
+use std::alloc::{AllocError, AllocGlobal, Global};
 use std::marker::Brand;
+use std::random::RandomSource;
 use std::sync::Wait;
 use std::sync::ledger::Blank;
 use std::test::Fail;
@@ -70,7 +71,7 @@ fn is_approved_at_once(answered: &Option<Answered<'_>>) -> bool {
 }
 
 // Whether turns of one lane, and nothing else, bring a request that is submitted to its approval.
-fn is_approved_by_turns<'r, S: Session, R: Wait>(
+fn is_approved_by_turns<'r, S: Session, R: Wait + RandomSource + AllocGlobal>(
     rt: &R,
     alloc: Global,
     setup: &'r Setup,

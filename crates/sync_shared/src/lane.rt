@@ -1,7 +1,6 @@
 //! What lanes do for the participants and the mediator.
-ghost use Rattle.std.specs.Prelude.{◌≡◌, ◌<◌, IfOk, IfSome};
+ghost use Rattle.std.specs.Prelude.{◌≡◌, IfOk, IfSome};
 ghost use Rattle.world_model.specs.Fits.{IsDecision, IsOwed};
-ghost use Rattle.validate_job.specs.Outcome.{IsOutcome};
 ghost use Rattle.sync_shared.specs.Lanes.{IsClaimed, IsCopied, IsStep};
 ghost use Rattle.sync_shared.specs.Slips.{read_to, InRow};
 
@@ -10,12 +9,14 @@ use crate::locked_node::LockedNode;
 use crate::node_step::{ClaimedJob, CopiedResponse, NodeStep};
 use crate::session::Session;
 use crate::shared::Shared;
+use crate::slips::again;
+use crate::watched_job::run_job;
 use canton_model::{Message, Response, Verdict};
 use lane_pool::Gate;
 use log_row::Slip;
-use std::alloc::{AllocError, Global};
+use std::alloc::{AllocError, AllocGlobal, Global};
+use std::random::RandomSource;
 use std::sync::{Mutex, Wait};
-use validate_job::{Finished, ValidateJob};
 
 // A job that is claimed or a response to be sent, where there is nothing to read.
 fn next_work<'r, S: Session, const I: u8>(
@@ -56,25 +57,8 @@ fn next_step<'r, S: Session, R: Wait, const I: u8>(
     }
 }
 
-// Checks all views of a job, and passes the gate before each.
-fn run_job<G: Gate>(job: ValidateJob<'_>, gate: &G) -> Result<Finished, AllocError>
-    requires { 0 < job.left }
-    ensures { IfOk result (IsOutcome job.entry.given) }
-{
-    let mut job = job;
-    let place = job.place();
-    let mut view: u32 = 0;
-    'views: loop {
-        gate.enter(place, view);
-        if let Some(finished) = job.check_next()? {
-            return Ok(finished);
-        }
-        view = view.saturating_add(1);
-    }
-}
-
-// The job is done outside every lock, and finished where its claim still stands.
-fn check<'r, S: Session, R: Wait, G: Gate, const I: u8>(
+// The job is done outside every lock, and finished where its claim still stands and its request isn't decided.
+fn check<'r, S: Session, R: Wait + RandomSource + AllocGlobal, G: Gate, const I: u8>(
     rt: &R,
     lock: &Mutex<LockedNode<'r, S, I>>,
     claimed: ClaimedJob<'r>,
@@ -82,9 +66,11 @@ fn check<'r, S: Session, R: Wait, G: Gate, const I: u8>(
 ) -> Result<(), AllocError>
     requires { IsClaimed S.history S.machine I claimed }
 {
-    let ClaimedJob { job, mut known } = claimed;
-    let done = run_job(job, gate)?;
-    lock.lock(rt).finish_job(&mut known, done);
+    let mut claimed = claimed;
+    let mut known = again(&mut claimed.known);
+    if let Some(done) = run_job(rt, lock, claimed, gate)? {
+        lock.lock(rt).finish_job(&mut known, done);
+    }
     Ok(())
 }
 
@@ -121,7 +107,7 @@ fn send<'r, S: Session, R: Wait, const I: u8>(
 }
 
 /// One participant reads an entry, or checks a request, or sends a response: the first of these that it can.
-pub fn take_turn<'r, S: Session, R: Wait, G: Gate, const I: u8>(
+pub fn take_turn<'r, S: Session, R: Wait + RandomSource + AllocGlobal, G: Gate, const I: u8>(
     rt: &R,
     shared: &Shared<'r, S>,
     lock: &Option<Mutex<LockedNode<'r, S, I>>>,

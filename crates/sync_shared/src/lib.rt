@@ -18,6 +18,7 @@ mod submit_refusal;
 mod submitting;
 mod synchroniser;
 mod ticket;
+mod watched_job;
 
 pub use client::Client;
 pub use round_rules::RoundRules;

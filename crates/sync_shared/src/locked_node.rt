@@ -186,6 +186,19 @@ impl<'r, S: Session, const I: u8> LockedNode<'r, S, I> {
         }
     }
 
+    /// The place since when the request of a job is decided, where it is decided by what was read and that is no less than when the
+    /// job was claimed. `known` is what was read then.
+    pub fn decided_at(&mut self, known: &mut Option<Slip<'r>>, place: u64) -> Option<u64>
+        requires row { InRow S.history known.old }
+        requires claimed { Claimed S.machine I (read_to known.old) place }
+        ensures same { (self.new ≡ self.old) × (known.new ≡ known.old) }
+    {
+        if !follows::<S>(known, &mut self.last) {
+            return None;
+        }
+        self.node.decided_at(place)
+    }
+
     /// A copy of the response that is sent next, which is owed over what was read.
     pub fn outbox(&self, alloc: Global) -> Result<Option<Response>, AllocError>
         ensures { IfOk result (λ o. IfSome o (IsOwed S.machine.reading S.machine.params self.now)) }

@@ -29,7 +29,8 @@ use crate::ticket::Ticket;
 use lane_pool::Gate;
 use ledger_terms::{ParticipantId, Submission};
 use node_core::{Completion, SubmitFault};
-use std::alloc::{AllocError, Global};
+use std::alloc::{AllocError, AllocGlobal, Global};
+use std::random::RandomSource;
 use std::sync::ledger::Share;
 use std::sync::{Mutex, Wait};
 
@@ -152,7 +153,12 @@ impl<'r, S: Session> Shared<'r, S> {
     }
 
     // The turn of one participant, where there is one of this index.
-    fn serve<R: Wait, G: Gate>(&self, rt: &R, at: u8, gate: &G) -> Result<(), AllocError> {
+    fn serve<R: Wait + RandomSource + AllocGlobal, G: Gate>(
+        &self,
+        rt: &R,
+        at: u8,
+        gate: &G,
+    ) -> Result<(), AllocError> {
         match at {
             0 => take_turn(rt, self, &self.nodes.first, gate),
             1 => take_turn(rt, self, &self.nodes.second, gate),
@@ -168,8 +174,10 @@ impl<'r, S: Session> Shared<'r, S> {
     /// A turn of one of so many lanes. Lane w serves the participants whose index leaves w, and lane 0 the mediator too. Each that
     /// isn't paused reads one entry or, where it has read all, checks one request or, where it owes nothing, sends one response;
     /// the mediator reads one entry or, unless verdicts are held, sends one verdict. The gate is passed before each view, outside
-    /// every lock, with the request's place and the number of its views that were checked before.
-    pub fn turn<R: Wait, G: Gate>(
+    /// every lock, with the request's place and the number of its views that were checked before. After each view the participant
+    /// is asked whether the request is decided by what it has read. Where it is, the check ends there, and nothing comes of it but
+    /// the claim. A number for an executor comes by chance, and a turn that gets none ends as for want of memory.
+    pub fn turn<R: Wait + RandomSource + AllocGlobal, G: Gate>(
         &self,
         rt: &R,
         lane: u32,
