@@ -1,5 +1,5 @@
-"""What crates/check_cases has to write: the verdicts of the local checks over a script's last transaction, the polls of jobs, and
-what plain lists tell after the calls of a tracker and of a store.
+"""What the layer check of crates/layer_cases has to write: the verdicts of the local checks over a script's last transaction, the polls
+of jobs, and what plain lists tell after the calls of a tracker and of a store.
 """
 import ledger
 import trees

@@ -1,4 +1,4 @@
-"""What crates/form_cases has to write of bytes and of expressions."""
+"""What the layer form of crates/layer_cases has to write of bytes and of expressions."""
 import terms
 import trees
 from language import Fault, evaluate

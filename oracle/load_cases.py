@@ -1,4 +1,4 @@
-"""What crates/load_cases has to write: the job that words ask for, and the script of a count and a seed."""
+"""What the layer load of crates/layer_cases has to write: the job that words ask for, and the script of a count and a seed."""
 from itertools import islice
 
 from language import NOTE

@@ -1,5 +1,4 @@
-"""Writes the inputs and the expected outputs of crates/tree_cases, crates/request_cases, crates/form_cases,
-crates/check_cases, crates/load_cases, crates/run_cases and crates/world_cases from the tables of this folder.
+"""Writes the inputs and the expected outputs of crates/layer_cases and crates/run_cases from the tables of this folder.
 
 What a table says of a case by hand is compared with what is computed here, where both are there.
 """
@@ -11,6 +10,7 @@ import form_cases
 import language
 import load_cases
 import request_cases
+import sharing_cases
 import tree_cases
 import world_cases
 from tables import bytes as byte_tables
@@ -31,7 +31,7 @@ def agreed(text, computed, worked):
 
 
 def tree_rows():
-    """The lines of each case of tree_cases and those that answer it."""
+    """The line of each transaction's case and those that answer it."""
     for name, script in transactions.NAMED:
         lines = list(tree_cases.script_lines(script))
         for worked in transactions.WORKED.get(name, []):
@@ -149,34 +149,61 @@ def world_rows():
         else:
             agreed(name, lines, worked)
         yield 'play %s %s %s' % (name, words, compact(script)), ['%s %s' % (name, line) for line in lines]
+    for name, script, who, words, worked in worlds.LATE:
+        lines = agreed(name, world_cases.case_lines(script, words, who), worked)
+        yield 'late %s %s %s %s' % (name, who, words, compact(script)), ['%s %s' % (name, line) for line in lines]
 
 
-def write(crate, parts):
-    """Writes the cases of a crate, each part below a heading that it writes again."""
+def sharing_rows():
+    for word, name, script, worked in worlds.SHARING:
+        lines = agreed(name, sharing_cases.case_lines(word, script), worked)
+        yield '%s %s %s' % (word, name, compact(script)), ['%s %s' % (name, line) for line in lines]
+
+
+def below(line, cases):
+    """Cases below a line that is written again."""
+    yield line, [line]
+    yield from cases
+
+
+def layer_rows():
+    """The cases of each layer, below the line that says which it is."""
+    tables = {
+        'form': {'Terms and trees as bytes': byte_rows(), 'Expressions': expression_rows(), 'Packages': package_rows()},
+        'tree': {'Transactions, and scripts with their first fault': tree_rows()},
+        'request': {'Transactions as requests': request_rows()},
+        'load': {'Words': word_rows(), 'Generated scripts': generated_rows()},
+        'check': {
+            'Views': view_rows(), 'Jobs': job_rows(),
+            'Trackers': call_rows('tracker', check_cases.Tracker(), checks.TRACKERS),
+            'Stores': call_rows('store', check_cases.Store(), checks.STORES),
+            'Requests beside plain lists': call_rows('requests', check_cases.Requests(), checks.REQUESTS)},
+        'world': {'Events': world_rows()},
+        'sharing': {'Clients of a shared synchroniser': sharing_rows()}}
+    for layer, parts in tables.items():
+        yield from below('layer ' + layer, headed(parts))
+
+
+def headed(parts):
+    """Cases of several parts, each below its heading."""
+    for heading, cases in parts.items():
+        yield from below('# ' + heading, cases)
+
+
+def write(crate, cases):
+    """Writes the cases of a crate."""
     asked, answered = [], []
-    for heading, rows in parts:
-        asked.append('# ' + heading)
-        answered.append('# ' + heading)
-        for line, lines in rows:
-            asked.append(line)
-            answered += lines
+    for line, lines in cases:
+        asked.append(line)
+        answered += lines
     for name, lines in [('stdin', asked), ('stdout', answered)]:
         with open(os.path.join(CRATES, crate, name), 'w') as out:
             out.write('\n'.join(lines) + '\n')
 
 
 def main():
-    write('tree_cases', [('Transactions, and scripts with their first fault', tree_rows())])
-    write('request_cases', [('Transactions as requests', request_rows())])
-    write('form_cases', [('Terms and trees as bytes', byte_rows()), ('Expressions', expression_rows()), ('Packages', package_rows())])
-    write('check_cases', [
-        ('Views', view_rows()), ('Jobs', job_rows()),
-        ('Trackers', call_rows('tracker', check_cases.Tracker(), checks.TRACKERS)),
-        ('Stores', call_rows('store', check_cases.Store(), checks.STORES)),
-        ('Requests beside plain lists', call_rows('requests', check_cases.Requests(), checks.REQUESTS))])
-    write('load_cases', [('Words', word_rows()), ('Generated scripts', generated_rows())])
-    write('run_cases', [('Whole runs', run_rows()), ('Whole runs within room', sure_run_rows())])
-    write('world_cases', [('Events', world_rows())])
+    write('layer_cases', layer_rows())
+    write('run_cases', headed({'Whole runs': run_rows(), 'Whole runs within room': sure_run_rows()}))
 
 
 if __name__ == '__main__':

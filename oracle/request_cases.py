@@ -1,4 +1,4 @@
-"""What crates/request_cases has to write of a script that has no fault."""
+"""What the layer request of crates/layer_cases has to write of a script that has no fault."""
 import ledger
 import trees
 from language import Packages

@@ -1,4 +1,4 @@
-"""What crates/tree_cases has to write of a script that has no fault."""
+"""What the layer tree of crates/layer_cases has to write of a script that has no fault."""
 import ledger
 import trees
 from language import Packages

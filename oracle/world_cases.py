@@ -1,4 +1,5 @@
-"""What crates/world_cases has to write: the report of a log that grows event by event, and what each participant has applied of it.
+"""What the layer world of crates/layer_cases has to write: the report of a log that grows event by event with what each participant
+has applied of it, and what becomes of a job that comes too late.
 
 All is worked out from the log and from how much of it each participant and the mediator have read.
 """
@@ -172,12 +173,18 @@ class World:
         mine = [v['path'] for v in self.log[place]['request'].views if set(v['confirmers']) & parties]
         return [(path_text(path), checked.verdict(path).split(' ')[0]) for path in mine]
 
-    def validate(self, name):
+    def claim(self, name):
+        """The request that a participant checks next, where there is one."""
         for place in self.owed(name, self.read[name]):
             if place not in self.taken[name]:
                 self.taken[name].add(place)
-                self.outbox[name][place] = self.verdicts(name, place)
-                return
+                return place
+        return None
+
+    def validate(self, name):
+        place = self.claim(name)
+        if place is not None:
+            self.outbox[name][place] = self.verdicts(name, place)
 
     def reply(self, name, is_lost):
         for place in sorted(self.outbox[name]):
@@ -248,6 +255,32 @@ class World:
                 if decision is not None:
                     self.hand_in('verdict', place, decision=decision)
 
+    # a job
+
+    def decided_at(self, name, place):
+        """Where a request is decided, by what a participant has read."""
+        return next((k for k in range(place, self.read[name]) if self.is_decided(place, k + 1)), None)
+
+    def decided_line(self, name, place):
+        at = self.decided_at(name, place)
+        return 'undecided' if at is None else 'decided at %d' % at
+
+    def late_lines(self, name):
+        """A participant's next job three times: polled to its end, polled once, and ended when the participant has read an entry."""
+        place = self.claim(name)
+        if place is None:
+            yield 'no job'
+            return
+        verdicts = self.verdicts(name, place)
+        yield from poll_lines(place, verdicts, len(verdicts))
+        yield from poll_lines(place, verdicts, 1)
+        yield self.decided_line(name, place)
+        self.read_next(self.read, name)
+        decided = self.decided_line(name, place)
+        yield decided
+        yield from ['answered'] if decided == 'undecided' else ['too late for %d' % place, decided]
+        yield 'cancelled %d' % place
+
     # the report
 
     def entry_text(self, entry):
@@ -262,13 +295,16 @@ class World:
         end = len(self.log)
         return self.verdict(place, end) or ('expired' if self.is_decided(place, end) else 'undecided')
 
-    def report(self):
+    def log_lines(self):
         end = len(self.log)
         yield 'entries %d' % end
         for place, entry in enumerate(self.log):
             yield '%d %d %s' % (place, entry['time'], self.entry_text(entry))
         for place, _ in self.requests(end):
             yield 'outcome %d %s' % (place, self.outcome(place))
+
+    def report(self):
+        yield from self.log_lines()
         for host in self.hosts:
             yield from self.participant(host['name'])
         yield 'end'
@@ -299,7 +335,19 @@ class World:
 WORDS = {'mediator', 'verdict', 'lose-verdict', 'submit', 'advance', 'read', 'validate', 'reply', 'lose', 'pause', 'wake'}
 
 
-def case_lines(script, words):
+def poll_lines(place, verdicts, count):
+    """What so many polls of a job tell, of which each checks one view."""
+    for left in range(len(verdicts), len(verdicts) - count, -1):
+        yield 'place %d' % place
+        yield 'left %d' % left
+        yield 'pending, left %d' % (left - 1) if left > 1 else 'ready %d' % place
+    if count == len(verdicts):
+        for path, verdict in verdicts:
+            yield 'verdict %s %s' % (path, 'approve' if verdict == 'approve' else 'reject')
+
+
+def case_lines(script, words, late=None):
+    """The report that events leave, or what is told of the job of the participant that comes too late."""
     words = words.split(',')
     settles = words[-1] == 'settle'
     words = words[:-1] if settles else words
@@ -310,6 +358,8 @@ def case_lines(script, words):
     world = World(script)
     for word in words:
         world.happen(word)
+    if late is not None:
+        return list(world.late_lines(late))
     if settles:
         world.settle()
     return list(world.report())

@@ -1,4 +1,6 @@
-"""Events of a synchroniser, with the log or the whole report that they leave, worked out by hand from docs/PROTOCOL.md."""
+"""Events of a synchroniser, with the log or the whole report that they leave, or what becomes of a job behind them, worked out by hand
+from docs/PROTOCOL.md.
+"""
 from tables.transactions import IOU, asked, create, does, exercise, fetch, iou, known, note, party, prepared, transfer
 
 ONE = [{"name": "P1", "parties": ["Alice"]}]
@@ -85,3 +87,20 @@ CASES = [
         '3 4 request P2 n2 to P2 P3', '4 5 response P2 for 3 0=approve 0.0=approve 0.1=approve', '5 6 verdict for 3 approved']),
     ('another-word', NOTE, 'submit,wait', ['no events']),
     ('most-time', NOTE, 'advance:9999999999999999,advance:2', ['too late'])]
+
+# a name, the script, whose job it is, the events, and all lines: the transfer stands at place 3 with time 4, and has expired at place 5,
+# whose Tick is later than 60 seconds past that
+LATE = [
+    ('late-transfer', TRANSFER, 'P1', words(OWED, 'submit', *['read:P1'] * 3, answers('P2'), 'read:P1', 'advance:60000005'), [
+        'place 3', 'left 2', 'pending, left 1', 'place 3', 'left 1', 'ready 3', 'verdict 0 approve', 'verdict 0.0 approve',
+        'place 3', 'left 2', 'pending, left 1', 'undecided', 'decided at 5', 'too late for 3', 'decided at 5', 'cancelled 3'])]
+
+# a word, a name, the script, and all lines: the Bank's request stands at place 0 with its two entries behind it, and Alice's at place 3
+# with two responses and a verdict; who asks at once has seen the entries as far as the own request, and who asks later all
+SHARED = {**TRANSFER, "rounds": [{"submits": [submission]} for submission in TRANSFER["rounds"][0]["submits"]]}
+SHARING = [
+    ('turns', 'turns-alone', SHARED, ['ticket of P1 at 0', 'told approved over 3', 'seen in the log yes', 'entries 3'] + OWED_LOG + [
+        'outcome 0 approved', 'end']),
+    ('ticket', 'outliving-ticket', SHARED, [
+        'ticket of P1 at 0', 'told undecided over 1', 'seen in the log yes', 'ticket of P2 at 3', 'told undecided over 4',
+        'seen in the log yes', 'told approved over 7', 'seen in the log yes'])]

@@ -111,7 +111,7 @@ fn read_bytes(reader: &mut Reader<'_>, alloc: Global) -> Result<Bytes, ReaderFau
 {
     let len = reader.u32()?;
     let front = reader.bytes(len as usize)?;
-    let mut bytes = Bytes::new(alloc);
+    let mut bytes = Bytes::with_room(alloc, front.len())?;
     bytes.extend(front)?;
     Ok(bytes)
 }

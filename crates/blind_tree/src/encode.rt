@@ -9,12 +9,15 @@ use ledger_terms::Bytes;
 use std::alloc::{AllocError, Global};
 use wire_form::{encode_hash, encode_u32};
 
+/// How many bytes are made room for at first: a tree of a few views has no more.
+const USUAL_TREE: usize = 512;
+
 /// The spelling of a tree. A count or a length that has no room is written by its lowest bytes, so that a tree can be read again
 /// only where `is_spellable` says so.
 pub fn encode_tree(alloc: Global, tree: &Tree) -> Result<Bytes, AllocError>
     ensures { IfOk result (λ bytes. bytes ≡ spell_tree tree.now) }
 {
-    let mut out = Bytes::new(alloc);
+    let mut out = Bytes::with_room(alloc, USUAL_TREE)?;
     encode_leaf(&tree.common, &mut out)?;
     encode_leaf(&tree.requesters, &mut out)?;
     encode_vertices(&tree.views, &mut out)?;

@@ -18,6 +18,9 @@ use std::alloc::{AllocError, Global};
 use view_split::{SplitView, View, ViewList, Views};
 use wire_form::{encode_name, encode_parties, encode_u64};
 
+/// How many bytes are made room for at first: the core of a view of a few actions has no more.
+const USUAL_CORE: usize = 512;
+
 /// The tree of a transaction with every hash: each leaf is spelled and hashed once, and each view hashed once.
 pub(crate) fn keep(alloc: Global, views: &Views, sender: Name) -> Result<KeptTree, AllocError>
     requires { AreSpellable views.now }
@@ -79,7 +82,7 @@ fn spelled_core(alloc: Global, view: &SplitView) -> Result<Bytes, AllocError>
     requires { IsSpellableView view.now }
     ensures { IfOk result (λ bytes. bytes ≡ core_bytes view.now) }
 {
-    let mut bytes = Bytes::new(alloc);
+    let mut bytes = Bytes::with_room(alloc, USUAL_CORE)?;
     let SplitView { first, below, .. } = view;
     encode_core(&first.seed, &first.action, below, &mut bytes)?;
     Ok(bytes)

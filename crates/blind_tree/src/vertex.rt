@@ -4,7 +4,7 @@ ghost use Rattle.blind_tree.specs.Vertices.{NoVertices, beside, count};
 ghost use Rattle.blind_tree.specs.VertexLists.{vertices_of, one_vertex};
 
 use crate::leaf::Leaf;
-use ledger_terms::Hash;
+use ledger_terms::{Hash, push_closely};
 use std::alloc::{AllocError, Global};
 use std::marker::Model;
 
@@ -93,7 +93,6 @@ impl VertexList {
         ensures ok { OnOk result (self.new ≡ beside self.old (one_vertex vertex)) }
         ensures err { OnErr result (self.new ≡ self.old) }
     {
-        self.vertices.push(vertex)?;
-        Ok(())
+        push_closely(&mut self.vertices, vertex)
     }
 }

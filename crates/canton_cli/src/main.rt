@@ -5,7 +5,9 @@ use canton_run::{Finish, ended, line, run, status_without_words, words_after_nam
 use cli_words::WordList;
 use cn_io::{ReadSource, Sink, Source, WriteSink};
 use lane_pool::FreeGate;
-use std::alloc::{AllocGlobal, Global};
+use lang_eval::NativeList;
+use native_choice::FlashNative;
+use std::alloc::{AllocError, AllocGlobal, Global};
 use std::process::ExitCode;
 use std::random::RandomSource;
 use std::sync::Wait;
@@ -18,7 +20,20 @@ fn words_of(rt: &HostRuntime) -> io::Result<WordList> {
     Ok(words_after_name(rt.alloc(), all.as_slice())?)
 }
 
-/// What the words ask for, where they can be had.
+/// Runs the words, with the choices that are written in Rattle.
+fn run_words<R: Threads + Wait + Sync + RandomSource + AllocGlobal, S: Source, K: Sink>(
+    rt: &R,
+    alloc: Global,
+    words: &WordList,
+    source: &mut S,
+    sink: &mut K,
+) -> Result<Finish, AllocError> {
+    let mut natives = NativeList::new(alloc);
+    natives.push(Box::new(alloc, FlashNative::new(alloc)?)?)?;
+    Ok(run(rt, &FreeGate, words, source, sink, natives))
+}
+
+/// What the words ask for, where they and the natives can be had.
 fn finish_of<R: Threads + Wait + Sync + RandomSource + AllocGlobal, S: Source, K: Sink>(
     rt: &R,
     alloc: Global,
@@ -27,7 +42,10 @@ fn finish_of<R: Threads + Wait + Sync + RandomSource + AllocGlobal, S: Source, K
     sink: &mut K,
 ) -> Finish {
     match words {
-        Ok(words) => run(rt, &FreeGate, alloc, &words, source, sink),
+        Ok(words) => match run_words(rt, alloc, &words, source, sink) {
+            Ok(finish) => finish,
+            Err(AllocError) => ended(alloc, 70, None),
+        },
         Err(error) => ended(alloc, status_without_words(error.kind()), None),
     }
 }

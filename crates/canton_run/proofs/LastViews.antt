@@ -1,8 +1,6 @@
 -- What participants know when they have read the whole log.
-use Rattle.std.proofs.Common.{◌≡◌, ℕ, suc, ◌+◌, List, [], ◌∷◌, ◌++◌, length, take, map, Some, refl, sym, ap, ◌∙◌, subst, arith}
+use Rattle.std.proofs.Common.{◌≡◌, ℕ, suc, ◌+◌, List, [], ◌∷◌, length, map, Some, refl, sym, ap, ◌∙◌, subst, arith}
 use Rattle.std.specs.Prelude.{slice_get}
-use Rattle.std.proofs.lemmas.List.{map-append}
-use Rattle.world_model.proofs.Steps.{take_next}
 use Rattle.canton_model.specs.Inbox.{Item, inbox}
 use Rattle.canton_model.specs.Log.{Params}
 use Rattle.canton_model.specs.Reading.{Reading}
@@ -23,18 +21,6 @@ use Rattle.world_play.specs.WorldOf.{IsWorldOf, world_of}
 use Rattle.world_play.specs.declared.world.World.{World}
 use Rattle.world_play.proofs.Passing.{map_at}
 use Rattle.canton_run.specs.Run.{machine_for, params_of as times_of, reading_for}
-
--- one more view, of the next participant
-pub one_more_view : (nodes : List NodeValue) (k : ℕ) (node : NodeValue) → slice_get nodes k ≡ Some node
-    → (views : List NodeView) → views ≡ map view_of (take k nodes) → (view : NodeView) → view ≡ view_of node
-    → (views' : List NodeView) → views' ≡ views ++ view ∷ [] → views' ≡ map view_of (take (k + 1) nodes)
-one_more_view nodes k node at views same view is views' more =
-    let one : k + 1 ≡ suc k = omega arith in
-    more
-    ∙ (ap (λ (v : NodeView). views ++ v ∷ []) is
-    ∙ (ap (λ (vs : List NodeView). vs ++ view_of node ∷ []) same
-    ∙ (sym (map-append view_of (take k nodes) (node ∷ []))
-    ∙ ap (map view_of) (sym (ap (λ (n : ℕ). take n nodes) one ∙ take_next k nodes node at)))))
 
 module _ (reading : Reading) (params : Params) (log : List Entry) where
   -- the participant at a place has read all of the log

@@ -8,6 +8,7 @@ ghost use Rattle.canton_run.specs.Between.{ArePlayed, CanBeAnswered, IsAnsweredR
 
 use confirm_reply::Setup;
 use lane_pool::Gate;
+use lang_eval::NativeList;
 use ledger_terms::U64List;
 use node_core::SubmitResultList;
 use script_read::{Round, RoundList};
@@ -35,6 +36,7 @@ pub struct PlayedRounds<'r> {
 // The submissions of a round by one thread.
 fn submit_alone<'r>(
     alloc: Global,
+    natives: &NativeList,
     world: World<'r>,
     round: &Round,
 ) -> Result<Answered<'r>, AllocError>
@@ -44,13 +46,14 @@ fn submit_alone<'r>(
 {
     let mut world = world;
     let mut results = SubmitResultList::new(alloc);
-    submit_each(alloc, &mut world, &round.submits, &mut results)?;
+    submit_each(natives, &mut world, &round.submits, &mut results)?;
     Ok(Answered { world, results })
 }
 
 // The submissions of a round: by one thread, or by clients beside lanes where there are workers.
 fn submit_round<'r, R: Threads + Wait + Sync + RandomSource + AllocGlobal, G: Gate + Sync>(
     workers: &Workers<'_, R, G>,
+    natives: &NativeList,
     setup: &Setup,
     world: World<'r>,
     round: &Round,
@@ -60,7 +63,7 @@ fn submit_round<'r, R: Threads + Wait + Sync + RandomSource + AllocGlobal, G: Ga
         → IsAnsweredRound script capacity round.now world.entry a.world a.results) }
 {
     if workers.count == 0 {
-        return submit_alone(workers.alloc, world, round);
+        return submit_alone(workers.alloc, natives, world, round);
     }
     submit_shared(
         workers,
@@ -85,6 +88,7 @@ fn append(results: &mut SubmitResultList, more: SubmitResultList) -> Result<(), 
 // Time moves on, each submission is handed in, and the world settles.
 fn play_round<'r, R: Threads + Wait + Sync + RandomSource + AllocGlobal, G: Gate + Sync>(
     workers: &Workers<'_, R, G>,
+    natives: &'r NativeList,
     setup: &Setup,
     world: World<'r>,
     round: &Round,
@@ -97,11 +101,12 @@ fn play_round<'r, R: Threads + Wait + Sync + RandomSource + AllocGlobal, G: Gate
         → ArePlayed script capacity (count + 1) played answers.new.results answers.new.ends) }
 {
     let alloc = workers.alloc;
+    let hold_verdicts = round.hold_verdicts;
     let mut world = world;
     begin_round(&mut world, round.advance, &round.paused)?;
-    let answered = submit_round(workers, setup, world, round)?;
+    let answered = submit_round(workers, natives, setup, world, round)?;
     let Answered { mut world, results } = answered;
-    settle(alloc, &mut world, &round.paused, round.hold_verdicts)?;
+    settle(alloc, natives, &mut world, &round.paused, hold_verdicts)?;
     append(&mut answers.results, results)?;
     answers.ends.push(world.sequencer.len())?;
     Ok(world)
@@ -110,6 +115,7 @@ fn play_round<'r, R: Threads + Wait + Sync + RandomSource + AllocGlobal, G: Gate
 /// Plays the rounds of a script on its new synchroniser.
 pub fn play_rounds<'r, R: Threads + Wait + Sync + RandomSource + AllocGlobal, G: Gate + Sync>(
     workers: &Workers<'_, R, G>,
+    natives: &'r NativeList,
     setup: &Setup,
     world: World<'r>,
     rounds: &RoundList,
@@ -127,7 +133,7 @@ pub fn play_rounds<'r, R: Threads + Wait + Sync + RandomSource + AllocGlobal, G:
         ends: U64List::new(alloc),
     };
     'rounds: for round in rounds.as_slice() {
-        world = play_round(workers, setup, world, round, &mut answers)?;
+        world = play_round(workers, natives, setup, world, round, &mut answers)?;
     }
     Ok(PlayedRounds { world, answers })
 }

@@ -11,6 +11,7 @@ use crate::rounds::{PlayedRounds, play_rounds};
 use crate::views::views_of;
 use confirm_reply::Setup;
 use lane_pool::Gate;
+use lang_eval::NativeList;
 use log_row::LogRow;
 use prepare_request::laws::prepared_requests_make_a_machine;
 use script_read::RoundList;
@@ -21,10 +22,12 @@ use std::sync::Wait;
 use std::thread::Threads;
 use world_play::World;
 
-/// Plays the rounds of a script over a new synchroniser whose requests may need so many places of the log in all. In the end
+/// Plays the rounds of a script over a new synchroniser whose requests may need so many places of the log in all. A choice that
+/// `natives` has is asked of them in place of the language by the thread that plays the rounds, and by no worker. In the end
 /// every participant, paused or not, reads the whole log.
 pub fn run_script<R: Threads + Wait + Sync + RandomSource + AllocGlobal, G: Gate + Sync>(
     workers: &Workers<'_, R, G>,
+    natives: &NativeList,
     setup: &Setup,
     rounds: &RoundList,
     capacity: u64,
@@ -40,11 +43,16 @@ pub fn run_script<R: Threads + Wait + Sync + RandomSource + AllocGlobal, G: Gate
     let alloc = workers.alloc;
     let mut row = LogRow::new(alloc)?;
     let new = World::new(alloc, setup, &mut row, capacity)?;
-    let rounds_played = play_rounds(workers, setup, new, rounds)?;
+    let rounds_played = play_rounds(workers, natives, setup, new, rounds)?;
     let PlayedRounds { mut world, answers } = rounds_played;
     world.catch_up()?;
-    let log = log_of(alloc, &mut world.sequencer)?;
-    let views = views_of(alloc, world.nodes.as_slice())?;
+    let World {
+        mut sequencer,
+        nodes,
+        ..
+    } = world;
+    let views = views_of(alloc, nodes)?;
+    let log = log_of(alloc, &mut sequencer)?;
     Ok(Played {
         log,
         results: answers.results,

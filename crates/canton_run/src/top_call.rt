@@ -22,6 +22,7 @@ use cli_words::{Job, WordList, WordsFault, read_words};
 use cn_io::{ReadFault, Sink, Source, read_all, write_all};
 use confirm_reply::Setup;
 use lane_pool::Gate;
+use lang_eval::NativeList;
 use ledger_terms::limits::{MOST_PLACES, MOST_SCRIPT_BYTES};
 use ledger_terms::{Text, Topology};
 use load_gen::{generate, generated_scripts_are_accepted};
@@ -76,6 +77,7 @@ fn text_of(
 /// Runs the script and writes the text of the job. The text is made whole before anything of it is written.
 fn carry_out<R: Threads + Wait + Sync + RandomSource + AllocGlobal, G: Gate + Sync, K: Sink>(
     workers: &Workers<'_, R, G>,
+    natives: &NativeList,
     job: Job,
     script: Script,
     sink: &mut K,
@@ -99,7 +101,7 @@ fn carry_out<R: Threads + Wait + Sync + RandomSource + AllocGlobal, G: Gate + Sy
     } = script;
     let alloc = workers.alloc;
     let setup = Setup { topology, checked };
-    let Ok(played) = run_script(workers, &setup, &rounds, capacity_of(job)) else {
+    let Ok(played) = run_script(workers, natives, &setup, &rounds, capacity_of(job)) else {
         return ended(alloc, 70, None);
     };
     let Ok(text) = text_of(alloc, job, &setup.topology, &rounds, &played) else {
@@ -124,7 +126,13 @@ fn run_source<
     G: Gate + Sync,
     S: Source,
     K: Sink,
->(workers: &Workers<'_, R, G>, job: Job, source: &mut S, sink: &mut K) -> Finish
+>(
+    workers: &Workers<'_, R, G>,
+    natives: &NativeList,
+    job: Job,
+    source: &mut S,
+    sink: &mut K,
+) -> Finish
     requires room { capacity_of job ≤ MOST_PLACES }
     ensures status { IsRunStatus result.status }
     ensures script { result.status ≡ 3 → ReadsFault (S.left source.old) (S.left source.new) result }
@@ -149,7 +157,7 @@ fn run_source<
     let alloc = workers.alloc;
     match read_all(alloc, source, MOST_SCRIPT_BYTES) {
         Ok(bytes) => match read_script(alloc, bytes.as_slice()) {
-            Ok(script) => carry_out(workers, job, script, sink),
+            Ok(script) => carry_out(workers, natives, job, script, sink),
             Err(ScriptFault::Memory) => ended(alloc, 70, None),
             Err(fault) => ended(alloc, 3, Some(fault)),
         },
@@ -162,6 +170,7 @@ fn run_source<
 // Runs a generated script. Nothing is read.
 fn run_generated<R: Threads + Wait + Sync + RandomSource + AllocGlobal, G: Gate + Sync, K: Sink>(
     workers: &Workers<'_, R, G>,
+    natives: &NativeList,
     count: u32,
     seed: u64,
     job: Job,
@@ -182,20 +191,21 @@ fn run_generated<R: Threads + Wait + Sync + RandomSource + AllocGlobal, G: Gate 
     generated_scripts_are_accepted();
     let alloc = workers.alloc;
     match generate(alloc, count, seed) {
-        Ok(script) => carry_out(workers, job, script, sink),
+        Ok(script) => carry_out(workers, natives, job, script, sink),
         Err(_) => ended(alloc, 70, None),
     }
 }
 
 /// Does what the words ask for: reads a script from the source, runs it and writes the report to the sink; or runs a generated
 /// script and writes the summary. With workers each round's submissions come from clients in threads of their own, beside so many
-/// lanes, which pass the gate before each view that they check; without, one thread does all the work and passes no gate.
+/// lanes, which pass the gate before each view that they check; without, one thread does all the work and passes no gate. That thread asks
+/// `natives` for a choice that they have, in place of the language; lanes and clients ask the language. Memory is that of the words.
 pub fn run<
     R: Threads + Wait + Sync + RandomSource + AllocGlobal,
     G: Gate + Sync,
     S: Source,
     K: Sink,
->(rt: &R, gate: &G, alloc: Global, words: &WordList, source: &mut S, sink: &mut K) -> Finish
+>(rt: &R, gate: &G, words: &WordList, source: &mut S, sink: &mut K, natives: NativeList) -> Finish
     ensures status { IsStatus result.status }
     ensures words { result.status ≢ 70 → (result.status ≡ 2 ↔ job_of words.now ≡ None) }
     ensures script { result.status ≡ 3 → KeepsFault words.now (S.left source.old) (S.left source.new) result }
@@ -215,6 +225,7 @@ pub fn run<
         → NoReadFault job (S.faults source.old) (S.faults source.new) → ¬ Rose (K.faults sink.old) (K.faults sink.new)
         → (result.status ≡ 0) ⊎ (result.status ≡ 70) }
 {
+    let alloc = *words.allocator();
     match read_words(alloc, words) {
         Ok(job) => {
             let workers = Workers {
@@ -224,8 +235,10 @@ pub fn run<
                 count: workers_of(job),
             };
             match job {
-                Job::Run { .. } => run_source(&workers, job, source, sink),
-                Job::Gen { count, seed, .. } => run_generated(&workers, count, seed, job, sink),
+                Job::Run { .. } => run_source(&workers, &natives, job, source, sink),
+                Job::Gen { count, seed, .. } => run_generated(
+                    &workers, &natives, count, seed, job, sink,
+                ),
             }
         }
         Err(WordsFault::Usage) => ended(alloc, 2, None),

@@ -6,12 +6,12 @@ use node_core::{Node, NodeView, NodeViewList};
 use std::alloc::{AllocError, Global};
 
 /// What each of the participants knows at its clean place, in their order.
-pub fn views_of(alloc: Global, nodes: &[Node<'_>]) -> Result<NodeViewList, AllocError>
-    ensures { IfOk result (λ views. views ≡ map view_of nodes.now) }
+pub fn views_of(alloc: Global, nodes: Vec<Node<'_>>) -> Result<NodeViewList, AllocError>
+    ensures { IfOk result (λ views. views ≡ map view_of nodes.entry.items) }
 {
     let mut views = NodeViewList::new(alloc);
     'nodes: for node in nodes {
-        views.push(NodeView::of(alloc, node)?)?;
+        views.push(NodeView::of(alloc, &node)?)?;
     }
     Ok(views)
 }

@@ -5,6 +5,7 @@ use crate::end::End;
 use canton_run::run_script;
 use confirm_reply::Setup;
 use lane_pool::Gate;
+use lang_eval::NativeList;
 use ledger_terms::limits::MOST_PLACES;
 use ledger_terms::{Name, ParticipantId, Text, Topology};
 use script_read::Script;
@@ -47,7 +48,13 @@ pub(crate) fn script_picture<R: Threads + Wait + Sync + RandomSource + AllocGlob
         None => None,
     };
     let setup = Setup { topology, checked };
-    let Ok(played) = run_script(workers, &setup, &rounds, MOST_PLACES as u64) else {
+    let Ok(played) = run_script(
+        workers,
+        &NativeList::new(alloc),
+        &setup,
+        &rounds,
+        MOST_PLACES as u64,
+    ) else {
         return Err(End::of_status(alloc, 70));
     };
     let Ok(picture) = picture_of(alloc, &setup.topology, &played.log, me.as_ref()) else {

@@ -14,3 +14,4 @@ pub mod Checked
 pub mod Checkable
 pub mod FactsAt
 mod Sure
+mod EachPlace

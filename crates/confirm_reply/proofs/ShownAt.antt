@@ -31,7 +31,7 @@ pub node_checkable : (packages : Packages) (nodes : List (Bor ActionNode)) (n : 
     → IsCheckable packages node.now.root node.now.below
 node_checkable packages nodes n node at checkable = checkable (tree_in node) (tree_at nodes n (Some node) at)
 
-module _ (trial : Trial) (reason : Reason) (n : ℕ) where
+module _ {N : Type 0} {T : N → Type 0} (trial : Trial N T) (reason : Reason) (n : ℕ) where
   pub node_shows : (node : Bor ActionNode) → Some node ≡ slice_get trial.nodes.now n → trial.earlier.now ≡ acts_of trial.nodes.now
       → shows trial.input.now reason node.now.root node.now.below (take n trial.earlier.now) (trial.is_root && is_first trial.core.now n)
       ≡ shows_at trial.input.now (matter_of trial) reason n

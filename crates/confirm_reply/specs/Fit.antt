@@ -12,10 +12,10 @@ use Rattle.confirm_reply.specs.declared.trial.Trial.{Trial}
 abbrev pub IsCheckableAt : Packages → List (Act × Actions) → ℕ → Type 0
 IsCheckableAt packages trees n = (tree : Act × Actions) → slice_get trees n ≡ Some tree → IsCheckable packages tree.0 tree.1
 
-abbrev pub matter_of : Trial → Matter
+abbrev pub matter_of : {N : Type 0} {T : N → Type 0} → Trial N T → Matter
 matter_of trial = record { trees = trees_in trial.nodes.now; core = trial.core.now; is_root = trial.is_root }
 
-pub record IsFit (trial : Trial) : Type 0 where
+pub record IsFit {N : Type 0} {T : N → Type 0} (trial : Trial N T) : Type 0 where
   pub checkable : All (IsCheckableAt trial.input.now.setup.now.checked (trees_in trial.nodes.now)) trial.core.now
   pub earlier : trial.earlier.now ≡ acts_of trial.nodes.now
   pub few : length trial.core.now ≤ 65536

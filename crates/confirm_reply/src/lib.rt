@@ -14,6 +14,7 @@ mod opened;
 mod places;
 mod reasons;
 mod setup;
+mod shared_tree;
 mod trial;
 mod view_check;
 
@@ -22,4 +23,5 @@ pub use check_input::CheckInput;
 pub use condition::can_check;
 pub use id_facts::{IdFacts, IdFactsList};
 pub use setup::Setup;
+pub use shared_tree::SharedTree;
 pub use view_check::check_view;

@@ -56,7 +56,7 @@ impl Trial<'_, '_, '_> {
         let input = self.input;
         !is_near(
             input.setup.topology.params.skew,
-            input.tree.ledger_time,
+            input.tree.opened().ledger_time,
             input.time,
         )
     }
@@ -81,14 +81,14 @@ impl Trial<'_, '_, '_> {
     fn conforms(&self, node: &ActionNode) -> Result<bool, AllocError>
         ensures { IfOk result (λ b. b ≡ is_tree_possible self.now.input.now.setup.now.checked node.now.root.action node.now.below) }
     {
-        reexecute(self.alloc, &self.input.setup.checked, node)
+        reexecute(self.alloc, &self.input.setup.checked, self.natives, node)
     }
 
     fn is_requested(&self, action: &Action) -> Result<bool, AllocError>
         requires { has_roles self.now.input.now.setup.now.checked action.now ≡ true }
         ensures { IfOk result (λ b. b ≡ is_requested self.now.input.now (record { seed = []; action = action.now })) }
     {
-        match &self.input.tree.requesters {
+        match &self.input.tree.opened().requesters {
             Some(requesters) => authorised(
                 self.alloc,
                 &self.input.setup.checked,

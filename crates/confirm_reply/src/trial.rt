@@ -1,6 +1,7 @@
 //! What a core is tried by.
 use crate::check_input::CheckInput;
 use consist::Earlier;
+use lang_eval::NativeList;
 use ledger_terms::ActionNode;
 use std::alloc::Global;
 
@@ -9,6 +10,7 @@ use std::alloc::Global;
 pub(crate) struct Trial<'a, 's, 'n> {
     pub(crate) alloc: Global,
     pub(crate) input: &'a CheckInput<'s>,
+    pub(crate) natives: &'a NativeList,
     pub(crate) nodes: &'a [&'n ActionNode],
     pub(crate) earlier: &'a [Earlier<'n>],
     pub(crate) core: &'a [usize],

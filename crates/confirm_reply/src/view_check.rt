@@ -1,27 +1,33 @@
 //! The local check of a view.
-ghost use Rattle.std.specs.Prelude.{◌≡◌, ◌≤◌, ℕ, All, List, Some, IfOk, IsSome, length};
+ghost use Rattle.std.specs.Prelude.{◌≡◌, ◌≤◌, ℕ, All, List, Some, IfOk, IsSome, length, option_map};
 ghost use Rattle.ledger_model.specs.Opening.{OpenedView};
 ghost use Rattle.canton_model.specs.Inbox.{Item};
-ghost use Rattle.view_split.specs.Placed.{shown_by};
+ghost use Rattle.view_split.specs.Placed.{placed_forest, shown_by};
+ghost use Rattle.view_split.specs.SeenViews.{put_back};
 ghost use Rattle.confirm_reply.specs.Fit.{IsCheckableAt};
+ghost use Rattle.confirm_reply.specs.Located.{core_found_in};
 ghost use Rattle.confirm_reply.specs.Nodes.{trees_in};
+ghost use Rattle.confirm_reply.specs.Numbers.{numbered_trees};
 ghost use Rattle.confirm_reply.specs.Tried.{all_reasons, verdict_after};
 ghost use Rattle.confirm_reply.specs.Opened.{CanBeChecked, view_at};
 ghost use Rattle.confirm_reply.specs.Verdict.{IsAtPlace, verdict_at, verdict_of};
 
 use crate::check_input::CheckInput;
 use crate::cores::core_at;
+use crate::numbered::Numbered;
 use crate::numbering::numbered;
 use crate::opened::{actions_of, nodes_of, roots_of};
 use crate::trial::Trial;
 use canton_model::{LocalVerdict, Reason};
-use ledger_terms::{ActionNode, Path};
+use lang_eval::NativeList;
+use ledger_terms::{ActionNode, ActionNodeList, Path};
 use std::alloc::{AllocError, Global};
 
 /// A participant's verdict on the view with this path, which is opened to it. Each reason is tried over the whole core before the
-/// next, and the action is the first in pre-order that shows it.
+/// next, and the action is the first in pre-order that shows it. A choice that `natives` has is asked of them in place of the language.
 pub fn check_view(
     alloc: Global,
+    natives: &NativeList,
     input: &CheckInput<'_>,
     view: &Path,
 ) -> Result<LocalVerdict, AllocError>
@@ -33,12 +39,13 @@ pub fn check_view(
     ensures at_place { IfOk result (λ verdict. (opened : OpenedView) (items : List Item) (k : ℕ) → view_at view.now input.now.tree ≡ Some opened
         → IsAtPlace input.now items k opened → verdict ≡ verdict_at input.now items k opened) }
 {
-    let roots = roots_of(alloc, &input.tree.views)?;
+    let roots = roots_in(alloc, input)?;
     let nodes = nodes_of(alloc, &roots)?;
     let trees = numbered(alloc, &roots, 0)?;
-    match core_at(alloc, &input.tree.views, trees.as_slice(), view)? {
+    match core_in(alloc, input, trees.as_slice(), view)? {
         Some(core) => verdict_on(
             alloc,
+            natives,
             input,
             nodes.as_slice(),
             core.as_slice(),
@@ -48,8 +55,28 @@ pub fn check_view(
     }
 }
 
+// The trees of all that is opened.
+fn roots_in(alloc: Global, input: &CheckInput<'_>) -> Result<ActionNodeList, AllocError>
+    ensures { IfOk result (λ roots. roots ≡ put_back (placed_forest input.now.tree.views)) }
+{
+    roots_of(alloc, &input.tree.opened().views)
+}
+
+// The numbers of the actions in the core of a view.
+fn core_in(
+    alloc: Global,
+    input: &CheckInput<'_>,
+    trees: &[Numbered<'_>],
+    view: &Path,
+) -> Result<Option<Vec<usize>>, AllocError>
+    ensures { IfOk result (λ found. option_map (λ v. v.items) found ≡ core_found_in view.now input.now.tree.views (numbered_trees trees.now)) }
+{
+    core_at(alloc, &input.tree.opened().views, trees, view)
+}
+
 fn verdict_on<'a>(
     alloc: Global,
+    natives: &'a NativeList,
     input: &'a CheckInput<'_>,
     nodes: &'a [&ActionNode],
     core: &'a [usize],
@@ -64,6 +91,7 @@ fn verdict_on<'a>(
     let trial = Trial {
         alloc,
         input,
+        natives,
         nodes,
         earlier: earlier.as_slice(),
         core,

@@ -3,6 +3,7 @@ use canton_run::{Finish, run};
 use cli_words::WordList;
 use cn_io::{SureSink, SureSource};
 use lane_pool::FreeGate;
+use lang_eval::NativeList;
 use ledger_terms::{Bytes, Text};
 use std::alloc::{AllocError, AllocGlobal, Global};
 use std::random::RandomSource;
@@ -24,7 +25,8 @@ fn run_script<R: Threads + Wait + Sync + RandomSource + AllocGlobal>(
     let mut bytes = Bytes::new(alloc);
     bytes.extend(SCRIPT)?;
     let mut source = SureSource::new(bytes);
-    Ok(run(rt, &FreeGate, alloc, &words, &mut source, sink))
+    let natives = NativeList::new(alloc);
+    Ok(run(rt, &FreeGate, &words, &mut source, sink, natives))
 }
 
 #[test]

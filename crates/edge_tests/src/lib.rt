@@ -5,9 +5,13 @@
 #[cfg(test)]
 mod appending;
 #[cfg(test)]
+mod counting_natives;
+#[cfg(test)]
 mod empty_run;
 #[cfg(test)]
 mod meeting;
+#[cfg(test)]
+mod natives;
 #[cfg(test)]
 mod reading;
 mod surely;

@@ -3,6 +3,7 @@ use canton_run::{Finish, run};
 use cli_words::WordList;
 use cn_io::{SureSink, SureSource};
 use lane_pool::Gate;
+use lang_eval::NativeList;
 use ledger_terms::{Bytes, Text};
 use std::alloc::{AllocError, AllocGlobal, Global};
 use std::random::RandomSource;
@@ -64,7 +65,8 @@ fn run_script<R: Threads + Wait + Sync + RandomSource + AllocGlobal>(
     let mut source = SureSource::new(bytes);
     let mut sink = SureSink::new(alloc);
     sink.reserve(4096)?;
-    Ok(run(rt, gate, alloc, &words, &mut source, &mut sink))
+    let natives = NativeList::new(alloc);
+    Ok(run(rt, gate, &words, &mut source, &mut sink, natives))
 }
 
 #[test]

@@ -7,6 +7,7 @@ use canton_run::{Finish, run};
 use cli_words::WordList;
 use cn_io::{SureSink, SureSource};
 use lane_pool::Gate;
+use lang_eval::NativeList;
 use std::alloc::{AllocGlobal, Global};
 use std::random::RandomSource;
 use std::sync::Wait;
@@ -16,13 +17,13 @@ use std::thread::Threads;
 pub fn run_surely<R: Threads + Wait + Sync + RandomSource + AllocGlobal, G: Gate + Sync>(
     rt: &R,
     gate: &G,
-    alloc: Global,
     words: &WordList,
     source: &mut SureSource,
     sink: &mut SureSink,
+    natives: NativeList,
 ) -> Finish
     requires ready { IsReady words.now source.old sink.old.room }
     ensures { (result.status ≡ 0) ⊎ (result.status ≡ 70) }
 {
-    run(rt, gate, alloc, words, source, sink)
+    run(rt, gate, words, source, sink, natives)
 }

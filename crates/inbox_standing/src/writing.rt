@@ -13,7 +13,8 @@ use std::alloc::{AllocError, Global};
 fn keys_of(alloc: Global, changes: &Vec<Change>) -> Result<HashList, AllocError>
     ensures { IfOk result (λ keys. keys ≡ keys_in changes.now.items) }
 {
-    let mut keys = HashList::new(alloc);
+    let count = changes.len();
+    let mut keys = HashList::with_room(alloc, count.saturating_add(count))?;
     for change in changes.iter() {
         keys.push(change.known.id)?;
         keys.push(change.known.salt)?;

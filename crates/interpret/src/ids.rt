@@ -9,13 +9,16 @@ use ledger_terms::{Action, Bytes, Hash, Instance, Label, Name};
 use std::alloc::{AllocError, Global};
 use wire_form::encode_instance;
 
+/// How many bytes are made room for at first: an instance of a few fields has no more.
+const USUAL_INSTANCE: usize = 64;
+
 /// The id of the contract that a Create with this salt makes.
 #[tactic(auto, unfolding(crate::specs::Ids::contract_id))]
 pub fn contract_id(alloc: Global, salt: &Hash, instance: &Instance) -> Result<Hash, AllocError>
     requires { IsSpellableInstance instance.now }
     ensures { IfOk result (λ id. id ≡ contract_id salt.now instance.now) }
 {
-    let mut bytes = Bytes::new(alloc);
+    let mut bytes = Bytes::with_room(alloc, USUAL_INSTANCE)?;
     encode_instance(instance, &mut bytes)?;
     Ok(hash_id::contract_id_of_bytes(salt, bytes.as_slice()))
 }

@@ -15,13 +15,13 @@ use crate::interpreter::Interpreter;
 use crate::place::Place;
 use crate::progress::nothing_done;
 use crate::references::{referenced_id, referenced_values};
+use crate::stepping::Stepping;
 use crate::turn::Turn;
-use lang_eval::{Checked, kind_of};
+use lang_eval::{Checked, NativeList, kind_of};
 use ledger_terms::{
     ActionNodeList, Arg, ArgList, Command, CommandList, ContractRef, FieldDecl, Hash, Kind,
     KnownContracts, Name, PartySet, Path, TemplateName, Value,
 };
-use std::alloc::Global;
 
 /// The kind of what is handed in.
 fn kind_of_arg(arg: &Arg) -> Kind
@@ -48,7 +48,7 @@ fn args_have_kinds(args: &[Arg], decls: &[FieldDecl]) -> bool
     true
 }
 
-impl<K: KnownContracts> Interpreter<'_, K> {
+impl<K: KnownContracts, S: Stepping> Interpreter<'_, K, S> {
     fn create_demand(
         &self,
         root: u16,
@@ -201,10 +201,11 @@ impl<K: KnownContracts> Interpreter<'_, K> {
 /// contracts alone. Each action then tries depth, number, contract, evaluations and authority; an Exercise tries the size
 /// of its arguments, its controllers, its choice observers and its authority before its body and its result. Sizes are
 /// those of spellings, and what has none, as a text of more than 256 bytes, is too large. The first fault is the answer,
-/// and the encoded bytes are tried last.
+/// and the encoded bytes are tried last. A choice that `natives` has is asked of them in place of the language. Memory is that of
+/// the list of commands.
 pub fn interpret<K: KnownContracts>(
-    alloc: Global,
     checked: &Checked,
+    natives: &NativeList,
     known: &K,
     seed: &Hash,
     act_as: &PartySet,
@@ -216,8 +217,9 @@ pub fn interpret<K: KnownContracts>(
     ensures plain { IfErr result (λ fault. fault ≢ CommandFault.Memory → IsPlain fault) }
 {
     let interpreter = Interpreter {
-        alloc,
+        alloc: *commands.allocator(),
         checked,
+        stepping: natives,
         known,
     };
     interpreter.run(seed, act_as, commands)

@@ -14,9 +14,10 @@ use crate::place::Place;
 use crate::progress::{Progress, consume, usable};
 use crate::result_of_child::result_of_child;
 use crate::sizes::is_small_result;
+use crate::stepping::Stepping;
 use crate::tested::{are_authorised, authorisers, call_controllers, created_signatories, fetchers};
 use crate::turn::Turn;
-use lang_eval::{Checked, EvalFault, is_consuming_call, next_step};
+use lang_eval::{Checked, EvalFault, is_consuming_call};
 use ledger_model::{ChildResultList, ChoiceCall, Step};
 use ledger_terms::limits::MOST_ACTIONS;
 use ledger_terms::{
@@ -25,11 +26,12 @@ use ledger_terms::{
 };
 use std::alloc::{AllocError, Global};
 
-/// What carries out actions: the packages, and the contracts that are known.
+/// What carries out actions: the packages, what says what choices do, and the contracts that are known.
 #[derive(Drop)]
-pub(crate) struct Interpreter<'a, K> {
+pub(crate) struct Interpreter<'a, K, S> {
     pub alloc: Global,
     pub checked: &'a Checked,
+    pub stepping: &'a S,
     pub known: &'a K,
 }
 
@@ -121,7 +123,7 @@ fn exercise_action(
     }
 }
 
-impl<K: KnownContracts> Interpreter<'_, K> {
+impl<K: KnownContracts, S: Stepping> Interpreter<'_, K, S> {
     /// An action without consequences.
     fn leaf(&self, seed: Hash, action: Action) -> ActionNode
         ensures { result ≡ record { root = record { seed = seed; action = action }; below = NoRoots } }
@@ -204,7 +206,10 @@ impl<K: KnownContracts> Interpreter<'_, K> {
     ) -> Result<Turn, CommandFault>
         ensures { result ≢ Err CommandFault.Memory → turn_shown result ≡ turn_of path.now (next self.now.checked.now call.now seen.now) }
     {
-        match next_step(self.alloc, self.checked, call, seen) {
+        match self
+            .stepping
+            .step_after(self.alloc, self.checked, call, seen)
+        {
             Ok(step) => turn_of_step(path, step),
             Err(fault) => Err(eval_fault(path, fault)),
         }

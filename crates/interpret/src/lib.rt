@@ -16,6 +16,7 @@ mod references;
 mod replay;
 mod result_of_child;
 mod sizes;
+mod stepping;
 mod tested;
 mod turn;
 

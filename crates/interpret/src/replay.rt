@@ -10,9 +10,10 @@ ghost use Rattle.interpret.specs.Tries.{are_rest, asks, gives, has_none, is_dema
 
 use crate::result_of_child::result_of_child;
 use crate::sizes::{are_small_args, is_small_instance, is_small_result};
+use crate::stepping::Stepping;
 use lang_eval::{
-    Checked, EvalFault, call_has_kinds, has_kinds, is_consuming_call, next_step, parties_of_choice,
-    parties_of_created,
+    Checked, EvalFault, NativeList, call_has_kinds, has_kinds, is_consuming_call,
+    parties_of_choice, parties_of_created,
 };
 use ledger_model::{ChildResultList, ChoiceCall, Step};
 use ledger_terms::{
@@ -20,11 +21,12 @@ use ledger_terms::{
 };
 use std::alloc::{AllocError, Global};
 
-/// What tries trees of actions: the packages.
+/// What tries trees of actions: the packages, and what says what choices do.
 #[derive(Drop)]
-struct Replay<'a> {
+struct Replay<'a, S> {
     alloc: Global,
     checked: &'a Checked,
+    stepping: &'a S,
 }
 
 fn is_demanded(step: &Step, action: &Action) -> bool
@@ -98,7 +100,7 @@ fn has_none(children: &ActionNodeList) -> bool
     children.as_slice().is_empty()
 }
 
-impl Replay<'_> {
+impl<S: Stepping> Replay<'_, S> {
     /// Whether the body asks for the action next.
     fn asks_for(
         &self,
@@ -108,7 +110,10 @@ impl Replay<'_> {
     ) -> Result<bool, AllocError>
         ensures { IfOk result (λ b. b ≡ asks (next self.now.checked.now call.now seen.now) action.now) }
     {
-        match next_step(self.alloc, self.checked, call, seen) {
+        match self
+            .stepping
+            .step_after(self.alloc, self.checked, call, seen)
+        {
             Ok(step) => Ok(is_demanded(&step, action)),
             Err(EvalFault::Memory) => Err(AllocError),
             Err(_) => Ok(false),
@@ -124,7 +129,10 @@ impl Replay<'_> {
     ) -> Result<bool, AllocError>
         ensures { IfOk result (λ b. b ≡ gives (next self.now.checked.now call.now seen.now) wanted.now) }
     {
-        match next_step(self.alloc, self.checked, call, seen) {
+        match self
+            .stepping
+            .step_after(self.alloc, self.checked, call, seen)
+        {
             Ok(step) => Ok(is_done(&step, wanted)),
             Err(EvalFault::Memory) => Err(AllocError),
             Err(_) => Ok(false),
@@ -292,10 +300,19 @@ impl Replay<'_> {
 
 /// Whether a tree of actions is possible in the model (Ledger Model: conformance): its root is possible by itself, and the
 /// consequences of each Exercise are what its choice does, each possible itself, to the result that it has. Seeds, ids
-/// and authority play no part, and neither does what a Fetch has as actors.
-pub fn reexecute(alloc: Global, checked: &Checked, root: &ActionNode) -> Result<bool, AllocError>
+/// and authority play no part, and neither does what a Fetch has as actors. A choice that `natives` has is asked of them.
+pub fn reexecute(
+    alloc: Global,
+    checked: &Checked,
+    natives: &NativeList,
+    root: &ActionNode,
+) -> Result<bool, AllocError>
     ensures { IfOk result (λ b. Decides b (Conforms (the_language checked.now) (tree_of root.now))) }
 {
-    let replay = Replay { alloc, checked };
+    let replay = Replay {
+        alloc,
+        checked,
+        stepping: natives,
+    };
     replay.is_tree_possible(root)
 }

@@ -2,6 +2,8 @@ pub mod Values
 pub mod KindLists
 pub mod Spelled
 pub mod Runs
+pub mod SameChoices
+pub mod Natives
 pub mod RoleLaws
 pub mod NamesEnd
 pub mod Informed

@@ -339,8 +339,8 @@ fn body_names(
     Ok(names)
 }
 
-/// What a body does next, with the template and the choice at hand.
-pub(crate) fn next_by(
+/// What the body of a choice does next, with its template at hand.
+pub fn next_of_choice(
     alloc: Global,
     checked: &Checked,
     template: &Template,
@@ -374,7 +374,9 @@ pub fn next_step(
 {
     match checked.template(call.instance.template) {
         Some(template) => match checked.choice(call.instance.template, call.choice) {
-            Some(choice) => next_by(alloc, checked, template, choice, call, so_far.as_slice()),
+            Some(choice) => {
+                next_of_choice(alloc, checked, template, choice, call, so_far.as_slice())
+            }
             None => Err(EvalFault::Assert),
         },
         None => Err(EvalFault::Assert),

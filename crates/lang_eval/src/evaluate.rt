@@ -27,7 +27,7 @@ fn named_value(name: &Text, names: &Bindings) -> Result<Value, AllocError>
 pub fn eval_list(exprs: &ExprList, names: &Bindings) -> Result<ValueList, EvalFault>
     ensures { UnlessMemory EvalFault.Memory result (vals (list_form exprs.now) names.now) }
 {
-    let mut values = ValueList::new(*names.allocator());
+    let mut values = ValueList::with_room(*names.allocator(), exprs.len())?;
     for expr in exprs.as_slice() {
         values.push(eval_expr(expr, names)?)?;
     }

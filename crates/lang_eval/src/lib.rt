@@ -14,6 +14,8 @@ mod expr_copy;
 mod forms;
 mod kinds;
 pub mod laws;
+mod native;
+mod native_list;
 mod note;
 mod operator;
 mod operators;
@@ -22,11 +24,12 @@ mod parties;
 mod role_fault;
 mod role_sets;
 mod run;
+mod same;
 mod spelling;
 
 pub use binding::Binding;
 pub use bindings::Bindings;
-pub use body::next_step;
+pub use body::{next_of_choice, next_step};
 pub use bound_name::BoundName;
 pub use checked::{Checked, choice_named, package_named, template_named};
 pub use choice_parties::ChoiceParties;
@@ -35,7 +38,9 @@ pub use eval_fault::EvalFault;
 pub use evaluate::{eval_expr, eval_list, eval_test};
 pub use kinds::{call_has_kinds, has_kinds, have_kinds, kind_of};
 pub use ledger_model::{ChildResult, ChildResultList, ChoiceCall, Roles, Step};
-pub use note::{archive_name, note_name, note_package, note_template_name};
+pub use native::Native;
+pub use native_list::{NativeList, next_by};
+pub use note::{archive_name, flash_choice, note_name, note_package, note_template_name};
 pub use owner::Owner;
 pub use parties::{
     is_consuming_call, observers_of_choice, parties_of_choice, parties_of_contract,

@@ -83,7 +83,8 @@ fn flash_body(alloc: Global) -> Result<StmtList, AllocError>
     Ok(body)
 }
 
-fn flash(alloc: Global) -> Result<Choice, AllocError>
+/// The choice Flash of notes, which creates a second note and archives it.
+pub fn flash_choice(alloc: Global) -> Result<Choice, AllocError>
     ensures { IfOk result (λ c. c ≡ flash_form) }
 {
     let (controllers, body) = both(one_party(alloc, "this.owner"), flash_body(alloc))?;
@@ -103,7 +104,7 @@ fn note_choices(alloc: Global) -> Result<ChoiceList, AllocError>
     ensures { IfOk result (λ c. c ≡ flash_form ∷ []) }
 {
     let mut choices = ChoiceList::new(alloc);
-    choices.push(flash(alloc)?)?;
+    choices.push(flash_choice(alloc)?)?;
     Ok(choices)
 }
 

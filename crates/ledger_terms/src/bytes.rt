@@ -1,5 +1,5 @@
 //! Bytes, which contracts see as a list.
-ghost use Rattle.std.specs.Prelude.{◌≡◌, ◌↔◌, ◌<◌, ◌^◌, ◌++◌, ◌∷◌, [], length, IsTrue, OnOk, OnErr};
+ghost use Rattle.std.specs.Prelude.{◌≡◌, ◌↔◌, ◌<◌, ◌^◌, ◌++◌, ◌∷◌, [], length, IsTrue, IfOk, OnOk, OnErr};
 
 use crate::exact::Exact;
 use std::alloc::{AllocError, Global};
@@ -27,6 +27,15 @@ impl Bytes {
         Bytes {
             bytes: Vec::new(alloc),
         }
+    }
+
+    /// No bytes, with room for so many.
+    pub fn with_room(alloc: Global, count: usize) -> Result<Bytes, AllocError>
+        ensures { IfOk result (λ b. b ≡ []) }
+    {
+        let mut bytes = Vec::new(alloc);
+        bytes.reserve_exact(count)?;
+        Ok(Bytes { bytes })
     }
 
     /// The bytes of a vector, without memory.

@@ -3,6 +3,7 @@ ghost use Rattle.std.specs.Prelude.{◌≡◌, ◌++◌, ◌∷◌, ◌||◌, �
 ghost use Rattle.ledger_terms.specs.Parties.{with_party, with_parties, set_of, has_party, is_subset, meets_set, stands_above, IsRising};
 
 use crate::exact::Exact;
+use crate::growth::{make_room, push_closely};
 use crate::name::{Name, NameList};
 use std::alloc::{AllocError, Global};
 use std::marker::Model;
@@ -35,6 +36,7 @@ fn insert_name(names: &mut Vec<Name>, name: Name) -> Result<(), AllocError>
     if at < names.len() && names[at] == name {
         return Ok(());
     }
+    make_room(names)?;
     names.insert(at, name)?;
     Ok(())
 }
@@ -108,7 +110,7 @@ impl PartySet {
         if !is_above(self.names.as_slice(), party) {
             return Ok(false);
         }
-        self.names.push(party)?;
+        push_closely(&mut self.names, party)?;
         Ok(true)
     }
 

@@ -24,6 +24,7 @@ use crate::copies::{completion_by, copy_response};
 use crate::duties::Duties;
 use canton_model::{Outcome, Request, Response};
 use confirm_reply::Setup;
+use lang_eval::NativeList;
 use ledger_model::CommitList;
 use ledger_terms::{ActiveRowList, ParticipantId, Submission};
 use log_row::Slip;
@@ -227,10 +228,11 @@ impl<'s> Node<'s> {
     }
 
     /// The request that a submission of this participant wants over the contracts active at the cursor. `now` is the ledger time of
-    /// a submission that has none.
+    /// a submission that has none. A choice that `natives` has is asked of them in place of the language. Memory is that of the
+    /// submission.
     pub fn prepare(
         &self,
-        alloc: Global,
+        natives: &NativeList,
         what: &Submission,
         now: u64,
     ) -> Result<Request, SubmitFault>
@@ -252,7 +254,7 @@ impl<'s> Node<'s> {
             return Err(SubmitFault::Paused);
         }
         let known = self.inbox.known();
-        prepare_request::prepare(alloc, self.setup, self.me, &known, what, now)
+        prepare_request::prepare(self.setup, natives, self.me, &known, what, now)
     }
 
     /// The approved requests before the clean place, as they are opened to it.

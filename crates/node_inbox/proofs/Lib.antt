@@ -17,5 +17,4 @@ pub mod Approved
 pub mod ActiveRows
 pub mod AddedIds
 pub mod Told
-mod Copies
 mod FirstVerdict

@@ -16,7 +16,7 @@ use confirm_reply::{IdFacts, IdFactsList};
 use inbox_standing::Change;
 use interpret::is_authentic;
 use ledger_model::Status;
-use ledger_terms::{Act, Action, ActionNodeList, Exact, Hash, Known};
+use ledger_terms::{Act, Action, ActionNodeList, Exact, Hash, Known, push_closely};
 use std::alloc::{AllocError, Global};
 use view_split::assemble;
 
@@ -92,7 +92,7 @@ fn push_change(alloc: Global, act: &Act, changes: &mut Vec<Change>) -> Result<()
     ensures { OnOk result (changes.new.items ≡ changes.old.items ++ map change_of (filter is_authentic_change (act.now ∷ []))) }
 {
     if is_authentic_change(alloc, act)? {
-        changes.push(change_of(act)?)?;
+        push_closely(changes, change_of(act)?)?;
     }
     Ok(())
 }
@@ -113,7 +113,7 @@ pub fn changes_of(alloc: Global, found: &[&Act]) -> Result<Vec<Change>, AllocErr
 pub fn blank_facts(alloc: Global, found: &[&Act]) -> Result<IdFactsList, AllocError>
     ensures { IfOk result (λ facts. facts ≡ map blank_fact (acts_in found.now)) }
 {
-    let mut facts = IdFactsList::new(alloc);
+    let mut facts = IdFactsList::with_room(alloc, found.len())?;
     for act in found {
         facts.push(IdFacts {
             id: act.action.id(),

@@ -24,24 +24,6 @@ use ledger_terms::{ActiveRow, ActiveRowList, Exact, ParticipantId};
 use prepare_request::has_hosted_stakeholder;
 use std::alloc::{AllocError, Global};
 
-// The changes by the request at a place, where it is approved.
-fn changes_at(
-    alloc: Global,
-    setup: &Setup,
-    items: &[KeptItem],
-    standing: &Standing,
-    place: u64,
-) -> Result<Vec<Change>, AllocError>
-    requires told { TellsOutcomes setup.now.topology.params (model_items items.now) standing.now }
-    requires kept { KeepChanges items.now }
-    ensures { IfOk result (λ changes. changes.items ≡ changes_of (filter is_authentic (acts (approved_at (model_items items.now) place)))) }
-{
-    match approved_at(setup, items, standing, place) {
-        Some(kept) => changes_copy(alloc, kept.changes.as_slice()),
-        None => Ok(Vec::new(alloc)),
-    }
-}
-
 // Puts changes by the request at a place into a store.
 fn write(scratch: &mut Standing, place: u64, changes: Vec<Change>) -> Result<(), AllocError>
     ensures { OnOk result (scratch.new.store.rows ≡ write_changes place changes.items scratch.old.store.rows) }
@@ -49,6 +31,30 @@ fn write(scratch: &mut Standing, place: u64, changes: Vec<Change>) -> Result<(),
     scratch.make_room(&changes)?;
     scratch.settle(place, Outcome::Approved, changes);
     Ok(())
+}
+
+// Puts the changes by the request at a place into a store, where it is approved.
+fn write_approved(
+    alloc: Global,
+    setup: &Setup,
+    items: &[KeptItem],
+    standing: &Standing,
+    place: u64,
+    scratch: &mut Standing,
+) -> Result<(), AllocError>
+    requires told { TellsOutcomes setup.now.topology.params (model_items items.now) standing.now }
+    requires kept { KeepChanges items.now }
+    ensures { OnOk result (scratch.new.store.rows
+        ≡ write_changes place (changes_of (filter is_authentic (acts (approved_at (model_items items.now) place)))) scratch.old.store.rows) }
+{
+    match approved_at(setup, items, standing, place) {
+        Some(kept) => write(
+            scratch,
+            place,
+            changes_copy(alloc, kept.changes.as_slice())?,
+        ),
+        None => Ok(()),
+    }
 }
 
 // A store with the approved requests below a place alone.
@@ -66,8 +72,7 @@ fn store_below(
 {
     let mut scratch = Standing::new(alloc);
     'places: for place in 0..end {
-        let changes = changes_at(alloc, setup, items, standing, place)?;
-        write(&mut scratch, place, changes)?;
+        write_approved(alloc, setup, items, standing, place, &mut scratch)?;
     }
     Ok(scratch)
 }

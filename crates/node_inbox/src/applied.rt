@@ -52,8 +52,10 @@ pub fn approved_at<'i>(
     ensures exact { roots_in (option_map shown_of (option_copied result)) ≡ approved_at (model_items items.now) place }
     ensures changes { IfSome result (λ kept. kept.now.changes.items ≡ opened_changes kept.now.tree) }
 {
+    // most places have no request, and an item is found sooner than an outcome
+    let kept = opened_at(items, place)?;
     if is_approved(standing, place) {
-        opened_at(items, place)
+        Some(kept)
     } else {
         None
     }
@@ -88,7 +90,7 @@ fn push_approved(
 {
     match approved_at(setup, items, standing, place) {
         Some(kept) => {
-            let roots = roots_of(*commits.allocator(), &kept.tree.views)?;
+            let roots = roots_of(*commits.allocator(), &kept.tree.opened().views)?;
             push_commit(place, roots, commits)
         }
         None => Ok(()),

@@ -21,6 +21,7 @@ pub fn changes_copy(alloc: Global, changes: &[Change]) -> Result<Vec<Change>, Al
     ensures { IfOk result (λ copy. copy.items ≡ changes.now) }
 {
     let mut copy = Vec::new(alloc);
+    copy.reserve_exact(changes.len())?;
     for change in changes {
         copy.push(change_copy(change)?)?;
     }
@@ -31,7 +32,7 @@ pub fn changes_copy(alloc: Global, changes: &[Change]) -> Result<Vec<Change>, Al
 pub fn ids_of(alloc: Global, changes: &[Change]) -> Result<HashList, AllocError>
     ensures { IfOk result (λ ids. ids ≡ map id_in changes.now) }
 {
-    let mut ids = HashList::new(alloc);
+    let mut ids = HashList::with_room(alloc, changes.len())?;
     for change in changes {
         ids.push(change.known.id)?;
     }

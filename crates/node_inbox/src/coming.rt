@@ -16,7 +16,7 @@ use crate::kept_item::KeptRequest;
 use crate::opening::{envelope_to, hash_of, opened_of, tree_in};
 use blind_tree::OpenedTree;
 use canton_model::Request;
-use confirm_reply::{IdFactsList, Setup};
+use confirm_reply::{IdFactsList, Setup, SharedTree};
 use inbox_standing::Change;
 use ledger_terms::{HashList, ParticipantId};
 use std::alloc::{AllocError, Global};
@@ -65,11 +65,12 @@ pub fn coming(
     let views = confirmed(alloc, &setup.topology, me, &opened)?;
     let (facts, changes) = parts_of(alloc, &opened)?;
     let ids = ids_of(alloc, changes.as_slice())?;
+    let shared = SharedTree::new(alloc, opened)?;
     let kept = KeptRequest {
         sender: request.sender,
         command: request.command,
         root,
-        tree: opened,
+        tree: shared,
         changes,
         views,
         facts,

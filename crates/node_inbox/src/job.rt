@@ -9,7 +9,6 @@ ghost use Rattle.node_inbox.specs.Kept.{AreKept};
 
 use crate::items::{request_at, time_at};
 use crate::kept_item::{KeptItem, KeptRequest};
-use crate::tree_copy::tree_copy;
 use confirm_reply::{CheckInput, IdFactsList, Setup};
 use ledger_terms::{Exact, ParticipantId};
 use std::alloc::{AllocError, Global};
@@ -18,7 +17,7 @@ use validate_job::ValidateJob;
 fn copy_facts(alloc: Global, facts: &IdFactsList) -> Result<IdFactsList, AllocError>
     ensures { IfOk result (λ copy. copy ≡ facts.now) }
 {
-    let mut copy = IdFactsList::new(alloc);
+    let mut copy = IdFactsList::with_room(alloc, facts.len())?;
     for fact in facts.as_slice() {
         copy.push(*fact)?;
     }
@@ -35,7 +34,7 @@ fn input_of<'s>(
 ) -> Result<CheckInput<'s>, AllocError>
     ensures { IfOk result (λ input. input ≡ input_of setup.entry me time kept.now) }
 {
-    let tree = tree_copy(&kept.tree)?;
+    let tree = kept.tree.shared()?;
     let facts = copy_facts(alloc, &kept.facts)?;
     Ok(CheckInput {
         setup,

@@ -1,9 +1,8 @@
 //! The items of an inbox.
 use canton_model::Verdict;
-use confirm_reply::IdFactsList;
+use confirm_reply::{IdFactsList, SharedTree};
 use inbox_standing::Change;
 use ledger_terms::{Hash, Name, ParticipantId, PathList};
-use view_split::OpenedTree;
 
 /// What a participant keeps of a request that it received: who sent it, the name that the sender gave the command, the hash of its
 /// tree, what is opened of it and the changes among the authentic actions in that, so that nothing is opened or hashed again. Beside
@@ -14,7 +13,7 @@ pub struct KeptRequest {
     pub sender: ParticipantId,
     pub command: Name,
     pub root: Hash,
-    pub tree: OpenedTree,
+    pub tree: SharedTree,
     pub changes: Vec<Change>,
     pub views: PathList,
     pub facts: IdFactsList,

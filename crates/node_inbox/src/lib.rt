@@ -20,7 +20,6 @@ pub mod laws;
 mod opening;
 mod putting;
 mod telling;
-mod tree_copy;
 
 pub use inbox::Inbox;
 pub use kept_item::{KeptContent, KeptItem, KeptRequest};

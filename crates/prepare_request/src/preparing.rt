@@ -16,6 +16,7 @@ use canton_model::Request;
 use confirm_reply::Setup;
 use hash_id::root_seed;
 use interpret::{CommandFault, fill, interpret};
+use lang_eval::NativeList;
 use ledger_terms::{
     ActionNodeList, DraftList, Hash, KnownContracts, Name, ParticipantId, PartySet, Submission,
     Topology, Tx, What,
@@ -84,8 +85,8 @@ fn fill_drafts<K: KnownContracts>(
 
 /// The root actions that the submission wants.
 fn actions_of<K: KnownContracts>(
-    alloc: Global,
     setup: &Setup,
+    natives: &NativeList,
     known: &K,
     seed: &Hash,
     what: &Submission,
@@ -95,21 +96,21 @@ fn actions_of<K: KnownContracts>(
 {
     match &what.what {
         What::Commands(commands) => interpret(
-            alloc,
             &setup.checked,
+            natives,
             known,
             seed,
             &what.act_as,
             commands,
         ),
-        What::Prepared { roots, .. } => fill_drafts(alloc, known, seed, roots),
+        What::Prepared { roots, .. } => fill_drafts(*roots.allocator(), known, seed, roots),
     }
 }
 
 /// The transaction that the submission wants.
 fn wanted_tx<K: KnownContracts>(
-    alloc: Global,
     setup: &Setup,
+    natives: &NativeList,
     me: ParticipantId,
     known: &K,
     what: &Submission,
@@ -120,7 +121,7 @@ fn wanted_tx<K: KnownContracts>(
     ensures plain { IfErr result HoldsNoMemory }
 {
     let seed = seed_for(&setup.topology, me, what);
-    let roots = actions_of(alloc, setup, known, &seed, what)?;
+    let roots = actions_of(setup, natives, known, &seed, what)?;
     Ok(Tx {
         act_as: what.act_as.clone()?,
         ledger_time: time_or(what.ledger_time, now),
@@ -131,10 +132,10 @@ fn wanted_tx<K: KnownContracts>(
 
 /// The transaction that a submission of the participant `me` asks for, as a request in the sealed form: its commands are
 /// interpreted, or its prepared tree is filled, over the contracts that are known. `now` is the ledger time of a submission
-/// that has none.
+/// that has none. A choice that `natives` has is asked of them in place of the language. Memory is that of the submission.
 pub fn prepare<K: KnownContracts>(
-    alloc: Global,
     setup: &Setup,
+    natives: &NativeList,
     me: ParticipantId,
     known: &K,
     what: &Submission,
@@ -155,7 +156,8 @@ pub fn prepare<K: KnownContracts>(
     if let Some(party) = first_unhosted(&setup.topology, me, &what.act_as) {
         return Err(SubmitFault::NotHosted { party });
     }
-    let tx = wanted_tx(alloc, setup, me, known, what, now)?;
+    let tx = wanted_tx(setup, natives, me, known, what, now)?;
+    let alloc = *tx.roots.allocator();
     let views = split(alloc, &setup.checked, &tx)?;
     // the prover learns from this call that the formats have room
     let _sealable = is_sealable(&views);

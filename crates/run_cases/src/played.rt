@@ -2,9 +2,11 @@
 use crate::case::Case;
 use canton_run::{Finish, line, run};
 use cli_words::WordList;
-use cn_io::{MemSink, MemSource};
+use cn_io::{MemSink, MemSource, Sink, Source};
 use lane_pool::FreeGate;
+use lang_eval::NativeList;
 use ledger_terms::{Bytes, Text, U64List};
+use native_choice::FlashNative;
 use std::alloc::{AllocError, AllocGlobal, Global};
 use std::random::RandomSource;
 use std::str;
@@ -69,6 +71,19 @@ fn source_of(alloc: Global, case: &Case<'_>) -> Result<MemSource, AllocError> {
     Ok(MemSource::new(bytes, PIECE, only(alloc, case.take)?))
 }
 
+/// Runs words with the natives of the program.
+pub(crate) fn run_words<R: Threads + Wait + Sync + RandomSource + AllocGlobal, S: Source, K: Sink>(
+    rt: &R,
+    alloc: Global,
+    words: &WordList,
+    source: &mut S,
+    sink: &mut K,
+) -> Result<Finish, AllocError> {
+    let mut natives = NativeList::new(alloc);
+    natives.push(Box::new(alloc, FlashNative::new(alloc)?)?)?;
+    Ok(run(rt, &FreeGate, words, source, sink, natives))
+}
+
 fn played<R: Threads + Wait + Sync + RandomSource + AllocGlobal>(
     rt: &R,
     alloc: Global,
@@ -77,6 +92,6 @@ fn played<R: Threads + Wait + Sync + RandomSource + AllocGlobal>(
     let words = words_of(alloc, case.words)?;
     let mut source = source_of(alloc, case)?;
     let mut sink = MemSink::new(alloc, PIECE, only(alloc, case.put)?);
-    let finish = run(rt, &FreeGate, alloc, &words, &mut source, &mut sink);
+    let finish = run_words(rt, alloc, &words, &mut source, &mut sink)?;
     Ok((finish, sink))
 }

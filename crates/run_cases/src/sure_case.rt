@@ -1,8 +1,7 @@
 //! Cases whose source never fails and whose sink has room.
-use crate::played::{put_line, put_written, words_of};
-use canton_run::{Finish, run};
+use crate::played::{put_line, put_written, run_words, words_of};
+use canton_run::Finish;
 use cn_io::{SureSink, SureSource};
-use lane_pool::FreeGate;
 use ledger_terms::Bytes;
 use std::alloc::{AllocError, AllocGlobal, Global};
 use std::random::RandomSource;
@@ -65,6 +64,6 @@ fn surely_played<R: Threads + Wait + Sync + RandomSource + AllocGlobal>(
     let mut source = source_of(alloc, case)?;
     let mut sink = SureSink::new(alloc);
     sink.reserve(case.room)?;
-    let finish = run(rt, &FreeGate, alloc, &words, &mut source, &mut sink);
+    let finish = run_words(rt, alloc, &words, &mut source, &mut sink)?;
     Ok((finish, sink))
 }

@@ -14,6 +14,7 @@ use Rattle.view_split.specs.contracts.split_view.SplitView as SplitView
 use Rattle.view_split.specs.contracts.placed_view.PlacedView as PlacedView
 use Rattle.view_split.specs.contracts.opened_tree.OpenedTree as OpenedTree
 use Rattle.canton_model.proofs.verdict.Verdict.TheSendSync as verdict
+use Rattle.confirm_reply.specs.contracts.shared_tree.SharedTree as SharedTree
 use Rattle.confirm_reply.proofs.id_facts.IdFacts.TheSendSync as id_facts
 use Rattle.inbox_standing.proofs.change.Change.TheSendSync as change
 use Rattle.node_inbox.specs.contracts.kept_item.KeptRequest as KeptRequest
@@ -52,6 +53,12 @@ opened_tree_send = search (sendable, crosses, name.the_send, party_set.the_send,
 pub opened_tree_sync : IsSync OpenedTree.the_row
 opened_tree_sync = search (sendable, crosses, name.the_sync, party_set.the_sync, list.the_sync, placed_view_sync) depth 40 fits 10000
 
+pub shared_tree_send : IsSend SharedTree.the_row
+shared_tree_send = search (sendable, crosses, opened_tree_send, opened_tree_sync) depth 40 fits 10000
+
+pub shared_tree_sync : IsSync SharedTree.the_row
+shared_tree_sync = search (sendable, crosses, opened_tree_send, opened_tree_sync) depth 40 fits 10000
+
 pub kept_request_send : IsSend KeptRequest.the_row
 kept_request_send =
     declared_send KeptRequest.the_type (
@@ -61,7 +68,7 @@ kept_request_send =
         (
           hash.the_send,
           (
-            opened_tree_send,
+            shared_tree_send,
             (
               search (sendable, crosses, change.the_send, as_row_send) depth 20,
               (
@@ -83,7 +90,7 @@ kept_request_sync =
         (
           hash.the_sync,
           (
-            opened_tree_sync,
+            shared_tree_sync,
             (
               search (sendable, crosses, change.the_sync, as_row_sync) depth 20,
               (

@@ -10,6 +10,7 @@ mod locked_mediator;
 mod locked_node;
 mod locked_nodes;
 mod node_step;
+mod prepared;
 mod round_rules;
 mod session;
 mod shared;

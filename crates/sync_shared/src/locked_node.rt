@@ -22,6 +22,7 @@ ghost use Rattle.sync_shared.specs.Slips.{read_to, InRow};
 ghost use mathlib.Core.List.{IsPrefix};
 
 use crate::locked_log::LockedLog;
+use crate::prepared::prepared;
 use crate::session::Session;
 use crate::slips::{again, follows, tie};
 use canton_model::{Request, Response};
@@ -149,7 +150,7 @@ impl<'r, S: Session, const I: u8> LockedNode<'r, S, I> {
         // the prover learns from this call why submissions are refused
         faults_have_causes();
         self.node.set_paused(false);
-        self.node.prepare(alloc, what, now)
+        prepared(alloc, &self.node, what, now)
     }
 
     /// What became of a request of its own over what was read.

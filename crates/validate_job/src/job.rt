@@ -6,12 +6,13 @@ ghost use Rattle.validate_job.specs.Outcome.{IsOutcome};
 use crate::finished::Finished;
 use canton_model::{ViewVerdict, ViewVerdictList};
 use confirm_reply::{CheckInput, check_view};
+use lang_eval::NativeList;
 use ledger_terms::{Exact, Path, PathList};
 use std::alloc::{AllocError, Global};
 use std::marker::Model;
 use std::mem;
 
-/// Checks views of a request, one at each step. As a future it takes one step at each poll.
+/// Checks views of a request, one at each step. As a future it takes one step at each poll, and asks the language alone.
 #[derive(Drop)]
 pub struct ValidateJob<'s> {
     input: CheckInput<'s>,
@@ -45,11 +46,16 @@ impl<'s> Model for ValidateJob<'s> {
 }
 
 // A view's path with the verdict on it.
-fn verdict_on(alloc: Global, input: &CheckInput<'_>, path: &Path) -> Result<ViewVerdict, AllocError>
+fn verdict_on(
+    alloc: Global,
+    natives: &NativeList,
+    input: &CheckInput<'_>,
+    path: &Path,
+) -> Result<ViewVerdict, AllocError>
     requires { CanCheck input.now path.now }
     ensures { IfOk result (λ verdict. owed_on input.now path.now ≡ verdict ∷ []) }
 {
-    let verdict = check_view(alloc, input, path)?;
+    let verdict = check_view(alloc, natives, input, path)?;
     let view = path.copied()?;
     Ok(ViewVerdict { view, verdict })
 }
@@ -105,7 +111,22 @@ impl<'s> ValidateJob<'s> {
         ensures err { OnErr result (self.new ≡ self.old) }
     {
         let alloc = *self.views.allocator();
-        let verdict = verdict_on(alloc, &self.input, &self.views.as_slice()[self.checked])?;
+        self.check_next_by(&NativeList::new(alloc))
+    }
+
+    /// The same, where a choice that `natives` has is asked of them in place of the language.
+    pub fn check_next_by(&mut self, natives: &NativeList) -> Result<Option<Finished>, AllocError>
+        requires { 0 < self.old.left }
+        ensures one_view { OnOk result (self.new.left + 1 ≡ self.old.left) }
+        ensures given { self.new.given ≡ self.old.given }
+        ensures none { IfOk result (λ o. IfNone o (0 < self.new.left)) }
+        ensures last { IfOk result (λ o. IfSome o (λ finished. self.new.left ≡ 0)) }
+        ensures finished { IfOk result (λ o. IfSome o (λ finished. IsOutcome self.old.given finished)) }
+        ensures err { OnErr result (self.new ≡ self.old) }
+    {
+        let alloc = *self.views.allocator();
+        let path = &self.views.as_slice()[self.checked];
+        let verdict = verdict_on(alloc, natives, &self.input, path)?;
         self.verdicts.push(verdict)?;
         self.checked += 1;
         if self.checked < self.views.len() {

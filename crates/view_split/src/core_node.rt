@@ -3,7 +3,7 @@ ghost use Rattle.std.specs.Prelude.{◌≡◌, ◌∷◌, [], OnOk, OnErr};
 ghost use Rattle.view_split.specs.Holed.{NoMore, beside, width};
 ghost use Rattle.view_split.specs.CoreLists.{children_of};
 
-use ledger_terms::{Action, Hash};
+use ledger_terms::{Action, Hash, push_closely};
 use std::alloc::{AllocError, Global};
 use std::marker::Model;
 
@@ -102,7 +102,6 @@ impl CoreChildList {
         ensures ok { OnOk result (self.new ≡ beside self.old (children_of (child ∷ []))) }
         ensures err { OnErr result (self.new ≡ self.old) }
     {
-        self.children.push(child)?;
-        Ok(())
+        push_closely(&mut self.children, child)
     }
 }

@@ -83,7 +83,7 @@ impl<'a> Reader<'a> {
     fn more_values(&mut self, alloc: Global, count: u8) -> Result<ValueList, ReaderFault>
         ensures { Gives (λ x. (x, self.new)) result (items_at any_item value_at count [] self.old) }
     {
-        let mut values = ValueList::new(alloc);
+        let mut values = ValueList::with_room(alloc, count as usize)?;
         for _ in 0..count {
             self.next_value(alloc, &mut values)?;
         }

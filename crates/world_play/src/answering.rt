@@ -17,11 +17,12 @@ ghost use Rattle.world_play.specs.Standing.{GoesOn, IsParticipant};
 
 use crate::reading::read_to_end;
 use canton_model::{Message, Request};
+use lang_eval::NativeList;
 use ledger_terms::Submission;
 use node_core::{Node, SubmitFault, SubmitResult};
 use prepare_request::laws::faults_have_causes;
 use seq_log::{AppendFault, AppendRefusal, Sequencer};
-use std::alloc::{AllocError, Global};
+use std::alloc::AllocError;
 
 // Hands in the request of a participant that has read all of the log, and what comes of that.
 fn send(sequencer: &mut Sequencer<'_>, request: Request) -> Result<SubmitResult, AllocError>
@@ -55,7 +56,7 @@ fn send(sequencer: &mut Sequencer<'_>, request: Request) -> Result<SubmitResult,
 
 // The participant isn't paused. It reads to the end and hands in the request that the submission wants, where it wants one.
 fn answer_awake(
-    alloc: Global,
+    natives: &NativeList,
     node: &mut Node<'_>,
     sequencer: &mut Sequencer<'_>,
     what: &Submission,
@@ -74,7 +75,7 @@ fn answer_awake(
     // the prover learns from this call that each fault has a cause in the submission
     faults_have_causes();
     read_to_end(node, sequencer)?;
-    match node.prepare(alloc, what, now) {
+    match node.prepare(natives, what, now) {
         Ok(request) => send(sequencer, request),
         Err(SubmitFault::Memory) => Err(AllocError),
         Err(fault) => Ok(SubmitResult::Refused {
@@ -87,7 +88,7 @@ fn answer_awake(
 /// What the participant of a submission answers to it. `now` is the time of the round in microseconds. After want of memory it
 /// may have read some of the log.
 pub fn answer(
-    alloc: Global,
+    natives: &NativeList,
     node: &mut Node<'_>,
     sequencer: &mut Sequencer<'_>,
     what: &Submission,
@@ -109,5 +110,5 @@ pub fn answer(
             read_to: node.cursor(),
         });
     }
-    answer_awake(alloc, node, sequencer, what, now)
+    answer_awake(natives, node, sequencer, what, now)
 }

@@ -17,12 +17,14 @@ use crate::event::Event;
 use crate::moving::{NodeMove, move_node};
 use crate::submitting::{advance, submit};
 use crate::world::World;
+use lang_eval::NativeList;
 use ledger_terms::ParticipantId;
 use std::alloc::{AllocError, Global};
 
-fn move_at(
+fn move_at<'r>(
     alloc: Global,
-    world: &mut World<'_>,
+    natives: &'r NativeList,
+    world: &mut World<'r>,
     node: ParticipantId,
     action: NodeMove,
 ) -> Result<(), AllocError>
@@ -35,6 +37,7 @@ fn move_at(
 {
     move_node(
         alloc,
+        natives,
         &mut world.nodes,
         &mut world.sequencer,
         node.0 as usize,
@@ -71,7 +74,12 @@ fn verdict_is_lost(world: &mut World<'_>) -> Result<(), AllocError>
 }
 
 /// What the event does. One with nothing to do changes nothing.
-pub fn happen(alloc: Global, world: &mut World<'_>, event: &Event) -> Result<(), AllocError>
+pub fn happen<'r>(
+    alloc: Global,
+    natives: &'r NativeList,
+    world: &mut World<'r>,
+    event: &Event,
+) -> Result<(), AllocError>
     requires now { world.old.now + advance_of event.now ≤ 10 ^ 16 }
     requires lawful { (m : Machine) × (state : MediatorState) × IsWorldOf m state world.old × Lawful m (world_of state world.old) }
     requires within { (topology : Topology) × (packages : Packages) × AreSetUp topology packages (world.old.nodes).items
@@ -84,14 +92,16 @@ pub fn happen(alloc: Global, world: &mut World<'_>, event: &Event) -> Result<(),
 {
     match event {
         Event::Advance { by } => advance(world, *by),
-        Event::Submit { what } => submit(alloc, world, what),
-        Event::NodeRead { node } => move_at(alloc, world, *node, NodeMove::Read),
-        Event::Validate { node } => move_at(alloc, world, *node, NodeMove::Validate),
-        Event::Reply { node } => move_at(alloc, world, *node, NodeMove::Reply),
-        Event::LoseReply { node } => move_at(alloc, world, *node, NodeMove::LoseReply),
+        Event::Submit { what } => submit(natives, world, what),
+        Event::NodeRead { node } => move_at(alloc, natives, world, *node, NodeMove::Read),
+        Event::Validate { node } => move_at(alloc, natives, world, *node, NodeMove::Validate),
+        Event::Reply { node } => move_at(alloc, natives, world, *node, NodeMove::Reply),
+        Event::LoseReply { node } => move_at(alloc, natives, world, *node, NodeMove::LoseReply),
         Event::MediatorRead => mediator_reads(world),
         Event::GiveVerdict => verdict_comes(world),
         Event::LoseVerdict => verdict_is_lost(world),
-        Event::Pause { node, paused } => move_at(alloc, world, *node, NodeMove::Pause(*paused)),
+        Event::Pause { node, paused } => {
+            move_at(alloc, natives, world, *node, NodeMove::Pause(*paused))
+        }
     }
 }

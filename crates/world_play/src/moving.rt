@@ -18,6 +18,7 @@ ghost use Rattle.world_play.specs.Worlds.{AreNodesOf, world_with};
 use crate::handing_in::hand_in_response;
 use crate::validating::run_job;
 use crate::world::NodeList;
+use lang_eval::NativeList;
 use node_core::Node;
 use seq_log::Sequencer;
 use std::alloc::{AllocError, Global};
@@ -47,13 +48,17 @@ fn read_next(node: &mut Node<'_>, sequencer: &mut Sequencer<'_>) -> Result<(), A
 }
 
 // It claims the first request that it can, and finishes its job.
-fn validate_next(alloc: Global, node: &mut Node<'_>) -> Result<(), AllocError>
+fn validate_next<'r>(
+    alloc: Global,
+    natives: &'r NativeList,
+    node: &mut Node<'r>,
+) -> Result<(), AllocError>
     ensures ok { OnOk result (node.new ≡ with_state node.old
         (validated_if (reading_of node.old) (node.old.topology).params node.old.me node.old.state
         (next_claim (reading_of node.old) (node.old.topology).params node.old.me node.old.state))) }
 {
     if let Some(job) = node.claim_job(alloc)? {
-        let finished = run_job(job)?;
+        let finished = run_job(natives, job)?;
         // nothing was read since the claim, so its request isn't decided
         let _ = node.finish_job(finished);
     }
@@ -92,9 +97,10 @@ fn lose_reply(alloc: Global, node: &mut Node<'_>) -> Result<(), AllocError>
 }
 
 // What a participant does in an event.
-fn move_once(
+fn move_once<'r>(
     alloc: Global,
-    node: &mut Node<'_>,
+    natives: &'r NativeList,
+    node: &mut Node<'r>,
     sequencer: &mut Sequencer<'_>,
     action: NodeMove,
 ) -> Result<(), AllocError>
@@ -106,7 +112,7 @@ fn move_once(
 {
     match action {
         NodeMove::Read => read_next(node, sequencer),
-        NodeMove::Validate => validate_next(alloc, node),
+        NodeMove::Validate => validate_next(alloc, natives, node),
         NodeMove::Reply => reply(alloc, node, sequencer),
         NodeMove::LoseReply => lose_reply(alloc, node),
         NodeMove::Pause(paused) => {
@@ -116,9 +122,10 @@ fn move_once(
     }
 }
 
-fn move_slice(
+fn move_slice<'r>(
     alloc: Global,
-    nodes: &mut [Node<'_>],
+    natives: &'r NativeList,
+    nodes: &mut [Node<'r>],
     sequencer: &mut Sequencer<'_>,
     at: usize,
     action: NodeMove,
@@ -133,15 +140,16 @@ fn move_slice(
         → world_with now state nodes.new sequencer.new ≡ happens m (world_with now state nodes.old sequencer.old) (event_at action at)) }
 {
     if at < nodes.len() {
-        return move_once(alloc, &mut nodes[at], sequencer, action);
+        return move_once(alloc, natives, &mut nodes[at], sequencer, action);
     }
     Ok(())
 }
 
 /// What the participant with this index does in an event, where there is one.
-pub fn move_node(
+pub fn move_node<'r>(
     alloc: Global,
-    nodes: &mut NodeList<'_>,
+    natives: &'r NativeList,
+    nodes: &mut NodeList<'r>,
     sequencer: &mut Sequencer<'_>,
     at: usize,
     action: NodeMove,
@@ -156,5 +164,5 @@ pub fn move_node(
         → world_with now state nodes.new.items sequencer.new
         ≡ happens m (world_with now state nodes.old.items sequencer.old) (event_at action at)) }
 {
-    move_slice(alloc, nodes.as_mut_slice(), sequencer, at, action)
+    move_slice(alloc, natives, nodes.as_mut_slice(), sequencer, at, action)
 }

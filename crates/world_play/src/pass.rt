@@ -17,15 +17,17 @@ use crate::among::is_among;
 use crate::mediating::mediate;
 use crate::turn::take_turn;
 use crate::world::{NodeList, World};
+use lang_eval::NativeList;
 use ledger_terms::ParticipantId;
 use node_core::Node;
 use seq_log::Sequencer;
 use std::alloc::{AllocError, Global};
 
 // Each participant that isn't paused has its turn, in order.
-fn take_turns_slice(
+fn take_turns_slice<'r>(
     alloc: Global,
-    nodes: &mut [Node<'_>],
+    natives: &'r NativeList,
+    nodes: &mut [Node<'r>],
     sequencer: &mut Sequencer<'_>,
     paused: &[ParticipantId],
 ) -> Result<(), AllocError>
@@ -43,7 +45,7 @@ fn take_turns_slice(
     let mut at: usize = 0;
     'nodes: for node in nodes.iter_mut() {
         if !is_among(paused, at) {
-            take_turn(alloc, node, sequencer)?;
+            take_turn(alloc, natives, node, sequencer)?;
         }
         at += 1;
     }
@@ -51,9 +53,10 @@ fn take_turns_slice(
 }
 
 // The same of a list.
-fn take_turns(
+fn take_turns<'r>(
     alloc: Global,
-    nodes: &mut NodeList<'_>,
+    natives: &'r NativeList,
+    nodes: &mut NodeList<'r>,
     sequencer: &mut Sequencer<'_>,
     paused: &[ParticipantId],
 ) -> Result<(), AllocError>
@@ -68,13 +71,14 @@ fn take_turns(
         → PassedTo m paused.now began 0 (world_with now state nodes.old.items sequencer.old)
         → PassedTo m paused.now began m.hosts (world_with now state nodes.new.items sequencer.new)) }
 {
-    take_turns_slice(alloc, nodes.as_mut_slice(), sequencer, paused)
+    take_turns_slice(alloc, natives, nodes.as_mut_slice(), sequencer, paused)
 }
 
 /// Each participant that isn't paused has its turn, and then the mediator. After want of memory the pass was made in part.
-pub fn pass(
+pub fn pass<'r>(
     alloc: Global,
-    world: &mut World<'_>,
+    natives: &'r NativeList,
+    world: &mut World<'r>,
     paused: &[ParticipantId],
     hold_verdicts: bool,
 ) -> Result<(), AllocError>
@@ -90,6 +94,12 @@ pub fn pass(
         → (after : MediatorState) × IsWorldOf m after world.new × WorldReady m paused.now (world_of after world.new)
         × ((world.new.sequencer).list ≡ pass m world.old.now paused.now hold_verdicts (world.old.sequencer).list)) }
 {
-    take_turns(alloc, &mut world.nodes, &mut world.sequencer, paused)?;
+    take_turns(
+        alloc,
+        natives,
+        &mut world.nodes,
+        &mut world.sequencer,
+        paused,
+    )?;
     mediate(&mut world.mediator, &mut world.sequencer, hold_verdicts)
 }

@@ -12,6 +12,7 @@ use crate::event::EventList;
 use crate::happening::happen;
 use crate::world::World;
 use confirm_reply::Setup;
+use lang_eval::NativeList;
 use log_row::LogRow;
 use prepare_request::laws::prepared_requests_make_a_machine;
 use std::alloc::{AllocError, Global};
@@ -20,6 +21,7 @@ use std::alloc::{AllocError, Global};
 pub fn play<'r>(
     alloc: Global,
     setup: &'r Setup,
+    natives: &'r NativeList,
     row: &'r mut LogRow,
     capacity: u64,
     events: &EventList,
@@ -37,7 +39,7 @@ pub fn play<'r>(
     prepared_requests_make_a_machine();
     let mut world = World::new(alloc, setup, row, capacity)?;
     'events: for event in events.as_slice() {
-        happen(alloc, &mut world, event)?;
+        happen(alloc, natives, &mut world, event)?;
     }
     Ok(world)
 }

@@ -14,13 +14,15 @@ ghost use Rattle.world_play.specs.WorldOf.{IsWorldOf, world_of};
 use crate::pass::pass;
 use crate::resuming::resume;
 use crate::world::World;
+use lang_eval::NativeList;
 use ledger_terms::{ParticipantId, ParticipantIdList};
 use std::alloc::{AllocError, Global};
 
 // Passes, until one appends nothing.
-fn pass_until_settled(
+fn pass_until_settled<'r>(
     alloc: Global,
-    world: &mut World<'_>,
+    natives: &'r NativeList,
+    world: &mut World<'r>,
     paused: &[ParticipantId],
     hold_verdicts: bool,
 ) -> Result<(), AllocError>
@@ -40,7 +42,7 @@ fn pass_until_settled(
 {
     'passes: loop {
         let before = world.sequencer.len();
-        pass(alloc, world, paused, hold_verdicts)?;
+        pass(alloc, natives, world, paused, hold_verdicts)?;
         if world.sequencer.len() == before {
             return Ok(());
         }
@@ -52,9 +54,10 @@ fn pass_until_settled(
 /// passes until one appends nothing. In a pass each participant that isn't paused, in order, reads to the end, finishes its jobs
 /// and sends its responses, and then the mediator reads to the end and, unless `hold_verdicts`, hands in its verdicts. A message
 /// that stands in the log already, or comes too late, is dropped. After want of memory the log has gone on.
-pub fn settle(
+pub fn settle<'r>(
     alloc: Global,
-    world: &mut World<'_>,
+    natives: &'r NativeList,
+    world: &mut World<'r>,
     paused: &ParticipantIdList,
     hold_verdicts: bool,
 ) -> Result<(), AllocError>
@@ -72,5 +75,5 @@ pub fn settle(
         → Settled m paused.now hold_verdicts (world.new.sequencer).list) }
 {
     resume(world);
-    pass_until_settled(alloc, world, paused.as_slice(), hold_verdicts)
+    pass_until_settled(alloc, natives, world, paused.as_slice(), hold_verdicts)
 }

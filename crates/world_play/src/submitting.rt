@@ -18,9 +18,10 @@ ghost use Rattle.world_play.specs.WorldOf.{IsWorldOf, world_of};
 use crate::handing_in::hand_in_request;
 use crate::world::World;
 use canton_model::{Message, Request};
+use lang_eval::NativeList;
 use ledger_terms::Submission;
 use node_core::{Node, SubmitFault};
-use std::alloc::{AllocError, Global};
+use std::alloc::AllocError;
 
 // The request of an answer, and none where one is refused.
 fn request_of(answer: Result<Request, SubmitFault>) -> Result<Option<Request>, AllocError>
@@ -35,7 +36,7 @@ fn request_of(answer: Result<Request, SubmitFault>) -> Result<Option<Request>, A
 
 // The request that a submission wants, where its participant is there and isn't paused.
 fn wanted(
-    alloc: Global,
+    natives: &NativeList,
     nodes: &[Node<'_>],
     what: &Submission,
     now: u64,
@@ -47,11 +48,15 @@ fn wanted(
     if at >= nodes.len() {
         return Ok(None);
     }
-    request_of(nodes[at].prepare(alloc, what, now))
+    request_of(nodes[at].prepare(natives, what, now))
 }
 
 /// A participant that isn't paused hands in the request of a submission, where it wants one.
-pub fn submit(alloc: Global, world: &mut World<'_>, what: &Submission) -> Result<(), AllocError>
+pub fn submit(
+    natives: &NativeList,
+    world: &mut World<'_>,
+    what: &Submission,
+) -> Result<(), AllocError>
     requires lawful { (m : Machine) × (state : MediatorState) × IsWorldOf m state world.old × Lawful m (world_of state world.old) }
     requires within { (topology : Topology) × (packages : Packages) × AreSetUp topology packages (world.old.nodes).items
         × CanSubmit topology packages what.now }
@@ -61,7 +66,7 @@ pub fn submit(alloc: Global, world: &mut World<'_>, what: &Submission) -> Result
     ensures ok { OnOk result ((m : Machine) (state : MediatorState) → IsWorldOf m state world.old
         → world_of state world.new ≡ happens m (world_of state world.old) (Submit what.now)) }
 {
-    if let Some(request) = wanted(alloc, world.nodes.as_slice(), what, world.now)? {
+    if let Some(request) = wanted(natives, world.nodes.as_slice(), what, world.now)? {
         hand_in_request(&mut world.sequencer, request)?;
     }
     Ok(())

@@ -21,14 +21,15 @@ ghost use Rattle.world_play.specs.Worlds.{AreNodesOf, world_with};
 
 use crate::answering::answer;
 use crate::world::{NodeList, World};
+use lang_eval::NativeList;
 use ledger_terms::{Submission, SubmissionList};
 use node_core::{Node, SubmitResult, SubmitResultList};
 use seq_log::Sequencer;
-use std::alloc::{AllocError, Global};
+use std::alloc::AllocError;
 
 // What its participant answers to a submission.
 fn answer_slice(
-    alloc: Global,
+    natives: &NativeList,
     nodes: &mut [Node<'_>],
     sequencer: &mut Sequencer<'_>,
     what: &Submission,
@@ -50,12 +51,12 @@ fn answer_slice(
         → ArePaused round.paused nodes.old → IsAnswer m topology packages now round sequencer.old.list what.now answer sequencer.new.list) }
 {
     let at = what.participant.0 as usize;
-    answer(alloc, &mut nodes[at], sequencer, what, now)
+    answer(natives, &mut nodes[at], sequencer, what, now)
 }
 
 // The same of a list.
 fn answer_list(
-    alloc: Global,
+    natives: &NativeList,
     nodes: &mut NodeList<'_>,
     sequencer: &mut Sequencer<'_>,
     what: &Submission,
@@ -77,12 +78,12 @@ fn answer_list(
         → AreSetUp topology packages nodes.old.items → ArePaused round.paused nodes.old.items
         → IsAnswer m topology packages now round sequencer.old.list what.now answer sequencer.new.list) }
 {
-    answer_slice(alloc, nodes.as_mut_slice(), sequencer, what, now)
+    answer_slice(natives, nodes.as_mut_slice(), sequencer, what, now)
 }
 
 // What comes of one submission.
 fn submit_one(
-    alloc: Global,
+    natives: &NativeList,
     world: &mut World<'_>,
     what: &Submission,
 ) -> Result<SubmitResult, AllocError>
@@ -104,7 +105,7 @@ fn submit_one(
         → IsAnswer m topology packages world.old.now round (world.old.sequencer).list what.now answer (world.new.sequencer).list) }
 {
     answer_list(
-        alloc,
+        natives,
         &mut world.nodes,
         &mut world.sequencer,
         what,
@@ -116,7 +117,7 @@ fn submit_one(
 /// prepared; then the request is handed in. The results are put at the end of `results`. After want of memory some of the
 /// submissions were handed in, and `results` has what came of some of those at its end.
 pub fn submit_each(
-    alloc: Global,
+    natives: &NativeList,
     world: &mut World<'_>,
     submits: &SubmissionList,
     results: &mut SubmitResultList,
@@ -141,7 +142,7 @@ pub fn submit_each(
         (world.new.sequencer).list)) }
 {
     'submits: for what in submits.as_slice() {
-        let answer = submit_one(alloc, world, what)?;
+        let answer = submit_one(natives, world, what)?;
         results.push(answer)?;
     }
     Ok(())

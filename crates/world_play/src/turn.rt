@@ -11,14 +11,16 @@ ghost use Rattle.world_play.specs.Standing.{GoesOn, IsParticipant};
 use crate::reading::read_to_end;
 use crate::sending::send_all;
 use crate::validating::validate_all;
+use lang_eval::NativeList;
 use node_core::Node;
 use seq_log::Sequencer;
 use std::alloc::{AllocError, Global};
 
 /// The participant reads to the end, finishes its jobs in order of place and sends its responses in order.
-pub fn take_turn(
+pub fn take_turn<'r>(
     alloc: Global,
-    node: &mut Node<'_>,
+    natives: &'r NativeList,
+    node: &mut Node<'r>,
     sequencer: &mut Sequencer<'_>,
 ) -> Result<(), AllocError>
     requires { (m : Machine) × (p : ParticipantId) × IsParticipant m p node.old sequencer.old }
@@ -31,6 +33,6 @@ pub fn take_turn(
         → NodeHas m p sequencer.old.list node.new.state) }
 {
     read_to_end(node, sequencer)?;
-    validate_all(alloc, node)?;
+    validate_all(alloc, natives, node)?;
     send_all(alloc, node, sequencer)
 }

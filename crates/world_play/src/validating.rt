@@ -9,25 +9,30 @@ ghost use Rattle.node_core.specs.Participant.{reading_of, with_state};
 ghost use Rattle.validate_job.specs.Outcome.{IsOutcome};
 ghost use Rattle.world_play.specs.Standing.{IsNodeOf};
 
+use lang_eval::NativeList;
 use node_core::Node;
 use std::alloc::{AllocError, Global};
 use validate_job::{Finished, ValidateJob};
 
-/// Checks all views of a job, one after another.
-pub fn run_job(job: ValidateJob<'_>) -> Result<Finished, AllocError>
+/// Checks all views of a job, one after another. A choice that `natives` has is asked of them in place of the language.
+pub fn run_job(natives: &NativeList, job: ValidateJob<'_>) -> Result<Finished, AllocError>
     requires { 0 < job.left }
     ensures { IfOk result (IsOutcome job.entry.given) }
 {
     let mut job = job;
     'views: loop {
-        if let Some(finished) = job.check_next()? {
+        if let Some(finished) = job.check_next_by(natives)? {
             return Ok(finished);
         }
     }
 }
 
 /// The participant claims and finishes its jobs, one after another. After want of memory a job may be left claimed.
-pub fn validate_all(alloc: Global, node: &mut Node<'_>) -> Result<(), AllocError>
+pub fn validate_all<'r>(
+    alloc: Global,
+    natives: &'r NativeList,
+    node: &mut Node<'r>,
+) -> Result<(), AllocError>
     ensures same { node.new ≡ with_state node.old node.new.state }
     ensures items { (node.new.state).items ≡ (node.old.state).items }
     ensures has { (m : Machine) (p : ParticipantId) (read : List Entry) → IsNodeOf m p node.old → NodeHas m p read node.old.state
@@ -36,7 +41,7 @@ pub fn validate_all(alloc: Global, node: &mut Node<'_>) -> Result<(), AllocError
         ≡ validate_below (reading_of node.old) (node.old.topology).params node.old.me node.old.state (length (node.old.state).items)) }
 {
     'jobs: while let Some(job) = node.claim_job(alloc)? {
-        let finished = run_job(job)?;
+        let finished = run_job(natives, job)?;
         // nothing was read since the claim, so its request isn't decided
         let _ = node.finish_job(finished);
     }

@@ -6,16 +6,16 @@ use Rattle.canton_run.proofs.Alone.{answered_alone, there_each}
 use Rattle.canton_run.proofs.rounds.submit_alone.Goals as goal
 
 pub submit_each-requires-clause-lawful : goal.submit_each-requires-clause-lawful
-submit_each-requires-clause-lawful c = let r = c.requires in (machine_for r.0 r.1, (r.2).state, (r.2).is, (r.2).lawful)
+submit_each-requires-clause-lawful g c = let r = c.requires in (machine_for r.0 r.1, (r.2).state, (r.2).is, (r.2).lawful)
 
 pub submit_each-requires-clause-within : goal.submit_each-requires-clause-within
-submit_each-requires-clause-within c = let r = c.requires in ((r.0).topology, (r.0).checked, (r.2).set_up, (r.2).within)
+submit_each-requires-clause-within g c = let r = c.requires in ((r.0).topology, (r.0).checked, (r.2).set_up, (r.2).within)
 
 pub submit_each-requires-clause-there : goal.submit_each-requires-clause-there
-submit_each-requires-clause-there c = let r = c.requires in there_each r.0 r.1 c.args.round.now c.args.world r.2
+submit_each-requires-clause-there g c = let r = c.requires in there_each r.0 r.1 c.args.round.now c.args.world r.2
 
 pub returns : goal.returns
-returns c = λ script capacity can.
+returns g c = λ script capacity can.
     let m = machine_for script capacity in
     let e = c.in_ok-submit_each.ensures in
     let answers = e.answers in

@@ -1,5 +1,4 @@
-use Rattle.std.proofs.Common.{map, refl, ap, ◌∙◌}
-use Rattle.node_core.specs.Views.{view_of}
+use Rattle.std.proofs.Common.{refl, ap, ◌∙◌}
 use Rattle.seq_log.specs.Sequenced.{Sequenced}
 use Rattle.canton_run.specs.Run.{machine_for, script_with}
 use Rattle.canton_run.proofs.LastViews.{views_are}
@@ -47,7 +46,6 @@ returns-clause-views g c =
     (none_played script c.args.capacity (c.prepared_requests_make_a_machine.ensures _ _ _ _) n.new n.ensures.is n.ensures.new n.ensures.set_up) in
     let m = machine_for script c.args.capacity in
     c.in_ok-views.ensures
-    ∙ (ap (map view_of) c.as_slice.ensures.value
     ∙ views_are script c.args.capacity c.in_ok-rounds_played.rounds_played.world c.catch_up.new.self p.state (c.in_ok-catch_up.ensures.is m p.state p.is) p.lawful
     (c.in_ok-catch_up.ensures.ok m p.state p.is p.lawful) (c.in_ok-catch_up.ensures.set_up script.topology script.checked p.set_up) c.in_ok-log.log
-    (c.in_ok-log.ensures.log ∙ ap (λ (q : Sequenced). q.list) c.in_ok-catch_up.ensures.log))
+    (c.in_ok-log.ensures.log ∙ ap (λ (q : Sequenced). q.list) c.in_ok-catch_up.ensures.log)

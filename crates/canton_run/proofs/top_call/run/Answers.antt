@@ -7,8 +7,8 @@ use Rattle.canton_run.specs.Jobs.{GivesScript, text_of}
 use Rattle.canton_run.proofs.Generated.{never_six}
 use Rattle.canton_run.proofs.top_call.run.Goals as goal
 
-pub returns-in-Gen-clause-taken : goal.returns-in-Gen-clause-taken
-returns-in-Gen-clause-taken g c = (
+pub returns-in-Ok-clause-taken : goal.returns-in-Ok-clause-taken
+returns-in-Ok-clause-taken g c = (
   [],
   (
     Consumes-nil _,
@@ -18,8 +18,8 @@ returns-in-Gen-clause-taken g c = (
   λ no. refl,
 )
 
-pub returns-in-Gen-clause-cut : goal.returns-in-Gen-clause-cut
-returns-in-Gen-clause-cut g c at =
+pub returns-in-Ok-clause-cut : goal.returns-in-Ok-clause-cut
+returns-in-Ok-clause-cut g c at =
     let job = Gen c.in-Gen.count c.in-Gen.seed c.in-Gen.workers in
     let script = generated c.in-Gen.seed c.in-Gen.count in (
       text_of job script c.run_generated.result,

@@ -10,7 +10,8 @@ pub returns-clause-grows : goal.returns-clause-grows
 returns-clause-grows c =
     let e = c.in_ok-ids.field-0 in
     let v = c.or_insert.result.now in
-    let is : v ≡ unwrap_or (get bytes_eq c.args.ids.now c.args.key) nothing = c.or_insert.ensures.value ∙ ap (λ o. unwrap_or o nothing) c.in_ok-ids.ensures.value in
+    let is : v ≡ unwrap_or (get bytes_eq c.args.ids.now c.args.key) nothing =
+    c.or_insert.ensures.value ∙ ap (λ o. unwrap_or o nothing) c.in_ok-ids.ensures.value in
     let g = grows_key c.args.key v (λ q. get bytes_eq c.args.ids.now q) (λ q. get bytes_eq (map_with_value e v) q) is (c.in_ok-ids.ensures.update.0 v).0 in
     record {
       by_row = λ q. grind (arith, common_steps, g.by_row q);

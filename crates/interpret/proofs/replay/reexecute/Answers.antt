@@ -2,4 +2,4 @@ use Rattle.interpret.proofs.Tried.{answer_decides}
 use Rattle.interpret.proofs.replay.reexecute.Goals as goal
 
 pub returns : goal.returns
-returns c = answer_decides c.args.checked.now c.args.root.now _ c.is_tree_possible.ensures
+returns g c = answer_decides c.args.checked.now c.args.root.now _ c.is_tree_possible.ensures

@@ -1,6 +1,4 @@
-use Rattle.std.proofs.Common.{List, ap, ◌∙◌}
-use Rattle.inbox_standing.specs.ChangeLists.{write_changes}
-use Rattle.inbox_standing.specs.declared.change.Change.{Change}
+use Rattle.std.proofs.Common.{◌∙◌}
 use Rattle.sealed_form.specs.SealedReading.{sealed_reading}
 use Rattle.node_inbox.specs.Items.{model_items}
 use Rattle.node_inbox.proofs.ActiveRows.{next_written}
@@ -8,7 +6,6 @@ use Rattle.node_inbox.proofs.active_rows.store_below.Goals as goal
 
 pub places-preserved : goal.places-preserved
 places-preserved c =
-    c.in_ok-write.ensures
-    ∙ (ap (λ (changes : List Change). write_changes c.places.place changes (c.places.scratch.store).rows) c.in_ok-changes.ensures
-    ∙ next_written (sealed_reading c.args.setup.now.topology c.args.setup.now.checked) (model_items c.args.items.now) c.places.place (c.places.scratch.store).rows
-    c.places.invariant)
+    c.in_ok-write_approved.ensures
+    ∙ next_written (sealed_reading c.args.setup.now.topology c.args.setup.now.checked) (model_items c.args.items.now) c.places.place
+    (c.places.scratch.store).rows c.places.invariant

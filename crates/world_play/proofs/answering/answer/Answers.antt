@@ -4,12 +4,12 @@ use Rattle.world_play.proofs.Turns.{reads_of}
 use Rattle.world_play.proofs.answering.answer.Goals as goal
 
 pub returns-then-paused-clause-answers : goal.returns-then-paused-clause-answers
-returns-then-paused-clause-answers c = λ m round given flag.
+returns-then-paused-clause-answers g c = λ m round given flag.
     let within = (reads_of m c.args.what.now.participant c.args.node.now c.args.sequencer.now given).within in
     let cursor = c.cursor.ensures in
     inl (sym flag ∙ (sym c.paused.ensures ∙ c.if-paused.true), c.cursor.result, omega (arith, within, cursor), refl, refl)
 
 pub returns-clause-answers : goal.returns-clause-answers
-returns-clause-answers c =
+returns-clause-answers g c =
     if_ok c.answer_awake.result _ _ c.answer_awake.ensures.answers
     (λ answer h m round given flag. inr (sym flag ∙ (sym c.paused.ensures ∙ c.if-paused.false), h m given))

@@ -22,48 +22,48 @@ use Rattle.world_play.proofs.Turns.{all_long, all_read, reader_is, reads_of}
 use Rattle.world_play.proofs.answering.answer_awake.Goals as goal
 
 pub read_to_end-requires : goal.read_to_end-requires
-read_to_end-requires c =
+read_to_end-requires g c =
     reads_of c.requires.can.0 c.args.what.now.participant c.args.node.now c.args.sequencer.now (c.requires.can.1).is
 
 pub prepare-requires-clause-valid : goal.prepare-requires-clause-valid
-prepare-requires-clause-valid c =
+prepare-requires-clause-valid g c =
     (may_prepare c.args.node.now c.args.sequencer.now c.read_to_end.new.node c.in_ok-read_to_end.ensures.ok c.requires.can.0 c.args.what.now
     c.requires.can.1).valid
 
 pub prepare-requires-clause-within : goal.prepare-requires-clause-within
-prepare-requires-clause-within c =
+prepare-requires-clause-within g c =
     (may_prepare c.args.node.now c.args.sequencer.now c.read_to_end.new.node c.in_ok-read_to_end.ensures.ok c.requires.can.0 c.args.what.now
     c.requires.can.1).within
 
 pub returns-in_err-read_to_end-clause-on : goal.returns-in_err-read_to_end-clause-on
-returns-in_err-read_to_end-clause-on c =
+returns-in_err-read_to_end-clause-on g c =
     let s = c.args.sequencer.now in subst (λ (q : Sequenced). GoesOn s q) (sym c.read_to_end.ensures.same) (stays s)
 
 pub returns-in_err-read_to_end-clause-same : goal.returns-in_err-read_to_end-clause-same
-returns-in_err-read_to_end-clause-same c =
+returns-in_err-read_to_end-clause-same g c =
     reader_same c.args.node.now c.read_to_end.new.node (c.args.sequencer.now).list c.read_to_end.ensures.some
 
 pub returns-in_err-read_to_end-clause-flag : goal.returns-in_err-read_to_end-clause-flag
-returns-in_err-read_to_end-clause-flag c =
+returns-in_err-read_to_end-clause-flag g c =
     ap (λ (x : NodeValue). (x.state).is_paused) (c.read_to_end.ensures.some).is
 
 pub returns-in_err-read_to_end-clause-keeps : goal.returns-in_err-read_to_end-clause-keeps
-returns-in_err-read_to_end-clause-keeps c = λ m p given.
+returns-in_err-read_to_end-clause-keeps g c = λ m p given.
     subst (λ (q : Sequenced). IsParticipant m p c.read_to_end.new.node q) (sym c.read_to_end.ensures.same)
     (reader_is m p c.args.node.now c.args.sequencer.now given c.read_to_end.new.node c.read_to_end.ensures.some)
 
 pub returns-in-Ok-clause-on : goal.returns-in-Ok-clause-on
-returns-in-Ok-clause-on c = subst (λ (q : Sequenced). GoesOn q c.send.new.sequencer) c.read_to_end.ensures.same c.send.ensures.on
+returns-in-Ok-clause-on g c = subst (λ (q : Sequenced). GoesOn q c.send.new.sequencer) c.read_to_end.ensures.same c.send.ensures.on
 
 pub returns-in-Ok-clause-same : goal.returns-in-Ok-clause-same
-returns-in-Ok-clause-same c =
+returns-in-Ok-clause-same g c =
     read_same c.args.node.now c.read_to_end.new.node (c.args.sequencer.now).list c.in_ok-read_to_end.ensures.ok
 
 pub returns-in-Ok-clause-flag : goal.returns-in-Ok-clause-flag
-returns-in-Ok-clause-flag c = ap (λ (x : NodeValue). (x.state).is_paused) c.in_ok-read_to_end.ensures.ok
+returns-in-Ok-clause-flag g c = ap (λ (x : NodeValue). (x.state).is_paused) c.in_ok-read_to_end.ensures.ok
 
 pub returns-in-Ok-clause-keeps : goal.returns-in-Ok-clause-keeps
-returns-in-Ok-clause-keeps c = λ m p given.
+returns-in-Ok-clause-keeps g c = λ m p given.
     let node = c.args.node.now in
     let s = c.args.sequencer.now in
     let after = c.read_to_end.new.node in
@@ -78,7 +78,7 @@ returns-in-Ok-clause-keeps c = λ m p given.
     (behind given.is_for given.behind (may_stand node s after is m p given c.in-Ok.request c.in-Ok.ensures.sealed))
 
 pub returns-in-Ok-clause-answers : goal.returns-in-Ok-clause-answers
-returns-in-Ok-clause-answers c =
+returns-in-Ok-clause-answers g c =
     if_ok c.send.result _ _ c.send.ensures.handed_in
     (λ answer h m given.
     let node = c.args.node.now in
@@ -96,30 +96,30 @@ returns-in-Ok-clause-answers c =
     c.read_to_end.ensures.same (h m c.args.now (subst (IsFor m) (sym c.read_to_end.ensures.same) given.is_for))))
 
 pub returns-in-Err-clause-on : goal.returns-in-Err-clause-on
-returns-in-Err-clause-on c =
+returns-in-Err-clause-on g c =
     let s = c.args.sequencer.now in subst (λ (q : Sequenced). GoesOn s q) (sym c.read_to_end.ensures.same) (stays s)
 
 pub returns-in-Err-clause-same : goal.returns-in-Err-clause-same
-returns-in-Err-clause-same c =
+returns-in-Err-clause-same g c =
     read_same c.args.node.now c.read_to_end.new.node (c.args.sequencer.now).list c.in_ok-read_to_end.ensures.ok
 
 pub returns-in-Err-clause-flag : goal.returns-in-Err-clause-flag
-returns-in-Err-clause-flag c = ap (λ (x : NodeValue). (x.state).is_paused) c.in_ok-read_to_end.ensures.ok
+returns-in-Err-clause-flag g c = ap (λ (x : NodeValue). (x.state).is_paused) c.in_ok-read_to_end.ensures.ok
 
 pub returns-in-Err-clause-keeps : goal.returns-in-Err-clause-keeps
-returns-in-Err-clause-keeps c = λ m p given.
+returns-in-Err-clause-keeps g c = λ m p given.
     let after = c.read_to_end.new.node in
     subst (λ (q : Sequenced). IsParticipant m p after q) (sym c.read_to_end.ensures.same)
     (all_read m p c.args.node.now c.args.sequencer.now given after c.in_ok-read_to_end.ensures.ok)
 
 pub returns-in-Err-Memory-clause-keeps : goal.returns-in-Err-Memory-clause-keeps
-returns-in-Err-Memory-clause-keeps c = λ m p given.
+returns-in-Err-Memory-clause-keeps g c = λ m p given.
     let after = c.read_to_end.new.node in
     subst (λ (q : Sequenced). IsParticipant m p after q) (sym c.read_to_end.ensures.same)
     (all_read m p c.args.node.now c.args.sequencer.now given after c.in_ok-read_to_end.ensures.ok)
 
 pub returns-in-Err-clause-answers : goal.returns-in-Err-clause-answers
-returns-in-Err-clause-answers c = λ m given.
+returns-in-Err-clause-answers g c = λ m given.
     let node = c.args.node.now in
     let s = c.args.sequencer.now in
     let what = c.args.what.now in

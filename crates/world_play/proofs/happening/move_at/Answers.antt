@@ -8,11 +8,11 @@ use Rattle.world_play.proofs.Answered.{both_ok}
 use Rattle.world_play.proofs.happening.move_at.Goals as goal
 
 pub move_node-requires : goal.move_node-requires
-move_node-requires c =
+move_node-requires g c =
     (c.requires.0, c.args.world.now.now, c.requires.1, (c.requires.2).nodes, c.requires.3)
 
 pub returns-clause-ok : goal.returns-clause-ok
-returns-clause-ok c =
+returns-clause-ok g c =
     both_ok c.move_node.result _ _ _ c.move_node.ensures.nodes c.move_node.ensures.ok
     (λ nodes ok m state is l.
     let world = c.args.world.now in (

@@ -10,7 +10,7 @@ use Rattle.world_play.proofs.Answered.{on_ok}
 use Rattle.world_play.proofs.moving.move_node.Goals as goal
 
 pub returns-clause-nodes : goal.returns-clause-nodes
-returns-clause-nodes c =
+returns-clause-nodes g c =
     on_ok c.move_slice.result _ _ c.move_slice.ensures.nodes
     (λ ok m a.
     let s = c.args.sequencer.now in
@@ -19,7 +19,7 @@ returns-clause-nodes c =
     (ok m (subst (λ (xs : List NodeValue). AreNodesOf m xs s) (sym c.as_mut_slice.ensures.value) a)))
 
 pub returns-clause-set_up : goal.returns-clause-set_up
-returns-clause-set_up c =
+returns-clause-set_up g c =
     on_ok c.move_slice.result _ _ c.move_slice.ensures.set_up
     (λ ok topology packages u.
     let new = c.move_slice.new.nodes in
@@ -27,7 +27,7 @@ returns-clause-set_up c =
     (ok topology packages (subst (λ (xs : List NodeValue). AreSetUp topology packages xs) (sym c.as_mut_slice.ensures.value) u)))
 
 pub returns-clause-ok : goal.returns-clause-ok
-returns-clause-ok c =
+returns-clause-ok g c =
     on_ok c.move_slice.result _ _ c.move_slice.ensures.ok
     (λ ok m now state a l.
     let s = c.args.sequencer.now in

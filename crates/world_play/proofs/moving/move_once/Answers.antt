@@ -6,7 +6,7 @@ use Rattle.world_play.proofs.Happened.{validate_is}
 use Rattle.world_play.proofs.moving.move_once.Goals as goal
 
 pub returns-in-Validate-clause-ok : goal.returns-in-Validate-clause-ok
-returns-in-Validate-clause-ok c =
+returns-in-Validate-clause-ok g c =
     let node = c.args.node.now in
     let s = c.args.sequencer.now in
     on_ok c.validate_next.result _ _ c.validate_next.ensures.ok

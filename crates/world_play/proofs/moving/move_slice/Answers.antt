@@ -8,7 +8,7 @@ use Rattle.world_play.proofs.Passing.{item_at, in_turn, nodes_then, set_up_then,
 use Rattle.world_play.proofs.moving.move_slice.Goals as goal
 
 pub move_once-requires : goal.move_once-requires
-move_once-requires c =
+move_once-requires g c =
     let nodes = c.args.nodes.now in
     let k = c.args.at in
     let r = c.requires in (
@@ -19,7 +19,7 @@ move_once-requires c =
     )
 
 pub returns-then-at-nodes-clause-nodes : goal.returns-then-at-nodes-clause-nodes
-returns-then-at-nodes-clause-nodes c =
+returns-then-at-nodes-clause-nodes g c =
     let nodes = c.args.nodes.now in
     let k = c.args.at in
     both_ok c.move_once.result _ _ _ c.move_once.ensures.on c.move_once.ensures.same
@@ -28,7 +28,7 @@ returns-then-at-nodes-clause-nodes c =
     (item_at nodes k c.index-nodes-at.result c.if-at-nodes.true) c.move_once.new.node c.move_once.new.sequencer on same m a)
 
 pub returns-then-at-nodes-clause-set_up : goal.returns-then-at-nodes-clause-set_up
-returns-then-at-nodes-clause-set_up c =
+returns-then-at-nodes-clause-set_up g c =
     let nodes = c.args.nodes.now in
     let k = c.args.at in
     on_ok c.move_once.result _ _ c.move_once.ensures.same
@@ -37,7 +37,7 @@ returns-then-at-nodes-clause-set_up c =
     (item_at nodes k c.index-nodes-at.result c.if-at-nodes.true) c.move_once.new.node same topology packages u)
 
 pub returns-then-at-nodes-clause-ok : goal.returns-then-at-nodes-clause-ok
-returns-then-at-nodes-clause-ok c =
+returns-then-at-nodes-clause-ok g c =
     let nodes = c.args.nodes.now in
     let k = c.args.at in
     let s = c.args.sequencer.now in
@@ -51,7 +51,7 @@ returns-then-at-nodes-clause-ok c =
     ∙ ok m k (in_turn nodes s k node at m now state a l) now state (map state_of nodes) (map_at nodes k node at))
 
 pub returns-clause-ok : goal.returns-clause-ok
-returns-clause-ok c = λ m now state a l.
+returns-clause-ok g c = λ m now state a l.
     let nodes = c.args.nodes.now in
     let k = c.args.at in
     nobody m (world_with now state nodes c.args.sequencer.now) k c.args.action

@@ -5,7 +5,7 @@ use Rattle.world_play.proofs.Jobs.{starts, after_is, owed_then}
 use Rattle.world_play.proofs.moving.validate_next.Goals as goal
 
 pub returns-in_ok-finished : goal.returns-in_ok-finished
-returns-in_ok-finished c =
+returns-in_ok-finished g c =
     let node = c.args.node.now in
     let next = sym (rw c.in-Some.is at c.in_ok-job.ensures.place) in
     record {
@@ -17,7 +17,7 @@ returns-in_ok-finished c =
     }
 
 pub finish_job-requires-clause-verdicts : goal.finish_job-requires-clause-verdicts
-finish_job-requires-clause-verdicts c =
+finish_job-requires-clause-verdicts g c =
     let node = c.args.node.now in
     owed_then node node (starts node) (c.in-Some.job.given).place (sym (rw c.in-Some.is at c.in_ok-job.ensures.place)) c.claim_job.new.self
     (rw c.in-Some.is at c.in_ok-job.ensures.some) c.in-Some.job.given c.in_ok-finished.finished c.in_ok-finished.ensures refl

@@ -4,7 +4,7 @@ use Rattle.world_play.proofs.Passed.{nodes_grown, mediator_in, mediated, pass_do
 use Rattle.world_play.proofs.pass.pass.Goals as goal
 
 pub returns-in_err-take_turns-clause-lawful : goal.returns-in_err-take_turns-clause-lawful
-returns-in_err-take_turns-clause-lawful c = λ m state is l.
+returns-in_err-take_turns-clause-lawful g c = λ m state is l.
     let world = c.args.world.now in (
       state,
       record { nodes = c.take_turns.ensures.nodes m is.nodes; mediator = is.mediator },
@@ -12,7 +12,7 @@ returns-in_err-take_turns-clause-lawful c = λ m state is l.
     )
 
 pub mediate-requires : goal.mediate-requires
-mediate-requires c =
+mediate-requires g c =
     let m = c.requires.0 in
     let state = c.requires.1 in
     let is = c.requires.2 in
@@ -26,7 +26,7 @@ mediate-requires c =
     )
 
 pub returns-clause-lawful : goal.returns-clause-lawful
-returns-clause-lawful c = λ m state is l0.
+returns-clause-lawful g c = λ m state is l0.
     let world = c.args.world.now in
     let nodes = (c.take_turns.new.nodes).items in
     let a = c.take_turns.ensures.nodes m is.nodes in
@@ -42,7 +42,7 @@ returns-clause-lawful c = λ m state is l0.
     )
 
 pub returns-clause-ok : goal.returns-clause-ok
-returns-clause-ok c =
+returns-clause-ok g c =
     both_ok c.mediate.result _ _ _ c.mediate.ensures.held c.mediate.ensures.given
     (λ held given m state is ready.
     let world = c.args.world.now in

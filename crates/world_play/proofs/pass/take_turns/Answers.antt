@@ -9,7 +9,7 @@ use Rattle.world_play.proofs.Answered.{on_ok}
 use Rattle.world_play.proofs.pass.take_turns.Goals as goal
 
 pub take_turns_slice-requires : goal.take_turns_slice-requires
-take_turns_slice-requires c =
+take_turns_slice-requires g c =
     let r = c.requires in
     let at = sym c.as_mut_slice.ensures.value in
     let s = c.args.sequencer.now in (
@@ -21,7 +21,7 @@ take_turns_slice-requires c =
     )
 
 pub returns-clause-nodes : goal.returns-clause-nodes
-returns-clause-nodes c = λ m a.
+returns-clause-nodes g c = λ m a.
     let at = sym c.as_mut_slice.ensures.value in
     let s = c.args.sequencer.now in
     let all = with_items_is c.args.nodes.now c.take_turns_slice.new.nodes (search (rules, places)) in
@@ -29,7 +29,7 @@ returns-clause-nodes c = λ m a.
     (c.take_turns_slice.ensures.nodes m (subst (λ (xs : List NodeValue). AreNodesOf m xs s) at a))
 
 pub returns-clause-lawful : goal.returns-clause-lawful
-returns-clause-lawful c = λ m now state a l.
+returns-clause-lawful g c = λ m now state a l.
     let at = sym c.as_mut_slice.ensures.value in
     let s = c.args.sequencer.now in
     let all = with_items_is c.args.nodes.now c.take_turns_slice.new.nodes (search (rules, places)) in
@@ -38,7 +38,7 @@ returns-clause-lawful c = λ m now state a l.
     (subst (λ (xs : List NodeValue). Lawful m (world_with now state xs s)) at l))
 
 pub returns-clause-ok : goal.returns-clause-ok
-returns-clause-ok c =
+returns-clause-ok g c =
     on_ok c.take_turns_slice.result _ _ c.take_turns_slice.ensures.ok
     (λ ok m now state began a h.
     let at = sym c.as_mut_slice.ensures.value in
@@ -49,7 +49,7 @@ returns-clause-ok c =
     (subst (λ (xs : List NodeValue). PassedTo m c.args.paused.now began 0 (world_with now state xs s)) at h)))
 
 pub returns-clause-set_up : goal.returns-clause-set_up
-returns-clause-set_up c = λ topology packages u.
+returns-clause-set_up g c = λ topology packages u.
     let all = with_items_is c.args.nodes.now c.take_turns_slice.new.nodes (search (rules, places)) in
     subst (λ (xs : List NodeValue). AreSetUp topology packages xs) (sym all)
     (c.take_turns_slice.ensures.set_up topology packages (subst (λ (xs : List NodeValue). AreSetUp topology packages xs) (sym c.as_mut_slice.ensures.value) u))

@@ -8,7 +8,7 @@ use Rattle.world_play.proofs.pass.take_turns_slice.Goals as goal
 use Rattle.world_play.proofs.pass.take_turns_slice.Goals.{then-not-is_among+in_ok-take_turn, else-not-is_among}
 
 pub take_turn-requires : goal.take_turn-requires
-take_turn-requires c =
+take_turn-requires g c =
     let t = c.nodes.invariant.1 in
     let k = c.nodes.node-index in (
       c.requires.0,
@@ -19,25 +19,25 @@ take_turn-requires c =
     )
 
 pub returns-in_err-take_turn-clause-nodes : goal.returns-in_err-take_turn-clause-nodes
-returns-in_err-take_turn-clause-nodes c =
+returns-in_err-take_turn-clause-nodes g c =
     left_nodes c.args.paused.now c.args.nodes.now c.args.sequencer.now c.nodes.nodes c.nodes.sequencer c.nodes.node-index c.nodes.invariant.1
     (slice_index_or c.nodes.nodes c.nodes.node-index c.node-item.result) (item_at c.nodes.nodes c.nodes.node-index c.node-item.result (item_within c.nodes-test.true c.nodes.auto.nodes))
     c.take_turn.new.node c.take_turn.new.sequencer c.take_turn.ensures.on c.take_turn.ensures.same c.take_turn.ensures.keeps
 
 pub returns-in_err-take_turn-clause-lawful : goal.returns-in_err-take_turn-clause-lawful
-returns-in_err-take_turn-clause-lawful c =
+returns-in_err-take_turn-clause-lawful g c =
     left_lawful c.args.paused.now c.args.nodes.now c.args.sequencer.now c.nodes.nodes c.nodes.sequencer c.nodes.node-index c.nodes.invariant.1
     (slice_index_or c.nodes.nodes c.nodes.node-index c.node-item.result) (item_at c.nodes.nodes c.nodes.node-index c.node-item.result (item_within c.nodes-test.true c.nodes.auto.nodes))
     c.take_turn.new.node c.take_turn.new.sequencer c.take_turn.ensures.on c.take_turn.ensures.same c.take_turn.ensures.keeps
 
 pub returns-in_err-take_turn-clause-set_up : goal.returns-in_err-take_turn-clause-set_up
-returns-in_err-take_turn-clause-set_up c =
+returns-in_err-take_turn-clause-set_up g c =
     left_set_up c.args.paused.now c.args.nodes.now c.args.sequencer.now c.nodes.nodes c.nodes.sequencer c.nodes.node-index c.nodes.invariant.1
     (slice_index_or c.nodes.nodes c.nodes.node-index c.node-item.result) (item_at c.nodes.nodes c.nodes.node-index c.node-item.result (item_within c.nodes-test.true c.nodes.auto.nodes))
     c.take_turn.new.node c.take_turn.new.sequencer c.take_turn.ensures.on c.take_turn.ensures.same c.take_turn.ensures.keeps
 
 pub nodes-preserved : goal.nodes-preserved
-nodes-preserved c =
+nodes-preserved g c =
     let inv = c.nodes.invariant in
     let k = c.nodes.node-index in
     let paused = c.args.paused.now in
@@ -63,6 +63,6 @@ nodes-preserved c =
     )
 
 pub returns-clause-ok : goal.returns-clause-ok
-returns-clause-ok c =
+returns-clause-ok g c =
     turning_ends c.args.paused.now c.args.nodes.now c.args.sequencer.now c.nodes.nodes c.nodes.sequencer c.nodes.node-index c.nodes.invariant.1
     (let ends = c.nodes.auto.node-index-end in let out = c.nodes-test.false in let same = c.nodes.auto.nodes in omega (arith, ends, out, same))

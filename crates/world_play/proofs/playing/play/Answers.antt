@@ -9,7 +9,7 @@ use Rattle.world_play.proofs.Plays.{each_of, played_lawful, played_on, within}
 use Rattle.world_play.proofs.playing.play.Goals as goal
 
 pub happen-requires-clause-now : goal.happen-requires-clause-now
-happen-requires-clause-now c =
+happen-requires-clause-now g c =
     let t = c.args.setup.now.topology in
     let p = c.args.setup.now.checked in
     let m = machine_of t p c.args.capacity in
@@ -21,7 +21,7 @@ happen-requires-clause-now c =
     within m c.args.events.now k e at c.events.world c.events.invariant.1 c.requires.time
 
 pub happen-requires-clause-lawful : goal.happen-requires-clause-lawful
-happen-requires-clause-lawful c =
+happen-requires-clause-lawful g c =
     let t = c.args.setup.now.topology in
     let p = c.args.setup.now.checked in
     let m = machine_of t p c.args.capacity in (
@@ -32,7 +32,7 @@ happen-requires-clause-lawful c =
     )
 
 pub happen-requires-clause-within : goal.happen-requires-clause-within
-happen-requires-clause-within c =
+happen-requires-clause-within g c =
     let t = c.args.setup.now.topology in
     let p = c.args.setup.now.checked in
     let k = c.events.event-index in
@@ -43,7 +43,7 @@ happen-requires-clause-within c =
     (t, p, c.events.invariant.2, each_of (CanHappen t p) c.args.events.now k e c.requires.within at)
 
 pub events-preserved : goal.events-preserved
-events-preserved c =
+events-preserved g c =
     let t = c.args.setup.now.topology in
     let p = c.args.setup.now.checked in
     let m = machine_of t p c.args.capacity in
@@ -61,7 +61,7 @@ events-preserved c =
     )
 
 pub returns-clause-headline : goal.returns-clause-headline
-returns-clause-headline c =
+returns-clause-headline g c =
     let t = c.args.setup.now.topology in
     let p = c.args.setup.now.checked in
     let m = machine_of t p c.args.capacity in

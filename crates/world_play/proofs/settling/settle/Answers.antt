@@ -10,7 +10,7 @@ use Rattle.world_play.proofs.Answered.{on_ok}
 use Rattle.world_play.proofs.settling.settle.Goals as goal
 
 pub pass_until_settled-requires : goal.pass_until_settled-requires
-pass_until_settled-requires c =
+pass_until_settled-requires g c =
     let m = c.requires.lawful.0 in
     let state = c.requires.lawful.1 in
     let world = c.args.world.now in (
@@ -22,18 +22,18 @@ pass_until_settled-requires c =
     )
 
 pub returns-clause-on : goal.returns-clause-on
-returns-clause-on c =
+returns-clause-on g c =
     subst (λ (q : Sequenced). GoesOn q c.pass_until_settled.new.world.sequencer) c.resume.ensures.log c.pass_until_settled.ensures.on
 
 pub returns-clause-lawful : goal.returns-clause-lawful
-returns-clause-lawful c = λ m state is l.
+returns-clause-lawful g c = λ m state is l.
     let world = c.args.world.now in
     let ready =
     subst (WorldReady m c.as_slice.result.now) (sym (c.resume.ensures.resumed m state is l)) (world_resumed m c.as_slice.result.now (world_of state world) l) in
     c.pass_until_settled.ensures.lawful m (returned m.params (world.sequencer).list state) (c.resume.ensures.is m state is l) ready.lawful
 
 pub returns-clause-passes : goal.returns-clause-passes
-returns-clause-passes c =
+returns-clause-passes g c =
     on_ok c.pass_until_settled.result _ _ c.pass_until_settled.ensures.passes
     (λ ok m state is l.
     let world = c.args.world.now in
@@ -46,7 +46,7 @@ returns-clause-passes c =
     ∙ ap (λ (p : List ParticipantId). passes m world.now p held (left m.hosts (world.sequencer).list) (world.sequencer).list) c.as_slice.ensures)))
 
 pub returns-clause-settled : goal.returns-clause-settled
-returns-clause-settled c =
+returns-clause-settled g c =
     on_ok c.pass_until_settled.result _ _ c.pass_until_settled.ensures.settled
     (λ ok m state is l.
     let world = c.args.world.now in
@@ -56,5 +56,5 @@ returns-clause-settled c =
     (ok m (returned m.params (world.sequencer).list state) (c.resume.ensures.is m state is l) ready))
 
 pub returns-clause-set_up : goal.returns-clause-set_up
-returns-clause-set_up c = λ topology packages u.
+returns-clause-set_up g c = λ topology packages u.
     c.pass_until_settled.ensures.set_up topology packages (c.resume.ensures.set_up topology packages u)

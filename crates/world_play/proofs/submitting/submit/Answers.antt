@@ -10,7 +10,7 @@ use Rattle.world_play.proofs.Submits.{can_prepare, submits}
 use Rattle.world_play.proofs.submitting.submit.Goals as goal
 
 pub returns-in_ok-hand_in_request-clause-ok : goal.returns-in_ok-hand_in_request-clause-ok
-returns-in_ok-hand_in_request-clause-ok c = λ m state is.
+returns-in_ok-hand_in_request-clause-ok g c = λ m state is.
     let world = c.args.world.now in
     let what = c.args.what.now in
     let nodes = (world.nodes).items in
@@ -22,7 +22,7 @@ returns-in_ok-hand_in_request-clause-ok c = λ m state is.
     ∙ (ap (submit_wanted m (world_of state world)) (sym ask) ∙ submits m world.now state nodes world.sequencer what is.nodes)
 
 pub returns-in_default-clause-ok : goal.returns-in_default-clause-ok
-returns-in_default-clause-ok c = λ m state is.
+returns-in_default-clause-ok g c = λ m state is.
     let world = c.args.world.now in
     let what = c.args.what.now in
     let nodes = (world.nodes).items in
@@ -32,7 +32,7 @@ returns-in_default-clause-ok c = λ m state is.
     ap (submit_wanted m (world_of state world)) (sym ask) ∙ submits m world.now state nodes world.sequencer what is.nodes
 
 pub wanted-requires : goal.wanted-requires
-wanted-requires c = λ node at.
+wanted-requires g c = λ node at.
     let world = c.args.world.now in
     let w = c.requires.within in
     let r = c.requires.lawful in

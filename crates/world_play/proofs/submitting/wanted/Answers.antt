@@ -8,7 +8,7 @@ use Rattle.world_play.proofs.Submits.{if_ok, only_wanted, told}
 use Rattle.world_play.proofs.submitting.wanted.Goals as goal
 
 pub prepare-requires-clause-valid : goal.prepare-requires-clause-valid
-prepare-requires-clause-valid c =
+prepare-requires-clause-valid g c =
     let nodes = c.args.nodes.now in
     let k = c.what.inside.0.0.0 in
     let node = c.index-nodes-at.result in
@@ -17,7 +17,7 @@ prepare-requires-clause-valid c =
     (c.requires node (subst (λ (i : ℕ). slice_get nodes i ≡ Some node) own there)).valid
 
 pub prepare-requires-clause-within : goal.prepare-requires-clause-within
-prepare-requires-clause-within c =
+prepare-requires-clause-within g c =
     let nodes = c.args.nodes.now in
     let k = c.what.inside.0.0.0 in
     let node = c.index-nodes-at.result in
@@ -26,7 +26,7 @@ prepare-requires-clause-within c =
     (c.requires node (subst (λ (i : ℕ). slice_get nodes i ≡ Some node) own there)).within
 
 pub returns : goal.returns
-returns c =
+returns g c =
     let nodes = c.args.nodes.now in
     let what = c.args.what.now in
     let k = c.what.inside.0.0.0 in

@@ -8,7 +8,7 @@ use Rattle.world_play.proofs.Submits.{if_ok}
 use Rattle.world_play.proofs.submitting_each.answer_slice.Goals as goal
 
 pub answer-requires : goal.answer-requires
-answer-requires c =
+answer-requires g c =
     let nodes = c.args.nodes.now in
     let k = c.what.inside.0.0.0 in
     let own = ap (λ (w : Submission). w.participant) c.what.view_is in
@@ -21,7 +21,7 @@ answer-requires c =
     )
 
 pub returns-clause-nodes : goal.returns-clause-nodes
-returns-clause-nodes c =
+returns-clause-nodes g c =
     let nodes = c.args.nodes.now in
     let k = c.what.inside.0.0.0 in
     let own = ap (λ (w : Submission). w.participant) c.what.view_is in
@@ -30,7 +30,7 @@ returns-clause-nodes c =
     (item_at nodes k c.index-nodes-at.result lt) c.answer.new.node c.answer.new.sequencer c.answer.ensures.on c.answer.ensures.same
 
 pub returns-clause-lawful : goal.returns-clause-lawful
-returns-clause-lawful c =
+returns-clause-lawful g c =
     let nodes = c.args.nodes.now in
     let k = c.what.inside.0.0.0 in
     let own = ap (λ (w : Submission). w.participant) c.what.view_is in
@@ -39,7 +39,7 @@ returns-clause-lawful c =
     (item_at nodes k c.index-nodes-at.result lt) c.answer.new.node c.answer.new.sequencer c.answer.ensures.on c.answer.ensures.same c.answer.ensures.keeps
 
 pub returns-clause-set_up : goal.returns-clause-set_up
-returns-clause-set_up c =
+returns-clause-set_up g c =
     let nodes = c.args.nodes.now in
     let k = c.what.inside.0.0.0 in
     let own = ap (λ (w : Submission). w.participant) c.what.view_is in
@@ -48,7 +48,7 @@ returns-clause-set_up c =
     (item_at nodes k c.index-nodes-at.result lt) c.answer.new.node c.answer.ensures.same
 
 pub returns-clause-paused : goal.returns-clause-paused
-returns-clause-paused c =
+returns-clause-paused g c =
     let nodes = c.args.nodes.now in
     let k = c.what.inside.0.0.0 in
     let own = ap (λ (w : Submission). w.participant) c.what.view_is in
@@ -57,7 +57,7 @@ returns-clause-paused c =
     (item_at nodes k c.index-nodes-at.result lt) c.answer.new.node c.answer.ensures.flag
 
 pub returns-clause-answers : goal.returns-clause-answers
-returns-clause-answers c =
+returns-clause-answers g c =
     let nodes = c.args.nodes.now in
     let k = c.what.inside.0.0.0 in
     let own = ap (λ (w : Submission). w.participant) c.what.view_is in

@@ -8,13 +8,13 @@ use Rattle.world_play.proofs.Plays.{each_of}
 use Rattle.world_play.proofs.submitting_each.submit_each.Goals as goal
 
 pub submit_one-requires-clause-lawful : goal.submit_one-requires-clause-lawful
-submit_one-requires-clause-lawful c =
+submit_one-requires-clause-lawful g c =
     let r = c.requires.lawful in
     let h = ((c.submits.invariant).kept).lawful r.0 r.1 r.2 r.3 in
     (r.0, r.1, h.0, h.1)
 
 pub submit_one-requires-clause-within : goal.submit_one-requires-clause-within
-submit_one-requires-clause-within c =
+submit_one-requires-clause-within g c =
     let k = c.submits.what-index in
     let e = c.what-item.result in
     let at =
@@ -24,7 +24,7 @@ submit_one-requires-clause-within c =
     (w.0, w.1, ((c.submits.invariant).kept).set_up w.0 w.1 w.2, each_of (CanSubmit w.0 w.1) c.args.submits.now k e w.3 at)
 
 pub submit_one-requires-clause-there : goal.submit_one-requires-clause-there
-submit_one-requires-clause-there c =
+submit_one-requires-clause-there g c =
     let k = c.submits.what-index in
     let e = c.what-item.result in
     let at =
@@ -38,7 +38,7 @@ submit_one-requires-clause-there c =
     omega (arith, there, before, after)
 
 pub submits-preserved : goal.submits-preserved
-submits-preserved c =
+submits-preserved g c =
     let k = c.submits.what-index in
     let e = c.what-item.result in
     let at =
@@ -50,23 +50,23 @@ submits-preserved c =
     c.in_ok-answer.ensures.plain c.in_ok-answer.ensures.answers c.push.new.self c.in_ok-push.ensures.ok
 
 pub returns-clause-answers : goal.returns-clause-answers
-returns-clause-answers c =
+returns-clause-answers g c =
     submitting_ends c.args.world.now c.args.submits.now c.args.results.now c.submits.what-index c.submits.world c.submits.results c.submits.invariant
     (let ends = c.submits.auto.what-index-end in let out = c.submits-test.false in let same = c.as_slice-what-items.ensures in
     omega (arith, ends, out, ap length same))
 
 pub returns-in_err-answer-clause-set_up : goal.returns-in_err-answer-clause-set_up
-returns-in_err-answer-clause-set_up c = λ topology packages u.
+returns-in_err-answer-clause-set_up g c = λ topology packages u.
     c.submit_one.ensures.set_up topology packages (((c.submits.invariant).kept).set_up topology packages u)
 
 pub returns-in_err-answer-clause-paused : goal.returns-in_err-answer-clause-paused
-returns-in_err-answer-clause-paused c = λ paused p.
+returns-in_err-answer-clause-paused g c = λ paused p.
     c.submit_one.ensures.paused paused (((c.submits.invariant).kept).paused paused p)
 
 pub returns-in_err-push-clause-set_up : goal.returns-in_err-push-clause-set_up
-returns-in_err-push-clause-set_up c = λ topology packages u.
+returns-in_err-push-clause-set_up g c = λ topology packages u.
     c.submit_one.ensures.set_up topology packages (((c.submits.invariant).kept).set_up topology packages u)
 
 pub returns-in_err-push-clause-paused : goal.returns-in_err-push-clause-paused
-returns-in_err-push-clause-paused c = λ paused p.
+returns-in_err-push-clause-paused g c = λ paused p.
     c.submit_one.ensures.paused paused (((c.submits.invariant).kept).paused paused p)

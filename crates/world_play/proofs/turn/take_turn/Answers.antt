@@ -8,15 +8,15 @@ use Rattle.world_play.proofs.Turns.{reads_of, reader_is, validated_is, waiting_i
 use Rattle.world_play.proofs.turn.take_turn.Goals as goal
 
 pub read_to_end-requires : goal.read_to_end-requires
-read_to_end-requires c = reads_of c.requires.0 c.requires.1 c.args.node.now c.args.sequencer.now c.requires.2
+read_to_end-requires g c = reads_of c.requires.0 c.requires.1 c.args.node.now c.args.sequencer.now c.requires.2
 
 pub returns-in_err-read_to_end-clause-keeps : goal.returns-in_err-read_to_end-clause-keeps
-returns-in_err-read_to_end-clause-keeps c = λ m p given.
+returns-in_err-read_to_end-clause-keeps g c = λ m p given.
     subst (λ (q : Sequenced). IsParticipant m p c.read_to_end.new.node q) (sym c.read_to_end.ensures.same)
     (reader_is m p c.args.node.now c.args.sequencer.now given c.read_to_end.new.node c.read_to_end.ensures.some)
 
 pub returns-in_err-validate_all-clause-keeps : goal.returns-in_err-validate_all-clause-keeps
-returns-in_err-validate_all-clause-keeps c = λ m p given.
+returns-in_err-validate_all-clause-keeps g c = λ m p given.
     let read =
     subst (λ (q : Sequenced). IsParticipant m p c.read_to_end.new.node q) (sym c.read_to_end.ensures.same)
     (reader_is m p c.args.node.now c.args.sequencer.now given c.read_to_end.new.node c.read_to_end.ensures.some) in
@@ -24,7 +24,7 @@ returns-in_err-validate_all-clause-keeps c = λ m p given.
     (λ xs. c.validate_all.ensures.has m p xs read.is)
 
 pub returns-clause-keeps : goal.returns-clause-keeps
-returns-clause-keeps c = λ m p given.
+returns-clause-keeps g c = λ m p given.
     let read =
     subst (λ (q : Sequenced). IsParticipant m p c.read_to_end.new.node q) (sym c.read_to_end.ensures.same)
     (reader_is m p c.args.node.now c.args.sequencer.now given c.read_to_end.new.node c.read_to_end.ensures.some) in
@@ -33,7 +33,7 @@ returns-clause-keeps c = λ m p given.
     (λ xs. c.validate_all.ensures.has m p xs read.is))
 
 pub returns-clause-sends : goal.returns-clause-sends
-returns-clause-sends c =
+returns-clause-sends g c =
     on_ok c.send_all.result _ _ c.send_all.ensures.ok
     (λ ok m p now given.
     let after = c.validate_all.new.node in
@@ -45,7 +45,7 @@ returns-clause-sends c =
     c.validate_all.ensures.items c.in_ok-validate_all.ensures.ok)))
 
 pub returns-clause-has : goal.returns-clause-has
-returns-clause-has c =
+returns-clause-has g c =
     always c.send_all.result _
     (λ m p given.
     let read =

@@ -5,9 +5,9 @@ use Rattle.world_play.proofs.Jobs.{IsValidator}
 use Rattle.world_play.proofs.validating.validate_all.Given as goal
 
 abbrev pub invariant-jobs : goal.invariant-jobs
-invariant-jobs l = IsValidator l.fn.node l.node
+invariant-jobs g l = IsValidator l.fn.node l.node
 
 abbrev pub decreases-jobs : goal.decreases-jobs
-decreases-jobs l =
+decreases-jobs g l =
     length (validate_below (reading_of l.fn.node) (l.fn.node.topology).params l.fn.node.me (l.node).state (length ((l.node).state).items)).outbox
     - length ((l.node).state).outbox

@@ -7,7 +7,7 @@ use Rattle.node_core.proofs.Preparing.{WantedUnlessPaused, unless_paused}
 use Rattle.node_core.proofs.node.Node.prepare.Goals as goal
 
 pub returns-clause-wanted : goal.returns-clause-wanted
-returns-clause-wanted c =
+returns-clause-wanted g c =
     let i = c.self.inside.inbox in
     let inv = c.self.invariant in
     let what = c.args.what.now in

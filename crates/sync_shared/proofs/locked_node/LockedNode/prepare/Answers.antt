@@ -18,15 +18,15 @@ invariant_of-self g c = (
       c.self.invariant.1 c.set_paused.new.self false c.set_paused.ensures,
 )
 
-pub prepare-requires-clause-valid : goal.prepare-requires-clause-valid
-prepare-requires-clause-valid g c =
+pub prepared-requires-clause-valid : goal.prepared-requires-clause-valid
+prepared-requires-clause-valid g c =
     let list = read_to c.self.inside.last in
     let b = flagged g.S.Session.topology g.S.Session.packages g.S.Session.machine g.S.Session.why g.row.I list c.self.inside.node c.self.invariant.1
     c.set_paused.new.self false c.set_paused.ensures in
     is_valid g.S.Session.topology g.S.Session.packages g.S.Session.machine g.S.Session.why g.row.I list c.set_paused.new.self b c.args.what.now c.args.now c.requires.mine
 
-pub prepare-requires-clause-within : goal.prepare-requires-clause-within
-prepare-requires-clause-within g c =
+pub prepared-requires-clause-within : goal.prepared-requires-clause-within
+prepared-requires-clause-within g c =
     let list = read_to c.self.inside.last in
     let b = flagged g.S.Session.topology g.S.Session.packages g.S.Session.machine g.S.Session.why g.row.I list c.self.inside.node c.self.invariant.1
     c.set_paused.new.self false c.set_paused.ensures in
@@ -39,12 +39,12 @@ returns-clause-wanted g c =
     let node = c.set_paused.new.self in
     let b = flagged g.S.Session.topology g.S.Session.packages g.S.Session.machine g.S.Session.why g.row.I list c.self.inside.node c.self.invariant.1
     node false c.set_paused.ensures in
-    let told = c.prepare.ensures.wanted (offered_in node.topology node.packages)
+    let told = c.prepared.ensures.wanted (offered_in node.topology node.packages)
     (own g.S.Session.topology g.S.Session.packages g.S.Session.machine g.S.Session.why g.row.I list node b c.args.what.now c.args.now c.requires.mine) refl in
-    subst (λ (xs : List Entry). IfOk c.prepare.result (λ q. g.S.Session.machine.prepare c.args.what.now (inbox g.S.Session.machine.reading g.row.I xs) c.args.now ≡ Some q))
+    subst (λ (xs : List Entry). IfOk c.prepared.result (λ q. g.S.Session.machine.prepare c.args.what.now (inbox g.S.Session.machine.reading g.row.I xs) c.args.now ≡ Some q))
     c.self.view_is
     (is_wanted g.S.Session.topology g.S.Session.packages g.S.Session.machine g.S.Session.why g.row.I list node b c.args.what.now c.args.now c.requires.mine
-    c.prepare.result told)
+    c.prepared.result told)
 
 pub returns-clause-sealed : goal.returns-clause-sealed
 returns-clause-sealed g c =
@@ -53,7 +53,7 @@ returns-clause-sealed g c =
     let b = flagged g.S.Session.topology g.S.Session.packages g.S.Session.machine g.S.Session.why g.row.I list c.self.inside.node c.self.invariant.1
     node false c.set_paused.ensures in
     is_sealed g.S.Session.topology g.S.Session.packages g.S.Session.machine g.S.Session.why g.row.I list node b c.args.what.now c.args.now c.requires.mine
-    c.prepare.result c.prepare.ensures.sealed
+    c.prepared.result c.prepared.ensures.sealed
 
 pub returns-clause-sender : goal.returns-clause-sender
 returns-clause-sender g c =
@@ -62,7 +62,7 @@ returns-clause-sender g c =
     let b = flagged g.S.Session.topology g.S.Session.packages g.S.Session.machine g.S.Session.why g.row.I list c.self.inside.node c.self.invariant.1
     node false c.set_paused.ensures in
     is_mine g.S.Session.topology g.S.Session.packages g.S.Session.machine g.S.Session.why g.row.I list node b c.args.what.now c.args.now c.requires.mine
-    c.prepare.result c.prepare.ensures.sender
+    c.prepared.result c.prepared.ensures.sender
 
 pub returns-clause-unwanted : goal.returns-clause-unwanted
 returns-clause-unwanted g c =
@@ -70,11 +70,11 @@ returns-clause-unwanted g c =
     let node = c.set_paused.new.self in
     let b = flagged g.S.Session.topology g.S.Session.packages g.S.Session.machine g.S.Session.why g.row.I list c.self.inside.node c.self.invariant.1
     node false c.set_paused.ensures in
-    let told = c.prepare.ensures.wanted (offered_in node.topology node.packages)
+    let told = c.prepared.ensures.wanted (offered_in node.topology node.packages)
     (own g.S.Session.topology g.S.Session.packages g.S.Session.machine g.S.Session.why g.row.I list node b c.args.what.now c.args.now c.requires.mine) refl in
-    subst (λ (xs : List Entry). IfErr c.prepare.result (λ fault. fault ≢ Memory
+    subst (λ (xs : List Entry). IfErr c.prepared.result (λ fault. fault ≢ Memory
     → (g.S.Session.machine.prepare c.args.what.now (inbox g.S.Session.machine.reading g.row.I xs) c.args.now ≡ None)
     × (g.S.Session.why c.args.what.now (inbox g.S.Session.machine.reading g.row.I xs) c.args.now ≡ fault) × (fault_of fault ≡ Some (Unwanted fault))))
     c.self.view_is
     (no_request g.S.Session.topology g.S.Session.packages g.S.Session.machine g.S.Session.why g.row.I list node b c.args.what.now c.args.now c.requires.mine
-    c.faults_have_causes.ensures (ap (λ n. n.state.is_paused) c.set_paused.ensures) c.prepare.result c.prepare.ensures.exact told)
+    c.faults_have_causes.ensures (ap (λ n. n.state.is_paused) c.set_paused.ensures) c.prepared.result c.prepared.ensures.exact told)

@@ -6,7 +6,7 @@ use Rattle.wire_form.proofs.reader.Reader.more_values.Goals as goal
 
 pub returns-in_err-next_value : goal.returns-in_err-next_value
 returns-in_err-next_value c =
-    let p = err_from_is_err_and c.from_residual.result c.from_residual.ensures.1 in
+    let p = err_from_is_err_and c.from_residual-in_err-next_value.result c.from_residual-in_err-next_value.ensures.1 in
     rw (p.1, p.2) (ends any_item value_at _ _ _ _ _ _ c.loop-test.true c.in_err-next_value.ensures c.loop.invariant)
 
 pub loop-preserved : goal.loop-preserved

@@ -1,0 +1,6 @@
+mod CanShare
+mod Each
+pub mod Fronts
+mod Hosted
+mod LateJobs
+mod Worlds

@@ -1,0 +1,29 @@
+//! The layers.
+
+/// A layer whose cases are read.
+#[derive(Clone, Copy)]
+pub(crate) enum Layer {
+    Form,
+    Tree,
+    Request,
+    Load,
+    Check,
+    World,
+    Sharing,
+}
+
+impl Layer {
+    /// The layer that answers the lines behind this one, where it says one.
+    pub(crate) fn named_by(line: &str) -> Option<Layer> {
+        match line.strip_prefix("layer ")? {
+            "form" => Some(Layer::Form),
+            "tree" => Some(Layer::Tree),
+            "request" => Some(Layer::Request),
+            "load" => Some(Layer::Load),
+            "check" => Some(Layer::Check),
+            "world" => Some(Layer::World),
+            "sharing" => Some(Layer::Sharing),
+            _ => None,
+        }
+    }
+}

@@ -1,0 +1,85 @@
+//! What a case does.
+ghost use Rattle.std.specs.Prelude.{◌≤◌, ◌^◌, true, ◌≡◌, All, IfOk, IfSome};
+ghost use Rattle.world_play.specs.Events.{CanHappen, advance_in, advance_of};
+ghost use Rattle.world_play.specs.Submitting.{CanSubmit};
+
+use crate::world::events::event_of;
+use confirm_reply::Setup;
+use ledger_terms::Submission;
+use std::alloc::{AllocError, Global};
+use world_play::{Event, EventList};
+
+/// How far events may move the time in all, in microseconds.
+const MOST_TIME: u64 = 10_000_000_000_000_000;
+
+/// The events of a case, and whether it settles after them.
+#[derive(Drop)]
+pub(crate) struct Plan {
+    pub(crate) events: EventList,
+    pub(crate) settles: bool,
+}
+
+/// The plan that words with commas between them say, where each says an event.
+pub(crate) fn plan_of(
+    alloc: Global,
+    setup: &Setup,
+    submissions: Vec<Submission>,
+    words: &str,
+) -> Result<Option<Plan>, AllocError>
+    requires { All (CanSubmit setup.now.topology setup.now.checked) submissions.items }
+    ensures { IfOk result (λ o. IfSome o (λ plan. All (CanHappen setup.now.topology setup.now.checked) plan.events)) }
+{
+    let (words, settles) = match words.strip_suffix(",settle") {
+        Some(front) => (front, true),
+        None => (words, false),
+    };
+    match events_of(alloc, setup, submissions, words)? {
+        Some(events) => Ok(Some(Plan { events, settles })),
+        None => Ok(None),
+    }
+}
+
+#[tactic(auto, using(crate::proofs::Fronts::one_more, crate::proofs::Fronts::nothing))]
+fn events_of(
+    alloc: Global,
+    setup: &Setup,
+    submissions: Vec<Submission>,
+    words: &str,
+) -> Result<Option<EventList>, AllocError>
+    requires { All (CanSubmit setup.now.topology setup.now.checked) submissions.items }
+    ensures { IfOk result (λ o. IfSome o (λ events. All (CanHappen setup.now.topology setup.now.checked) events)) }
+{
+    let mut left = submissions;
+    let mut events = EventList::new(alloc);
+    'words: for word in words.split(',') {
+        match event_of(setup, &mut left, word) {
+            Some(event) => events.push(event)?,
+            None => return Ok(None),
+        }
+    }
+    Ok(Some(events))
+}
+
+fn advance_of(event: &Event) -> u64
+    ensures { result ≡ advance_of event.now }
+{
+    match event {
+        Event::Advance { by } => *by,
+        _ => 0,
+    }
+}
+
+/// Whether events move the time by no more than can be played.
+pub(crate) fn is_within_time(events: &[Event]) -> bool
+    ensures { result ≡ true → advance_in events.now ≤ 10 ^ 16 }
+{
+    let mut left = MOST_TIME;
+    'events: for event in events {
+        let by = advance_of(event);
+        if by > left {
+            return false;
+        }
+        left -= by;
+    }
+    true
+}

@@ -1,0 +1,25 @@
+//! Vectors that grow from one item.
+ghost use Rattle.std.specs.Prelude.{◌≡◌, ◌++◌, ◌∷◌, [], OnOk, OnErr};
+
+use std::alloc::AllocError;
+
+/// Makes room for one more item: for one at first, since most lists of a ledger have no more, and then for twice as many.
+pub fn make_room<T>(items: &mut Vec<T>) -> Result<(), AllocError>
+    ensures { items.new.items ≡ items.old.items }
+{
+    let len = items.len();
+    if len < items.capacity() {
+        return Ok(());
+    }
+    items.reserve_exact(if len == 0 { 1 } else { len })
+}
+
+/// Puts an item at the end of a vector that grows from one item. An error leaves it as it was.
+pub fn push_closely<T: Drop>(items: &mut Vec<T>, item: T) -> Result<(), AllocError>
+    ensures ok { OnOk result (items.new.items ≡ items.old.items ++ item ∷ []) }
+    ensures err { OnErr result (items.new.items ≡ items.old.items) }
+{
+    make_room(items)?;
+    items.push(item)?;
+    Ok(())
+}

@@ -1,0 +1,2 @@
+pub mod FlashBody
+pub mod NativeCrossings

@@ -1,2 +1,0 @@
-mod CanShare
-mod Hosted

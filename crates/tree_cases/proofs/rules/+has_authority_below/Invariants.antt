@@ -1,5 +1,0 @@
-use Rattle.ledger_terms.specs.Grown.{node_count}
-use Rattle.tree_cases.proofs.rules.+has_authority_below.Given as goal
-
-abbrev pub decreases-has_authority_below : goal.decreases-has_authority_below
-decreases-has_authority_below l = node_count l.nodes.now
