@@ -13,3 +13,4 @@ pub mod NamedSteps
 pub mod NamedRoles
 pub mod Archived
 pub mod ExprCopies
+pub mod Given

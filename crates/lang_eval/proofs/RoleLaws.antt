@@ -1,7 +1,8 @@
 -- The roles of an action one after another are its roles.
-use Rattle.std.proofs.Common.{◌≡◌, Bool, [], ◌∷◌, ◌++◌, Result, Ok, Err, refl, ◌∙◌}
+use Rattle.std.proofs.Common.{◌≡◌, Bool, [], ◌∷◌, ◌++◌, Result, Ok, Err, refl, sym, ap, ◌∙◌}
 use Rattle.std.specs.Prelude.{◌&&◌, if◌then◌else◌}
-use Rattle.ledger_terms.specs.Parties.{with_party, with_parties, set_of}
+use Rattle.ledger_terms.specs.Parties.{with_party, with_parties, set_of, IsRising}
+use Rattle.ledger_terms.proofs.Rising.{set_of_rising}
 use Rattle.ledger_terms.specs.declared.action.Action.{Action}
 use Rattle.ledger_terms.specs.declared.action.Action.TheVariants.{Create, Exercise, Fetch}
 use Rattle.lang_eval.specs.declared.role_fault.RoleFault.{RoleFault}
@@ -23,6 +24,13 @@ pub set_of-append-append : (a b c : PartyNames) → set_of (a ++ (b ++ c)) ≡ w
 set_of-append-append a b c = with_parties-append a (b ++ c) [] ∙ with_parties-append b c (with_parties a [])
 
 pub ruleset joined_sets = (set_of-append, set_of-append-append)
+
+-- the first of them rises
+pub set_of_two : (a b : PartyNames) → IsRising a → set_of (a ++ b) ≡ with_parties b a
+set_of_two a b h = set_of-append a b ∙ ap (with_parties b) (set_of_rising a h)
+
+pub set_of_three : (a b c : PartyNames) → set_of (a ++ (b ++ c)) ≡ with_parties c (set_of (a ++ b))
+set_of_three a b c = set_of-append-append a b c ∙ ap (with_parties c) (sym (set_of-append a b))
 
 create_are : (r : Result ContractParties RoleFault) → on_parties r
     (λ p. Ok (with_actors p [] (stakeholders_in p))) ≡ (if is_given r then Ok

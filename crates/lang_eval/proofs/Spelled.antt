@@ -1,5 +1,6 @@
 -- Names and their parts.
-use Rattle.std.proofs.Common.{◌≡◌, ◌≢◌, ◌∙◌, ◌++◌, ◌∷◌, ℕ, Bool, true, false, List, refl, sym, ap, codes}
+use Rattle.std.proofs.Common.{◌≡◌, ◌≢◌, ◌∙◌, ◌++◌, ℕ, Bool, true, false, List, Option, None, Some, Bor, refl, sym, ap, codes}
+use Rattle.std.specs.Option.{MatchOption}
 use Rattle.std.proofs.lemmas.List.{append_assoc, append_cancel_left}
 use Rattle.ledger_terms.specs.Parties.{same_name}
 use Rattle.ledger_terms.proofs.Deciding.{bytes_decide}
@@ -13,15 +14,28 @@ both_ways false false f g = refl
 abbrev pub dotted : List ℕ → List ℕ → List ℕ
 dotted owner field = owner ++ codes "." ++ field
 
--- what stands behind the owner decides
-pub same_behind : (owner field rest text : List ℕ) → text ≡ owner ++ rest → same_name (codes "." ++ field) rest ≡ same_name (dotted owner field) text
-same_behind owner field rest text is = both_ways _ _
-    (λ h. (bytes_decide (dotted owner field) text).1
-    (append_assoc owner (codes ".") field ∙ (ap (λ t. owner ++ t) ((bytes_decide (codes "." ++ field) rest).0 h) ∙ sym is)))
-    (λ h. (bytes_decide (codes "." ++ field) rest).1 (append_cancel_left owner _ _
-    (sym (append_assoc owner (codes ".") field) ∙ ((bytes_decide (dotted owner field) text).0 h ∙ is))))
+-- what stands behind the owner and the dot decides
+same_part : (owner field part text : List ℕ) → text ≡ dotted owner part → same_name (dotted owner field) text ≡ same_name field part
+same_part owner field part text is = both_ways _ _
+    (λ h. (bytes_decide field part).1 (append_cancel_left (owner ++ codes ".") field part ((bytes_decide (dotted owner field) text).0 h ∙ is)))
+    (λ h. (bytes_decide (dotted owner field) text).1 (ap (dotted owner) ((bytes_decide field part).0 h) ∙ sym is))
 
--- a text that doesn't begin with the owner is no name of its fields
-pub not_behind : (owner field text : List ℕ) → ((rest : List ℕ) → text ≢ owner ++ rest) → false ≡ same_name (dotted owner field) text
-not_behind owner field text other = both_ways _ _ (λ h. absurd (let never : false ≡ true = h in cc))
-    (λ h. absurd (other (codes "." ++ field) (sym ((bytes_decide (dotted owner field) text).0 h) ∙ append_assoc owner (codes ".") field)))
+-- a text that begins otherwise is no name of its fields
+other_part : (owner field text : List ℕ) → ((part : List ℕ) → text ≢ dotted owner part) → same_name (dotted owner field) text ≡ false
+other_part owner field text other = both_ways _ _
+    (λ h. absurd (other field (sym ((bytes_decide (dotted owner field) text).0 h)))) (λ h. absurd (let never : false ≡ true = h in cc))
+
+abbrev pub NamesPart : List ℕ → List ℕ → Option (Bor (List ℕ)) → Type 0
+NamesPart owner text r = MatchOption r ((field : List ℕ) → same_name (dotted owner field) text ≡ false)
+    (λ part. (field : List ℕ) → same_name (dotted owner field) text ≡ same_name field part.now)
+
+pub part_behind : (owner text rest : List ℕ) (r : Option (Bor (List ℕ))) → text ≡ owner ++ rest
+    → MatchOption r ((part : List ℕ) → rest ≢ codes "." ++ part) (λ part. rest ≡ codes "." ++ part.now) → NamesPart owner text r
+part_behind owner text rest None is other = λ field. other_part owner field text
+    (λ part same. other part (append_cancel_left owner rest (codes "." ++ part) (sym is ∙ (same ∙ append_assoc owner (codes ".") part))))
+part_behind owner text rest (Some part) is dot = λ field.
+    same_part owner field part.now text (is ∙ (ap (λ t. owner ++ t) dot ∙ sym (append_assoc owner (codes ".") part.now)))
+
+pub no_part_behind : (owner text : List ℕ) → ((rest : List ℕ) → text ≢ owner ++ rest) → (field : List ℕ) → same_name (dotted owner field) text ≡ false
+no_part_behind owner text other field = other_part owner field text
+    (λ part same. other (codes "." ++ part) (same ∙ append_assoc owner (codes ".") part))

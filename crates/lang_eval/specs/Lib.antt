@@ -1,3 +1,4 @@
+pub mod Held
 pub mod FaultNames
 pub mod Spellings
 pub mod Names

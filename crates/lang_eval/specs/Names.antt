@@ -1,5 +1,5 @@
 -- The names that an expression may use, with their values.
-use Rattle.std.specs.Prelude.{ℕ, List, ◌∷◌, [], ◌++◌, Option, find, codes}
+use Rattle.std.specs.Prelude.{ℕ, List, ◌∷◌, [], ◌++◌, Option, Some, None, cond, find, codes}
 use Rattle.ledger_terms.specs.Parties.{same_name}
 use Rattle.ledger_terms.specs.declared.value.Value.{Value}
 use Rattle.ledger_terms.specs.declared.value.Value.TheVariants.{Contract}
@@ -29,3 +29,18 @@ with_args params args names = with_fields (codes "arg") params args names
 
 abbrev pub with_self : List ℕ → Names → Names
 with_self id names = bound_to (codes "self") (Contract id) names
+
+-- the value of a binding, where there is one
+abbrev pub value_bound : Option Binding → Option Value
+value_bound None = None
+value_bound (Some b) = Some b.value
+
+-- the value of the first field of a name
+abbrev pub value_named : List ℕ → List FieldDecl → List Value → Option Value
+value_named name (d ∷ ds) (v ∷ vs) = cond (same_name d.name name) (Some v) (value_named name ds vs)
+value_named name ds vs = None
+
+-- the contract of a choice under its name, where there is one
+abbrev pub itself_names : Option Value → Names
+itself_names None = []
+itself_names (Some v) = bound_to (codes "self") v []

@@ -72,6 +72,10 @@ abbrev pub is_true : Value → Bool
 is_true (BoolValue b) = b
 is_true v = false
 
+abbrev pub is_false : Value → Bool
+is_false (BoolValue b) = not b
+is_false v = false
+
 abbrev pub value_in : Option Binding → Value
 value_in None = UnitValue
 value_in (Some b) = b.value

@@ -1,10 +1,10 @@
 //! A name with its value.
 use crate::bound_name::BoundName;
-use ledger_terms::Value;
+use crate::held_value::HeldValue;
 
 /// A name with its value.
 #[derive(Drop)]
-pub struct Binding {
+pub struct Binding<'a> {
     pub name: BoundName,
-    pub value: Value,
+    pub value: HeldValue<'a>,
 }

@@ -1,70 +1,90 @@
 //! Names with their values.
-ghost use Rattle.std.specs.Prelude.{◌≡◌, ◌≤◌, ◌++◌, ◌∷◌, [], length, take, OnOk, OnErr, option_copied};
-ghost use Rattle.lang_eval.specs.Names.{binding_of, bound_to};
+ghost use Rattle.std.specs.Prelude.{◌≡◌, ◌++◌, [], length, take, OnOk, OnErr, option_copied};
+ghost use Rattle.lang_eval.specs.Names.{binding_of, value_bound, bound_to};
 
 use crate::binding::Binding;
 use crate::bound_name::BoundName;
+use crate::given_names::GivenNames;
+use crate::held_value::HeldValue;
 use ledger_terms::{Text, Value};
 use std::alloc::{AllocError, Global};
 use std::marker::Model;
 
-/// The names that an expression may use, with their values, which contracts see as a list. It keeps its allocator.
+/// The names that an expression may use, with their values, which contracts see as a list. It keeps its allocator. What an
+/// evaluation begins with is borrowed, so only names that a body binds take memory.
 #[derive(Drop)]
-pub struct Bindings {
-    bindings: Vec<Binding>,
+pub struct Bindings<'a> {
+    given: GivenNames<'a>,
+    made: Vec<Binding<'a>>,
 }
 
-impl Model for Bindings {
-    ghost use Rattle.std.specs.Prelude.{List};
+impl<'a> Model for Bindings<'a> {
+    ghost use Rattle.std.specs.Prelude.{List, ◌++◌};
     ghost use Rattle.lang_eval.specs.declared.binding.Binding.{Binding};
 
     ghost Value = { List Binding };
 
-    ghost view = { λ b. b.bindings.items };
+    ghost view = { λ b. b.given ++ b.made.items };
 }
 
-fn binding_named<'a>(bindings: &'a [Binding], name: &Text) -> Option<&'a Binding>
-    ensures { option_copied result ≡ binding_of name.now bindings.now }
+fn made_value<'a>(made: &'a [Binding<'_>], name: &Text) -> Option<&'a Value>
+    ensures { option_copied result ≡ value_bound (binding_of name.now made.now) }
 {
-    bindings
-        .iter()
-        .find(|binding| binding.name.is_spelled(name))
+    match made.iter().find(|binding| binding.name.is_spelled(name)) {
+        Some(binding) => Some(binding.value.as_value()),
+        None => None,
+    }
 }
 
-impl Bindings {
+impl<'a> Bindings<'a> {
     /// No names.
-    pub fn new(alloc: Global) -> Bindings
+    pub fn new(alloc: Global) -> Bindings<'a>
         ensures { result ≡ [] }
     {
         Bindings {
-            bindings: Vec::new(alloc),
+            given: GivenNames::none(),
+            made: Vec::new(alloc),
+        }
+    }
+
+    /// The names that an evaluation begins with.
+    pub(crate) fn of(alloc: Global, given: GivenNames<'a>) -> Bindings<'a>
+        ensures { result ≡ given.entry }
+    {
+        Bindings {
+            given,
+            made: Vec::new(alloc),
         }
     }
 
     /// The allocator of the names, for what is made beside them.
     pub fn allocator(&self) -> &Global {
-        self.bindings.allocator()
+        self.made.allocator()
     }
 
     /// How many names there are.
     pub fn len(&self) -> usize
         ensures { result ≡ length self.now }
     {
-        self.bindings.len()
+        self.given.len() + self.made.len()
     }
 
-    /// The binding of the name, where it is bound.
-    pub fn find(&self, name: &Text) -> Option<&Binding>
-        ensures { option_copied result ≡ binding_of name.now self.now }
+    /// The value of the name, where it is bound.
+    #[tactic(auto, using(crate::proofs::Given::bound_first, crate::proofs::Given::bound_second))]
+    pub fn value(&self, name: &Text) -> Option<&Value>
+        ensures { option_copied result ≡ value_bound (binding_of name.now self.now) }
     {
-        binding_named(self.bindings.as_slice(), name)
+        if let Some(value) = self.given.value(name) {
+            return Some(value);
+        }
+        made_value(self.made.as_slice(), name)
     }
 
     /// Makes room for so many more names.
     pub fn reserve(&mut self, count: usize) -> Result<(), AllocError>
         ensures { self.new ≡ self.old }
     {
-        self.bindings.reserve(count)
+        self.made.reserve(count)
     }
 
     /// Binds the name.
@@ -80,14 +100,29 @@ impl Bindings {
         ensures ok { OnOk result (self.new ≡ bound_to name value self.old) }
         ensures err { OnErr result (self.new ≡ self.old) }
     {
-        self.bindings.push(Binding { name, value })?;
+        self.bind_held(name, HeldValue::made(value))
+    }
+
+    /// Binds the name to a value that may stand elsewhere.
+    pub(crate) fn bind_held(
+        &mut self,
+        name: BoundName,
+        value: HeldValue<'a>,
+    ) -> Result<(), AllocError>
+        ensures ok { OnOk result (self.new ≡ bound_to name value.entry self.old) }
+        ensures err { OnErr result (self.new ≡ self.old) }
+    {
+        self.made.push(Binding { name, value })?;
         Ok(())
     }
 
     /// Forgets all but the first names.
+    #[tactic(auto, using(crate::proofs::Given::taken_of_two))]
     pub fn truncate(&mut self, len: usize)
         ensures { self.new ≡ take len self.old }
     {
-        self.bindings.truncate(len);
+        let given = self.given.len();
+        self.given.truncate(len);
+        self.made.truncate(len.saturating_sub(given));
     }
 }

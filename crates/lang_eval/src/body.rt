@@ -1,5 +1,5 @@
 //! What a choice's body does next.
-ghost use Rattle.std.specs.Prelude.{◌≡◌, ◌≢◌, [], Err, OnOk, IfOk};
+ghost use Rattle.std.specs.Prelude.{◌≡◌, ◌≢◌, [], Err, OnOk};
 ghost use Rattle.ledger_terms.specs.Answers.{UnlessMemory};
 ghost use Rattle.ledger_terms.specs.ExprForms.{expr_form, list_form};
 ghost use Rattle.ledger_terms.specs.StmtForms.{stmt_form, stmt_list_form};
@@ -12,45 +12,48 @@ ghost use Rattle.lang_eval.specs.Value.{val, vals, truth};
 ghost use Rattle.lang_eval.specs.RunAnswers.{shown};
 
 use crate::bindings::Bindings;
+use crate::bound_fields::BoundFields;
 use crate::bound_name::BoundName;
-use crate::checked::Checked;
+use crate::checked::{Checked, choice_of};
 use crate::eval_fault::EvalFault;
 use crate::evaluate::{eval_expr, eval_list, eval_test};
+use crate::given_names::GivenNames;
+use crate::held_value::HeldValue;
 use crate::owner::Owner;
 use crate::run::Run;
 use ledger_model::{ChildResult, ChildResultList, ChoiceCall, Step};
 use ledger_terms::{
-    Choice, Exact, Expr, ExprList, FieldDecl, Hash, Instance, Name, Stmt, StmtList, Template,
+    Choice, Expr, ExprList, FieldDecl, Hash, Instance, Name, Stmt, StmtList, Template,
     TemplateName, Value,
 };
 use std::alloc::{AllocError, Global};
 
 /// Binds each value under the name of its field.
-pub(crate) fn bind_fields(
-    names: &mut Bindings,
+fn bind_fields<'a>(
+    names: &mut Bindings<'a>,
     owner: &Owner,
     decls: &[FieldDecl],
-    values: &[Value],
+    values: &'a [Value],
 ) -> Result<(), AllocError>
     ensures { OnOk result (names.new ≡ with_fields (owner_word owner.now) decls.now values.now names.old) }
 {
     names.reserve(values.len())?;
     let mut at = 0;
     while at < decls.len() && at < values.len() {
-        let value = values[at].copied()?;
-        names.bind_as(BoundName::field(*owner, decls[at].name), value)?;
+        let value = HeldValue::given(&values[at]);
+        names.bind_held(BoundName::field(*owner, decls[at].name), value)?;
         at += 1;
     }
     Ok(())
 }
 
-fn seen_value(seen: &ChildResult) -> Result<Value, AllocError>
-    ensures { IfOk result (λ v. v ≡ value_seen seen.now) }
+fn seen_value(seen: &ChildResult) -> HeldValue<'_>
+    ensures { result ≡ value_seen seen.now }
 {
     match seen {
-        ChildResult::Created(id) => Ok(Value::Contract(*id)),
-        ChildResult::Returned(value) => value.copied(),
-        ChildResult::Fetched(_) => Ok(Value::Unit),
+        ChildResult::Created(id) => HeldValue::made(Value::Contract(*id)),
+        ChildResult::Returned(value) => HeldValue::given(value),
+        ChildResult::Fetched(_) => HeldValue::made(Value::Unit),
     }
 }
 
@@ -72,7 +75,7 @@ fn fields(checked: &Checked, template: TemplateName) -> &[FieldDecl]
     }
 }
 
-fn eval_id(contract: &Expr, names: &Bindings) -> Result<Hash, EvalFault>
+fn eval_id(contract: &Expr, names: &Bindings<'_>) -> Result<Hash, EvalFault>
     ensures { UnlessMemory EvalFault.Memory result (id_of (expr_form contract.now) names.now) }
 {
     match eval_expr(contract, names)? {
@@ -84,7 +87,7 @@ fn eval_id(contract: &Expr, names: &Bindings) -> Result<Hash, EvalFault>
 fn run_bind<'s>(
     name: Name,
     value: &Expr,
-    names: &mut Bindings,
+    names: &mut Bindings<'s>,
     seen: &'s [ChildResult],
 ) -> Result<Run<'s>, EvalFault>
     ensures { result ≢ Err EvalFault.Memory
@@ -97,7 +100,7 @@ fn run_bind<'s>(
 
 fn run_assert<'s>(
     test: &Expr,
-    names: &Bindings,
+    names: &Bindings<'_>,
     seen: &'s [ChildResult],
 ) -> Result<Run<'s>, EvalFault>
     ensures { result ≢ Err EvalFault.Memory
@@ -113,13 +116,13 @@ fn run_assert<'s>(
 /// After a child that gave a value, which is bound.
 fn run_value<'s>(
     name: Name,
-    child: &ChildResult,
+    child: &'s ChildResult,
     rest: &'s [ChildResult],
-    names: &mut Bindings,
+    names: &mut Bindings<'s>,
 ) -> Result<Run<'s>, EvalFault>
     ensures { result ≢ Err EvalFault.Memory → shown result names.new ≡ Went (bound_to name (value_seen child.now) names.old) rest.now }
 {
-    names.bind_as(BoundName::plain(name), seen_value(child)?)?;
+    names.bind_held(BoundName::plain(name), seen_value(child))?;
     Ok(Run::Went(rest))
 }
 
@@ -127,9 +130,9 @@ fn run_value<'s>(
 fn run_fields<'s>(
     name: Name,
     decls: &[FieldDecl],
-    child: &ChildResult,
+    child: &'s ChildResult,
     rest: &'s [ChildResult],
-    names: &mut Bindings,
+    names: &mut Bindings<'s>,
 ) -> Result<Run<'s>, EvalFault>
     ensures { result ≢ Err EvalFault.Memory → shown result names.new ≡ Went (with_fields name decls.now (fields_seen child.now) names.old) rest.now }
 {
@@ -140,7 +143,7 @@ fn run_fields<'s>(
 fn next_create<'s>(
     template: TemplateName,
     fields: &ExprList,
-    names: &Bindings,
+    names: &Bindings<'_>,
 ) -> Result<Run<'s>, EvalFault>
     ensures { result ≢ Err EvalFault.Memory → shown result names.now ≡ Stopped (create_step template (vals (list_form fields.now) names.now)) }
 {
@@ -153,7 +156,7 @@ fn run_create<'s>(
     name: Name,
     template: TemplateName,
     fields: &ExprList,
-    names: &mut Bindings,
+    names: &mut Bindings<'s>,
     seen: &'s [ChildResult],
 ) -> Result<Run<'s>, EvalFault>
     ensures { result ≢ Err EvalFault.Memory
@@ -171,7 +174,7 @@ fn next_exercise<'s>(
     contract: &Expr,
     choice: Name,
     args: &ExprList,
-    names: &Bindings,
+    names: &Bindings<'_>,
 ) -> Result<Run<'s>, EvalFault>
     ensures { result ≢ Err EvalFault.Memory
         → shown result names.now ≡ Stopped (exercise_step template choice (id_of (expr_form contract.now) names.now) (vals (list_form args.now) names.now)) }
@@ -189,7 +192,7 @@ fn next_exercise<'s>(
 fn next_fetch<'s>(
     template: TemplateName,
     contract: &Expr,
-    names: &Bindings,
+    names: &Bindings<'_>,
 ) -> Result<Run<'s>, EvalFault>
     ensures { result ≢ Err EvalFault.Memory → shown result names.now ≡ Stopped (fetch_step template (id_of (expr_form contract.now) names.now)) }
 {
@@ -203,7 +206,7 @@ fn run_fetch<'s>(
     template: TemplateName,
     contract: &Expr,
     checked: &Checked,
-    names: &mut Bindings,
+    names: &mut Bindings<'s>,
     seen: &'s [ChildResult],
 ) -> Result<Run<'s>, EvalFault>
     ensures { result ≢ Err EvalFault.Memory → shown result names.new
@@ -220,7 +223,7 @@ fn run_fetch<'s>(
 fn run_stmt<'s>(
     stmt: &Stmt,
     checked: &Checked,
-    names: &mut Bindings,
+    names: &mut Bindings<'s>,
     seen: &'s [ChildResult],
 ) -> Result<Run<'s>, EvalFault>
     ensures { result ≢ Err EvalFault.Memory → shown result names.new ≡ ran (stmt_form stmt.now) checked.now names.old seen.now }
@@ -262,7 +265,7 @@ fn run_stmt<'s>(
 fn run_side<'s>(
     stmts: &StmtList,
     checked: &Checked,
-    names: &mut Bindings,
+    names: &mut Bindings<'s>,
     seen: &'s [ChildResult],
 ) -> Result<Run<'s>, EvalFault>
     ensures { result ≢ Err EvalFault.Memory → shown result names.new ≡ closed names.old (ran_all (stmt_list_form stmts.now) checked.now names.old seen.now) }
@@ -281,7 +284,7 @@ fn run_side<'s>(
 fn run_list<'s>(
     stmts: &StmtList,
     checked: &Checked,
-    names: &mut Bindings,
+    names: &mut Bindings<'s>,
     seen: &'s [ChildResult],
 ) -> Result<Run<'s>, EvalFault>
     ensures { result ≢ Err EvalFault.Memory → shown result names.new ≡ ran_all (stmt_list_form stmts.now) checked.now names.old seen.now }
@@ -297,46 +300,53 @@ fn run_list<'s>(
 }
 
 /// The names of a contract's fields.
-pub(crate) fn field_names(
+#[tactic(auto, using(crate::proofs::Given::fields_behind))]
+pub(crate) fn field_names<'a>(
     alloc: Global,
-    template: &Template,
-    instance: &Instance,
-) -> Result<Bindings, AllocError>
-    ensures { IfOk result (λ n. n ≡ with_this template.now.fields instance.now.fields []) }
+    template: &'a Template,
+    instance: &'a Instance,
+) -> Bindings<'a>
+    ensures { result ≡ with_this template.now.fields instance.now.fields [] }
 {
-    let mut names = Bindings::new(alloc);
-    bind_fields(
-        &mut names,
-        &Owner::This,
-        template.fields.as_slice(),
-        instance.fields.as_slice(),
-    )?;
-    Ok(names)
+    Bindings::of(
+        alloc,
+        GivenNames::of(
+            None,
+            BoundFields::of(
+                Owner::This,
+                template.fields.as_slice(),
+                instance.fields.as_slice(),
+            ),
+            BoundFields::none(),
+        ),
+    )
 }
 
-fn body_names(
+#[tactic(auto, using(crate::proofs::Given::fields_behind))]
+fn body_names<'a>(
     alloc: Global,
-    template: &Template,
-    choice: &Choice,
-    call: &ChoiceCall,
-) -> Result<Bindings, AllocError>
-    ensures { IfOk result (λ n. n ≡ names_of template.now choice.now call.now) }
+    template: &'a Template,
+    choice: &'a Choice,
+    call: &'a ChoiceCall,
+) -> Bindings<'a>
+    ensures { result ≡ names_of template.now choice.now call.now }
 {
-    let mut names = Bindings::new(alloc);
-    names.bind_as(BoundName::itself(), Value::Contract(call.id))?;
-    bind_fields(
-        &mut names,
-        &Owner::This,
-        template.fields.as_slice(),
-        call.instance.fields.as_slice(),
-    )?;
-    bind_fields(
-        &mut names,
-        &Owner::Arguments,
-        choice.params.as_slice(),
-        call.args.as_slice(),
-    )?;
-    Ok(names)
+    Bindings::of(
+        alloc,
+        GivenNames::of(
+            Some(Value::Contract(call.id)),
+            BoundFields::of(
+                Owner::This,
+                template.fields.as_slice(),
+                call.instance.fields.as_slice(),
+            ),
+            BoundFields::of(
+                Owner::Arguments,
+                choice.params.as_slice(),
+                call.args.as_slice(),
+            ),
+        ),
+    )
 }
 
 /// What the body of a choice does next, with its template at hand.
@@ -350,7 +360,7 @@ pub fn next_of_choice(
 ) -> Result<Step, EvalFault>
     ensures { UnlessMemory EvalFault.Memory result (next_of template.now choice.now checked.now call.now so_far.now) }
 {
-    let mut names = body_names(alloc, template, choice, call)?;
+    let mut names = body_names(alloc, template, choice, call);
     match run_list(&choice.body, checked, &mut names, so_far)? {
         Run::Stopped(step) => Ok(step),
         Run::Went(_) => {
@@ -373,7 +383,7 @@ pub fn next_step(
     ensures { UnlessMemory EvalFault.Memory result (next checked.now call.now so_far.now) }
 {
     match checked.template(call.instance.template) {
-        Some(template) => match checked.choice(call.instance.template, call.choice) {
+        Some(template) => match choice_of(template, call.choice) {
             Some(choice) => {
                 next_of_choice(alloc, checked, template, choice, call, so_far.as_slice())
             }

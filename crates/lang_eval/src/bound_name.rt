@@ -1,5 +1,5 @@
 //! Names that values are bound under.
-ghost use Rattle.std.specs.Prelude.{◌≡◌, ◌++◌, codes};
+ghost use Rattle.std.specs.Prelude.{◌≡◌, ◌≢◌, ◌++◌, ℕ, List, false, MatchOption, codes};
 ghost use Rattle.ledger_terms.specs.Parties.{same_name};
 ghost use Rattle.lang_eval.specs.Spellings.{owner_word};
 
@@ -24,20 +24,31 @@ impl Model for BoundName {
     ghost view = { λ n. spelled n.spelling };
 }
 
-fn is_dotted(text: &[u8], field: &[u8]) -> bool
-    ensures { result ≡ same_name (codes "." ++ field.now) text.now }
+fn behind_dot(text: &[u8]) -> Option<&[u8]>
+    ensures { MatchOption result ((part : List ℕ) → text.now ≢ codes "." ++ part) (λ part. text.now ≡ codes "." ++ part.now) }
 {
     match text.split_first() {
-        Some((dot, rest)) => *dot == b'.' && rest == field,
-        None => false,
+        Some((dot, part)) => { if *dot == b'.' { Some(part) } else { None } }
+        None => None,
+    }
+}
+
+/// What a text has behind an owner's word and a dot, where it begins with them.
+pub(crate) fn field_part<'a>(text: &'a [u8], owner: &[u8]) -> Option<&'a [u8]>
+    ensures { MatchOption result ((field : List ℕ) → same_name (owner.now ++ codes "." ++ field) text.now ≡ false)
+        (λ part. (field : List ℕ) → same_name (owner.now ++ codes "." ++ field) text.now ≡ same_name field part.now) }
+{
+    match text.strip_prefix(owner) {
+        Some(rest) => behind_dot(rest),
+        None => None,
     }
 }
 
 fn is_field(text: &[u8], owner: &[u8], field: &[u8]) -> bool
     ensures { result ≡ same_name (owner.now ++ codes "." ++ field.now) text.now }
 {
-    match text.strip_prefix(owner) {
-        Some(rest) => is_dotted(rest, field),
+    match field_part(text, owner) {
+        Some(part) => field == part,
         None => false,
     }
 }

@@ -1,8 +1,8 @@
 //! Packages that are well typed.
-ghost use Rattle.std.specs.Prelude.{◌≡◌, ◌∷◌, [], find, IfOk, OnOk, option_copied};
+ghost use Rattle.std.specs.Prelude.{◌≡◌, ◌∷◌, [], Some, find, IfOk, OnOk, option_copied};
 ghost use Rattle.ledger_terms.specs.ExprForms.{expr_form};
 ghost use Rattle.ledger_terms.specs.Parties.{same_name};
-ghost use Rattle.lang_eval.specs.Found.{template_in, choice_in};
+ghost use Rattle.lang_eval.specs.Found.{template_in, choice_in, choice_of};
 ghost use Rattle.lang_eval.specs.Builtin.{with_archive, with_archives, archive_of, note_form, checked_packages};
 ghost use Rattle.lang_eval.specs.Typed.{ArePackages};
 
@@ -56,6 +56,13 @@ pub fn choice_named(choices: &[Choice], name: Name) -> Option<&Choice>
     ensures { option_copied result ≡ find (λ c. same_name c.name name) choices.now }
 {
     choices.iter().find(|choice| choice.name == name)
+}
+
+/// The choice of that name of a template.
+pub(crate) fn choice_of(template: &Template, name: Name) -> Option<&Choice>
+    ensures { option_copied result ≡ choice_of (Some template.now) name }
+{
+    choice_named(template.choices.as_slice(), name)
 }
 
 /// The choice Archive of a template with these signatories, which are its controllers (Ledger Model: archiving).
@@ -135,7 +142,7 @@ impl Checked {
         ensures { option_copied result ≡ choice_in template choice self.now }
     {
         match self.template(template) {
-            Some(template) => choice_named(template.choices.as_slice(), choice),
+            Some(template) => choice_of(template, choice),
             None => None,
         }
     }

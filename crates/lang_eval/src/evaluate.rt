@@ -1,30 +1,147 @@
 //! The values of expressions.
-ghost use Rattle.std.specs.Prelude.{◌≡◌, IfOk};
+ghost use Rattle.std.specs.Prelude.{◌≡◌, Ok};
 ghost use Rattle.ledger_terms.specs.Answers.{UnlessMemory};
 ghost use Rattle.ledger_terms.specs.ExprForms.{expr_form, list_form};
+ghost use Rattle.ledger_terms.specs.Parties.{set_of};
 ghost use Rattle.lang_eval.specs.Names.{binding_of};
 ghost use Rattle.lang_eval.specs.Operation.{operation};
-ghost use Rattle.lang_eval.specs.Value.{Answer, val, vals, truth, value_in, with_value};
+ghost use Rattle.lang_eval.specs.Value.{Answer, val, vals, truth, value_in, with_value, both_of, either_of, parties_among};
 
 use crate::bindings::Bindings;
 use crate::eval_fault::EvalFault;
+use crate::held_value::HeldValue;
 use crate::operator::Operator;
-use crate::operators::{apply, negate, set};
-use ledger_terms::{Exact, Expr, ExprList, Text, Value, ValueList};
-use std::alloc::AllocError;
+use crate::operators::{apply, negate, put_party};
+use ledger_terms::{Expr, ExprList, PartySet, Text, Value, ValueList};
 
-fn named_value(name: &Text, names: &Bindings) -> Result<Value, AllocError>
-    ensures { IfOk result (λ v. v ≡ value_in (binding_of name.now names.now)) }
+#[tactic(auto, using(crate::proofs::Given::value_there, crate::proofs::Given::value_absent))]
+fn named_value<'a>(name: &Text, names: &'a Bindings<'a>) -> HeldValue<'a>
+    ensures { result ≡ value_in (binding_of name.now names.now) }
 {
-    match names.find(name) {
-        Some(binding) => binding.value.copied(),
-        None => Ok(Value::Unit),
+    match names.value(name) {
+        Some(value) => HeldValue::given(value),
+        None => HeldValue::made(Value::Unit),
     }
 }
 
-/// The values of expressions in order, or the first fault from the left.
+/// The set of the parties among the values of expressions, or the first fault from the left.
 #[cycle(eval)]
-pub fn eval_list(exprs: &ExprList, names: &Bindings) -> Result<ValueList, EvalFault>
+fn eval_set<'a>(exprs: &'a ExprList, names: &'a Bindings<'a>) -> Result<PartySet, EvalFault>
+    ensures { UnlessMemory EvalFault.Memory result (with_value (vals (list_form exprs.now) names.now) (λ vs. Ok (set_of (parties_among vs)))) }
+{
+    let mut set = PartySet::new(*names.allocator());
+    for expr in exprs.as_slice() {
+        let value = hold_expr(expr, names)?;
+        put_party(&mut set, value.as_value())?;
+    }
+    Ok(set)
+}
+
+/// An operator applied to what was evaluated first and to a second expression.
+#[cycle(eval)]
+fn eval_operation<'a>(
+    operator: Operator,
+    first: Result<HeldValue<'a>, EvalFault>,
+    second: &'a Expr,
+    names: &'a Bindings<'a>,
+) -> Result<HeldValue<'a>, EvalFault>
+    ensures { (answer : Answer)
+        → UnlessMemory EvalFault.Memory first.entry answer
+        → UnlessMemory EvalFault.Memory result (with_value answer (λ x. with_value (val (expr_form second.now) names.now) (λ y. operation operator x y))) }
+{
+    let first = first?;
+    let second = hold_expr(second, names)?;
+    let value = apply(
+        *names.allocator(),
+        operator,
+        first.as_value(),
+        second.as_value(),
+    )?;
+    Ok(HeldValue::made(value))
+}
+
+/// The second expression where the first was evaluated to true.
+#[cycle(eval)]
+fn hold_both<'a>(
+    first: Result<HeldValue<'a>, EvalFault>,
+    second: &'a Expr,
+    names: &'a Bindings<'a>,
+) -> Result<HeldValue<'a>, EvalFault>
+    ensures { (answer : Answer)
+        → UnlessMemory EvalFault.Memory first.entry answer
+        → UnlessMemory EvalFault.Memory result (with_value answer (λ x. both_of x (val (expr_form second.now) names.now))) }
+{
+    let first = first?;
+    if first.is_true() {
+        return hold_expr(second, names);
+    }
+    Ok(first)
+}
+
+/// The second expression where the first was evaluated to false.
+#[cycle(eval)]
+fn hold_either<'a>(
+    first: Result<HeldValue<'a>, EvalFault>,
+    second: &'a Expr,
+    names: &'a Bindings<'a>,
+) -> Result<HeldValue<'a>, EvalFault>
+    ensures { (answer : Answer)
+        → UnlessMemory EvalFault.Memory first.entry answer
+        → UnlessMemory EvalFault.Memory result (with_value answer (λ x. either_of x (val (expr_form second.now) names.now))) }
+{
+    let first = first?;
+    if first.is_false() {
+        return hold_expr(second, names);
+    }
+    Ok(first)
+}
+
+/// The value of an expression, or the first fault from the left, borrowed where it stands in a field or in the expression.
+#[cycle(eval)]
+#[tactic(auto, using(ledger_terms::proofs::ExprRows::form_SetOf))]
+fn hold_expr<'a>(expr: &'a Expr, names: &'a Bindings<'a>) -> Result<HeldValue<'a>, EvalFault>
+    ensures { UnlessMemory EvalFault.Memory result (val (expr_form expr.now) names.now) }
+{
+    match expr {
+        Expr::Literal(value) => Ok(HeldValue::given(value)),
+        Expr::Var(name) => Ok(named_value(name, names)),
+        Expr::Add(a, b) => eval_operation(Operator::Add, hold_expr(a, names), b, names),
+        Expr::Sub(a, b) => eval_operation(Operator::Subtract, hold_expr(a, names), b, names),
+        Expr::Mul(a, b) => eval_operation(Operator::Multiply, hold_expr(a, names), b, names),
+        Expr::Less(a, b) => eval_operation(Operator::Less, hold_expr(a, names), b, names),
+        Expr::LessEq(a, b) => eval_operation(Operator::LessEq, hold_expr(a, names), b, names),
+        Expr::Equal(a, b) => eval_operation(Operator::Equal, hold_expr(a, names), b, names),
+        Expr::Both(a, b) => hold_both(hold_expr(a, names), b, names),
+        Expr::Either(a, b) => hold_either(hold_expr(a, names), b, names),
+        Expr::Negate(a) => {
+            let a = hold_expr(a, names)?;
+            Ok(HeldValue::made(negate(a.as_value())))
+        }
+        Expr::Cond(test, first, second) => {
+            let test = hold_expr(test, names)?;
+            if test.is_true() {
+                return hold_expr(first, names);
+            }
+            hold_expr(second, names)
+        }
+        Expr::Cat(a, b) => eval_operation(Operator::Cat, hold_expr(a, names), b, names),
+        Expr::SetOf(parties) => Ok(HeldValue::made(Value::Parties(eval_set(parties, names)?))),
+        Expr::Union(a, b) => eval_operation(Operator::Union, hold_expr(a, names), b, names),
+        Expr::Has(a, b) => eval_operation(Operator::Has, hold_expr(a, names), b, names),
+    }
+}
+
+/// The value of an expression, or the first fault from the left. Operands of another kind than their operator's, which no
+/// well-typed expression has, give Unit.
+pub fn eval_expr(expr: &Expr, names: &Bindings<'_>) -> Result<Value, EvalFault>
+    ensures { UnlessMemory EvalFault.Memory result (val (expr_form expr.now) names.now) }
+{
+    let held = hold_expr(expr, names)?;
+    Ok(held.into_value()?)
+}
+
+/// The values of expressions in order, or the first fault from the left.
+pub fn eval_list(exprs: &ExprList, names: &Bindings<'_>) -> Result<ValueList, EvalFault>
     ensures { UnlessMemory EvalFault.Memory result (vals (list_form exprs.now) names.now) }
 {
     let mut values = ValueList::with_room(*names.allocator(), exprs.len())?;
@@ -34,71 +151,10 @@ pub fn eval_list(exprs: &ExprList, names: &Bindings) -> Result<ValueList, EvalFa
     Ok(values)
 }
 
-/// An operator applied to what was evaluated first and to a second expression.
-#[cycle(eval)]
-fn eval_operation(
-    operator: Operator,
-    first: Result<Value, EvalFault>,
-    second: &Expr,
-    names: &Bindings,
-) -> Result<Value, EvalFault>
-    ensures { (answer : Answer)
-        → UnlessMemory EvalFault.Memory first answer
-        → UnlessMemory EvalFault.Memory result (with_value answer (λ x. with_value (val (expr_form second.now) names.now) (λ y. operation operator x y))) }
-{
-    let first = first?;
-    let second = eval_expr(second, names)?;
-    apply(*names.allocator(), operator, &first, &second)
-}
-
-/// The value of an expression, or the first fault from the left. Operands of another kind than their operator's, which no
-/// well-typed expression has, give Unit.
-#[cycle(eval)]
-#[tactic(auto, using(ledger_terms::proofs::ExprRows::form_SetOf))]
-pub fn eval_expr(expr: &Expr, names: &Bindings) -> Result<Value, EvalFault>
-    ensures { UnlessMemory EvalFault.Memory result (val (expr_form expr.now) names.now) }
-{
-    match expr {
-        Expr::Literal(value) => Ok(value.copied()?),
-        Expr::Var(name) => Ok(named_value(name, names)?),
-        Expr::Add(a, b) => eval_operation(Operator::Add, eval_expr(a, names), b, names),
-        Expr::Sub(a, b) => eval_operation(Operator::Subtract, eval_expr(a, names), b, names),
-        Expr::Mul(a, b) => eval_operation(Operator::Multiply, eval_expr(a, names), b, names),
-        Expr::Less(a, b) => eval_operation(Operator::Less, eval_expr(a, names), b, names),
-        Expr::LessEq(a, b) => eval_operation(Operator::LessEq, eval_expr(a, names), b, names),
-        Expr::Equal(a, b) => eval_operation(Operator::Equal, eval_expr(a, names), b, names),
-        Expr::Both(a, b) => match eval_expr(a, names)? {
-            Value::Bool(true) => eval_expr(b, names),
-            value => Ok(value),
-        },
-        Expr::Either(a, b) => match eval_expr(a, names)? {
-            Value::Bool(false) => eval_expr(b, names),
-            value => Ok(value),
-        },
-        Expr::Negate(a) => {
-            let a = eval_expr(a, names)?;
-            Ok(negate(&a))
-        }
-        Expr::Cond(test, first, second) => match eval_expr(test, names)? {
-            Value::Bool(true) => eval_expr(first, names),
-            _ => eval_expr(second, names),
-        },
-        Expr::Cat(a, b) => eval_operation(Operator::Cat, eval_expr(a, names), b, names),
-        Expr::SetOf(parties) => {
-            let parties = eval_list(parties, names)?;
-            Ok(set(*names.allocator(), parties.as_slice())?)
-        }
-        Expr::Union(a, b) => eval_operation(Operator::Union, eval_expr(a, names), b, names),
-        Expr::Has(a, b) => eval_operation(Operator::Has, eval_expr(a, names), b, names),
-    }
-}
-
 /// Whether a test is true, or the first fault from the left.
-pub fn eval_test(test: &Expr, names: &Bindings) -> Result<bool, EvalFault>
+pub fn eval_test(test: &Expr, names: &Bindings<'_>) -> Result<bool, EvalFault>
     ensures { UnlessMemory EvalFault.Memory result (truth (expr_form test.now) names.now) }
 {
-    match eval_expr(test, names)? {
-        Value::Bool(yes) => Ok(yes),
-        _ => Ok(false),
-    }
+    let held = hold_expr(test, names)?;
+    Ok(held.is_true())
 }

@@ -1,8 +1,7 @@
 //! The operators of expressions, over values.
-ghost use Rattle.std.specs.Prelude.{◌≡◌, ◌++◌, IfOk};
-ghost use Rattle.ledger_terms.specs.declared.value.Value.TheVariants.{Parties};
+ghost use Rattle.std.specs.Prelude.{◌≡◌, ◌++◌, ◌∷◌, [], IfOk, OnOk};
 ghost use Rattle.ledger_terms.specs.Answers.{UnlessMemory};
-ghost use Rattle.ledger_terms.specs.Parties.{set_of};
+ghost use Rattle.ledger_terms.specs.Parties.{with_parties};
 ghost use Rattle.lang_eval.specs.Value.{sum_of, difference_of, product_of, is_less, is_less_eq, negation_of, text_of, union_of, has_member, parties_among};
 ghost use Rattle.lang_eval.specs.Operation.{operation};
 
@@ -117,17 +116,14 @@ fn has(a: &Value, b: &Value) -> Value
     }
 }
 
-/// The set of the parties among the values.
-pub(crate) fn set(alloc: Global, values: &[Value]) -> Result<Value, AllocError>
-    ensures { IfOk result (λ v. v ≡ Parties (set_of (parties_among values.now))) }
+/// Puts a value into a set where it is a party.
+pub(crate) fn put_party(set: &mut PartySet, value: &Value) -> Result<(), AllocError>
+    ensures { OnOk result (set.new ≡ with_parties (parties_among (value.now ∷ [])) set.old) }
 {
-    let mut set = PartySet::new(alloc);
-    for value in values {
-        if let Value::Party(party) = value {
-            set.insert(*party)?;
-        }
+    match value {
+        Value::Party(party) => set.insert(*party),
+        _ => Ok(()),
     }
-    Ok(Value::Parties(set))
 }
 
 /// What an operator gives of two values.

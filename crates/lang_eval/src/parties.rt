@@ -1,5 +1,5 @@
 //! The tests of a Create and of an Exercise before its body, but for sizes.
-ghost use Rattle.std.specs.Prelude.{◌≡◌, IfOk};
+ghost use Rattle.std.specs.Prelude.{◌≡◌};
 ghost use Rattle.ledger_terms.specs.Answers.{UnlessMemory};
 ghost use Rattle.ledger_terms.specs.ExprForms.{expr_form};
 ghost use Rattle.lang_eval.specs.Parts.{parties_of, call_names, contract_parties_of, created_parties_of, parties_under, choice_parties_of};
@@ -7,18 +7,21 @@ ghost use Rattle.lang_eval.specs.Parts.{choice_observers_of, parties_of_contract
 ghost use Rattle.lang_eval.specs.Parts.{observers_of_choice, is_consuming_call};
 
 use crate::bindings::Bindings;
-use crate::body::{bind_fields, field_names};
-use crate::checked::Checked;
+use crate::body::field_names;
+use crate::bound_fields::BoundFields;
+use crate::call_parts::CallParts;
+use crate::checked::{Checked, choice_of};
 use crate::choice_parties::ChoiceParties;
 use crate::contract_parties::ContractParties;
 use crate::eval_fault::EvalFault;
 use crate::evaluate::{eval_expr, eval_test};
+use crate::given_names::GivenNames;
 use crate::owner::Owner;
 use ledger_model::ChoiceCall;
 use ledger_terms::{Choice, Expr, Instance, PartySet, Template, Value};
-use std::alloc::{AllocError, Global};
+use std::alloc::Global;
 
-fn eval_parties(expr: &Expr, names: &Bindings) -> Result<PartySet, EvalFault>
+fn eval_parties(expr: &Expr, names: &Bindings<'_>) -> Result<PartySet, EvalFault>
     ensures { UnlessMemory EvalFault.Memory result (parties_of (expr_form expr.now) names.now) }
 {
     match eval_expr(expr, names)? {
@@ -27,25 +30,30 @@ fn eval_parties(expr: &Expr, names: &Bindings) -> Result<PartySet, EvalFault>
     }
 }
 
-fn call_names(
+#[tactic(auto, using(crate::proofs::Given::fields_behind))]
+fn call_names<'a>(
     alloc: Global,
-    template: &Template,
-    choice: &Choice,
-    call: &ChoiceCall,
-) -> Result<Bindings, AllocError>
-    ensures { IfOk result (λ n. n ≡ call_names template.now choice.now call.now) }
+    template: &'a Template,
+    choice: &'a Choice,
+    call: &'a CallParts<'_>,
+) -> Bindings<'a>
+    ensures { result ≡ call_names template.now choice.now call.now }
 {
-    let mut names = field_names(alloc, template, &call.instance)?;
-    bind_fields(
-        &mut names,
-        &Owner::Arguments,
-        choice.params.as_slice(),
-        call.args.as_slice(),
-    )?;
-    Ok(names)
+    Bindings::of(
+        alloc,
+        GivenNames::of(
+            None,
+            BoundFields::of(
+                Owner::This,
+                template.fields.as_slice(),
+                call.instance().fields.as_slice(),
+            ),
+            BoundFields::of(Owner::Arguments, choice.params.as_slice(), call.args()),
+        ),
+    )
 }
 
-fn parties_under(template: &Template, names: &Bindings) -> Result<ContractParties, EvalFault>
+fn parties_under(template: &Template, names: &Bindings<'_>) -> Result<ContractParties, EvalFault>
     ensures { UnlessMemory EvalFault.Memory result (parties_under template.now names.now) }
 {
     let signatories = eval_parties(&template.signatories, names)?;
@@ -66,7 +74,7 @@ fn parties_by(
 ) -> Result<ContractParties, EvalFault>
     ensures { UnlessMemory EvalFault.Memory result (contract_parties_of template.now instance.now) }
 {
-    let names = field_names(alloc, template, instance)?;
+    let names = field_names(alloc, template, instance);
     parties_under(template, &names)
 }
 
@@ -77,7 +85,7 @@ fn created_by(
 ) -> Result<ContractParties, EvalFault>
     ensures { UnlessMemory EvalFault.Memory result (created_parties_of template.now instance.now) }
 {
-    let names = field_names(alloc, template, instance)?;
+    let names = field_names(alloc, template, instance);
     if !eval_test(&template.ensure, &names)? {
         return Err(EvalFault::Ensure);
     }
@@ -88,11 +96,11 @@ fn choice_by(
     alloc: Global,
     template: &Template,
     choice: &Choice,
-    call: &ChoiceCall,
+    call: &CallParts<'_>,
 ) -> Result<ChoiceParties, EvalFault>
     ensures { UnlessMemory EvalFault.Memory result (choice_parties_of template.now choice.now call.now) }
 {
-    let names = call_names(alloc, template, choice, call)?;
+    let names = call_names(alloc, template, choice, call);
     let controllers = eval_parties(&choice.controllers, &names)?;
     let observers = eval_parties(&choice.observers, &names)?;
     Ok(ChoiceParties {
@@ -105,11 +113,11 @@ fn observers_by(
     alloc: Global,
     template: &Template,
     choice: &Choice,
-    call: &ChoiceCall,
+    call: &CallParts<'_>,
 ) -> Result<PartySet, EvalFault>
     ensures { UnlessMemory EvalFault.Memory result (choice_observers_of template.now choice.now call.now) }
 {
-    let names = call_names(alloc, template, choice, call)?;
+    let names = call_names(alloc, template, choice, call);
     eval_parties(&choice.observers, &names)
 }
 
@@ -154,8 +162,26 @@ pub fn parties_of_choice(
     ensures { UnlessMemory EvalFault.Memory result (parties_of_choice checked.now call.now) }
 {
     match checked.template(call.instance.template) {
-        Some(template) => match checked.choice(call.instance.template, call.choice) {
-            Some(choice) => choice_by(alloc, template, choice, call),
+        Some(template) => match choice_of(template, call.choice) {
+            Some(choice) => choice_by(alloc, template, choice, &CallParts::of_call(call)),
+            None => Err(EvalFault::Assert),
+        },
+        None => Err(EvalFault::Assert),
+    }
+}
+
+/// The observers of a call of a choice, by the call's parts.
+#[tactic(auto, unfolding(crate::specs::Parts::observers_of_choice))]
+pub(crate) fn observers_of_parts(
+    alloc: Global,
+    checked: &Checked,
+    call: &CallParts<'_>,
+) -> Result<PartySet, EvalFault>
+    ensures { UnlessMemory EvalFault.Memory result (observers_of_choice checked.now call.now) }
+{
+    match checked.template(call.instance().template) {
+        Some(template) => match choice_of(template, call.choice()) {
+            Some(choice) => observers_by(alloc, template, choice, call),
             None => Err(EvalFault::Assert),
         },
         None => Err(EvalFault::Assert),
@@ -163,7 +189,6 @@ pub fn parties_of_choice(
 }
 
 /// The observers of a call of a choice, whatever its controllers are.
-#[tactic(auto, unfolding(crate::specs::Parts::observers_of_choice))]
 pub fn observers_of_choice(
     alloc: Global,
     checked: &Checked,
@@ -171,13 +196,7 @@ pub fn observers_of_choice(
 ) -> Result<PartySet, EvalFault>
     ensures { UnlessMemory EvalFault.Memory result (observers_of_choice checked.now call.now) }
 {
-    match checked.template(call.instance.template) {
-        Some(template) => match checked.choice(call.instance.template, call.choice) {
-            Some(choice) => observers_by(alloc, template, choice, call),
-            None => Err(EvalFault::Assert),
-        },
-        None => Err(EvalFault::Assert),
-    }
+    observers_of_parts(alloc, checked, &CallParts::of_call(call))
 }
 
 /// Whether a call consumes its contract, as its choice says.

@@ -1,17 +1,18 @@
 //! Who is involved in an action.
-ghost use Rattle.std.specs.Prelude.{◌≡◌, ◌++◌, IfOk};
+ghost use Rattle.std.specs.Prelude.{◌≡◌, ◌++◌, IfOk, OnOk};
 ghost use Rattle.ledger_terms.specs.Answers.{UnlessMemory};
-ghost use Rattle.ledger_terms.specs.Parties.{set_of};
+ghost use Rattle.ledger_terms.specs.Parties.{set_of, with_parties};
 ghost use Rattle.lang_eval.specs.Language.{parties_if_typed, observers_if_typed, roles};
 ghost use Rattle.lang_eval.specs.RoleSets.{stakeholders_in, told_first, with_actors, create_roles, exercise_roles, fetch_roles};
 
+use crate::call_parts::CallParts;
 use crate::checked::Checked;
 use crate::contract_parties::ContractParties;
-use crate::kinds::{call_has_kinds, has_kinds};
-use crate::parties::{observers_of_choice, parties_of_contract};
+use crate::kinds::{has_kinds, parts_have_kinds};
+use crate::parties::{observers_of_parts, parties_of_contract};
 use crate::role_fault::{RoleFault, of_fault};
-use ledger_model::{ChoiceCall, Roles};
-use ledger_terms::{Action, Exact, Hash, Instance, Name, PartySet, ValueList};
+use ledger_model::Roles;
+use ledger_terms::{Action, Instance, PartySet};
 use std::alloc::{AllocError, Global};
 
 fn parties_if_typed(
@@ -33,71 +34,71 @@ fn parties_if_typed(
 fn observers_if_typed(
     alloc: Global,
     checked: &Checked,
-    call: &ChoiceCall,
+    call: &CallParts<'_>,
 ) -> Result<PartySet, RoleFault>
     ensures { UnlessMemory RoleFault.Memory result (observers_if_typed checked.now call.now) }
 {
-    if !call_has_kinds(checked, call) {
+    if !parts_have_kinds(checked, call) {
         return Err(RoleFault::NoRoles);
     }
-    match observers_of_choice(alloc, checked, call) {
+    match observers_of_parts(alloc, checked, call) {
         Ok(parties) => Ok(parties),
         Err(fault) => Err(of_fault(fault)),
     }
 }
 
 /// The parties of either set.
-#[tactic(auto, using(crate::proofs::RoleLaws::joined_sets))]
-fn union_of_two(alloc: Global, first: &PartySet, second: &PartySet) -> Result<PartySet, AllocError>
+#[tactic(auto, using(crate::proofs::RoleLaws::set_of_two))]
+fn union_of_two(first: &PartySet, second: &PartySet) -> Result<PartySet, AllocError>
     ensures { IfOk result (λ s. s ≡ set_of (first.now ++ second.now)) }
 {
-    let none = PartySet::new(alloc);
-    let set = none.union(first)?;
-    let set = set.union(second)?;
-    Ok(set)
+    let _rising = first.as_slice();
+    first.union(second)
+}
+
+/// Puts the parties of a set into another.
+fn insert_all(set: &mut PartySet, parties: &PartySet) -> Result<(), AllocError>
+    ensures { OnOk result (set.new ≡ with_parties parties.now set.old) }
+{
+    for name in parties.as_slice() {
+        set.insert(*name)?;
+    }
+    Ok(())
 }
 
 /// The parties of each of three sets.
-#[tactic(auto, using(crate::proofs::RoleLaws::joined_sets))]
+#[tactic(auto, using(crate::proofs::RoleLaws::set_of_three))]
 fn union_of_three(
-    alloc: Global,
     first: &PartySet,
     second: &PartySet,
     third: &PartySet,
 ) -> Result<PartySet, AllocError>
     ensures { IfOk result (λ s. s ≡ set_of (first.now ++ (second.now ++ third.now))) }
 {
-    let none = PartySet::new(alloc);
-    let set = none.union(first)?;
-    let set = set.union(second)?;
-    let set = set.union(third)?;
+    let mut set = union_of_two(first, second)?;
+    insert_all(&mut set, third)?;
     Ok(set)
 }
 
 /// The stakeholders are told of a consuming Exercise, and the signatories of another.
-fn told_first(
-    alloc: Global,
-    parties: &ContractParties,
-    consuming: bool,
-) -> Result<PartySet, AllocError>
+fn told_first(parties: &ContractParties, consuming: bool) -> Result<PartySet, AllocError>
     ensures { IfOk result (λ s. s ≡ told_first parties.now consuming) }
 {
     if consuming {
-        union_of_two(alloc, &parties.signatories, &parties.observers)
+        union_of_two(&parties.signatories, &parties.observers)
     } else {
         parties.signatories.clone()
     }
 }
 
 fn with_actors(
-    alloc: Global,
     parties: ContractParties,
     actors: PartySet,
     informees: PartySet,
 ) -> Result<Roles, AllocError>
     ensures { IfOk result (λ r. r ≡ with_actors parties actors informees) }
 {
-    let confirmers = union_of_two(alloc, &parties.signatories, &actors)?;
+    let confirmers = union_of_two(&parties.signatories, &actors)?;
     Ok(Roles {
         signatories: parties.signatories,
         observers: parties.observers,
@@ -107,44 +108,28 @@ fn with_actors(
     })
 }
 
-fn call_of(
-    id: Hash,
-    instance: &Instance,
-    choice: Name,
-    args: &ValueList,
-) -> Result<ChoiceCall, AllocError>
-    ensures { IfOk result (λ c. c ≡ record { id = id; instance = instance.now; choice = choice; args = args.now }) }
-{
-    Ok(ChoiceCall {
-        id,
-        instance: instance.copied()?,
-        choice,
-        args: args.copied()?,
-    })
-}
-
 fn create_roles(alloc: Global, checked: &Checked, instance: &Instance) -> Result<Roles, RoleFault>
     ensures { UnlessMemory RoleFault.Memory result (create_roles checked.now instance.now) }
 {
     let parties = parties_if_typed(alloc, checked, instance)?;
-    let informees = union_of_two(alloc, &parties.signatories, &parties.observers)?;
-    Ok(with_actors(alloc, parties, PartySet::new(alloc), informees)?)
+    let informees = union_of_two(&parties.signatories, &parties.observers)?;
+    Ok(with_actors(parties, PartySet::new(alloc), informees)?)
 }
 
 fn exercise_roles(
     alloc: Global,
     checked: &Checked,
-    call: &ChoiceCall,
+    call: &CallParts<'_>,
     actors: &PartySet,
     consuming: bool,
 ) -> Result<Roles, RoleFault>
     ensures { UnlessMemory RoleFault.Memory result (exercise_roles checked.now call.now actors.now consuming) }
 {
-    let parties = parties_if_typed(alloc, checked, &call.instance)?;
+    let parties = parties_if_typed(alloc, checked, call.instance())?;
     let observers = observers_if_typed(alloc, checked, call)?;
-    let told = told_first(alloc, &parties, consuming)?;
-    let informees = union_of_three(alloc, &told, actors, &observers)?;
-    Ok(with_actors(alloc, parties, actors.clone()?, informees)?)
+    let told = told_first(&parties, consuming)?;
+    let informees = union_of_three(&told, actors, &observers)?;
+    Ok(with_actors(parties, actors.clone()?, informees)?)
 }
 
 fn fetch_roles(
@@ -156,8 +141,8 @@ fn fetch_roles(
     ensures { UnlessMemory RoleFault.Memory result (fetch_roles checked.now instance.now actors.now) }
 {
     let parties = parties_if_typed(alloc, checked, instance)?;
-    let informees = union_of_two(alloc, &parties.signatories, actors)?;
-    Ok(with_actors(alloc, parties, actors.clone()?, informees)?)
+    let informees = union_of_two(&parties.signatories, actors)?;
+    Ok(with_actors(parties, actors.clone()?, informees)?)
 }
 
 /// The parties of an action (Ledger Model: informees): the informees of a Create are the stakeholders, of a consuming
@@ -182,7 +167,7 @@ pub fn roles(alloc: Global, checked: &Checked, action: &Action) -> Result<Roles,
             consuming,
             result: _,
         } => {
-            let call = call_of(*id, instance, *choice, args)?;
+            let call = CallParts::of(id, instance, *choice, args);
             exercise_roles(alloc, checked, &call, actors, *consuming)
         }
         Action::Fetch {

@@ -68,7 +68,11 @@ fn value_of(alloc: Global, json: &str, topology: &Topology) -> Result<String, No
 }
 
 /// Names with the values of expressions without names.
-fn bindings_of(alloc: Global, names: &Value, topology: &Topology) -> Result<Bindings, NoValue> {
+fn bindings_of<'a>(
+    alloc: Global,
+    names: &Value,
+    topology: &Topology,
+) -> Result<Bindings<'a>, NoValue> {
     let root = Place::root(alloc);
     let none = Bindings::new(alloc);
     let mut bindings = Bindings::new(alloc);

@@ -1,0 +1,73 @@
+//! A call of a choice by its parts.
+ghost use Rattle.std.specs.Prelude.{◌≡◌};
+
+use ledger_model::ChoiceCall;
+use ledger_terms::{Hash, Instance, Name, Value, ValueList};
+use std::marker::Model;
+
+/// A call of a choice whose parts stand elsewhere, which contracts see as the call. It takes no memory.
+#[derive(Drop)]
+pub struct CallParts<'a> {
+    id: &'a Hash,
+    instance: &'a Instance,
+    choice: Name,
+    args: &'a ValueList,
+}
+
+impl<'a> Model for CallParts<'a> {
+    ghost use Rattle.ledger_model.specs.declared.step.ChoiceCall.{ChoiceCall};
+    ghost use Rattle.std.specs.Coded.{codes};
+
+    ghost Value = { ChoiceCall };
+
+    ghost coded = { Prim.hlevel codes };
+
+    ghost view = { λ c. record { id = c.id.now; instance = c.instance.now; choice = c.choice; args = c.args.now } };
+}
+
+impl<'a> CallParts<'a> {
+    /// The call of this choice of a contract.
+    pub fn of(
+        id: &'a Hash,
+        instance: &'a Instance,
+        choice: Name,
+        args: &'a ValueList,
+    ) -> CallParts<'a>
+        ensures { result ≡ record { id = id.now; instance = instance.now; choice = choice; args = args.now } }
+    {
+        CallParts {
+            id,
+            instance,
+            choice,
+            args,
+        }
+    }
+
+    /// The parts of a call.
+    pub fn of_call(call: &'a ChoiceCall) -> CallParts<'a>
+        ensures { result ≡ call.now }
+    {
+        CallParts::of(&call.id, &call.instance, call.choice, &call.args)
+    }
+
+    /// The contract.
+    pub fn instance(&self) -> &Instance
+        ensures { result.now ≡ self.now.instance }
+    {
+        self.instance
+    }
+
+    /// The name of the choice.
+    pub fn choice(&self) -> Name
+        ensures { result ≡ self.now.choice }
+    {
+        self.choice
+    }
+
+    /// The arguments.
+    pub fn args(&self) -> &[Value]
+        ensures { result.now ≡ self.now.args }
+    {
+        self.args.as_slice()
+    }
+}
