@@ -2,16 +2,14 @@
 use Rattle.std.proofs.Common.{◌≡◌, ℕ, zero, suc, ◌+◌, ◌<◌, ◌≤◌, Bool, true, false, List, [], ◌∷◌, ◌++◌, length, map, filter, take, drop, get_or, slice_set}
 use Rattle.std.proofs.Common.{refl, sym, ap, ◌∙◌, subst, arith, append-nil, append_assoc}
 use Rattle.std.specs.Prelude.{All, if◌then◌else◌, ◌&&◌}
-use Rattle.std.specs.Borrow.{Bor}
 use Rattle.std.proofs.lemmas.List.{drop_more, map-append}
 use Rattle.std.proofs.lemmas.List.Elements.{All-head, All-tail, filter-append}
 use Rattle.std.proofs.Math.ListN.{drop_of_length-le}
 use Rattle.ledger_terms.specs.declared.act.Act.{Act}
 use Rattle.ledger_terms.specs.Forest.{Forest, NoRoots, Root, join, paths_from}
-use Rattle.ledger_terms.specs.Grown.{forest_of, tree_of}
-use Rattle.ledger_terms.specs.Trees.{ActionNode, Actions}
+use Rattle.ledger_terms.specs.Grown.{tree_of}
+use Rattle.ledger_terms.specs.Trees.{Actions}
 use Rattle.ledger_terms.proofs.Grow.{join-assoc, join-end}
-use Rattle.ledger_model.specs.Forest.{acts}
 use Rattle.contract_store.specs.Written.{is_change}
 use Rattle.interpret.specs.Ids.{is_authentic}
 use Rattle.view_split.specs.Holed.{fill}
@@ -23,13 +21,13 @@ use Rattle.view_split.specs.declared.split_view.SplitView.{SplitView}
 use Rattle.view_split.specs.declared.placed_view.PlacedView.{PlacedView}
 use Rattle.inbox_standing.specs.ChangeLists.{change_of, changes_of}
 use Rattle.inbox_standing.specs.declared.change.Change.{Change}
-use Rattle.node_inbox.specs.Acts.{acts_in, is_authentic_change}
+use Rattle.node_inbox.specs.Acts.{is_authentic_change}
 
 -- what holds of each holds of the one at a place
-pub all_at : (P : Act → Type 0) (found : List (Bor Act)) (i : ℕ) (b : Bor Act) → All P (acts_in found) → i < length found → b ≡ get_or found i b → P b.now
+pub all_at : (P : Act → Type 0) (found : List Act) (i : ℕ) (b : Act) → All P found → i < length found → b ≡ get_or found i b → P b
 all_at P [] i b all lt e = absurd (omega arith)
-all_at P (x ∷ found) zero b all lt e = subst (λ (y : Bor Act). P y.now) (sym e) (All-head P x.now (acts_in found) all)
-all_at P (x ∷ found) (suc i) b all lt e = all_at P found i b (All-tail P x.now (acts_in found) all) (omega (arith, lt)) e
+all_at P (x ∷ found) zero b all lt e = subst P (sym e) (All-head P x found all)
+all_at P (x ∷ found) (suc i) b all lt e = all_at P found i b (All-tail P x found all) (omega (arith, lt)) e
 
 -- one filter under another
 filtered_twice : (xs : List Act) → filter is_change (filter is_authentic xs) ≡ filter is_authentic_change xs
@@ -47,24 +45,24 @@ filtered_twice (x ∷ xs) = by (is_authentic x) (is_change x) refl refl (filtere
 pub changes_are : (xs : List Act) → changes_of (filter is_authentic xs) ≡ map change_of (filter is_authentic_change xs)
 changes_are xs = ap (map change_of) (filtered_twice xs)
 
-abbrev of_rest : List (Bor Act) → List Change
-of_rest found = map change_of (filter is_authentic_change (acts_in found))
+abbrev of_rest : List Act → List Change
+of_rest found = map change_of (filter is_authentic_change found)
 
-rest_next : (found : List (Bor Act)) (i : ℕ) (b : Bor Act) → i < length found → b ≡ get_or found i b
-    → of_rest (drop i found) ≡ map change_of (filter is_authentic_change (b.now ∷ [])) ++ of_rest (drop (i + 1) found)
+rest_next : (found : List Act) (i : ℕ) (b : Act) → i < length found → b ≡ get_or found i b
+    → of_rest (drop i found) ≡ map change_of (filter is_authentic_change (b ∷ [])) ++ of_rest (drop (i + 1) found)
 rest_next found i b lt at =
     rw (drop_more found i b lt, ← at)
-    (ap (map change_of) (filter-append is_authentic_change (b.now ∷ []) (acts_in (drop (i + 1) found)))
-    ∙ map-append change_of (filter is_authentic_change (b.now ∷ [])) (filter is_authentic_change (acts_in (drop (i + 1) found))))
+    (ap (map change_of) (filter-append is_authentic_change (b ∷ []) (drop (i + 1) found))
+    ∙ map-append change_of (filter is_authentic_change (b ∷ [])) (filter is_authentic_change (drop (i + 1) found)))
 
-pub changes_step : (found : List (Bor Act)) (i : ℕ) (b : Bor Act) (old new all : List Change) → i < length found → b ≡ get_or found i b
-    → new ≡ old ++ map change_of (filter is_authentic_change (b.now ∷ [])) → old ++ of_rest (drop i found) ≡ all → new ++ of_rest (drop (i + 1) found) ≡ all
+pub changes_step : (found : List Act) (i : ℕ) (b : Act) (old new all : List Change) → i < length found → b ≡ get_or found i b
+    → new ≡ old ++ map change_of (filter is_authentic_change (b ∷ [])) → old ++ of_rest (drop i found) ≡ all → new ++ of_rest (drop (i + 1) found) ≡ all
 changes_step found i b old new all lt at pushed before =
     ap (λ (cs : List Change). cs ++ of_rest (drop (i + 1) found)) pushed
-    ∙ append_assoc old (map change_of (filter is_authentic_change (b.now ∷ []))) (of_rest (drop (i + 1) found))
+    ∙ append_assoc old (map change_of (filter is_authentic_change (b ∷ []))) (of_rest (drop (i + 1) found))
     ∙ ap (λ (cs : List Change). old ++ cs) (sym (rest_next found i b lt at)) ∙ before
 
-pub changes_end : (found : List (Bor Act)) (i : ℕ) (old all : List Change) → length found ≤ i → old ++ of_rest (drop i found) ≡ all → old ≡ all
+pub changes_end : (found : List Act) (i : ℕ) (old all : List Change) → length found ≤ i → old ++ of_rest (drop i found) ≡ all → old ≡ all
 changes_end found i old all past before = sym (append-nil old) ∙ (rw (drop_of_length-le found past) at before)
 
 -- ---- views put back
@@ -87,22 +85,6 @@ placed_step ps i p all out new tree h at grown put before =
 pub placed_end : (ps : List PlacedView) (i : ℕ) (all out : Actions) → length ps ≤ i → join out (put_back (placed_forest (drop i ps))) ≡ all → out ≡ all
 placed_end ps i all out past before = sym (join-end out) ∙ (rw (drop_of_length-le ps past) at before)
 
--- ---- actions gathered
-
-pub act_pushed : (found : List (Bor Act)) (b : Bor Act) → acts_in (found ++ b ∷ []) ≡ acts_in found ++ b.now ∷ []
-act_pushed found b = map-append (λ (act : Bor Act). act.now) found (b ∷ [])
-
-pub gather_step : (ns : List ActionNode) (i : ℕ) (n : ActionNode) (all old pushed new : List Act) → i < length ns → n ≡ get_or ns i n
-    → pushed ≡ old ++ n.root ∷ [] → new ≡ pushed ++ acts n.below
-    → old ++ acts (forest_of (drop i ns)) ≡ all → new ++ acts (forest_of (drop (i + 1) ns)) ≡ all
-gather_step ns i n all old pushed new h at push grown before =
-    let rest = acts (forest_of (drop (i + 1) ns)) in
-    let next : acts (forest_of (drop i ns)) ≡ n.root ∷ (acts n.below ++ rest) = rw (drop_more ns i n h, ← at) refl in
-    ap (λ (x : List Act). x ++ rest) (grown ∙ ap (λ (x : List Act). x ++ acts n.below) push)
-    ∙ (append_assoc (old ++ n.root ∷ []) (acts n.below) rest
-    ∙ (append_assoc old (n.root ∷ []) (acts n.below ++ rest)
-    ∙ (ap (λ (x : List Act). old ++ x) (sym next) ∙ before)))
-
 -- ---- a vector changed in place
 
 pub mapped_place : {X : Type 0} (f : X → X) (xs : List X) (i : ℕ) (x y : X) → i < length xs → y ≡ f (get_or (map f (take i xs) ++ drop i xs) i x)
@@ -116,7 +98,3 @@ pub mapped_more : {X : Type 0} (f : X → X) (ts xs : List X) (i : ℕ) (x y : X
 mapped_more f ts xs i x y lt e found added =
     let next : i + 1 ≡ suc i = omega arith in
     rw (e, next) (mapped_place f xs i x y lt (added ∙ ap f (found ∙ ap (λ l. get_or l i x) e)))
-
-pub as_many_acts : (found : List (Bor Act)) → length (acts_in found) ≡ length found
-as_many_acts [] = refl
-as_many_acts (x ∷ xs) = ap suc (as_many_acts xs)

@@ -15,6 +15,9 @@ pub mod Jobs
 pub mod DecidedSince
 pub mod Approved
 pub mod ActiveRows
+pub mod LiveRows
+pub mod HostedRows
+pub mod PlacedInOrder
 pub mod AddedIds
 pub mod Told
 mod FirstVerdict

@@ -1,6 +1,5 @@
 -- Actions as they are walked.
-use Rattle.std.specs.Prelude.{Bool, false, ◌&&◌, List, map}
-use Rattle.std.specs.Borrow.{Bor}
+use Rattle.std.specs.Prelude.{Bool, false, ◌&&◌}
 use Rattle.ledger_terms.specs.declared.act.Act.{Act}
 use Rattle.ledger_model.specs.Terms.{id_of}
 use Rattle.ledger_model.specs.declared.status.Status.TheVariants.{Unknown}
@@ -9,9 +8,6 @@ use Rattle.contract_store.specs.Stored.{Stored, is_held}
 use Rattle.contract_store.specs.Written.{is_change}
 use Rattle.interpret.specs.Ids.{is_authentic}
 use Rattle.confirm_reply.specs.declared.id_facts.IdFacts.{IdFacts}
-
-abbrev pub acts_in : List (Bor Act) → List Act
-acts_in found = map (λ (act : Bor Act). act.now) found
 
 abbrev pub is_authentic_change : Act → Bool
 is_authentic_change act = is_change act && is_authentic act

@@ -11,5 +11,7 @@ pub mod JobInput
 pub mod Approved
 pub mod Decisions
 pub mod Listed
+pub mod LiveRows
+pub mod Hosts
 pub mod Offered
 pub mod AddedIds

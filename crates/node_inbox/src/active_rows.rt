@@ -1,158 +1,135 @@
 //! The active contracts at a place.
 ghost use Rattle.std.specs.Prelude.{◌≡◌, ◌++◌, ◌∷◌, [], IfOk, OnOk, filter, slice_get};
-ghost use Rattle.ledger_terms.specs.declared.active_row.ActiveRow.{ActiveRow as RowValue};
 ghost use Rattle.ledger_model.specs.Forest.{acts};
-ghost use Rattle.canton_model.specs.Inbox.{is_stakeholder_hosted, node_active};
+ghost use Rattle.canton_model.specs.Inbox.{node_active};
 ghost use Rattle.interpret.specs.Ids.{is_authentic};
-ghost use Rattle.contract_store.specs.Active.{active, active_rows};
 ghost use Rattle.contract_store.specs.Below.{placed_below};
 ghost use Rattle.contract_store.specs.Written.{written};
 ghost use Rattle.sealed_form.specs.SealedReading.{sealed_reading};
 ghost use Rattle.inbox_standing.specs.ChangeLists.{changes_of, write_changes};
 ghost use Rattle.node_inbox.specs.Approved.{KeepChanges, TellsOutcomes, approved_at};
+ghost use Rattle.node_inbox.specs.Hosts.{reading_by};
 ghost use Rattle.node_inbox.specs.Items.{model_items};
-ghost use Rattle.node_inbox.specs.Listed.{after_if, after_others, after_row, is_offered};
+ghost use Rattle.node_inbox.specs.Listed.{active_row_of, is_offered, listed, listed_at};
 
 use crate::applied::approved_at;
-use crate::change_lists::changes_copy;
+use crate::hosting::Hosting;
 use crate::kept_item::KeptItem;
-use canton_model::Outcome;
+use crate::live_row::LiveRow;
+use crate::live_rows::LiveRows;
 use confirm_reply::Setup;
-use contract_store::{Store, StoreRow};
 use inbox_standing::{Change, Standing};
-use ledger_terms::{ActiveRow, ActiveRowList, Exact, ParticipantId};
-use prepare_request::has_hosted_stakeholder;
+use ledger_terms::{ActiveRow, ActiveRowList, Exact, Known};
 use std::alloc::{AllocError, Global};
 
-// Puts changes by the request at a place into a store.
-fn write(scratch: &mut Standing, place: u64, changes: Vec<Change>) -> Result<(), AllocError>
-    ensures { OnOk result (scratch.new.store.rows ≡ write_changes place changes.items scratch.old.store.rows) }
+// Writes changes by the request at a place.
+fn write<'k>(live: &mut LiveRows<'k>, place: u64, changes: &'k [Change]) -> Result<(), AllocError>
+    ensures { OnOk result (live.new ≡ write_changes place changes.now live.old) }
 {
-    scratch.make_room(&changes)?;
-    scratch.settle(place, Outcome::Approved, changes);
+    for change in changes {
+        live.write(place, change)?;
+    }
     Ok(())
 }
 
-// Puts the changes by the request at a place into a store, where it is approved.
-fn write_approved(
-    alloc: Global,
+// Writes the changes by the request at a place, where it is approved.
+fn write_approved<'k>(
     setup: &Setup,
-    items: &[KeptItem],
+    items: &'k [KeptItem],
     standing: &Standing,
     place: u64,
-    scratch: &mut Standing,
+    live: &mut LiveRows<'k>,
 ) -> Result<(), AllocError>
     requires told { TellsOutcomes setup.now.topology.params (model_items items.now) standing.now }
     requires kept { KeepChanges items.now }
-    ensures { OnOk result (scratch.new.store.rows
-        ≡ write_changes place (changes_of (filter is_authentic (acts (approved_at (model_items items.now) place)))) scratch.old.store.rows) }
+    ensures { OnOk result (live.new
+        ≡ write_changes place (changes_of (filter is_authentic (acts (approved_at (model_items items.now) place)))) live.old) }
 {
     match approved_at(setup, items, standing, place) {
-        Some(kept) => write(
-            scratch,
-            place,
-            changes_copy(alloc, kept.changes.as_slice())?,
-        ),
+        Some(kept) => write(live, place, kept.changes.as_slice()),
         None => Ok(()),
     }
 }
 
-// A store with the approved requests below a place alone.
-fn store_below(
+// The rows that the approved requests below a place make.
+fn live_below<'k>(
     alloc: Global,
     setup: &Setup,
-    items: &[KeptItem],
+    items: &'k [KeptItem],
     standing: &Standing,
     end: u64,
-) -> Result<Standing, AllocError>
+) -> Result<LiveRows<'k>, AllocError>
     requires told { TellsOutcomes setup.now.topology.params (model_items items.now) standing.now }
     requires kept { KeepChanges items.now }
-    ensures { IfOk result (λ scratch. scratch.store.rows
+    ensures { IfOk result (λ live. live
         ≡ written (placed_below (sealed_reading setup.now.topology setup.now.checked) (model_items items.now) end) []) }
 {
-    let mut scratch = Standing::new(alloc);
+    let mut live = LiveRows::new(alloc);
     'places: for place in 0..end {
-        write_approved(alloc, setup, items, standing, place, &mut scratch)?;
+        write_approved(setup, items, standing, place, &mut live)?;
     }
-    Ok(scratch)
-}
-
-// Puts a row in front of the first that was created after it.
-fn put_in_order(rows: &mut Vec<ActiveRow>, row: ActiveRow) -> Result<(), AllocError>
-    ensures { OnOk result (rows.new.items ≡ after_others row rows.old.items) }
-{
-    let mut at = 0;
-    while at < rows.len() && rows[at].created_at <= row.created_at {
-        at += 1;
-    }
-    rows.insert(at, row)?;
-    Ok(())
-}
-
-fn put_if_active(row: &StoreRow, rows: &mut Vec<ActiveRow>) -> Result<(), AllocError>
-    ensures { OnOk result (rows.new.items ≡ after_if (active row.now) rows.old.items) }
-{
-    if row.consumed_at.is_some() {
-        return Ok(());
-    }
-    match row.created_at {
-        Some(created_at) => {
-            let known = row.known.copied()?;
-            put_in_order(rows, ActiveRow { created_at, known })
-        }
-        None => Ok(()),
-    }
-}
-
-fn put_row(store: &Store, at: usize, rows: &mut Vec<ActiveRow>) -> Result<(), AllocError>
-    ensures { OnOk result (rows.new.items ≡ after_row (slice_get store.now.rows at) rows.old.items) }
-{
-    match store.row(at) {
-        Some(row) => put_if_active(row, rows),
-        None => Ok(()),
-    }
-}
-
-// The active contracts of a store, in order of creation.
-#[tactic(auto, using(crate::proofs::ActiveRows::next_listed))]
-fn active_list(alloc: Global, store: &Store) -> Result<Vec<ActiveRow>, AllocError>
-    ensures { IfOk result (λ rows. rows.items ≡ active_rows store.now.rows) }
-{
-    let mut rows = Vec::new(alloc);
-    'rows: for at in 0..store.len() {
-        put_row(store, at, &mut rows)?;
-    }
-    Ok(rows)
+    Ok(live)
 }
 
 fn push_if_hosted(
     alloc: Global,
-    setup: &Setup,
-    me: ParticipantId,
-    row: ActiveRow,
+    hosting: &Hosting<'_>,
+    created_at: u64,
+    known: &Known,
     kept: &mut ActiveRowList,
 ) -> Result<(), AllocError>
     ensures { OnOk result (kept.new ≡ kept.old
-        ++ filter (is_offered (sealed_reading setup.now.topology setup.now.checked) me) (row ∷ [])) }
+        ++ filter (is_offered (reading_by hosting.now) hosting.now.me) (active_row_of created_at known.now ∷ [])) }
 {
-    if has_hosted_stakeholder(alloc, setup, me, &row.known.instance)? {
-        kept.push(row)?;
+    if hosting.hosts(alloc, known)? {
+        let known = known.copied()?;
+        kept.push(ActiveRow { created_at, known })?;
     }
     Ok(())
 }
 
-// Those of these contracts with a hosted stakeholder.
+fn push_if_active(
+    alloc: Global,
+    hosting: &Hosting<'_>,
+    row: &LiveRow<'_>,
+    kept: &mut ActiveRowList,
+) -> Result<(), AllocError>
+    ensures { OnOk result (kept.new ≡ kept.old
+        ++ filter (is_offered (reading_by hosting.now) hosting.now.me) (listed (row.now ∷ []))) }
+{
+    match row.active_since() {
+        Some(place) => push_if_hosted(alloc, hosting, place, row.known(), kept),
+        None => Ok(()),
+    }
+}
+
+fn push_row(
+    alloc: Global,
+    hosting: &Hosting<'_>,
+    live: &LiveRows<'_>,
+    at: usize,
+    kept: &mut ActiveRowList,
+) -> Result<(), AllocError>
+    ensures { OnOk result (kept.new ≡ kept.old
+        ++ filter (is_offered (reading_by hosting.now) hosting.now.me) (listed_at (slice_get live.now at))) }
+{
+    match live.get(at) {
+        Some(row) => push_if_active(alloc, hosting, row, kept),
+        None => Ok(()),
+    }
+}
+
+// The active contracts with a hosted stakeholder, in the order of the rows.
 fn hosted_rows(
     alloc: Global,
-    setup: &Setup,
-    me: ParticipantId,
-    rows: Vec<ActiveRow>,
+    hosting: &Hosting<'_>,
+    live: &LiveRows<'_>,
 ) -> Result<ActiveRowList, AllocError>
-    ensures { IfOk result (λ kept. kept ≡ filter (is_offered (sealed_reading setup.now.topology setup.now.checked) me) rows.items) }
+    ensures { IfOk result (λ kept. kept ≡ filter (is_offered (reading_by hosting.now) hosting.now.me) (listed live.now)) }
 {
     let mut kept = ActiveRowList::new(alloc);
-    for row in rows {
-        push_if_hosted(alloc, setup, me, row, &mut kept)?;
+    'rows: for at in 0..live.len() {
+        push_row(alloc, hosting, live, at, &mut kept)?;
     }
     Ok(kept)
 }
@@ -161,17 +138,15 @@ fn hosted_rows(
 /// of creation.
 pub fn active_rows(
     alloc: Global,
-    setup: &Setup,
-    me: ParticipantId,
+    hosting: &Hosting<'_>,
     items: &[KeptItem],
     standing: &Standing,
     end: u64,
 ) -> Result<ActiveRowList, AllocError>
-    requires told { TellsOutcomes setup.now.topology.params (model_items items.now) standing.now }
+    requires told { TellsOutcomes hosting.now.topology.params (model_items items.now) standing.now }
     requires kept { KeepChanges items.now }
-    ensures { IfOk result (λ rows. rows ≡ node_active (sealed_reading setup.now.topology setup.now.checked) me (model_items items.now) end) }
+    ensures { IfOk result (λ rows. rows ≡ node_active (reading_by hosting.now) hosting.now.me (model_items items.now) end) }
 {
-    let scratch = store_below(alloc, setup, items, standing, end)?;
-    let rows = active_list(alloc, scratch.store())?;
-    hosted_rows(alloc, setup, me, rows)
+    let live = live_below(alloc, hosting.setup(), items, standing, end)?;
+    hosted_rows(alloc, hosting, &live)
 }

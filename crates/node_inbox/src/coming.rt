@@ -1,6 +1,6 @@
 //! What comes of an entry before it is read: all that takes memory.
 ghost use Rattle.std.specs.Prelude.{◌≡◌, true, All, None, Some, IfNone, IfOk, IfSome};
-ghost use Rattle.ledger_terms.specs.declared.act.Act.{Act as ActValue};
+ghost use Rattle.ledger_terms.specs.declared.act.Act.{Act};
 ghost use Rattle.ledger_model.specs.Forest.{acts};
 ghost use Rattle.ledger_model.specs.Terms.{instance_of};
 ghost use Rattle.wire_form.specs.Spellable.{IsSpellableInstance};
@@ -9,7 +9,7 @@ ghost use Rattle.sealed_form.specs.SealedForm.{opened_to};
 ghost use Rattle.sealed_form.specs.SealedReading.{sealed_reading};
 ghost use Rattle.node_inbox.specs.Coming.{AreParts, IsComing};
 
-use crate::actions::{acts_of, blank_facts, changes_of, roots_of};
+use crate::actions::{blank_facts, changes_of};
 use crate::change_lists::ids_of;
 use crate::confirmed::confirmed;
 use crate::kept_item::KeptRequest;
@@ -20,6 +20,7 @@ use confirm_reply::{IdFactsList, Setup, SharedTree};
 use inbox_standing::Change;
 use ledger_terms::{HashList, ParticipantId};
 use std::alloc::{AllocError, Global};
+use view_split::acts_in_views;
 
 /// A request that comes, with the contracts that it will hold.
 #[derive(Drop)]
@@ -30,11 +31,10 @@ pub struct ComingRequest {
 
 // What is made of what is opened.
 fn parts_of(alloc: Global, tree: &OpenedTree) -> Result<(IdFactsList, Vec<Change>), AllocError>
-    requires { All (λ (act : ActValue). IsSpellableInstance (instance_of act.action)) (acts (shown_by tree.now).roots) }
+    requires { All (λ (act : Act). IsSpellableInstance (instance_of act.action)) (acts (shown_by tree.now).roots) }
     ensures { IfOk result (λ parts. AreParts tree.now parts.0 (parts.1).items) }
 {
-    let roots = roots_of(alloc, &tree.views)?;
-    let found = acts_of(alloc, &roots)?;
+    let found = acts_in_views(alloc, &tree.views)?;
     let facts = blank_facts(alloc, found.as_slice())?;
     let changes = changes_of(alloc, found.as_slice())?;
     Ok((facts, changes))

@@ -28,6 +28,7 @@ use crate::applied::applied;
 use crate::coming::coming;
 use crate::decided_since::decided_since;
 use crate::decision::decision_at;
+use crate::hosting::Hosting;
 use crate::items::{request_at, time_at};
 use crate::job::job;
 use crate::kept_item::KeptItem;
@@ -320,10 +321,10 @@ impl<'s> Inbox<'s> {
     pub fn active(&self, alloc: Global) -> Result<ActiveRowList, AllocError>
         ensures { IfOk result (λ rows. rows ≡ node_active (reading_of self.now) self.now.me self.now.items (clean (params_of self.now) self.now.items)) }
     {
+        let hosting = Hosting::new(self.setup, self.me, self.known());
         active_rows(
             alloc,
-            self.setup,
-            self.me,
+            &hosting,
             self.items.as_slice(),
             &self.standing,
             self.clean(),

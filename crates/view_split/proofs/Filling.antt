@@ -10,7 +10,7 @@ use Rattle.view_split.specs.Holed.{Holed, NoMore, fill, after_holes}
 use Rattle.view_split.specs.Holed as holed
 use Rattle.view_split.specs.CoreLists.{act_of, children_of, core_weight}
 use Rattle.view_split.specs.Split.{assembled}
-use Rattle.ledger_terms.specs.Grown.{forest_of, tree_of, node_count}
+use Rattle.ledger_terms.specs.Grown.{forest_of, tree_of}
 use Rattle.view_split.specs.declared.core_node.CoreNode.{CoreNode}
 use Rattle.view_split.specs.declared.core_node.CoreChild.{CoreChild}
 use Rattle.view_split.specs.declared.core_node.CoreChild.TheVariants.{Inner, Hole}
@@ -24,7 +24,7 @@ core_next : (c : CoreChild) (cs : List CoreChild) → children_of (c ∷ cs) ≡
 core_next (Inner node) cs = refl
 core_next Hole cs = refl
 
-next_child : (cs : List CoreChild) (i : ℕ) (c known : CoreChild) → i < length cs → c ≡ get_or cs i c → c ≡ known → children_of (drop i cs) ≡ with_child known (children_of (drop (i + 1) cs))
+pub next_child : (cs : List CoreChild) (i : ℕ) (c known : CoreChild) → i < length cs → c ≡ get_or cs i c → c ≡ known → children_of (drop i cs) ≡ with_child known (children_of (drop (i + 1) cs))
 next_child cs i c known h at is = rw (drop_more cs i c h, ← at) (core_next c (drop (i + 1) cs) ∙ ap (λ (k : CoreChild). with_child k (children_of (drop (i + 1) cs))) is)
 
 count_with : (c : CoreChild) (cs : List CoreChild) → core_weight (children_of cs) < core_weight (children_of (c ∷ cs))
@@ -69,7 +69,7 @@ step_hole cs i c label below out new trees rest all left h at is popped grown ke
       ap (after_holes (holed.Hole more)) (sym popped) ∙ (ap (λ (x : Holed Act). after_holes x trees) (sym next) ∙ keeps.1),
     )
 
-after_none : (h : Holed Act) → after_holes h (NoRoots) ≡ NoRoots
+pub after_none : (h : Holed Act) → after_holes h (NoRoots) ≡ NoRoots
 after_none NoMore = refl
 after_none (holed.Inner root below others) = ap (after_holes others) (after_none below) ∙ after_none others
 after_none (holed.Hole others) = refl

@@ -3,6 +3,7 @@ mod Joins
 mod Walks
 mod FaultFacts
 mod Filling
+mod Preorders
 pub mod Assembled
 pub mod Sight
 pub mod Cores

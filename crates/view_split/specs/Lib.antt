@@ -9,3 +9,4 @@ pub mod SeenViews
 pub mod Placed
 pub mod Faults
 pub mod Walked
+pub mod Listed

@@ -1,10 +1,12 @@
 //! The views of a transaction: how it is split into them, and how they are put back.
 #![tactic(auto)]
 
+mod act_ref;
 mod assembling;
 mod begun;
 mod core_node;
 pub mod laws;
+mod listing;
 mod opened_tree;
 mod placed_view;
 mod split_fault;
@@ -13,8 +15,10 @@ mod splitting;
 mod trees;
 mod views;
 
+pub use act_ref::ActRef;
 pub use assembling::assemble;
 pub use core_node::{CoreChild, CoreChildList, CoreNode};
+pub use listing::{acts_in_view, acts_in_views};
 pub use opened_tree::OpenedTree;
 pub use placed_view::{PlacedView, PlacedViewList};
 pub use split_fault::SplitFault;

@@ -1,6 +1,6 @@
 use Rattle.std.proofs.Common.{◌≡◌, ◌++◌, drop, map}
-use Rattle.node_inbox.specs.Acts.{acts_in, blank_fact}
+use Rattle.node_inbox.specs.Acts.{blank_fact}
 use Rattle.node_inbox.proofs.actions.blank_facts.Given as goal
 
 abbrev pub invariant-loop-act : goal.invariant-loop-act
-invariant-loop-act l = l.facts ++ map blank_fact (acts_in (drop l.act-index l.found)) ≡ map blank_fact (acts_in l.found)
+invariant-loop-act l = l.facts ++ map blank_fact (drop l.act-index l.found) ≡ map blank_fact l.found

@@ -2,7 +2,6 @@ use Rattle.std.proofs.Common.{sym, ◌∙◌}
 use Rattle.ledger_terms.specs.declared.act.Act.{Act}
 use Rattle.ledger_model.specs.Terms.{instance_of}
 use Rattle.wire_form.specs.Spellable.{IsSpellableInstance}
-use Rattle.node_inbox.specs.Acts.{acts_in}
 use Rattle.node_inbox.proofs.ActFacts.{all_at, changes_are, changes_end, changes_step}
 use Rattle.node_inbox.proofs.actions.changes_of.Goals as goal
 
@@ -16,4 +15,4 @@ loop-act-preserved c =
 
 pub returns : goal.returns
 returns c =
-    changes_end c.args.found.now c.loop-act.act-index _ _ c.loop-act-test.false c.loop-act.invariant ∙ sym (changes_are (acts_in c.args.found.now))
+    changes_end c.args.found.now c.loop-act.act-index _ _ c.loop-act-test.false c.loop-act.invariant ∙ sym (changes_are c.args.found.now)

@@ -1,16 +1,14 @@
-use Rattle.std.proofs.Common.{◌≡◌, ◌∷◌}
-use Rattle.std.specs.Vec.Iter.{into_iter_items}
-use Rattle.sealed_form.specs.SealedReading.{sealed_reading}
-use Rattle.node_inbox.specs.Listed.{is_offered}
-use Rattle.node_inbox.proofs.ActiveRows.{kept_on}
+use Rattle.std.proofs.Common.{◌++◌, ◌∙◌, List, ap, filter}
+use Rattle.std.specs.Prelude.{slice_get}
+use Rattle.ledger_terms.specs.declared.active_row.ActiveRow.{ActiveRow}
+use Rattle.node_inbox.specs.Hosts.{reading_by}
+use Rattle.node_inbox.specs.Listed.{is_offered, listed_at}
+use Rattle.node_inbox.proofs.ActiveRows.{next_listed}
 use Rattle.node_inbox.proofs.active_rows.hosted_rows.Goals as goal
 
-pub loop-row-preserved : goal.loop-row-preserved
-loop-row-preserved c =
-    let items : into_iter_items c.loop-row.row-iterator ≡ c.in-Some.row ∷ into_iter_items c.next.new.self = c.in-Some.ensures.steps.0 in
-    record {
-      next = tt;
-      finite = tt;
-      kept = kept_on (is_offered (sealed_reading c.args.setup.now.topology c.args.setup.now.checked) c.args.me) c.loop-row.kept _ c.in-Some.row _
-          (into_iter_items c.next.new.self) _ c.in_ok-push_if_hosted.ensures items c.loop-row.invariant.kept;
-    }
+pub rows-preserved : goal.rows-preserved
+rows-preserved c =
+    let test = is_offered (reading_by c.args.hosting.now) c.args.hosting.now.me in
+    c.in_ok-push_row.ensures
+    ∙ (ap (λ (kept : List ActiveRow). kept ++ filter test (listed_at (slice_get c.args.live.now c.rows.at))) c.rows.invariant
+    ∙ next_listed test c.args.live.now c.rows.at)

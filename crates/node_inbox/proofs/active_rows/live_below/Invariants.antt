@@ -3,7 +3,7 @@ use Rattle.contract_store.specs.Below.{placed_below}
 use Rattle.contract_store.specs.Written.{written}
 use Rattle.sealed_form.specs.SealedReading.{sealed_reading}
 use Rattle.node_inbox.specs.Items.{model_items}
-use Rattle.node_inbox.proofs.active_rows.store_below.Given as goal
+use Rattle.node_inbox.proofs.active_rows.live_below.Given as goal
 
 abbrev pub invariant-places : goal.invariant-places
-invariant-places l = (l.scratch.store).rows ≡ written (placed_below (sealed_reading l.setup.topology l.setup.checked) (model_items l.items) l.place) []
+invariant-places l = l.live ≡ written (placed_below (sealed_reading l.setup.topology l.setup.checked) (model_items l.items) l.place) []

@@ -1,0 +1,68 @@
+-- What approved requests write stands in the order of their places, so that the active rows do.
+use Rattle.std.proofs.Common.{◌≡◌, ℕ, zero, suc, ◌≤◌, List, [], ◌∷◌, ◌++◌, length, map, filter, Option, Some, None, refl, ap, ◌∙◌, sym, arith}
+use Rattle.ledger_terms.specs.declared.act.Act.{Act}
+use Rattle.ledger_terms.specs.declared.active_row.ActiveRow.{ActiveRow}
+use Rattle.ledger_model.specs.Terms.{ParticipantId}
+use Rattle.canton_model.specs.Inbox.{Item, node_active}
+use Rattle.canton_model.specs.Reading.{Reading}
+use Rattle.contract_store.specs.Active.{active}
+use Rattle.contract_store.specs.ActiveLaw.{InOrder, NoneBefore}
+use Rattle.contract_store.specs.Below.{at_place, placed_below, writes_of}
+use Rattle.contract_store.specs.Written.{Placed, written}
+use Rattle.contract_store.specs.declared.row.StoreRow.{StoreRow}
+use Rattle.contract_store.proofs.Left.{actives, actives_left, cons_if}
+use Rattle.contract_store.proofs.Ordered.{active_is_left}
+use Rattle.contract_store.proofs.PlacedBelow.{active_is_node_active}
+use Rattle.node_inbox.specs.Listed.{is_offered, listed, listed_if}
+
+abbrev AtMost : ℕ → List Placed → Type 0
+AtMost n [] = Unit {0}
+AtMost n (p ∷ ps) = (p.place ≤ n) × AtMost n ps
+
+higher : (n : ℕ) (ps : List Placed) → AtMost n ps → AtMost (suc n) ps
+higher n [] a = tt
+higher n (p ∷ ps) a = (let k = a.0 in omega arith, higher n ps a.1)
+
+at_most_with : (n k : ℕ) (ps : List Placed) (as' : List Act) → k ≤ n → AtMost n ps → AtMost n (ps ++ map (at_place k) as')
+at_most_with n k [] [] h a = tt
+at_most_with n k [] (act ∷ as') h a = (h, at_most_with n k [] as' h tt)
+at_most_with n k (p ∷ ps) as' h a = (a.0, at_most_with n k ps as' h a.1)
+
+none_with : (n k : ℕ) (ps : List Placed) (as' : List Act) → n ≤ k → NoneBefore n ps → NoneBefore n (ps ++ map (at_place k) as')
+none_with n k [] [] h a = tt
+none_with n k [] (act ∷ as') h a = (h, none_with n k [] as' h tt)
+none_with n k (p ∷ ps) as' h a = (a.0, none_with n k ps as' h a.1)
+
+in_order_with : (k : ℕ) (ps : List Placed) (as' : List Act) → AtMost k ps → InOrder ps → InOrder (ps ++ map (at_place k) as')
+in_order_with k [] [] a o = tt
+in_order_with k [] (act ∷ as') a o = (none_with k k [] as' (omega arith) tt, in_order_with k [] as' tt tt)
+in_order_with k (p ∷ ps) as' a o = (none_with p.place k ps as' a.0 o.0, in_order_with k ps as' a.1 o.1)
+
+module _ (reading : Reading) (items : List Item) where
+  at_most_below : (n : ℕ) → AtMost n (placed_below reading items n)
+  at_most_below zero = tt
+  at_most_below (suc k) =
+      at_most_with (suc k) k (placed_below reading items k) (writes_of reading items k) (omega arith)
+      (higher k (placed_below reading items k) (at_most_below k))
+
+  in_order_below : (n : ℕ) → InOrder (placed_below reading items n)
+  in_order_below zero = tt
+  in_order_below (suc k) = in_order_with k (placed_below reading items k) (writes_of reading items k) (at_most_below k) (in_order_below k)
+
+same_if : (o : Option ActiveRow) (rows : List ActiveRow) → listed_if o rows ≡ cons_if o rows
+same_if None rows = refl
+same_if (Some row) rows = refl
+
+as_actives : (rows : List StoreRow) → listed rows ≡ actives rows
+as_actives [] = refl
+as_actives (row ∷ rows) = ap (listed_if (active row)) (as_actives rows) ∙ same_if (active row) (actives rows)
+
+-- the rows of the approved requests, as they stand, are those of the active contracts in order
+pub are_listed : (reading : Reading) (p : ParticipantId) (items : List Item) (n : ℕ)
+    → filter (is_offered reading p) (listed (written (placed_below reading items n) [])) ≡ node_active reading p items n
+are_listed reading p items n =
+    let ps = placed_below reading items n in
+    ap (filter (is_offered reading p))
+    (as_actives (written ps []) ∙ actives_left (length ps) ps (omega arith) (in_order_below reading items n)
+    ∙ sym (active_is_left ps (in_order_below reading items n)))
+    ∙ active_is_node_active reading p items n

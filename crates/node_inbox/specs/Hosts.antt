@@ -1,0 +1,32 @@
+-- Whether a participant hosts a stakeholder of a contract.
+use Rattle.std.specs.Prelude.{◌≡◌, Bool, true, false, List, [], ◌∷◌, Option, Some, None}
+use Rattle.ledger_terms.specs.contracts.instance.InstancePartialEq.TheImpl as instance_eq
+use Rattle.ledger_terms.specs.declared.known.Known.{Known}
+use Rattle.ledger_terms.specs.declared.topology.Topology.{Topology}
+use Rattle.ledger_model.specs.Terms.{ParticipantId}
+use Rattle.canton_model.specs.Inbox.{is_stakeholder_hosted}
+use Rattle.canton_model.specs.Reading.{Reading}
+use Rattle.lang_eval.specs.Found.{Packages}
+use Rattle.sealed_form.specs.SealedReading.{sealed_reading}
+
+-- The participants, the packages, and which participant it is.
+pub record Host : Type 0 where
+  pub topology : Topology
+  pub packages : Packages
+  pub me : ParticipantId
+
+abbrev pub host_of : Topology → Packages → ParticipantId → Host
+host_of topology packages me = record { topology = topology; packages = packages; me = me }
+
+abbrev pub reading_by : Host → Reading
+reading_by host = sealed_reading host.topology host.packages
+
+-- each of these contracts has a hosted stakeholder
+abbrev pub AreHosted : Reading → ParticipantId → List Known → Type 0
+AreHosted reading p [] = Unit {0}
+AreHosted reading p (known ∷ rest) = (is_stakeholder_hosted reading p known.instance ≡ true) × AreHosted reading p rest
+
+-- what was found says the same as a contract
+abbrev pub says_same : Option Known → Known → Bool
+says_same None known = false
+says_same (Some found) known = instance_eq.ghosts.eq found.instance known.instance

@@ -1,0 +1,84 @@
+//! The rows of contracts that changes hold, by id.
+ghost use Rattle.std.specs.Prelude.{◌≡◌, [], length, option_copied, slice_get, OnErr, OnOk};
+ghost use Rattle.std.specs.Str.{bytes_eq};
+ghost use Rattle.indexmap.specs.IndexMap.{get, insert_entry};
+ghost use Rattle.inbox_standing.specs.ChangeLists.{write_change};
+ghost use Rattle.node_inbox.specs.LiveRows.{row_after};
+
+use crate::live_row::LiveRow;
+use inbox_standing::Change;
+use indexmap::IndexMap;
+use ledger_terms::Hash;
+use std::alloc::{AllocError, Global};
+use std::marker::Model;
+
+/// A row for each contract that changes are on, in the order in which these came. It copies none of the contracts.
+#[derive(Drop)]
+pub struct LiveRows<'k> {
+    rows: IndexMap<Hash, LiveRow<'k>>,
+}
+
+impl<'k> Model for LiveRows<'k> {
+    ghost use Rattle.std.specs.Prelude.{List};
+    ghost use Rattle.contract_store.specs.declared.row.StoreRow.{StoreRow};
+    ghost use Rattle.indexmap.specs.IndexMap.{values};
+    ghost use Rattle.node_inbox.specs.LiveRows.{AreById};
+
+    ghost Value = { List StoreRow };
+
+    ghost view = { λ s. values s.rows };
+
+    ghost invariant = { λ s. AreById s.rows.entries };
+}
+
+// Puts the row of a contract after a change behind its id.
+fn put<'k>(
+    rows: &mut IndexMap<Hash, LiveRow<'k>>,
+    place: u64,
+    change: &'k Change,
+) -> Result<(), AllocError>
+    ensures ok { OnOk result (rows.new.entries ≡ insert_entry bytes_eq rows.old.entries change.now.known.id
+        (row_after place change.now (get bytes_eq rows.old change.now.known.id))) }
+    ensures err { OnErr result (rows.new.entries ≡ rows.old.entries) }
+{
+    let Change { known, is_create } = change;
+    let row = rows.entry(known.id)?.or_insert(LiveRow::new(known));
+    row.change(place, *is_create);
+    Ok(())
+}
+
+impl<'k> LiveRows<'k> {
+    /// No rows.
+    pub fn new(alloc: Global) -> LiveRows<'k>
+        ensures { result ≡ [] }
+    {
+        LiveRows {
+            rows: IndexMap::new(alloc),
+        }
+    }
+
+    /// A change by the request at a place.
+    pub fn write(&mut self, place: u64, change: &'k Change) -> Result<(), AllocError>
+        ensures { OnOk result (self.new ≡ write_change place change.now self.old) }
+    {
+        put(&mut self.rows, place, change)?;
+        Ok(())
+    }
+
+    /// How many rows there are.
+    pub fn len(&self) -> usize
+        ensures { result ≡ length self.now }
+    {
+        self.rows.len()
+    }
+
+    /// The row at an index, and none exactly where there are no more.
+    pub fn get(&self, at: usize) -> Option<&LiveRow<'k>>
+        ensures { option_copied result ≡ slice_get self.now at }
+    {
+        match self.rows.get_index(at) {
+            Some((_, row)) => Some(row),
+            None => None,
+        }
+    }
+}
