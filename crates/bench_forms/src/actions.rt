@@ -25,7 +25,7 @@ fn instance(alloc: Global) -> io::Result<Instance> {
     fields.push(Value::Party(name("Bank")?))?;
     fields.push(Value::Party(name("Alice")?))?;
     fields.push(Value::Int(10))?;
-    Ok(Instance { template, fields })
+    Ok(Instance::of(alloc, template, fields)?)
 }
 
 fn create(alloc: Global) -> io::Result<Action> {

@@ -41,9 +41,9 @@ fn request_of(alloc: Global, begun: &Begun) -> io::Result<Request> {
 }
 
 fn bytes_of(request: &Request) -> u64 {
-    let mut bytes = request.mediator.len() as u64;
+    let mut bytes = request.mediator.as_slice().len() as u64;
     for envelope in request.envelopes.as_slice() {
-        bytes = bytes.saturating_add(envelope.bytes.len() as u64);
+        bytes = bytes.saturating_add(envelope.bytes.as_slice().len() as u64);
     }
     bytes
 }

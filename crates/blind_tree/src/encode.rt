@@ -5,12 +5,12 @@ ghost use Rattle.blind_tree.specs.Spelling.{spell_leaf, spell_tree, spell_vertex
 use crate::leaf::Leaf;
 use crate::tree::Tree;
 use crate::vertex::{Vertex, VertexList};
-use ledger_terms::Bytes;
+use ledger_terms::{Bytes, Exact};
 use std::alloc::{AllocError, Global};
 use wire_form::{encode_hash, encode_u32};
 
 /// How many bytes are made room for at first: a tree of a few views has no more.
-const USUAL_TREE: usize = 512;
+const USUAL_TREE: usize = 960;
 
 /// The spelling of a tree. A count or a length that has no room is written by its lowest bytes, so that a tree can be read again
 /// only where `is_spellable` says so.
@@ -21,7 +21,8 @@ pub fn encode_tree(alloc: Global, tree: &Tree) -> Result<Bytes, AllocError>
     encode_leaf(&tree.common, &mut out)?;
     encode_leaf(&tree.requesters, &mut out)?;
     encode_vertices(&tree.views, &mut out)?;
-    Ok(out)
+    // what is kept has no room that is left over
+    out.copied()
 }
 
 // Puts a leaf's spelling at the end.

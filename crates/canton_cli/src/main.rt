@@ -12,7 +12,7 @@ use std::process::ExitCode;
 use std::random::RandomSource;
 use std::sync::Wait;
 use std::thread::Threads;
-use std::{env, io};
+use std::{env, io, mem};
 
 /// The words after the program's name.
 fn words_of(rt: &HostRuntime) -> io::Result<WordList> {
@@ -62,5 +62,8 @@ fn main(rt: HostRuntime) -> ExitCode {
             Err(_) => eprintln!(rt; "canton_cli: out of memory"),
         };
     }
-    ExitCode::from(finish.status)
+    let status = finish.status;
+    // the process ends here, and gives all memory back at once
+    mem::forget(finish);
+    ExitCode::from(status)
 }

@@ -1,3 +1,4 @@
+pub mod Actives
 pub mod Lines
 pub mod Answered
 pub mod Run

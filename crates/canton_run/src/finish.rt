@@ -1,6 +1,8 @@
 //! How a run ended.
-ghost use Rattle.std.specs.Prelude.{◌≡◌, []};
+ghost use Rattle.std.specs.Prelude.{◌≡◌, [], None};
 
+use crate::leftovers::Leftovers;
+use crate::played::RunRecord;
 use canton_model::EntryList;
 use ledger_terms::U64List;
 use node_core::SubmitResultList;
@@ -8,7 +10,8 @@ use script_read::ScriptFault;
 use std::alloc::Global;
 
 /// How a run ended: its status, the script's fault at status 3, and, at statuses 0 and 5, where the script was run, the log, the
-/// results of the submissions in script order, and the length of the log at the end of each round.
+/// results of the submissions in script order, and the length of the log at the end of each round. `left` is what nobody asks for any
+/// more.
 #[derive(Drop)]
 pub struct Finish {
     pub status: u8,
@@ -16,6 +19,25 @@ pub struct Finish {
     pub log: EntryList,
     pub results: SubmitResultList,
     pub ends: U64List,
+    pub left: Option<Leftovers>,
+}
+
+/// The end of a run.
+pub fn finished(status: u8, run_record: RunRecord, left: Leftovers) -> Finish
+    ensures status { result.status ≡ status }
+    ensures fault { result.fault ≡ None }
+    ensures log { result.log ≡ run_record.log }
+    ensures results { result.results ≡ run_record.results }
+    ensures ends { result.ends ≡ run_record.ends }
+{
+    Finish {
+        status,
+        fault: None,
+        log: run_record.log,
+        results: run_record.results,
+        ends: run_record.ends,
+        left: Some(left),
+    }
 }
 
 /// An end before anything was run.
@@ -28,5 +50,6 @@ pub fn ended(alloc: Global, status: u8, fault: Option<ScriptFault>) -> Finish
         log: EntryList::new(alloc),
         results: SubmitResultList::new(alloc),
         ends: U64List::new(alloc),
+        left: None,
     }
 }

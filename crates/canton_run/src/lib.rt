@@ -2,6 +2,8 @@
 #![tactic(auto)]
 
 mod finish;
+mod job_text;
+mod leftovers;
 mod lines;
 mod log_copy;
 mod played;
@@ -12,8 +14,9 @@ mod views;
 mod words;
 
 pub use finish::{Finish, ended};
+pub use leftovers::Leftovers;
 pub use lines::line;
-pub use played::Played;
+pub use played::{Played, RunRecord};
 pub use script_run::run_script;
 pub use top_call::run;
 pub use words::{status_without_words, words_after_name};

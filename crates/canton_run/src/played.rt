@@ -1,14 +1,20 @@
 //! What a run leaves behind.
 use canton_model::EntryList;
 use ledger_terms::U64List;
-use node_core::{NodeViewList, SubmitResultList};
+use node_core::SubmitResultList;
+use world_play::NodeList;
 
-/// The sequencer's log, the results of the submissions in script order, the length of the log at the end of each round, and what
-/// each participant knows at its clean place.
+/// The sequencer's log, the results of the submissions in script order, and the length of the log at the end of each round.
 #[derive(Drop)]
-pub struct Played {
+pub struct RunRecord {
     pub log: EntryList,
     pub results: SubmitResultList,
     pub ends: U64List,
-    pub views: NodeViewList,
+}
+
+/// The record of a run, and its participants, each of which has read the whole log.
+#[derive(Drop)]
+pub struct Played<'r> {
+    pub record: RunRecord,
+    pub nodes: NodeList<'r>,
 }

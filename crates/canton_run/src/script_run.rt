@@ -1,14 +1,13 @@
 //! A whole script, from an empty log on.
-ghost use Rattle.std.specs.Prelude.{◌≡◌, ◌≤◌, IfOk, length};
+ghost use Rattle.std.specs.Prelude.{◌≡◌, ◌≤◌, IfOk, length, map};
 ghost use Rattle.ledger_terms.specs.declared.limits.TheConstants.{MOST_PLACES};
-ghost use Rattle.node_core.specs.Views.{views_over};
+ghost use Rattle.node_core.specs.Views.{view_of, views_over};
 ghost use Rattle.script_read.specs.Kept.{IsAccepted};
 ghost use Rattle.canton_run.specs.Run.{IsRun, reading_for, script_with};
 
 use crate::log_copy::log_of;
-use crate::played::Played;
+use crate::played::{Played, RunRecord};
 use crate::rounds::{PlayedRounds, play_rounds};
-use crate::views::views_of;
 use confirm_reply::Setup;
 use lane_pool::Gate;
 use lang_eval::NativeList;
@@ -22,27 +21,27 @@ use std::sync::Wait;
 use std::thread::Threads;
 use world_play::World;
 
-/// Plays the rounds of a script over a new synchroniser whose requests may need so many places of the log in all. A choice that
-/// `natives` has is asked of them in place of the language by the thread that plays the rounds, and by no worker. In the end
-/// every participant, paused or not, reads the whole log.
-pub fn run_script<R: Threads + Wait + Sync + RandomSource + AllocGlobal, G: Gate + Sync>(
+/// Plays the rounds of a script over a new synchroniser with its log in `row`, whose requests may need so many places of the log
+/// in all. A choice that `natives` has is asked of them in place of the language by the thread that plays the rounds, and by no
+/// worker. In the end every participant, paused or not, reads the whole log.
+pub fn run_script<'r, R: Threads + Wait + Sync + RandomSource + AllocGlobal, G: Gate + Sync>(
     workers: &Workers<'_, R, G>,
-    natives: &NativeList,
-    setup: &Setup,
+    natives: &'r NativeList,
+    setup: &'r Setup,
     rounds: &RoundList,
     capacity: u64,
-) -> Result<Played, AllocError>
+    row: &'r mut LogRow,
+) -> Result<Played<'r>, AllocError>
     requires accepted { IsAccepted (script_with setup.now rounds.now) }
     requires room { capacity ≤ MOST_PLACES }
-    ensures run { IfOk result (λ played. IsRun (script_with setup.now rounds.now) capacity played.log played.results played.ends) }
-    ensures views { IfOk result (λ played. played.views
-        ≡ views_over (reading_for (script_with setup.now rounds.now)) setup.now.topology.params played.log (length setup.now.topology.hosts)) }
+    ensures run { IfOk result (λ played. IsRun (script_with setup.now rounds.now) capacity (played.record).log (played.record).results (played.record).ends) }
+    ensures views { IfOk result (λ played. map view_of (played.nodes).items
+        ≡ views_over (reading_for (script_with setup.now rounds.now)) setup.now.topology.params (played.record).log (length setup.now.topology.hosts)) }
 {
     // the prover learns from this call that there is a machine
     prepared_requests_make_a_machine();
     let alloc = workers.alloc;
-    let mut row = LogRow::new(alloc)?;
-    let new = World::new(alloc, setup, &mut row, capacity)?;
+    let new = World::new(alloc, setup, row, capacity)?;
     let rounds_played = play_rounds(workers, natives, setup, new, rounds)?;
     let PlayedRounds { mut world, answers } = rounds_played;
     world.catch_up()?;
@@ -51,12 +50,11 @@ pub fn run_script<R: Threads + Wait + Sync + RandomSource + AllocGlobal, G: Gate
         nodes,
         ..
     } = world;
-    let views = views_of(alloc, nodes)?;
     let log = log_of(alloc, &mut sequencer)?;
-    Ok(Played {
+    let record = RunRecord {
         log,
         results: answers.results,
         ends: answers.ends,
-        views,
-    })
+    };
+    Ok(Played { record, nodes })
 }

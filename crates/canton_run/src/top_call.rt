@@ -11,11 +11,13 @@ ghost use Rattle.script_read.specs.Kept.{IsAccepted};
 ghost use Rattle.script_read.specs.Script.{script_in};
 ghost use Rattle.script_read.specs.declared.script.Script.{Script};
 ghost use Rattle.canton_run.specs.Run.{IsRun};
-ghost use Rattle.canton_run.specs.Jobs.{ReadsScript, capacity_of, text_of, text_over};
+ghost use Rattle.canton_run.specs.Jobs.{ReadsScript, capacity_of, text_of};
 ghost use Rattle.canton_run.specs.Ends.{AsksForRun, HasScript, IsReadWhole, IsRunStatus, IsStatus, KeepsFault, NoReadFault};
 ghost use Rattle.canton_run.specs.Ends.{OffersScript, Ran, RanNothing, ReadsFault, TakesAtMost, TakesUpTo};
 
-use crate::finish::{Finish, ended};
+use crate::finish::{Finish, ended, finished};
+use crate::job_text::{JobText, text_of};
+use crate::leftovers::Leftovers;
 use crate::played::Played;
 use crate::script_run::run_script;
 use cli_words::{Job, WordList, WordsFault, read_words};
@@ -24,9 +26,8 @@ use confirm_reply::Setup;
 use lane_pool::Gate;
 use lang_eval::NativeList;
 use ledger_terms::limits::{MOST_PLACES, MOST_SCRIPT_BYTES};
-use ledger_terms::{Text, Topology};
 use load_gen::{generate, generated_scripts_are_accepted};
-use report_text::{report, summary};
+use log_row::LogRow;
 use script_read::{RoundList, Script, ScriptFault, read_script};
 use shared_rounds::Workers;
 use std::alloc::{AllocError, AllocGlobal, Global};
@@ -48,29 +49,6 @@ fn capacity_of(job: Job) -> u64
 fn workers_of(job: Job) -> u32 {
     match job {
         Job::Run { workers, .. } | Job::Gen { workers, .. } => workers,
-    }
-}
-
-// The text that a job writes.
-fn text_of(
-    alloc: Global,
-    job: Job,
-    topology: &Topology,
-    rounds: &RoundList,
-    played: &Played,
-) -> Result<Text, AllocError>
-    ensures { IfOk result (λ text. text
-        ≡ text_over job topology.now rounds.now played.now.log played.now.results played.now.views) }
-{
-    let Played {
-        log,
-        results,
-        views,
-        ..
-    } = played;
-    match job {
-        Job::Run { .. } => report(alloc, topology, rounds, log, results, views),
-        Job::Gen { .. } => summary(alloc, topology, log, results, views),
     }
 }
 
@@ -101,23 +79,25 @@ fn carry_out<R: Threads + Wait + Sync + RandomSource + AllocGlobal, G: Gate + Sy
     } = script;
     let alloc = workers.alloc;
     let setup = Setup { topology, checked };
-    let Ok(played) = run_script(workers, natives, &setup, &rounds, capacity_of(job)) else {
+    let Ok(mut row) = LogRow::new(alloc) else {
         return ended(alloc, 70, None);
     };
-    let Ok(text) = text_of(alloc, job, &setup.topology, &rounds, &played) else {
+    let capacity = capacity_of(job);
+    let Ok(Played { record, nodes }) = run_script(
+        workers, natives, &setup, &rounds, capacity, &mut row,
+    ) else {
         return ended(alloc, 70, None);
     };
+    let Ok(told) = text_of(alloc, job, &setup.topology, &rounds, &record, nodes) else {
+        return ended(alloc, 70, None);
+    };
+    let JobText { text, views, nodes } = told;
     let status = match write_all(sink, text.as_str().as_bytes()) {
         Ok(()) => 0,
         Err(_) => 5,
     };
-    Finish {
-        status,
-        fault: None,
-        log: played.log,
-        results: played.results,
-        ends: played.ends,
-    }
+    let left = Leftovers::new(row, views, nodes, setup, rounds);
+    finished(status, record, left)
 }
 
 // Reads a script from the source and runs it.

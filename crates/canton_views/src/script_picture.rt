@@ -8,6 +8,7 @@ use lane_pool::Gate;
 use lang_eval::NativeList;
 use ledger_terms::limits::MOST_PLACES;
 use ledger_terms::{Name, ParticipantId, Text, Topology};
+use log_row::LogRow;
 use script_read::Script;
 use shared_rounds::Workers;
 use std::alloc::AllocGlobal;
@@ -48,16 +49,15 @@ pub(crate) fn script_picture<R: Threads + Wait + Sync + RandomSource + AllocGlob
         None => None,
     };
     let setup = Setup { topology, checked };
-    let Ok(played) = run_script(
-        workers,
-        &NativeList::new(alloc),
-        &setup,
-        &rounds,
-        MOST_PLACES as u64,
-    ) else {
+    let Ok(mut row) = LogRow::new(alloc) else {
         return Err(End::of_status(alloc, 70));
     };
-    let Ok(picture) = picture_of(alloc, &setup.topology, &played.log, me.as_ref()) else {
+    let natives = NativeList::new(alloc);
+    let capacity = MOST_PLACES as u64;
+    let Ok(played) = run_script(workers, &natives, &setup, &rounds, capacity, &mut row) else {
+        return Err(End::of_status(alloc, 70));
+    };
+    let Ok(picture) = picture_of(alloc, &setup.topology, &played.record.log, me.as_ref()) else {
         return Err(End::of_status(alloc, 70));
     };
     match drawn(alloc, &picture) {

@@ -1,5 +1,5 @@
 //! What is opened of a request, for all who look at it.
-ghost use Rattle.std.specs.Prelude.{◌≡◌, IfOk};
+ghost use Rattle.std.specs.Prelude.{◌≡◌, IfOk, IfErr};
 ghost use Rattle.std.specs.Arc.{arc_value};
 
 use std::alloc::{AllocError, Global};
@@ -49,5 +49,17 @@ impl SharedTree {
     {
         let tree = Arc::try_clone(&self.tree)?;
         Ok(SharedTree { tree })
+    }
+
+    /// The tree itself where nobody else looks at it, and else it as it is shared.
+    pub fn into_opened(self) -> Result<OpenedTree, SharedTree>
+        ensures ok { IfOk result (λ tree. tree ≡ self) }
+        ensures err { IfErr result (λ shared. shared ≡ self) }
+    {
+        let SharedTree { tree } = self;
+        match Arc::try_unwrap(tree) {
+            Ok(opened) => Ok(opened),
+            Err(tree) => Err(SharedTree { tree }),
+        }
     }
 }

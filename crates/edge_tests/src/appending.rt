@@ -1,5 +1,5 @@
 //! A log that has no room for a request.
-use canton_model::{EnvelopeList, Message, Request};
+use canton_model::{EnvelopeList, Message, Request, SharedBytes};
 use ledger_terms::{Bytes, Name, Params, ParticipantId, ParticipantIdList};
 use log_row::LogRow;
 use seq_log::{AppendFault, AppendRefusal, Sequencer};
@@ -25,7 +25,7 @@ fn request(alloc: Global, command: &str, confirming: u8) -> Result<Message, Allo
         sender: ParticipantId(0),
         command,
         confirming: asked,
-        mediator: Bytes::new(alloc),
+        mediator: SharedBytes::new(alloc, Bytes::new(alloc))?,
         envelopes: EnvelopeList::new(alloc),
     }))
 }

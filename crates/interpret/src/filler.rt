@@ -101,7 +101,7 @@ impl<K: KnownContracts> Filler<'_, K> {
         ensures { IfOk result (λ k. k ≡ forged_contract (K.rows self.now.known.now) id.now salt template fields.now) }
     {
         let instance = match referenced_values(self.alloc, self.known, fields)? {
-            Some(fields) => Instance { template, fields },
+            Some(fields) => Instance::of(self.alloc, template, fields)?,
             None => return Ok(None),
         };
         match self.forged_id(id, &salt, &instance)? {
@@ -138,7 +138,7 @@ impl<K: KnownContracts> Filler<'_, K> {
     {
         match referenced_values(self.alloc, self.known, fields)? {
             Some(fields) => {
-                let instance = Instance { template, fields };
+                let instance = Instance::of(self.alloc, template, fields)?;
                 let id = id_of(self.alloc, seed, &instance)?;
                 Ok(Some(Action::Create { id, instance }))
             }

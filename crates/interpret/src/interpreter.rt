@@ -331,7 +331,8 @@ impl<K: KnownContracts, S: Stepping> Interpreter<'_, K, S> {
         match demand {
             Demand::Create { template, fields } => {
                 progress.count += 1;
-                self.create(progress, place, by, Instance { template, fields })
+                let instance = Instance::of(self.alloc, template, fields)?;
+                self.create(progress, place, by, instance)
             }
             Demand::Exercise {
                 template,

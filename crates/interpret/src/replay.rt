@@ -34,7 +34,7 @@ fn is_demanded(step: &Step, action: &Action) -> bool
 {
     match (step, action) {
         (Step::Create { template, fields }, Action::Create { id: _, instance }) => {
-            instance.template == *template && instance.fields == *fields
+            instance.template == *template && *instance.fields.as_list() == *fields
         }
         (
             Step::Exercise {

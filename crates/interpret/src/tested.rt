@@ -84,7 +84,7 @@ fn contract_parties(
 }
 
 /// Who authorises the consequences of an Exercise: its actors and the signatories of its contract.
-#[tactic(auto, unfolding(crate::specs::Tested::signers), using(lang_eval::proofs::RoleLaws::joined_sets))]
+#[tactic(auto, unfolding(crate::specs::Tested::signers), using(lang_eval::proofs::RoleLaws::set_of_two))]
 pub(crate) fn authorisers(
     alloc: Global,
     checked: &Checked,
@@ -94,10 +94,8 @@ pub(crate) fn authorisers(
     ensures { IfOk result (λ s. s ≡ authorisers checked.now instance.now actors.now) }
 {
     let parties = contract_parties(alloc, checked, instance)?;
-    let none = PartySet::new(alloc);
-    let set = none.union(actors)?;
-    let set = set.union(&parties.signatories)?;
-    Ok(set)
+    let _rising = actors.as_slice();
+    actors.union(&parties.signatories)
 }
 
 /// Whether there are actors, all of whom are among the authorisers.

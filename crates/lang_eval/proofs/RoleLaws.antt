@@ -1,5 +1,5 @@
 -- The roles of an action one after another are its roles.
-use Rattle.std.proofs.Common.{◌≡◌, Bool, [], ◌∷◌, ◌++◌, Result, Ok, Err, refl, sym, ap, ◌∙◌}
+use Rattle.std.proofs.Common.{◌≡◌, Bool, [], ◌∷◌, ◌++◌, Result, Ok, Err, refl, ap, ◌∙◌}
 use Rattle.std.specs.Prelude.{◌&&◌, if◌then◌else◌}
 use Rattle.ledger_terms.specs.Parties.{with_party, with_parties, set_of, IsRising}
 use Rattle.ledger_terms.proofs.Rising.{set_of_rising}
@@ -23,14 +23,12 @@ set_of-append a b = with_parties-append a b []
 pub set_of-append-append : (a b c : PartyNames) → set_of (a ++ (b ++ c)) ≡ with_parties c (with_parties b (with_parties a []))
 set_of-append-append a b c = with_parties-append a (b ++ c) [] ∙ with_parties-append b c (with_parties a [])
 
-pub ruleset joined_sets = (set_of-append, set_of-append-append)
-
 -- the first of them rises
 pub set_of_two : (a b : PartyNames) → IsRising a → set_of (a ++ b) ≡ with_parties b a
 set_of_two a b h = set_of-append a b ∙ ap (with_parties b) (set_of_rising a h)
 
-pub set_of_three : (a b c : PartyNames) → set_of (a ++ (b ++ c)) ≡ with_parties c (set_of (a ++ b))
-set_of_three a b c = set_of-append-append a b c ∙ ap (with_parties c) (sym (set_of-append a b))
+pub set_of_three : (a b c : PartyNames) → IsRising a → set_of (a ++ (b ++ c)) ≡ with_parties c (with_parties b a)
+set_of_three a b c h = set_of-append-append a b c ∙ ap (λ (s : PartyNames). with_parties c (with_parties b s)) (set_of_rising a h)
 
 create_are : (r : Result ContractParties RoleFault) → on_parties r
     (λ p. Ok (with_actors p [] (stakeholders_in p))) ≡ (if is_given r then Ok

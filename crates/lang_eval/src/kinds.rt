@@ -2,7 +2,6 @@
 ghost use Rattle.std.specs.Prelude.{◌≡◌};
 ghost use Rattle.lang_eval.specs.Kinds.{kind_of, have_kinds, has_kinds, call_has_kinds};
 
-use crate::call_parts::CallParts;
 use crate::checked::Checked;
 use ledger_model::ChoiceCall;
 use ledger_terms::{FieldDecl, Instance, Kind, Value};
@@ -47,19 +46,12 @@ pub fn has_kinds(checked: &Checked, instance: &Instance) -> bool
     }
 }
 
-/// Whether the choice is there and the arguments have the kinds of its parameters, by the parts of the call.
-pub(crate) fn parts_have_kinds(checked: &Checked, call: &CallParts<'_>) -> bool
-    ensures { result ≡ call_has_kinds checked.now call.now }
-{
-    match checked.choice(call.instance().template, call.choice()) {
-        Some(choice) => have_kinds(call.args(), choice.params.as_slice()),
-        None => false,
-    }
-}
-
 /// Whether the choice is there and the arguments have the kinds of its parameters.
 pub fn call_has_kinds(checked: &Checked, call: &ChoiceCall) -> bool
     ensures { result ≡ call_has_kinds checked.now call.now }
 {
-    parts_have_kinds(checked, &CallParts::of_call(call))
+    match checked.choice(call.instance.template, call.choice) {
+        Some(choice) => have_kinds(call.args.as_slice(), choice.params.as_slice()),
+        None => false,
+    }
 }

@@ -67,7 +67,7 @@ fn parties_under(template: &Template, names: &Bindings<'_>) -> Result<ContractPa
     })
 }
 
-fn parties_by(
+pub(crate) fn parties_by(
     alloc: Global,
     template: &Template,
     instance: &Instance,
@@ -109,7 +109,7 @@ fn choice_by(
     })
 }
 
-fn observers_by(
+pub(crate) fn observers_by(
     alloc: Global,
     template: &Template,
     choice: &Choice,
@@ -170,25 +170,8 @@ pub fn parties_of_choice(
     }
 }
 
-/// The observers of a call of a choice, by the call's parts.
-#[tactic(auto, unfolding(crate::specs::Parts::observers_of_choice))]
-pub(crate) fn observers_of_parts(
-    alloc: Global,
-    checked: &Checked,
-    call: &CallParts<'_>,
-) -> Result<PartySet, EvalFault>
-    ensures { UnlessMemory EvalFault.Memory result (observers_of_choice checked.now call.now) }
-{
-    match checked.template(call.instance().template) {
-        Some(template) => match choice_of(template, call.choice()) {
-            Some(choice) => observers_by(alloc, template, choice, call),
-            None => Err(EvalFault::Assert),
-        },
-        None => Err(EvalFault::Assert),
-    }
-}
-
 /// The observers of a call of a choice, whatever its controllers are.
+#[tactic(auto, unfolding(crate::specs::Parts::observers_of_choice))]
 pub fn observers_of_choice(
     alloc: Global,
     checked: &Checked,
@@ -196,7 +179,13 @@ pub fn observers_of_choice(
 ) -> Result<PartySet, EvalFault>
     ensures { UnlessMemory EvalFault.Memory result (observers_of_choice checked.now call.now) }
 {
-    observers_of_parts(alloc, checked, &CallParts::of_call(call))
+    match checked.template(call.instance.template) {
+        Some(template) => match choice_of(template, call.choice) {
+            Some(choice) => observers_by(alloc, template, choice, &CallParts::of_call(call)),
+            None => Err(EvalFault::Assert),
+        },
+        None => Err(EvalFault::Assert),
+    }
 }
 
 /// Whether a call consumes its contract, as its choice says.

@@ -1,20 +1,41 @@
 //! Who is involved in an action.
-ghost use Rattle.std.specs.Prelude.{◌≡◌, ◌++◌, IfOk, OnOk};
+ghost use Rattle.std.specs.Prelude.{◌≡◌, ◌++◌, Err, IfOk, OnOk, cond};
 ghost use Rattle.ledger_terms.specs.Answers.{UnlessMemory};
 ghost use Rattle.ledger_terms.specs.Parties.{set_of, with_parties};
-ghost use Rattle.lang_eval.specs.Language.{parties_if_typed, observers_if_typed, roles};
+ghost use Rattle.lang_eval.specs.Language.{parties_if_typed, observers_if_typed, or_no_roles, roles};
+ghost use Rattle.lang_eval.specs.Kinds.{have_kinds};
+ghost use Rattle.lang_eval.specs.Parts.{contract_parties_of, choice_observers_of};
+ghost use Rattle.lang_eval.specs.declared.role_fault.RoleFault.TheVariants.{NoRoles};
 ghost use Rattle.lang_eval.specs.RoleSets.{stakeholders_in, told_first, with_actors, create_roles, exercise_roles, fetch_roles};
 
 use crate::call_parts::CallParts;
-use crate::checked::Checked;
+use crate::checked::{Checked, choice_of};
 use crate::contract_parties::ContractParties;
-use crate::kinds::{has_kinds, parts_have_kinds};
-use crate::parties::{observers_of_parts, parties_of_contract};
+use crate::kinds::have_kinds;
+use crate::parties::{observers_by, parties_by};
 use crate::role_fault::{RoleFault, of_fault};
 use ledger_model::Roles;
-use ledger_terms::{Action, Instance, PartySet};
+use ledger_terms::{Action, Choice, Instance, PartySet, Template};
 use std::alloc::{AllocError, Global};
 
+fn typed_parties(
+    alloc: Global,
+    template: &Template,
+    instance: &Instance,
+) -> Result<ContractParties, RoleFault>
+    ensures { UnlessMemory RoleFault.Memory result
+        (cond (have_kinds instance.now.fields template.now.fields) (or_no_roles (contract_parties_of template.now instance.now)) (Err NoRoles)) }
+{
+    if !have_kinds(instance.fields.as_slice(), template.fields.as_slice()) {
+        return Err(RoleFault::NoRoles);
+    }
+    match parties_by(alloc, template, instance) {
+        Ok(parties) => Ok(parties),
+        Err(fault) => Err(of_fault(fault)),
+    }
+}
+
+#[tactic(auto, unfolding(crate::specs::Parts::parties_of_contract))]
 fn parties_if_typed(
     alloc: Global,
     checked: &Checked,
@@ -22,15 +43,31 @@ fn parties_if_typed(
 ) -> Result<ContractParties, RoleFault>
     ensures { UnlessMemory RoleFault.Memory result (parties_if_typed checked.now instance.now) }
 {
-    if !has_kinds(checked, instance) {
+    match checked.template(instance.template) {
+        Some(template) => typed_parties(alloc, template, instance),
+        None => Err(RoleFault::NoRoles),
+    }
+}
+
+fn typed_observers(
+    alloc: Global,
+    template: &Template,
+    choice: &Choice,
+    call: &CallParts<'_>,
+) -> Result<PartySet, RoleFault>
+    ensures { UnlessMemory RoleFault.Memory result
+        (cond (have_kinds call.now.args choice.now.params) (or_no_roles (choice_observers_of template.now choice.now call.now)) (Err NoRoles)) }
+{
+    if !have_kinds(call.args(), choice.params.as_slice()) {
         return Err(RoleFault::NoRoles);
     }
-    match parties_of_contract(alloc, checked, instance) {
+    match observers_by(alloc, template, choice, call) {
         Ok(parties) => Ok(parties),
         Err(fault) => Err(of_fault(fault)),
     }
 }
 
+#[tactic(auto, unfolding(crate::specs::Parts::observers_of_choice))]
 fn observers_if_typed(
     alloc: Global,
     checked: &Checked,
@@ -38,12 +75,12 @@ fn observers_if_typed(
 ) -> Result<PartySet, RoleFault>
     ensures { UnlessMemory RoleFault.Memory result (observers_if_typed checked.now call.now) }
 {
-    if !parts_have_kinds(checked, call) {
-        return Err(RoleFault::NoRoles);
-    }
-    match observers_of_parts(alloc, checked, call) {
-        Ok(parties) => Ok(parties),
-        Err(fault) => Err(of_fault(fault)),
+    match checked.template(call.instance().template) {
+        Some(template) => match choice_of(template, call.choice()) {
+            Some(choice) => typed_observers(alloc, template, choice, call),
+            None => Err(RoleFault::NoRoles),
+        },
+        None => Err(RoleFault::NoRoles),
     }
 }
 
@@ -66,16 +103,18 @@ fn insert_all(set: &mut PartySet, parties: &PartySet) -> Result<(), AllocError>
     Ok(())
 }
 
-/// The parties of each of three sets.
+/// The parties of each of three sets, of which the first is used up.
 #[tactic(auto, using(crate::proofs::RoleLaws::set_of_three))]
 fn union_of_three(
-    first: &PartySet,
+    first: PartySet,
     second: &PartySet,
     third: &PartySet,
 ) -> Result<PartySet, AllocError>
-    ensures { IfOk result (λ s. s ≡ set_of (first.now ++ (second.now ++ third.now))) }
+    ensures { IfOk result (λ s. s ≡ set_of (first ++ (second.now ++ third.now))) }
 {
-    let mut set = union_of_two(first, second)?;
+    let _rising = first.as_slice();
+    let mut set = first;
+    insert_all(&mut set, second)?;
     insert_all(&mut set, third)?;
     Ok(set)
 }
@@ -128,7 +167,7 @@ fn exercise_roles(
     let parties = parties_if_typed(alloc, checked, call.instance())?;
     let observers = observers_if_typed(alloc, checked, call)?;
     let told = told_first(&parties, consuming)?;
-    let informees = union_of_three(&told, actors, &observers)?;
+    let informees = union_of_three(told, actors, &observers)?;
     Ok(with_actors(parties, actors.clone()?, informees)?)
 }
 

@@ -1,14 +1,30 @@
 //! What a contract says.
+ghost use Rattle.std.specs.Prelude.{◌≡◌, IfOk};
 
 use crate::exact::Exact;
 use crate::template_name::TemplateName;
-use crate::value::ValueList;
+use crate::value::{SharedValues, ValueList};
+use std::alloc::{AllocError, Global};
 
-/// A contract's template and the values of its fields, in the order in which the template declares them.
+/// A contract's template and the values of its fields, in the order in which the template declares them. Copies share the values.
 #[derive(Clone, Drop, PartialEq)]
 pub struct Instance {
     pub template: TemplateName,
-    pub fields: ValueList,
+    pub fields: SharedValues,
+}
+
+impl Instance {
+    /// A contract of a template with these values of its fields.
+    pub fn of(
+        alloc: Global,
+        template: TemplateName,
+        values: ValueList,
+    ) -> Result<Instance, AllocError>
+        ensures { IfOk result (λ instance. instance ≡ record { template = template; fields = values }) }
+    {
+        let fields = SharedValues::new(alloc, values)?;
+        Ok(Instance { template, fields })
+    }
 }
 
 impl Exact for Instance {

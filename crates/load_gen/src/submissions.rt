@@ -30,7 +30,7 @@ fn submission_of(
 {
     let mut act_as = PartySet::new(alloc);
     act_as.insert(party_at(alloc, place)?)?;
-    let mut commands = CommandList::new(alloc);
+    let mut commands = CommandList::with_room(alloc, 1)?;
     commands.push(command)?;
     Ok(Submission {
         participant: ParticipantId(place),
@@ -51,7 +51,7 @@ fn party_arg(alloc: Global, place: u8) -> Result<Arg, AllocError>
 fn debt_by(alloc: Global, turn: u32, number: u64) -> Result<Submission, AllocError>
     ensures { IfOk result (λ s. s ≡ debt_by turn number) }
 {
-    let mut fields = ArgList::new(alloc);
+    let mut fields = ArgList::with_room(alloc, 3)?;
     fields.push(party_arg(alloc, in_turn(turn, 0))?)?;
     fields.push(party_arg(alloc, in_turn(turn, 1))?)?;
     fields.push(Arg::Plain(Value::Int(amount_by(number) as i64)))?;
@@ -71,7 +71,7 @@ fn debt_by(alloc: Global, turn: u32, number: u64) -> Result<Submission, AllocErr
 fn debt_label(alloc: Global, turn: u32) -> Result<ContractRef, AllocError>
     ensures { IfOk result (λ r. r ≡ debt_label turn) }
 {
-    let mut path = Path::new(alloc);
+    let mut path = Path::with_room(alloc, 1)?;
     path.push(0)?;
     Ok(ContractRef::Label(Label {
         participant: participant_at(alloc, in_turn(turn, 0))?,
@@ -83,7 +83,7 @@ fn debt_label(alloc: Global, turn: u32) -> Result<ContractRef, AllocError>
 fn transfer_of(alloc: Global, turn: u32) -> Result<Submission, AllocError>
     ensures { IfOk result (λ s. s ≡ transfer_of turn) }
 {
-    let mut args = ArgList::new(alloc);
+    let mut args = ArgList::with_room(alloc, 1)?;
     args.push(party_arg(alloc, in_turn(turn, 2))?)?;
     let command = Command::Exercise {
         template: iou_template_name(),
@@ -103,7 +103,7 @@ fn transfer_of(alloc: Global, turn: u32) -> Result<Submission, AllocError>
 pub fn generated_debts(alloc: Global, count: u32, seed: u64) -> Result<SubmissionList, AllocError>
     ensures { IfOk result (λ s. s ≡ debts seed count) }
 {
-    let mut debts = SubmissionList::new(alloc);
+    let mut debts = SubmissionList::with_room(alloc, count as usize)?;
     let mut number = seed;
     'turns: for turn in 0..count {
         number = number_after(number);
@@ -116,7 +116,7 @@ pub fn generated_debts(alloc: Global, count: u32, seed: u64) -> Result<Submissio
 pub fn generated_transfers(alloc: Global, count: u32) -> Result<SubmissionList, AllocError>
     ensures { IfOk result (λ s. s ≡ transfers count) }
 {
-    let mut transfers = SubmissionList::new(alloc);
+    let mut transfers = SubmissionList::with_room(alloc, count as usize)?;
     'turns: for turn in 0..count {
         transfers.push(transfer_of(alloc, turn)?)?;
     }

@@ -1,11 +1,23 @@
 //! Where the entries lie. An entry stays where it was put for as long as the log is lent.
 ghost use Rattle.std.specs.Prelude.{◌≡◌, ◌<◌, ◌^◌, MatchResult};
 
+use boxcar::slot::{OnceSlot, SlotRule};
+use boxcar::tag::Tag;
 use canton_model::Entry;
 use std::alloc::{AllocError, Global};
 use std::sync::OnceLock;
 
-type Row = Vec<OnceLock<Entry>>;
+/// Any entry may lie in a slot.
+pub struct AnyEntry;
+
+impl SlotRule<Entry> for AnyEntry {
+    ghost use Rattle.std.specs.Prelude.{⊤};
+
+    ghost holds = { λ _ _. ⊤ };
+}
+
+// A slot is written by the one writer alone, so nobody waits for one, and none is woken.
+type Row = Vec<OnceSlot<Entry, AnyEntry>>;
 
 /// Rows of doubling length, each made when its first entry comes.
 #[derive(Drop)]
@@ -26,15 +38,14 @@ impl EntryRows {
         requires { index < 2 ^ 63 }
         ensures { MatchResult result (λ r. r.now ≡ entry) (λ e. e ≡ entry) }
     {
-        let Some(slot) = self.slot(index) else {
-            return Err(entry);
-        };
-        let token = slot.try_set(entry)?;
-        Ok(slot.value(&token))
+        match self.slot(index) {
+            Some(slot) => slot.set(entry),
+            None => Err(entry),
+        }
     }
 
     // The index's own slot, which is empty until it is used. None comes where there is no memory.
-    fn slot(&self, index: u64) -> Option<&OnceLock<Entry>>
+    fn slot(&self, index: u64) -> Option<&OnceSlot<Entry, AnyEntry>>
         requires { index < 2 ^ 63 }
     {
         let number = index + 1;
@@ -56,6 +67,6 @@ impl EntryRows {
 
 fn fresh_row(alloc: Global, length: u64) -> Result<Row, AllocError> {
     let mut row = Vec::new(alloc);
-    row.resize_with(length as usize, || OnceLock::new())?;
+    row.resize_with(length as usize, || OnceSlot::new(&Tag::empty()))?;
     Ok(row)
 }

@@ -1,5 +1,6 @@
 -- What participants know at their clean places.
-use Rattle.std.specs.Prelude.{ℕ, suc, zero, List, [], ◌∷◌}
+use Rattle.std.specs.Prelude.{ℕ, suc, zero, List, [], ◌∷◌, map}
+use Rattle.ledger_terms.specs.declared.active_row.ActiveRow.{ActiveRow}
 use Rattle.ledger_model.specs.Terms.{ParticipantId}
 use Rattle.canton_model.specs.Inbox.{Item, clean, clean_time, inbox, node_active, node_log}
 use Rattle.canton_model.specs.Log.{Params}
@@ -29,3 +30,7 @@ views_from reading params log p (suc count) = view_over reading params p (inbox 
 -- what each participant knows over a whole log, in order of the topology
 abbrev pub views_over : Reading → Params → List Entry → (hosts : ℕ) → List NodeView
 views_over reading params log hosts = views_from reading params log 0 hosts
+
+-- the active contracts of each participant
+abbrev pub actives_in : List NodeView → List (List ActiveRow)
+actives_in views = map (λ (view : NodeView). view.active) views

@@ -10,11 +10,13 @@ pub mod laws;
 mod node;
 mod node_view;
 mod outbox;
+mod remains;
 mod submit_result;
 
 pub use cancelled::Cancelled;
 pub use completion::Completion;
 pub use node::Node;
-pub use node_view::{NodeView, NodeViewList};
+pub use node_view::{ActiveRowLists, NodeView, NodeViewList};
 pub use prepare_request::SubmitFault;
+pub use remains::NodeRemains;
 pub use submit_result::{SubmitResult, SubmitResultList};

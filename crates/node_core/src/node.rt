@@ -22,6 +22,7 @@ use crate::cancelled::Cancelled;
 use crate::completion::Completion;
 use crate::copies::{completion_by, copy_response};
 use crate::duties::Duties;
+use crate::remains::NodeRemains;
 use canton_model::{Outcome, Request, Response};
 use confirm_reply::Setup;
 use lang_eval::NativeList;
@@ -262,6 +263,20 @@ impl<'s> Node<'s> {
         ensures { IfOk result (λ commits. commits ≡ node_log (params_of self.now) (items_of self.now)) }
     {
         self.inbox.applied(alloc)
+    }
+
+    /// What `applied` answers, out of the participant itself. What nobody else looks at isn't copied.
+    pub fn into_applied(self) -> Result<CommitList, AllocError>
+        ensures { IfOk result (λ commits. commits ≡ node_log (params_of self.entry) (items_of self.entry)) }
+    {
+        let Node { inbox, .. } = self;
+        inbox.into_applied()
+    }
+
+    /// What it kept, when nobody asks it any more.
+    pub fn into_remains(self) -> NodeRemains {
+        let Node { inbox, duties, .. } = self;
+        NodeRemains::new(inbox.into_remains(), duties)
     }
 
     /// The active contracts with a hosted stakeholder at the clean place, in order of creation.

@@ -21,6 +21,9 @@ pub struct NodeView {
 /// The views of the participants, in order of the topology.
 pub type NodeViewList = ListOf<NodeView>;
 
+/// The active contracts of each participant, in order of the topology.
+pub type ActiveRowLists = ListOf<ActiveRowList>;
+
 impl NodeView {
     /// What a participant knows over what it has read. Goes through the requests below the clean place.
     pub fn of(alloc: Global, node: &Node<'_>) -> Result<NodeView, AllocError>
@@ -31,6 +34,22 @@ impl NodeView {
             clean_time: node.clean_time(),
             commits: node.applied(alloc)?,
             active: node.active(alloc)?,
+        })
+    }
+
+    /// The same of a participant that is wanted no more: what it opened is taken out of it.
+    pub fn taken(alloc: Global, node: Node<'_>) -> Result<NodeView, AllocError>
+        ensures { IfOk result (λ view. view ≡ view_of node.entry) }
+    {
+        let clean = node.clean();
+        let clean_time = node.clean_time();
+        let active = node.active(alloc)?;
+        let commits = node.into_applied()?;
+        Ok(NodeView {
+            clean,
+            clean_time,
+            commits,
+            active,
         })
     }
 }

@@ -20,4 +20,5 @@ pub mod HostedRows
 pub mod PlacedInOrder
 pub mod AddedIds
 pub mod Told
+pub mod Taken
 mod FirstVerdict

@@ -1,8 +1,9 @@
 -- What the approved requests of an inbox open.
-use Rattle.std.specs.Prelude.{◌≡◌, ℕ, Bool, true, false, List, Option, Some, None, if◌then◌else◌}
+use Rattle.std.specs.Prelude.{◌≡◌, ℕ, Bool, true, false, List, [], Option, Some, None, if◌then◌else◌}
 use Rattle.ledger_model.specs.Forest.{Forest, NoRoots}
 use Rattle.ledger_terms.specs.declared.act.Act.{Act}
-use Rattle.canton_model.specs.Inbox.{Item, moments, opened_at}
+use Rattle.ledger_model.specs.declared.commit.Commit.{Commit}
+use Rattle.canton_model.specs.Inbox.{Item, moments, opened_at, part_if}
 use Rattle.canton_model.specs.Log.{Params}
 use Rattle.canton_model.specs.Timeline.{is_approved_in}
 use Rattle.canton_model.specs.declared.outcome.Outcome.{Outcome}
@@ -10,7 +11,10 @@ use Rattle.canton_model.specs.declared.outcome.Outcome.TheVariants.{Undecided, A
 use Rattle.request_track.specs.Pairs.{outcome_at}
 use Rattle.inbox_standing.specs.Requests.{outcome_received}
 use Rattle.inbox_standing.specs.Standing.{Stands}
+use Rattle.node_inbox.specs.Items.{shown_of}
 use Rattle.node_inbox.specs.Kept.{kept_at, opened_changes}
+use Rattle.node_inbox.specs.declared.kept_item.KeptContent.{KeptContent}
+use Rattle.node_inbox.specs.declared.kept_item.KeptContent.TheVariants.{Received, Told, Nothing}
 use Rattle.node_inbox.specs.declared.kept_item.KeptItem.{KeptItem}
 use Rattle.node_inbox.specs.declared.kept_item.KeptRequest.{KeptRequest}
 
@@ -33,3 +37,9 @@ is_approved (Some Expired) = false
 -- the trees of the request at a place, where it is approved
 abbrev pub approved_at : List Item → ℕ → Forest Act
 approved_at items k = if is_approved_in k (moments items) then opened_at items k else NoRoots
+
+-- the part of an item at a place, by whether the request there is approved
+abbrev pub part_of : Bool → ℕ → KeptContent → List Commit
+part_of approved place (Received kept) = part_if true place (if approved then (shown_of kept).roots else NoRoots)
+part_of approved place (Told verdict) = []
+part_of approved place Nothing = []

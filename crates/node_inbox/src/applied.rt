@@ -18,7 +18,8 @@ use ledger_model::{Commit, CommitList};
 use ledger_terms::ActionNodeList;
 use std::alloc::{AllocError, Global};
 
-fn is_approved(standing: &Standing, place: u64) -> bool
+/// Whether the request at a place is approved.
+pub fn is_approved(standing: &Standing, place: u64) -> bool
     ensures { result ≡ is_approved (outcome_at standing.now.tracking.pairs place) }
 {
     match standing.outcome(place) {
@@ -61,8 +62,8 @@ pub fn approved_at<'i>(
     }
 }
 
-// Trees as a commit, where there are any.
-fn push_commit(
+/// Trees as a commit, where there are any.
+pub fn push_commit(
     place: u64,
     roots: ActionNodeList,
     commits: &mut CommitList,

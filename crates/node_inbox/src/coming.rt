@@ -10,6 +10,7 @@ ghost use Rattle.sealed_form.specs.SealedReading.{sealed_reading};
 ghost use Rattle.node_inbox.specs.Coming.{AreParts, IsComing};
 
 use crate::actions::{blank_facts, changes_of};
+use crate::boxed_request::BoxedRequest;
 use crate::change_lists::ids_of;
 use crate::confirmed::confirmed;
 use crate::kept_item::KeptRequest;
@@ -25,7 +26,7 @@ use view_split::acts_in_views;
 /// A request that comes, with the contracts that it will hold.
 #[derive(Drop)]
 pub struct ComingRequest {
-    pub kept: KeptRequest,
+    pub kept: BoxedRequest,
     pub ids: HashList,
 }
 
@@ -75,5 +76,6 @@ pub fn coming(
         views,
         facts,
     };
+    let kept = BoxedRequest::new(alloc, kept)?;
     Ok(Some(ComingRequest { kept, ids }))
 }

@@ -33,6 +33,8 @@ use crate::items::{request_at, time_at};
 use crate::job::job;
 use crate::kept_item::KeptItem;
 use crate::putting::{put_nothing, put_request, put_verdict};
+use crate::remains::InboxRemains;
+use crate::taking::into_applied;
 use crate::telling::{ComingVerdict, telling};
 use blind_tree::laws::opened_views_are_filled;
 use canton_model::{Decision, Entry, Message, Outcome, Request, Verdict};
@@ -315,6 +317,31 @@ impl<'s> Inbox<'s> {
             &self.standing,
             self.clean(),
         )
+    }
+
+    /// What `applied` answers, out of the inbox itself. What nobody else looks at isn't copied.
+    pub fn into_applied(self) -> Result<CommitList, AllocError>
+        ensures { IfOk result (λ commits. commits ≡ node_log (params_of self.entry) self.entry.items) }
+    {
+        let end = self.clean();
+        let Inbox {
+            setup,
+            items,
+            standing,
+            ..
+        } = self;
+        into_applied(setup, items, &standing, end)
+    }
+
+    /// What it kept, when nobody asks it any more.
+    pub fn into_remains(self) -> InboxRemains {
+        let Inbox {
+            items,
+            standing,
+            hosted,
+            ..
+        } = self;
+        InboxRemains::new(items, standing, hosted)
     }
 
     /// The active contracts with a hosted stakeholder at the clean place, in order of creation. Goes through the approved requests.

@@ -10,7 +10,7 @@ fn request_in(content: &KeptContent) -> Option<&KeptRequest>
     ensures { option_copied result ≡ request_in content.now }
 {
     match content {
-        KeptContent::Received(kept) => Some(kept),
+        KeptContent::Received(kept) => Some(kept.request()),
         KeptContent::Told(_) => None,
         KeptContent::Nothing => None,
     }

@@ -1,4 +1,5 @@
 //! The items of an inbox.
+use crate::boxed_request::BoxedRequest;
 use canton_model::Verdict;
 use confirm_reply::{IdFactsList, SharedTree};
 use inbox_standing::Change;
@@ -22,7 +23,7 @@ pub struct KeptRequest {
 /// What an entry is to the participant: a request of which it is a recipient, a verdict on such a request, or nothing.
 #[derive(Drop)]
 pub enum KeptContent {
-    Received(KeptRequest),
+    Received(BoxedRequest),
     Told(Verdict),
     Nothing,
 }

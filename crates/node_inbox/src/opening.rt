@@ -16,13 +16,13 @@ ghost use Rattle.sealed_form.specs.SealedForm.{envelope_to, found, tree_in};
 
 use blind_tree::laws::{opened_actions_are_spellable, opened_views_are_spellable};
 use blind_tree::{OpenedTree, Tree, decode_tree, opened, root_of};
-use canton_model::Envelope;
-use ledger_terms::{Bytes, Hash, ParticipantId};
+use canton_model::{Envelope, SharedBytes};
+use ledger_terms::{Hash, ParticipantId};
 use std::alloc::{AllocError, Global};
 use wire_form::WireFault;
 
 /// The bytes of the first envelope to a participant.
-pub fn envelope_to(me: ParticipantId, envelopes: &[Envelope]) -> Option<&Bytes>
+pub fn envelope_to(me: ParticipantId, envelopes: &[Envelope]) -> Option<&SharedBytes>
     ensures { option_copied result ≡ envelope_to me envelopes.now }
 {
     for envelope in envelopes {

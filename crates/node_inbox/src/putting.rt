@@ -6,13 +6,12 @@ ghost use Rattle.node_inbox.specs.Coming.{IsComing, IsTelling};
 ghost use Rattle.node_inbox.specs.Items.{model_content, model_items};
 ghost use Rattle.node_inbox.specs.Kept.{IsInbox};
 ghost use Rattle.inbox_standing.specs.Room.{HasRoom};
-ghost use Rattle.node_inbox.specs.Reads.{HasRead, IsSettled, IsUnread, item_with, kept_with};
+ghost use Rattle.node_inbox.specs.Reads.{HasRead, IsSettled, IsUnread, item_with};
 ghost use Rattle.node_inbox.specs.declared.kept_item.KeptContent.TheVariants as Content;
 ghost use Rattle.sealed_form.specs.SealedReading.{sealed_reading};
 
 use crate::coming::ComingRequest;
-use crate::facts::filled;
-use crate::kept_item::{KeptContent, KeptItem, KeptRequest};
+use crate::kept_item::{KeptContent, KeptItem};
 use crate::telling::ComingVerdict;
 use canton_model::Outcome;
 use confirm_reply::Setup;
@@ -80,12 +79,12 @@ pub fn put_request(
         (item_with time (model_content (Content.Received coming.kept)))) }
     ensures err { OnErr result (IsUnread setup.now.topology setup.now.checked me items.old.items items.new.items standing.new) }
 {
-    let ComingRequest { kept, ids } = coming;
+    let ComingRequest { mut kept, ids } = coming;
     items.reserve(1)?;
     standing.begin(decision_of(&setup.topology.params, time), &ids)?;
     let place = standing.cursor();
     standing.pass(time);
-    let kept = with_facts(kept, standing);
+    kept.put_facts(standing.store());
     standing.hold(place, &ids);
     standing.advance();
     put(
@@ -96,30 +95,6 @@ pub fn put_request(
         },
     );
     Ok(())
-}
-
-// A request with the facts on its contracts as they stand.
-fn with_facts(kept: KeptRequest, standing: &Standing) -> KeptRequest
-    ensures { result ≡ kept_with kept standing.now.store }
-{
-    let KeptRequest {
-        sender,
-        command,
-        root,
-        tree,
-        changes,
-        views,
-        facts,
-    } = kept;
-    KeptRequest {
-        sender,
-        command,
-        root,
-        tree,
-        changes,
-        views,
-        facts: filled(standing.store(), facts),
-    }
 }
 
 /// A verdict on a request that was received.

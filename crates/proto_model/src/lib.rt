@@ -10,7 +10,7 @@ mod sealing;
 pub use blind_tree::{OpenedTree, RolesTree};
 pub use canton_model::{
     Decision, Entry, EntryList, Envelope, EnvelopeList, LocalVerdict, Message, Outcome, Reason,
-    Request, Response, Verdict, ViewVerdict, ViewVerdictList,
+    Request, Response, SharedBytes, Verdict, ViewVerdict, ViewVerdictList,
 };
 pub use confirm_reply::Setup;
 pub use ledger_model::Status;

@@ -3,8 +3,8 @@ ghost use Rattle.std.specs.Prelude.{◌≡◌, IfOk, option_copied};
 ghost use Rattle.sealed_form.specs.SealedForm.{envelope_to, opened_in, opened_to};
 
 use blind_tree::{OpenedTree, decode_tree, opened};
-use canton_model::Request;
-use ledger_terms::{Bytes, ParticipantId};
+use canton_model::{Request, SharedBytes};
+use ledger_terms::ParticipantId;
 use std::alloc::{AllocError, Global};
 use wire_form::WireFault;
 
@@ -24,7 +24,7 @@ pub fn opened_for(
 }
 
 /// The bytes of the first envelope to a participant.
-pub fn envelope_of(request: &Request, me: ParticipantId) -> Option<&Bytes>
+pub fn envelope_of(request: &Request, me: ParticipantId) -> Option<&SharedBytes>
     ensures { option_copied result ≡ envelope_to me request.now.envelopes }
 {
     for envelope in request.envelopes.as_slice() {

@@ -12,6 +12,7 @@ ghost use Rattle.interpret.specs.Wanted.{IsWanted};
 ghost use Rattle.view_split.specs.Faults.{views_of_tx};
 ghost use Rattle.blind_tree.specs.Blind.{is_host_named};
 ghost use Rattle.blind_tree.specs.LeafBytes.{AreSpellable};
+ghost use Rattle.blind_tree.specs.Spelling.{spell_tree};
 ghost use Rattle.sealed_form.specs.Submission.{IsSubmittedWithin};
 ghost use Rattle.sealed_form.specs.Within.{participants_of};
 ghost use Rattle.proto_model.specs.Made.{envelopes_with, request_by, request_of_tx, trees_for};
@@ -19,7 +20,7 @@ ghost use Rattle.proto_model.specs.SealedRequests.{IsSealedOf};
 
 use crate::participants::{all_participants, confirming, recipients};
 use blind_tree::{Recipient, RecipientList, Tree, TreeList, blind_all, encode_tree};
-use canton_model::{Envelope, EnvelopeList, Request};
+use canton_model::{Envelope, EnvelopeList, Request, SharedBytes};
 use ledger_terms::{Name, ParticipantId, ParticipantIdList, Topology};
 use sealed_form::is_sealable;
 use std::alloc::{AllocError, Global};
@@ -80,7 +81,7 @@ fn seal_as(
     let reached = recipients(alloc, topology, &all, &views.roots, sender)?;
     let trees = trees_for(alloc, topology, name, views, &reached)?;
     let envelopes = envelopes_with(alloc, reached.as_slice(), trees.as_slice())?;
-    let mediator = encode_tree(alloc, &trees.as_slice()[reached.len()])?;
+    let mediator = spelled(alloc, &trees.as_slice()[reached.len()])?;
     Ok(Request {
         sender,
         command,
@@ -120,9 +121,17 @@ fn envelopes_with(
 {
     let mut envelopes = EnvelopeList::new(alloc);
     for at in 0..participants.len() {
-        let bytes = encode_tree(alloc, &trees[at])?;
+        let bytes = spelled(alloc, &trees[at])?;
         let to = participants[at];
         envelopes.push(Envelope { to, bytes })?;
     }
     Ok(envelopes)
+}
+
+// The spelling of a tree, which all copies of the request share.
+fn spelled(alloc: Global, tree: &Tree) -> Result<SharedBytes, AllocError>
+    ensures { IfOk result (λ bytes. bytes ≡ spell_tree tree.now) }
+{
+    let bytes = encode_tree(alloc, tree)?;
+    SharedBytes::new(alloc, bytes)
 }

@@ -15,6 +15,7 @@ use Rattle.canton_model.specs.declared.outcome.Outcome.{Outcome}
 use Rattle.canton_model.specs.declared.outcome.Outcome.TheVariants.{Approved, Rejected, TimedOut, Expired, Undecided}
 use Rattle.canton_model.specs.Log.{request_of, decision_time_of}
 use Rattle.canton_model.specs.Timeline.{kind_of, outcome_of, timeline_of}
+use Rattle.node_core.specs.Views.{actives_in}
 use Rattle.node_core.specs.declared.node_view.NodeView.{NodeView}
 use Rattle.node_core.specs.declared.submit_result.SubmitResult.{SubmitResult}
 use Rattle.node_core.specs.declared.submit_result.SubmitResult.TheVariants.{Sent, Refused}
@@ -63,9 +64,9 @@ amounts_onto total [] = total
 amounts_onto total (row ∷ rows) = amounts_onto (total +ℤ amount_of row.known.instance) rows
 
 -- a participant's active contracts, their number and the sum of their amounts
-abbrev pub active_total_line : Host × NodeView → List ℕ
-active_total_line (host, view) =
-    codes "active " ++ host.name ++ codes " " ++ decimal (length view.active) ++ codes " amount " ++ signed_decimal (amounts_onto (pos 0) view.active)
+abbrev pub active_total_line : Host × List ActiveRow → List ℕ
+active_total_line (host, active) =
+    codes "active " ++ host.name ++ codes " " ++ decimal (length active) ++ codes " amount " ++ signed_decimal (amounts_onto (pos 0) active)
     ++ codes "\n"
 
 -- the lines that count requests by how they ended
@@ -78,9 +79,13 @@ count_lines kinds =
     ++ count_line (codes "expired") Expired kinds
     ++ count_line (codes "undecided") Undecided kinds
 
-abbrev pub summary_of : Topology → List Entry → List SubmitResult → List NodeView → List ℕ
-summary_of topology log results views =
+-- the summary, with the active contracts of each participant
+abbrev pub summary_over : Topology → List Entry → List SubmitResult → List (List ActiveRow) → List ℕ
+summary_over topology log results actives =
     count_lines (kinds_from topology log 0 log)
     ++ codes "refused " ++ decimal (count_by is_refused results) ++ codes "\n"
-    ++ flat_map active_total_line (zip topology.hosts views)
+    ++ flat_map active_total_line (zip topology.hosts actives)
     ++ codes "end\n"
+
+abbrev pub summary_of : Topology → List Entry → List SubmitResult → List NodeView → List ℕ
+summary_of topology log results views = summary_over topology log results (actives_in views)

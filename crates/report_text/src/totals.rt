@@ -2,16 +2,16 @@
 ghost use Rattle.std.specs.Prelude.{◌≡◌, ◌++◌, ℤ, pos, OnOk, IfOk, string_bytes, count_by, decimal, codes};
 ghost use Rattle.std.specs.List.{flat_map, zip};
 ghost use Rattle.report_text.specs.Totals.{kind_at, kinds_from, is_same, count_line, count_lines, is_refused, is_iou, third_number};
-ghost use Rattle.report_text.specs.Totals.{amount_of, amounts_onto, active_total_line, summary_of};
+ghost use Rattle.report_text.specs.Totals.{amount_of, amounts_onto, active_total_line, summary_over};
 
 use crate::outcome_lines::is_request;
 use crate::outcomes::Outcomes;
 use crate::values::put_number;
 use canton_model::{Decision, EntryList, Outcome};
 use ledger_terms::{
-    ActiveRow, Host, HostList, Instance, ListOf, TemplateName, Text, Topology, Value,
+    ActiveRow, ActiveRowList, Host, HostList, Instance, ListOf, TemplateName, Text, Topology, Value,
 };
-use node_core::{NodeView, NodeViewList, SubmitResult, SubmitResultList};
+use node_core::{ActiveRowLists, SubmitResult, SubmitResultList};
 use std::alloc::{AllocError, Global};
 
 /// How the request at the place ended.
@@ -161,25 +161,25 @@ fn total_of(rows: &[ActiveRow]) -> Result<i128, AllocError>
     Ok(total)
 }
 
-fn put_active_total(out: &mut String, host: &Host, view: &NodeView) -> Result<(), AllocError>
-    ensures { OnOk result (string_bytes out.new ≡ string_bytes out.old ++ active_total_line (host.now, view.now)) }
+fn put_active_total(out: &mut String, host: &Host, active: &ActiveRowList) -> Result<(), AllocError>
+    ensures { OnOk result (string_bytes out.new ≡ string_bytes out.old ++ active_total_line (host.now, active.now)) }
 {
     let name = host.name.as_str();
-    let count = view.active.len();
-    let total = total_of(view.active.as_slice())?;
+    let count = active.len();
+    let total = total_of(active.as_slice())?;
     write!(out, "active {name} {count} amount {total}\n")
 }
 
 fn put_active_totals(
     out: &mut String,
     hosts: &HostList,
-    views: &NodeViewList,
+    actives: &ActiveRowLists,
 ) -> Result<(), AllocError>
-    ensures { OnOk result (string_bytes out.new ≡ string_bytes out.old ++ flat_map active_total_line (zip hosts.now views.now)) }
+    ensures { OnOk result (string_bytes out.new ≡ string_bytes out.old ++ flat_map active_total_line (zip hosts.now actives.now)) }
 {
     'hosts: for (at, host) in hosts.as_slice().iter().enumerate() {
-        if let Some(view) = views.get(at) {
-            put_active_total(out, host, view)?;
+        if let Some(active) = actives.get(at) {
+            put_active_total(out, host, active)?;
         }
     }
     Ok(())
@@ -192,9 +192,9 @@ pub fn summary(
     topology: &Topology,
     log: &EntryList,
     results: &SubmitResultList,
-    views: &NodeViewList,
+    actives: &ActiveRowLists,
 ) -> Result<Text, AllocError>
-    ensures { IfOk result (λ text. text ≡ summary_of topology.now log.now results.now views.now) }
+    ensures { IfOk result (λ text. text ≡ summary_over topology.now log.now results.now actives.now) }
 {
     let mut out = String::new(alloc);
     let outcomes = outcomes_in(alloc, topology, log)?;
@@ -202,7 +202,7 @@ pub fn summary(
     out.push_str("refused ")?;
     put_number(&mut out, refused_in(results) as u64)?;
     out.push_str("\n")?;
-    put_active_totals(&mut out, &topology.hosts, views)?;
+    put_active_totals(&mut out, &topology.hosts, actives)?;
     out.push_str("end\n")?;
     Ok(Text::of_string(out))
 }

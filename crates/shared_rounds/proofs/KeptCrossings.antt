@@ -2,14 +2,17 @@
 use denote.Param.Send.{IsSend, IsSync, sendable}
 use denote.Param.SendFields.{as_row_send, as_row_sync, declared_send, declared_sync, variants_send, variants_sync}
 use Rattle.std.proofs.Crossing.{crosses}
+use Rattle.ledger_terms.proofs.act.Act.TheSendSync as act
+use Rattle.ledger_terms.proofs.action.Action.TheSendSync as action
 use Rattle.ledger_terms.proofs.hash.Hash.TheSendSync as hash
 use Rattle.ledger_terms.proofs.list.ListOf.TheSendSync as list
 use Rattle.ledger_terms.proofs.name.Name.TheSendSync as name
 use Rattle.ledger_terms.proofs.participant_id.ParticipantId.TheSendSync as participant_id
 use Rattle.ledger_terms.proofs.party_set.PartySet.TheSendSync as party_set
 use Rattle.ledger_terms.proofs.tree.Branches.TheLaws.TheKnot.{send-Branches, sync-Branches, send-Tree, sync-Tree}
-use Rattle.view_split.proofs.core_node.CoreChildList.TheLaws.TheKnot.{send-CoreChildList, sync-CoreChildList}
+use Rattle.view_split.proofs.core_node.CoreChildList.TheLaws.TheKnot.{send-CoreChildList, both_sync-CoreChildList}
 use Rattle.ledger_terms.specs.contracts.tree.Tree as Tree
+use Rattle.view_split.specs.contracts.core_node.CoreChildList as CoreChildList
 use Rattle.view_split.specs.contracts.split_view.SplitView as SplitView
 use Rattle.view_split.specs.contracts.placed_view.PlacedView as PlacedView
 use Rattle.view_split.specs.contracts.opened_tree.OpenedTree as OpenedTree
@@ -17,15 +20,32 @@ use Rattle.canton_model.proofs.verdict.Verdict.TheSendSync as verdict
 use Rattle.confirm_reply.specs.contracts.shared_tree.SharedTree as SharedTree
 use Rattle.confirm_reply.proofs.id_facts.IdFacts.TheSendSync as id_facts
 use Rattle.inbox_standing.proofs.change.Change.TheSendSync as change
+use Rattle.node_inbox.specs.contracts.boxed_request.BoxedRequest as BoxedRequest
 use Rattle.node_inbox.specs.contracts.kept_item.KeptRequest as KeptRequest
 use Rattle.node_inbox.specs.contracts.kept_item.KeptContent as KeptContent
 use Rattle.node_inbox.specs.contracts.kept_item.KeptItem as KeptItem
 
+ruleset of_actions = (sendable, crosses, hash.the_send, hash.the_sync, action.the_send, action.the_sync, action.the_field_send, action.the_field_sync, as_row_send, as_row_sync)
+
+pub core_send : IsSend CoreChildList.the_row
+core_send = search (of_actions, send-CoreChildList) depth 40 fits 10000
+
+pub core_sync : IsSync CoreChildList.the_row
+core_sync = search (of_actions, both_sync-CoreChildList) depth 40 fits 10000
+
 pub split_view_send : IsSend SplitView.the_row
-split_view_send = search (sendable, crosses, party_set.the_send, send-CoreChildList) depth 40 fits 10000
+split_view_send =
+    declared_send SplitView.the_type (
+      party_set.the_send,
+      (party_set.the_send, (act.the_send, (search (sendable, crosses, core_send) depth 20, tt))),
+    )
 
 pub split_view_sync : IsSync SplitView.the_row
-split_view_sync = search (sendable, crosses, party_set.the_sync, sync-CoreChildList) depth 40 fits 10000
+split_view_sync =
+    declared_sync SplitView.the_type (
+      party_set.the_sync,
+      (party_set.the_sync, (act.the_sync, (search (sendable, crosses, core_sync) depth 20, tt))),
+    )
 
 pub view_send : IsSend (Tree.the_row SplitView.the_row)
 view_send = search (sendable, crosses, split_view_send, send-Tree, send-Branches) depth 40 fits 10000
@@ -103,11 +123,17 @@ kept_request_sync =
       ),
     )
 
+pub boxed_request_send : IsSend BoxedRequest.the_row
+boxed_request_send = search (sendable, crosses, kept_request_send) depth 40 fits 10000
+
+pub boxed_request_sync : IsSync BoxedRequest.the_row
+boxed_request_sync = search (sendable, crosses, kept_request_sync) depth 40 fits 10000
+
 pub kept_content_send : IsSend KeptContent.the_row
-kept_content_send = search (variants_send, kept_request_send, verdict.the_send) depth 12
+kept_content_send = search (variants_send, boxed_request_send, verdict.the_send) depth 12
 
 pub kept_content_sync : IsSync KeptContent.the_row
-kept_content_sync = search (variants_sync, kept_request_sync, verdict.the_sync) depth 12
+kept_content_sync = search (variants_sync, boxed_request_sync, verdict.the_sync) depth 12
 
 pub kept_item_send : IsSend KeptItem.the_row
 kept_item_send = declared_send KeptItem.the_type (search (sendable, as_row_send) depth 20, (kept_content_send, tt))

@@ -27,7 +27,7 @@ core_next Hole cs = refl
 pub next_child : (cs : List CoreChild) (i : ℕ) (c known : CoreChild) → i < length cs → c ≡ get_or cs i c → c ≡ known → children_of (drop i cs) ≡ with_child known (children_of (drop (i + 1) cs))
 next_child cs i c known h at is = rw (drop_more cs i c h, ← at) (core_next c (drop (i + 1) cs) ∙ ap (λ (k : CoreChild). with_child k (children_of (drop (i + 1) cs))) is)
 
-count_with : (c : CoreChild) (cs : List CoreChild) → core_weight (children_of cs) < core_weight (children_of (c ∷ cs))
+pub count_with : (c : CoreChild) (cs : List CoreChild) → core_weight (children_of cs) < core_weight (children_of (c ∷ cs))
 count_with (Inner node) cs = omega arith
 count_with Hole cs = omega arith
 

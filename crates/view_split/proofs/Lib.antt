@@ -3,6 +3,7 @@ mod Joins
 mod Walks
 mod FaultFacts
 mod Filling
+mod Moved
 mod Preorders
 pub mod Assembled
 pub mod Sight

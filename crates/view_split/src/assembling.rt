@@ -40,8 +40,8 @@ fn fill_into(
     Ok(())
 }
 
-// Puts the next tree at the end, where one is left.
-fn put_next(trees: &mut Trees, out: &mut ActionNodeList) -> Result<(), AllocError>
+/// Puts the next tree at the end, where one is left.
+pub fn put_next(trees: &mut Trees, out: &mut ActionNodeList) -> Result<(), AllocError>
     ensures filled { OnOk result (out.new ≡ join out.old (fill (Hole NoMore) trees.old)) }
     ensures left { OnOk result (trees.new ≡ after_holes (Hole NoMore) trees.old) }
 {

@@ -107,7 +107,7 @@ impl<'a> Reader<'a> {
         let name = self.name()?;
         let fields = self.values(alloc)?;
         let template = TemplateName { package, name };
-        Ok(Instance { template, fields })
+        Ok(Instance::of(alloc, template, fields)?)
     }
 
     /// An action.

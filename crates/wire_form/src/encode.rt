@@ -113,7 +113,7 @@ pub fn encode_instance(instance: &Instance, out: &mut Bytes) -> Result<(), Alloc
 {
     encode_name(&instance.template.package, out)?;
     encode_name(&instance.template.name, out)?;
-    encode_values(&instance.fields, out)
+    encode_values(instance.fields.as_list(), out)
 }
 
 /// Puts an action's spelling at the end.

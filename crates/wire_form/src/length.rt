@@ -70,7 +70,7 @@ pub fn instance_len(instance: &Instance) -> usize
     ensures { result ≡ capped (length (spell_instance instance.now)) }
 {
     let names = name_len(&instance.template.package) + name_len(&instance.template.name);
-    values_len(&instance.fields).saturating_add(names)
+    values_len(instance.fields.as_list()).saturating_add(names)
 }
 
 /// The length of an action's spelling.

@@ -57,7 +57,7 @@ pub fn is_spellable_instance(instance: &Instance) -> bool
 {
     is_name(&instance.template.package)
         && is_name(&instance.template.name)
-        && are_spellable(&instance.fields)
+        && are_spellable(instance.fields.as_list())
 }
 
 /// Whether an action's instance, arguments, actors and result are spellable.

@@ -84,7 +84,7 @@ impl Requests {
     /// Follows a request at the next place, from its hold to what becomes of it.
     fn follow(&mut self, alloc: Global, asked: &Asked, number: u64) -> Result<(), AllocError> {
         let place = self.plain.read();
-        let known = known_of(alloc, asked.package, number);
+        let known = known_of(alloc, asked.package, number)?;
         change_one(alloc, &mut self.store, Change::Hold, known, place)?;
         track(&mut self.tracker, place, 0)?;
         advance(&mut self.tracker, 1);
@@ -108,7 +108,7 @@ impl Requests {
         if asked.outcome != Outcome::Approved {
             return Ok(());
         }
-        let known = known_of(alloc, asked.package, number);
+        let known = known_of(alloc, asked.package, number)?;
         change_one(alloc, &mut self.store, asked.change, known, place)?;
         self.plain.write(asked.change, number, place)
     }

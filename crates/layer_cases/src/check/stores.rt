@@ -69,7 +69,7 @@ fn change_each(
             alloc,
             store,
             change,
-            known_of(alloc, package, number),
+            known_of(alloc, package, number)?,
             place,
         )?;
     }
@@ -77,18 +77,16 @@ fn change_each(
 }
 
 /// A contract of the template that has the package's name.
-pub(crate) fn known_of(alloc: Global, package: Name, number: u64) -> Known {
-    Known {
+pub(crate) fn known_of(alloc: Global, package: Name, number: u64) -> Result<Known, AllocError> {
+    let template = TemplateName {
+        package,
+        name: package,
+    };
+    Ok(Known {
         id: id_of(number),
         salt: salt_of(number),
-        instance: Instance {
-            template: TemplateName {
-                package,
-                name: package,
-            },
-            fields: ValueList::new(alloc),
-        },
-    }
+        instance: Instance::of(alloc, template, ValueList::new(alloc))?,
+    })
 }
 
 pub(crate) fn change_one(

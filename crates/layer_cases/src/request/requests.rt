@@ -2,7 +2,7 @@
 use crate::request::hosts::hosts_text;
 use crate::request::read_back::put_read_back;
 use fixtures::put_line;
-use ledger_terms::{Bytes, Submission, Topology, Tx};
+use ledger_terms::{Submission, Topology, Tx};
 use proto_model::{Request, seal};
 use script_read::Script;
 use sealed_form::is_sealable;
@@ -49,10 +49,15 @@ fn put_parts(
 ) -> Result<(), AllocError> {
     let asked = hosts_text(alloc, topology, request.confirming.as_slice())?;
     put_line(out, &["confirming", asked.as_str()])?;
-    put_bytes(alloc, &["mediator"], &request.mediator, out)?;
+    put_bytes(alloc, &["mediator"], request.mediator.as_slice(), out)?;
     for envelope in request.envelopes.as_slice() {
         let to = hosts_text(alloc, topology, &[envelope.to])?;
-        put_bytes(alloc, &["envelope", to.as_str()], &envelope.bytes, out)?;
+        put_bytes(
+            alloc,
+            &["envelope", to.as_str()],
+            envelope.bytes.as_slice(),
+            out,
+        )?;
     }
     Ok(())
 }
@@ -60,13 +65,13 @@ fn put_parts(
 fn put_bytes(
     alloc: Global,
     front: &[&str],
-    bytes: &Bytes,
+    bytes: &[u8],
     out: &mut String,
 ) -> Result<(), AllocError> {
     for word in front {
         out.push_str(word)?;
         out.push_str(" ")?;
     }
-    let digits = hex::encode(alloc, bytes.as_slice())?;
+    let digits = hex::encode(alloc, bytes)?;
     put_line(out, &[digits.as_str()])
 }

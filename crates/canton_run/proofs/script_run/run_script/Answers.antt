@@ -45,7 +45,6 @@ returns-clause-views g c =
     c.in_ok-rounds_played.ensures script c.args.capacity c.requires.accepted refl refl
     (none_played script c.args.capacity (c.prepared_requests_make_a_machine.ensures _ _ _ _) n.new n.ensures.is n.ensures.new n.ensures.set_up) in
     let m = machine_for script c.args.capacity in
-    c.in_ok-views.ensures
-    ∙ views_are script c.args.capacity c.in_ok-rounds_played.rounds_played.world c.catch_up.new.self p.state (c.in_ok-catch_up.ensures.is m p.state p.is) p.lawful
+    views_are script c.args.capacity c.in_ok-rounds_played.rounds_played.world c.catch_up.new.self p.state (c.in_ok-catch_up.ensures.is m p.state p.is) p.lawful
     (c.in_ok-catch_up.ensures.ok m p.state p.is p.lawful) (c.in_ok-catch_up.ensures.set_up script.topology script.checked p.set_up) c.in_ok-log.log
     (c.in_ok-log.ensures.log ∙ ap (λ (q : Sequenced). q.list) c.in_ok-catch_up.ensures.log)

@@ -1,5 +1,7 @@
-use Rattle.std.proofs.Common.{◌≡◌, ℕ, List, Option, subst, take, rules}
+use Rattle.std.proofs.Common.{◌≡◌, ◌<◌, ◌∙◌, ℕ, List, Option, ap, length, subst, take, rules}
 use Rattle.std.specs.Io.KnownBytes.{Appends}
+use Rattle.node_core.specs.declared.node_view.NodeView.{NodeView}
+use Rattle.canton_run.specs.Jobs.{text_of, text_over}
 use Rattle.canton_run.specs.Run.{IsRun}
 use Rattle.canton_run.proofs.top_call.carry_out.Goals as goal
 use Rattle.canton_run.proofs.top_call.carry_out.Goals.{in-Ok-write_all, in-Err}
@@ -9,13 +11,48 @@ written_of : (held held' : Option (List ℕ)) (bytes text : List ℕ) → bytes 
     → (n : ℕ) × Appends held held' (take n text)
 written_of held held' bytes text e found = rw (← e) found
 
-pub returns-clause-cut : goal.returns-clause-cut
-returns-clause-cut g c at =
+pub returns-clause-done : goal.returns-clause-done
+returns-clause-done g c at =
+    let script = c.args.script in
+    let told = c.in-Ok-run_script.field-0.record in
+    let views =
+    ap (λ (views : List NodeView). text_over c.args.job script.topology script.rounds told.log told.results views) c.in-Ok-run_script.ensures.views in
+    let is : c.as_bytes.result.now ≡ text_of c.args.job script c.finished.result =
+    rw (c.finished.ensures.log, c.finished.ensures.results) (c.as_bytes.ensures.value ∙ c.as_str.ensures.bytes ∙ c.in-Ok-text_of.ensures ∙ views) in
+    elim c.match-write_all.branch [
+      | in-Ok-write_all w ↦
+          subst (λ (bytes : List ℕ). Appends (g.K.Sink.held c.args.sink.now) (g.K.Sink.held c.write_all.new.sink) bytes) is w.in-Ok-write_all.ensures.whole
+      | in-Err w ↦ search rules
+    ]
+
+pub returns-clause-sure : goal.returns-clause-sure
+returns-clause-sure g c at =
+    let script = c.args.script in
+    let told = c.in-Ok-run_script.field-0.record in
+    let views =
+    ap (λ (views : List NodeView). text_over c.args.job script.topology script.rounds told.log told.results views) c.in-Ok-run_script.ensures.views in
+    let is : c.as_bytes.result.now ≡ text_of c.args.job script c.finished.result =
+    rw (c.finished.ensures.log, c.finished.ensures.results) (c.as_bytes.ensures.value ∙ c.as_str.ensures.bytes ∙ c.in-Ok-text_of.ensures ∙ views) in
     elim c.match-write_all.branch [
       | in-Ok-write_all w ↦ search rules
-      | in-Err w ↦ written_of _ _ _ _ (search rules) w.in-Err.ensures.part.1
+      | in-Err w ↦ subst (λ (bytes : List ℕ). g.K.Sink.room c.args.sink.now < length bytes) is (search rules)
+    ]
+
+pub returns-clause-cut : goal.returns-clause-cut
+returns-clause-cut g c at =
+    let script = c.args.script in
+    let told = c.in-Ok-run_script.field-0.record in
+    let views =
+    ap (λ (views : List NodeView). text_over c.args.job script.topology script.rounds told.log told.results views) c.in-Ok-run_script.ensures.views in
+    let is : c.as_bytes.result.now ≡ text_of c.args.job script c.finished.result =
+    rw (c.finished.ensures.log, c.finished.ensures.results) (c.as_bytes.ensures.value ∙ c.as_str.ensures.bytes ∙ c.in-Ok-text_of.ensures ∙ views) in
+    elim c.match-write_all.branch [
+      | in-Ok-write_all w ↦ search rules
+      | in-Err w ↦ written_of _ _ _ _ is w.in-Err.ensures.part.1
     ]
 
 pub returns-clause-ran : goal.returns-clause-ran
 returns-clause-ran g c at =
-    subst (λ (n : ℕ). IsRun c.args.script n c.in-Ok.played.log c.in-Ok.played.results c.in-Ok.played.ends) c.capacity_of.ensures c.in-Ok.ensures.run
+    let told = c.in-Ok-run_script.field-0.record in
+    rw (c.finished.ensures.log, c.finished.ensures.results, c.finished.ensures.ends)
+    (subst (λ (n : ℕ). IsRun c.args.script n told.log told.results told.ends) c.capacity_of-capacity.ensures c.in-Ok-run_script.ensures.run)

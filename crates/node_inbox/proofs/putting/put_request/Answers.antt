@@ -31,4 +31,4 @@ returns-clause-ok c =
     b.rows b.holds (rw (c.decision_of.ensures) at b.ok) b.cursor c.cursor-place.ensures e.rows e.pairs e.holds e.cursor
     (ap (λ s. s.rows) a.store ∙ h.rows) (ap (λ s. s.holds) a.store ∙ h.holds) (a.pairs ∙ ap (λ t. t.pairs) h.tracking)
     (a.cursor ∙ ap (λ t. t.cursor + 1) h.tracking)
-    (rw (c.reserve.ensures.items, c.with_facts-kept.ensures) at c.put.ensures)
+    (rw (c.reserve.ensures.items, c.put_facts.ensures, c.store.ensures) at c.put.ensures)

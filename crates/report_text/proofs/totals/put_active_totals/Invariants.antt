@@ -5,4 +5,4 @@ use Rattle.report_text.proofs.totals.put_active_totals.Given as goal
 
 abbrev pub invariant-hosts : goal.invariant-hosts
 invariant-hosts l =
-    string_bytes l.out ++ flat_map active_total_line (zip (drop l.at l.hosts) (drop l.at l.views)) ≡ string_bytes l.fn.out ++ flat_map active_total_line (zip l.hosts l.views)
+    string_bytes l.out ++ flat_map active_total_line (zip (drop l.at l.hosts) (drop l.at l.actives)) ≡ string_bytes l.fn.out ++ flat_map active_total_line (zip l.hosts l.actives)

@@ -1,0 +1,90 @@
+//! The text of a job.
+ghost use Rattle.std.specs.Prelude.{◌≡◌, IfOk, map};
+ghost use Rattle.node_core.specs.Views.{view_of};
+ghost use Rattle.report_text.specs.Report.{report_of};
+ghost use Rattle.report_text.specs.Totals.{summary_of};
+ghost use Rattle.canton_run.specs.Jobs.{text_over};
+
+use crate::played::RunRecord;
+use crate::views::{actives_of, remains_of, views_of};
+use cli_words::Job;
+use ledger_terms::{Text, Topology};
+use node_core::{NodeRemains, NodeViewList};
+use report_text::{report, summary};
+use script_read::RoundList;
+use std::alloc::{AllocError, Global};
+use world_play::NodeList;
+
+/// The text of a job, with what is left of the participants: what they know, where that was asked, and else what they kept.
+#[derive(Drop)]
+pub struct JobText {
+    pub text: Text,
+    pub views: NodeViewList,
+    pub nodes: Vec<NodeRemains>,
+}
+
+fn report_text(
+    alloc: Global,
+    topology: &Topology,
+    rounds: &RoundList,
+    run_record: &RunRecord,
+    nodes: NodeList<'_>,
+) -> Result<JobText, AllocError>
+    ensures { IfOk result (λ told. told.text ≡ report_of topology.now rounds.now run_record.now.log run_record.now.results (map view_of nodes.entry.items)) }
+{
+    let views = views_of(alloc, nodes)?;
+    let text = report(
+        alloc,
+        topology,
+        rounds,
+        &run_record.log,
+        &run_record.results,
+        &views,
+    )?;
+    Ok(JobText {
+        text,
+        views,
+        nodes: Vec::new(alloc),
+    })
+}
+
+fn summary_text(
+    alloc: Global,
+    topology: &Topology,
+    run_record: &RunRecord,
+    nodes: NodeList<'_>,
+) -> Result<JobText, AllocError>
+    ensures { IfOk result (λ told. told.text ≡ summary_of topology.now run_record.now.log run_record.now.results (map view_of nodes.entry.items)) }
+{
+    let actives = actives_of(alloc, nodes.as_slice())?;
+    let text = summary(
+        alloc,
+        topology,
+        &run_record.log,
+        &run_record.results,
+        &actives,
+    )?;
+    Ok(JobText {
+        text,
+        views: NodeViewList::new(alloc),
+        nodes: remains_of(alloc, nodes)?,
+    })
+}
+
+/// The text that a job writes of a run. A summary asks the participants for their active contracts alone.
+pub fn text_of(
+    alloc: Global,
+    job: Job,
+    topology: &Topology,
+    rounds: &RoundList,
+    run_record: &RunRecord,
+    nodes: NodeList<'_>,
+) -> Result<JobText, AllocError>
+    ensures { IfOk result (λ told. told.text
+        ≡ text_over job topology.now rounds.now run_record.now.log run_record.now.results (map view_of nodes.entry.items)) }
+{
+    match job {
+        Job::Run { .. } => report_text(alloc, topology, rounds, run_record, nodes),
+        Job::Gen { .. } => summary_text(alloc, topology, run_record, nodes),
+    }
+}

@@ -1,0 +1,64 @@
+//! Requests apart from their items.
+ghost use Rattle.std.specs.Prelude.{◌≡◌, IfOk};
+ghost use Rattle.node_inbox.specs.Reads.{kept_with};
+
+use crate::facts::filled;
+use crate::kept_item::KeptRequest;
+use confirm_reply::IdFactsList;
+use contract_store::Store;
+use std::alloc::{AllocError, Global};
+use std::marker::Model;
+use std::mem;
+
+/// A request that stands apart from the item that it is of, so that the many items without one are small. Contracts see the request.
+#[derive(Drop)]
+pub struct BoxedRequest {
+    request: Box<KeptRequest>,
+}
+
+impl Model for BoxedRequest {
+    ghost use Rattle.node_inbox.specs.declared.kept_item.KeptRequest.{KeptRequest};
+    ghost use Rattle.ledger_terms.specs.Forest.{coded_forest};
+    ghost use Rattle.view_split.specs.Holed.{coded_holed};
+    ghost use Rattle.std.specs.Coded.{codes};
+
+    ghost Value = { KeptRequest };
+
+    ghost coded = { Prim.hlevel (codes, coded_forest, coded_holed) };
+
+    ghost view = { λ b. b.request.value };
+}
+
+impl BoxedRequest {
+    /// The request, in a place of its own.
+    pub fn new(alloc: Global, request: KeptRequest) -> Result<BoxedRequest, AllocError>
+        ensures { IfOk result (λ boxed. boxed ≡ request) }
+    {
+        let request = Box::new(alloc, request)?;
+        Ok(BoxedRequest { request })
+    }
+
+    /// The request, to look at.
+    pub fn request(&self) -> &KeptRequest
+        ensures { result.now ≡ self.now }
+    {
+        &*self.request
+    }
+
+    /// The request itself.
+    pub fn into_request(self) -> KeptRequest
+        ensures { result ≡ self }
+    {
+        let BoxedRequest { request } = self;
+        Box::into_inner(request)
+    }
+
+    /// Puts the facts on its contracts as they stand. Takes no memory.
+    pub fn put_facts(&mut self, store: &Store)
+        ensures { self.new ≡ kept_with self.old store.now }
+    {
+        let none = IdFactsList::new(*self.request.facts.allocator());
+        let facts = mem::replace(&mut self.request.facts, none);
+        self.request.facts = filled(store, facts);
+    }
+}

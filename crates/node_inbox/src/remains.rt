@@ -1,0 +1,23 @@
+//! What an inbox kept.
+use crate::kept_item::KeptItem;
+use inbox_standing::Standing;
+use prepare_request::HostedIds;
+
+/// What an inbox kept, when nobody asks it any more. It borrows nothing, so it is dropped, or forgotten, when whoever has it says.
+#[derive(Drop)]
+pub struct InboxRemains {
+    items: Vec<KeptItem>,
+    standing: Standing,
+    hosted: HostedIds,
+}
+
+impl InboxRemains {
+    /// The parts of an inbox.
+    pub(crate) fn new(items: Vec<KeptItem>, standing: Standing, hosted: HostedIds) -> InboxRemains {
+        InboxRemains {
+            items,
+            standing,
+            hosted,
+        }
+    }
+}

@@ -1,0 +1,85 @@
+//! What the approved requests open, taken out of an inbox.
+ghost use Rattle.std.specs.Prelude.{◌≡◌, ◌++◌, IfOk, OnOk};
+ghost use Rattle.canton_model.specs.Inbox.{parts_below};
+ghost use Rattle.request_track.specs.Pairs.{outcome_at};
+ghost use Rattle.view_split.specs.Placed.{placed_forest};
+ghost use Rattle.view_split.specs.SeenViews.{put_back};
+ghost use Rattle.node_inbox.specs.Approved.{TellsOutcomes, is_approved, part_of};
+ghost use Rattle.node_inbox.specs.Items.{model_items};
+
+use crate::actions::roots_of;
+use crate::applied::{is_approved, push_commit};
+use crate::kept_item::{KeptContent, KeptItem, KeptRequest};
+use blind_tree::PlacedViewList;
+use confirm_reply::{Setup, SharedTree};
+use inbox_standing::Standing;
+use ledger_model::CommitList;
+use ledger_terms::ActionNodeList;
+use std::alloc::{AllocError, Global};
+use view_split::into_assembled;
+
+// The trees of all views that are opened, out of the views' own actions.
+fn roots_out_of(alloc: Global, views: PlacedViewList) -> Result<ActionNodeList, AllocError>
+    ensures { IfOk result (λ roots. roots ≡ put_back (placed_forest views)) }
+{
+    let mut roots = ActionNodeList::new(alloc);
+    'views: for placed in views.into_vec() {
+        roots.push(into_assembled(alloc, placed.view)?)?;
+    }
+    Ok(roots)
+}
+
+// They are copied where somebody else looks at them.
+fn roots_taken(alloc: Global, tree: SharedTree) -> Result<ActionNodeList, AllocError>
+    ensures { IfOk result (λ roots. roots ≡ put_back (placed_forest tree.views)) }
+{
+    match tree.into_opened() {
+        Ok(opened) => roots_out_of(alloc, opened.views),
+        Err(shared) => roots_of(alloc, &shared.opened().views),
+    }
+}
+
+// What an item opens, where it is a request that is approved.
+fn push_taken(
+    standing: &Standing,
+    place: u64,
+    content: KeptContent,
+    commits: &mut CommitList,
+) -> Result<(), AllocError>
+    ensures { OnOk result (commits.new ≡ commits.old ++ part_of (is_approved (outcome_at standing.now.tracking.pairs place)) place content) }
+{
+    match content {
+        KeptContent::Received(kept) => {
+            if !is_approved(standing, place) {
+                return Ok(());
+            }
+            let KeptRequest { tree, .. } = kept.into_request();
+            let roots = roots_taken(*commits.allocator(), tree)?;
+            push_commit(place, roots, commits)
+        }
+        KeptContent::Told(_) => Ok(()),
+        KeptContent::Nothing => Ok(()),
+    }
+}
+
+/// What `applied` answers, out of the items themselves.
+pub fn into_applied(
+    setup: &Setup,
+    items: Vec<KeptItem>,
+    standing: &Standing,
+    end: u64,
+) -> Result<CommitList, AllocError>
+    requires { TellsOutcomes setup.now.topology.params (model_items items.items) standing.now }
+    ensures { IfOk result (λ commits. commits ≡ parts_below (model_items items.items) end) }
+{
+    let mut commits = CommitList::new(*items.allocator());
+    let mut place = 0;
+    'items: for item in items {
+        if place >= end {
+            break;
+        }
+        push_taken(standing, place, item.content, &mut commits)?;
+        place += 1;
+    }
+    Ok(commits)
+}
