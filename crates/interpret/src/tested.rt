@@ -94,6 +94,7 @@ pub(crate) fn authorisers(
     ensures { IfOk result (λ s. s ≡ authorisers checked.now instance.now actors.now) }
 {
     let parties = contract_parties(alloc, checked, instance)?;
+    // tells the prover that the set rises
     let _rising = actors.as_slice();
     actors.union(&parties.signatories)
 }

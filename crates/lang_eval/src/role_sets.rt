@@ -89,6 +89,7 @@ fn observers_if_typed(
 fn union_of_two(first: &PartySet, second: &PartySet) -> Result<PartySet, AllocError>
     ensures { IfOk result (λ s. s ≡ set_of (first.now ++ second.now)) }
 {
+    // tells the prover that the set rises
     let _rising = first.as_slice();
     first.union(second)
 }
@@ -112,6 +113,7 @@ fn union_of_three(
 ) -> Result<PartySet, AllocError>
     ensures { IfOk result (λ s. s ≡ set_of (first ++ (second.now ++ third.now))) }
 {
+    // tells the prover that the set rises
     let _rising = first.as_slice();
     let mut set = first;
     insert_all(&mut set, second)?;
