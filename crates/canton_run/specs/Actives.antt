@@ -5,5 +5,5 @@ use Rattle.node_core.specs.Participant.{Participant}
 use Rattle.node_core.specs.Views.{view_of}
 
 -- those of one, at its clean place
-abbrev pub active_in : Participant → List ActiveRow
-active_in participant = (view_of participant).active
+abbrev pub own_active : Participant → List ActiveRow
+own_active participant = (view_of participant).active

@@ -1,7 +1,7 @@
 //! What the participants know.
 ghost use Rattle.std.specs.Prelude.{◌≡◌, IfOk, map};
 ghost use Rattle.node_core.specs.Views.{actives_in, view_of};
-ghost use Rattle.canton_run.specs.Actives.{active_in};
+ghost use Rattle.canton_run.specs.Actives.{own_active};
 
 use ledger_terms::ActiveRowList;
 use node_core::{ActiveRowLists, Node, NodeRemains, NodeView, NodeViewList};
@@ -19,13 +19,13 @@ pub fn views_of(alloc: Global, nodes: Vec<Node<'_>>) -> Result<NodeViewList, All
 }
 
 fn active_of(alloc: Global, node: &Node<'_>) -> Result<ActiveRowList, AllocError>
-    ensures { IfOk result (λ active. active ≡ active_in node.now) }
+    ensures { IfOk result (λ active. active ≡ own_active node.now) }
 {
     node.active(alloc)
 }
 
 fn each_active(alloc: Global, nodes: &[Node<'_>]) -> Result<ActiveRowLists, AllocError>
-    ensures { IfOk result (λ actives. actives ≡ map active_in nodes.now) }
+    ensures { IfOk result (λ actives. actives ≡ map own_active nodes.now) }
 {
     let mut actives = ActiveRowLists::new(alloc);
     for node in nodes {

@@ -1,6 +1,6 @@
 use Rattle.std.proofs.Common.{◌+◌, ◌∷◌, [], ◌∙◌, append_assoc, drop, map, refl}
 use Rattle.report_text.proofs.Zipped.{drop-item}
-use Rattle.canton_run.specs.Actives.{active_in}
+use Rattle.canton_run.specs.Actives.{own_active}
 use Rattle.canton_run.proofs.views.each_active.Goals as goal
 
 pub loop-node-preserved : goal.loop-node-preserved
@@ -11,4 +11,4 @@ loop-node-preserved c =
     let head = drop-item nodes nodes i node refl c.loop-node-test.true c.node-item.is in
     let sofar = rw head at c.loop-node.invariant in
     rw (c.in_ok-push.ensures.ok, c.in_ok-active_of.ensures)
-    (append_assoc c.loop-node.actives (active_in node ∷ []) (map active_in (drop (i + 1) nodes)) ∙ sofar)
+    (append_assoc c.loop-node.actives (own_active node ∷ []) (map own_active (drop (i + 1) nodes)) ∙ sofar)
