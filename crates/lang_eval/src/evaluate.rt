@@ -26,7 +26,10 @@ fn named_value<'a>(name: &Text, names: &'a Bindings<'a>) -> HeldValue<'a>
 
 /// The set of the parties among the values of expressions, or the first fault from the left.
 #[cycle(eval)]
-fn eval_set<'a>(exprs: &'a ExprList, names: &'a Bindings<'a>) -> Result<PartySet, EvalFault>
+pub(crate) fn eval_set<'a>(
+    exprs: &'a ExprList,
+    names: &'a Bindings<'a>,
+) -> Result<PartySet, EvalFault>
     ensures { UnlessMemory EvalFault.Memory result (with_value (vals (list_form exprs.now) names.now) (λ vs. Ok (set_of (parties_among vs)))) }
 {
     let mut set = PartySet::new(*names.allocator());

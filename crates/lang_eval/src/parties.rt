@@ -14,16 +14,21 @@ use crate::checked::{Checked, choice_of};
 use crate::choice_parties::ChoiceParties;
 use crate::contract_parties::ContractParties;
 use crate::eval_fault::EvalFault;
-use crate::evaluate::{eval_expr, eval_test};
+use crate::evaluate::{eval_expr, eval_set, eval_test};
 use crate::given_names::GivenNames;
 use crate::owner::Owner;
 use ledger_model::ChoiceCall;
 use ledger_terms::{Choice, Expr, Instance, PartySet, Template, Value};
 use std::alloc::Global;
 
+#[tactic(auto, using(ledger_terms::proofs::ExprRows::form_SetOf))]
 fn eval_parties(expr: &Expr, names: &Bindings<'_>) -> Result<PartySet, EvalFault>
     ensures { UnlessMemory EvalFault.Memory result (parties_of (expr_form expr.now) names.now) }
 {
+    // nearly all are of this form, and a set needs no value around it
+    if let Expr::SetOf(parties) = expr {
+        return eval_set(parties, names);
+    }
     match eval_expr(expr, names)? {
         Value::Parties(parties) => Ok(parties),
         _ => Err(EvalFault::NoSignatory),
