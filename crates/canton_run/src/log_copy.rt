@@ -17,7 +17,7 @@ pub fn log_of(alloc: Global, sequencer: &mut Sequencer<'_>) -> Result<EntryList,
     ensures same { sequencer.new ≡ sequencer.old }
     ensures log { IfOk result (λ log. log ≡ sequencer.old.list) }
 {
-    let mut log = EntryList::new(alloc);
+    let mut log = EntryList::with_room(alloc, sequencer.len() as usize)?;
     'entries: while let Some(slip) = sequencer.entry(log.len() as u64) {
         log.push(copy_of(slip.entry())?)?;
     }

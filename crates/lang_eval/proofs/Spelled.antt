@@ -1,5 +1,6 @@
 -- Names and their parts.
-use Rattle.std.proofs.Common.{◌≡◌, ◌≢◌, ◌∙◌, ◌++◌, ℕ, Bool, true, false, List, Option, None, Some, Bor, refl, sym, ap, codes}
+use Rattle.std.proofs.Common.{◌≡◌, ◌≢◌, ◌∙◌, ◌++◌, ℕ, Bool, true, false, List, length, take, Option, None, Some, Bor, refl, sym, ap, codes}
+use Rattle.std.proofs.Math.Seq.{take-append_seam}
 use Rattle.std.specs.Option.{MatchOption}
 use Rattle.std.proofs.lemmas.List.{append_assoc, append_cancel_left}
 use Rattle.ledger_terms.specs.Parties.{same_name}
@@ -39,3 +40,9 @@ part_behind owner text rest (Some part) is dot = λ field.
 pub no_part_behind : (owner text : List ℕ) → ((rest : List ℕ) → text ≢ owner ++ rest) → (field : List ℕ) → same_name (dotted owner field) text ≡ false
 no_part_behind owner text other field = other_part owner field text
     (λ part same. other (codes "." ++ part) (same ∙ append_assoc owner (codes ".") part))
+
+-- a text whose first bytes are not a word has nothing behind it
+pub begins_otherwise : (text word : List ℕ) → same_name (take (length word) text) word ≡ false → (rest : List ℕ) → text ≢ word ++ rest
+begins_otherwise text word other rest is =
+    let same = (bytes_decide (take (length word) text) word).1 (ap (take (length word)) is ∙ take-append_seam word rest) in
+    let never : false ≡ true = sym other ∙ same in absurd cc

@@ -5,6 +5,7 @@ ghost use Rattle.lang_eval.specs.Spellings.{owner_word};
 
 use crate::bound_name::field_part;
 use crate::owner::Owner;
+use crate::short_text::is_same_text;
 use ledger_terms::{FieldDecl, Text, Value};
 use std::marker::Model;
 
@@ -35,7 +36,7 @@ fn value_named<'a>(decls: &[FieldDecl], values: &'a [Value], name: &[u8]) -> Opt
     let mut at = 0;
     while at < decls.len() && at < values.len() {
         let value = &values[at];
-        if decls[at].name.as_bytes() == name {
+        if is_same_text(decls[at].name.as_bytes(), name) {
             return Some(value);
         }
         at += 1;

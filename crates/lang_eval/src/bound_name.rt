@@ -4,6 +4,7 @@ ghost use Rattle.ledger_terms.specs.Parties.{same_name};
 ghost use Rattle.lang_eval.specs.Spellings.{owner_word};
 
 use crate::owner::Owner;
+use crate::short_text::{behind_word, is_same_text};
 use crate::spelling::Spelling;
 use ledger_terms::{Name, Text};
 use std::marker::Model;
@@ -38,7 +39,7 @@ pub(crate) fn field_part<'a>(text: &'a [u8], owner: &[u8]) -> Option<&'a [u8]>
     ensures { MatchOption result ((field : List ℕ) → same_name (owner.now ++ codes "." ++ field) text.now ≡ false)
         (λ part. (field : List ℕ) → same_name (owner.now ++ codes "." ++ field) text.now ≡ same_name field part.now) }
 {
-    match text.strip_prefix(owner) {
+    match behind_word(text, owner) {
         Some(rest) => behind_dot(rest),
         None => None,
     }
@@ -48,7 +49,7 @@ fn is_field(text: &[u8], owner: &[u8], field: &[u8]) -> bool
     ensures { result ≡ same_name (owner.now ++ codes "." ++ field.now) text.now }
 {
     match field_part(text, owner) {
-        Some(part) => field == part,
+        Some(part) => is_same_text(field, part),
         None => false,
     }
 }

@@ -100,9 +100,11 @@ fn hold_either<'a>(
 }
 
 /// The value of an expression, or the first fault from the left, borrowed where it stands in a field or in the expression.
+/// What `hold_expr` answers. Where an expression is an operation, room on the stack is made for all that one may need.
 #[cycle(eval)]
+#[inline(never)]
 #[tactic(auto, using(ledger_terms::proofs::ExprRows::form_SetOf))]
-fn hold_expr<'a>(expr: &'a Expr, names: &'a Bindings<'a>) -> Result<HeldValue<'a>, EvalFault>
+fn hold_operation<'a>(expr: &'a Expr, names: &'a Bindings<'a>) -> Result<HeldValue<'a>, EvalFault>
     ensures { UnlessMemory EvalFault.Memory result (val (expr_form expr.now) names.now) }
 {
     match expr {
@@ -131,6 +133,18 @@ fn hold_expr<'a>(expr: &'a Expr, names: &'a Bindings<'a>) -> Result<HeldValue<'a
         Expr::SetOf(parties) => Ok(HeldValue::made(Value::Parties(eval_set(parties, names)?))),
         Expr::Union(a, b) => eval_operation(Operator::Union, hold_expr(a, names), b, names),
         Expr::Has(a, b) => eval_operation(Operator::Has, hold_expr(a, names), b, names),
+    }
+}
+
+/// The value of an expression, or the first fault from the left, borrowed where it stands in a field or in the expression.
+#[cycle(eval)]
+fn hold_expr<'a>(expr: &'a Expr, names: &'a Bindings<'a>) -> Result<HeldValue<'a>, EvalFault>
+    ensures { UnlessMemory EvalFault.Memory result (val (expr_form expr.now) names.now) }
+{
+    match expr {
+        Expr::Literal(value) => Ok(HeldValue::given(value)),
+        Expr::Var(name) => Ok(named_value(name, names)),
+        _ => hold_operation(expr, names),
     }
 }
 

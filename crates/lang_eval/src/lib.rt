@@ -30,6 +30,7 @@ mod role_fault;
 mod role_sets;
 mod run;
 mod same;
+mod short_text;
 mod spelling;
 
 pub use binding::Binding;

@@ -8,7 +8,7 @@ use Rattle.lang_eval.proofs.bound_fields.value_named.Goals.{then-loop-at-test+el
 pub loop-at-preserved : goal.loop-at-preserved
 loop-at-preserved c =
     let same : c.as_bytes.result.now ≡ c.index-decls-at.result.name = c.as_bytes.ensures.text ∙ ap (λ (d : FieldDecl). d.name) (sym c.index-decls-at.is) in
-    let other : same_name c.index-decls-at.result.name c.args.name.now ≡ false = rw same at (sym c.eq.ensures ∙ c.if-eq.false) in
+    let other : same_name c.index-decls-at.result.name c.args.name.now ≡ false = rw same at (sym c.is_same_text.ensures ∙ c.if-is_same_text.false) in
     named_passed _ _ _ _ _ _ _ c.loop-at-test.true c.if-at-values.true c.index-decls-at.is c.index-values-at.is other c.loop-at.invariant
 
 pub returns : goal.returns

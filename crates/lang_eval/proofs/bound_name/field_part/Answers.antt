@@ -1,7 +1,5 @@
 use Rattle.std.proofs.Common.{◌≡◌, ◌≢◌, ◌++◌, subst, List, ℕ, Option, Bor}
 use Rattle.std.specs.Option.{MatchOption}
-use Rattle.std.proofs.lemmas.Bool.Decides.{Decides-eqb}
-use Rattle.std.proofs.lemmas.Slice.Eq.{strip_prefix_is}
 use Rattle.lang_eval.proofs.Spelled.{part_behind, no_part_behind}
 use Rattle.lang_eval.proofs.bound_name.field_part.Goals as goal
 
@@ -11,11 +9,9 @@ Behind text first r = MatchOption r ((rest : List ℕ) → text ≢ first ++ res
 
 pub returns-in-Some : goal.returns-in-Some
 returns-in-Some c =
-    let parts = strip_prefix_is Decides-eqb c.args.text.now c.args.owner.now c.strip_prefix.result c.strip_prefix.ensures.cases in
     part_behind c.args.owner.now c.args.text.now c.in-Some.rest.now c.behind_dot.result
-    (subst (Behind c.args.text.now c.args.owner.now) c.in-Some.is parts) c.behind_dot.ensures
+    (subst (Behind c.args.text.now c.args.owner.now) c.in-Some.is c.behind_word.ensures) c.behind_dot.ensures
 
 pub returns-in-None : goal.returns-in-None
 returns-in-None c =
-    let parts = strip_prefix_is Decides-eqb c.args.text.now c.args.owner.now c.strip_prefix.result c.strip_prefix.ensures.cases in
-    no_part_behind c.args.owner.now c.args.text.now (subst (Behind c.args.text.now c.args.owner.now) c.in-None.is parts)
+    no_part_behind c.args.owner.now c.args.text.now (subst (Behind c.args.text.now c.args.owner.now) c.in-None.is c.behind_word.ensures)
