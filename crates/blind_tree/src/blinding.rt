@@ -41,7 +41,7 @@ pub fn blind_all(
     ensures { IfOk result (λ trees. trees ≡ map (blind_for sha256 views.now sender topology.now.hosts) to.now) }
 {
     let kept = keep(alloc, views, sender)?;
-    let mut trees = TreeList::new(alloc);
+    let mut trees = TreeList::with_room(alloc, to.len())?;
     for recipient in to.as_slice() {
         trees.push(cut_for(alloc, &kept, sender, topology, *recipient)?)?;
     }

@@ -21,6 +21,9 @@ use wire_form::{encode_name, encode_parties, encode_u64};
 /// How many bytes are made room for at first: the core of a view of a few actions has no more.
 const USUAL_CORE: usize = 512;
 
+/// The same of the other leaves, which spell a few names.
+const USUAL_LEAF: usize = 96;
+
 /// The tree of a transaction with every hash: each leaf is spelled and hashed once, and each view hashed once.
 pub(crate) fn keep(alloc: Global, views: &Views, sender: Name) -> Result<KeptTree, AllocError>
     requires { AreSpellable views.now }
@@ -53,7 +56,7 @@ fn keep_leaf(kind: u8, seed: &Hash, bytes: Bytes) -> KeptLeaf
 fn spelled_head(alloc: Global, sender: Name, ledger_time: u64) -> Result<Bytes, AllocError>
     ensures { IfOk result (λ bytes. bytes ≡ common_bytes sender ledger_time) }
 {
-    let mut bytes = Bytes::new(alloc);
+    let mut bytes = Bytes::with_room(alloc, USUAL_LEAF)?;
     encode_name(&sender, &mut bytes)?;
     encode_u64(ledger_time, &mut bytes)?;
     Ok(bytes)
@@ -63,7 +66,7 @@ fn spelled_set(alloc: Global, parties: &PartySet) -> Result<Bytes, AllocError>
     requires { IsSpellableSet parties.now }
     ensures { IfOk result (λ bytes. bytes ≡ spell_parties parties.now) }
 {
-    let mut bytes = Bytes::new(alloc);
+    let mut bytes = Bytes::with_room(alloc, USUAL_LEAF)?;
     encode_parties(parties, &mut bytes)?;
     Ok(bytes)
 }
@@ -72,7 +75,7 @@ fn spelled_roles(alloc: Global, view: &SplitView) -> Result<Bytes, AllocError>
     requires { IsSpellableView view.now }
     ensures { IfOk result (λ bytes. bytes ≡ roles_bytes view.now) }
 {
-    let mut bytes = Bytes::new(alloc);
+    let mut bytes = Bytes::with_room(alloc, USUAL_LEAF)?;
     encode_parties(&view.informees, &mut bytes)?;
     encode_parties(&view.confirmers, &mut bytes)?;
     Ok(bytes)

@@ -18,7 +18,7 @@ pub(crate) fn all_participants(
 ) -> Result<ParticipantIdList, AllocError>
     ensures { IfOk result (λ ps. length topology.now.hosts ≤ 256 → ps ≡ participants_of topology.now) }
 {
-    let mut all = ParticipantIdList::new(alloc);
+    let mut all = ParticipantIdList::with_room(alloc, topology.hosts.len())?;
     for at in 0..topology.hosts.len() {
         all.push(ParticipantId((at % 256) as u8))?;
     }
@@ -34,7 +34,7 @@ pub(crate) fn confirming(
 ) -> Result<ParticipantIdList, AllocError>
     ensures { IfOk result (λ ps. ps ≡ confirming_by (confirms_at topology.now.hosts) participants.now views.now) }
 {
-    let mut asked = ParticipantIdList::new(alloc);
+    let mut asked = ParticipantIdList::with_room(alloc, participants.len())?;
     for p in participants.as_slice() {
         if confirms_any_view(topology, *p, views) {
             asked.push(*p)?;
@@ -65,7 +65,7 @@ pub(crate) fn recipients(
 ) -> Result<ParticipantIdList, AllocError>
     ensures { IfOk result (λ ps. ps ≡ filter (is_recipient topology.now.hosts views.now sender) participants.now) }
 {
-    let mut reached = ParticipantIdList::new(alloc);
+    let mut reached = ParticipantIdList::with_room(alloc, participants.len())?;
     for p in participants.as_slice() {
         if *p == sender || sees_any_view(views, topology, *p) {
             reached.push(*p)?;

@@ -102,7 +102,7 @@ fn trees_for(
     requires { AreSpellable views.now }
     ensures { IfOk result (λ trees. trees ≡ trees_for topology.now.hosts name views.now participants.now) }
 {
-    let mut to = RecipientList::new(alloc);
+    let mut to = RecipientList::with_room(alloc, participants.len().saturating_add(1))?;
     for p in participants.as_slice() {
         to.push(Recipient::Participant(*p))?;
     }
@@ -119,7 +119,7 @@ fn envelopes_with(
     requires { length participants.now ≤ length trees.now }
     ensures { IfOk result (λ envelopes. envelopes ≡ envelopes_with participants.now trees.now) }
 {
-    let mut envelopes = EnvelopeList::new(alloc);
+    let mut envelopes = EnvelopeList::with_room(alloc, participants.len())?;
     for at in 0..participants.len() {
         let bytes = spelled(alloc, &trees[at])?;
         let to = participants[at];
