@@ -1,5 +1,5 @@
 //! The log, for those who read it when its row is gone.
-ghost use Rattle.std.specs.Prelude.{◌≡◌, IfOk};
+ghost use Rattle.std.specs.Prelude.{◌≡◌, [], IfOk};
 
 use canton_model::{Entry, EntryList};
 use seq_log::Sequencer;
@@ -12,12 +12,19 @@ fn copy_of(entry: &Entry) -> Result<Entry, AllocError>
     entry.clone()
 }
 
+// Room for as many entries as the log has.
+fn room_for(alloc: Global, sequencer: &Sequencer<'_>) -> Result<EntryList, AllocError>
+    ensures { IfOk result (λ list. list ≡ []) }
+{
+    EntryList::with_room(alloc, sequencer.len() as usize)
+}
+
 /// A copy of the log.
 pub fn log_of(alloc: Global, sequencer: &mut Sequencer<'_>) -> Result<EntryList, AllocError>
     ensures same { sequencer.new ≡ sequencer.old }
     ensures log { IfOk result (λ log. log ≡ sequencer.old.list) }
 {
-    let mut log = EntryList::with_room(alloc, sequencer.len() as usize)?;
+    let mut log = room_for(alloc, sequencer)?;
     'entries: while let Some(slip) = sequencer.entry(log.len() as u64) {
         log.push(copy_of(slip.entry())?)?;
     }
