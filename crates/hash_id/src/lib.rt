@@ -4,6 +4,7 @@
 
 mod identity;
 mod merkle;
+mod piece;
 mod tag;
 
 pub use identity::{child_seed, contract_id_of_bytes, root_seed};

@@ -3,6 +3,7 @@ ghost use Rattle.std.specs.Prelude.{◌≡◌, ◌<◌, ◌^◌, length};
 ghost use Rattle.sha2.specs.Sha256.{sha256};
 ghost use Rattle.hash_id.specs.Strings.{inner_string, leaf_hash_string, leaf_salt_string, tree_hash_string, view_hash_string};
 
+use crate::piece::{kind_and_hash, tag_and_hash};
 use crate::tag::Tag;
 use ledger_terms::Hash;
 use sha2::{Digest, Sha256};
@@ -12,9 +13,8 @@ use sha2::{Digest, Sha256};
 pub fn leaf_salt(kind: u8, seed: &Hash) -> Hash
     ensures { result ≡ sha256 (leaf_salt_string kind seed.now) }
 {
-    let mut hasher = Tag::LeafSalt.hasher();
-    hasher.update([kind]);
-    hasher.update(seed.0);
+    let mut hasher = Sha256::new();
+    hasher.update(kind_and_hash(Tag::LeafSalt, kind, seed));
     Hash(hasher.finalize())
 }
 
@@ -22,9 +22,8 @@ pub fn leaf_salt(kind: u8, seed: &Hash) -> Hash
 pub fn leaf_hash(kind: u8, salt: &Hash, bytes: &[u8]) -> Hash
     ensures { result ≡ sha256 (leaf_hash_string kind salt.now bytes.now) }
 {
-    let mut hasher = Tag::Leaf.hasher();
-    hasher.update([kind]);
-    hasher.update(salt.0);
+    let mut hasher = Sha256::new();
+    hasher.update(kind_and_hash(Tag::Leaf, kind, salt));
     hasher.update(bytes);
     Hash(hasher.finalize())
 }
@@ -50,8 +49,8 @@ fn inner_hash(tag: Tag, first: &Hash, second: &Hash, below: &[Hash]) -> Hash
     requires { length below.now < 2 ^ 32 }
     ensures { result ≡ sha256 (inner_string tag first.now second.now below.now) }
 {
-    let mut hasher = tag.hasher();
-    hasher.update(first.0);
+    let mut hasher = Sha256::new();
+    hasher.update(tag_and_hash(tag, first));
     hasher.update(second.0);
     hasher.update((below.len() as u32).to_be_bytes());
     for hash in below {
