@@ -1,9 +1,9 @@
 //! Sets of parties.
-ghost use Rattle.std.specs.Prelude.{◌≡◌, ◌++◌, ◌∷◌, ◌||◌, ◌↔◌, [], ℕ, IsTrue, List, length, IfOk, OnOk, OnErr, cond};
+ghost use Rattle.std.specs.Prelude.{◌≡◌, ◌++◌, ◌∷◌, ◌||◌, ◌↔◌, [], ℕ, ◌≤◌, IsTrue, List, true, false, insert, length, IfOk, OnOk, OnErr, cond};
 ghost use Rattle.ledger_terms.specs.Parties.{with_party, with_parties, set_of, has_party, is_subset, meets_set, stands_above, IsRising};
 
 use crate::exact::Exact;
-use crate::growth::{make_room, push_closely};
+use crate::few_names::FewNames;
 use crate::name::{Name, NameList};
 use std::alloc::{AllocError, Global};
 use std::marker::Model;
@@ -11,7 +11,7 @@ use std::marker::Model;
 /// A set of parties, which contracts see as its names in strictly rising order of their bytes.
 #[derive(Drop)]
 pub struct PartySet {
-    names: Vec<Name>,
+    names: FewNames,
 }
 
 impl Model for PartySet {
@@ -20,25 +20,33 @@ impl Model for PartySet {
 
     ghost Value = { List (List ℕ) };
 
-    ghost view = { λ s. s.names.items };
+    ghost view = { λ s. s.names };
 
-    ghost invariant = { λ s. IsRising s.names.items };
+    ghost invariant = { λ s. IsRising s.names };
 }
 
-fn insert_name(names: &mut Vec<Name>, name: Name) -> Result<(), AllocError>
-    ensures ok { OnOk result (names.new.items ≡ with_party name names.old.items) }
-    ensures err { OnErr result (names.new.items ≡ names.old.items) }
+// Where a name stands, or belongs, and whether it is there.
+fn place_of(names: &[Name], name: Name) -> (usize, bool)
+    ensures within { result.0 ≤ length names.now }
+    ensures there { result.1 ≡ true → with_party name names.now ≡ names.now }
+    ensures apart { result.1 ≡ false → with_party name names.now ≡ insert names.now result.0 name }
 {
     let mut at = 0;
     while at < names.len() && names[at] < name {
         at += 1;
     }
-    if at < names.len() && names[at] == name {
+    (at, at < names.len() && names[at] == name)
+}
+
+fn insert_name(names: &mut FewNames, name: Name) -> Result<(), AllocError>
+    ensures ok { OnOk result (names.new ≡ with_party name names.old) }
+    ensures err { OnErr result (names.new ≡ names.old) }
+{
+    let (at, is_there) = place_of(names.as_slice(), name);
+    if is_there {
         return Ok(());
     }
-    make_room(names)?;
-    names.insert(at, name)?;
-    Ok(())
+    names.insert(at, name)
 }
 
 #[tactic(auto, using(crate::proofs::Rising::above_last))]
@@ -75,7 +83,7 @@ impl PartySet {
         ensures { result ≡ [] }
     {
         PartySet {
-            names: Vec::new(alloc),
+            names: FewNames::new(alloc),
         }
     }
 
@@ -85,7 +93,7 @@ impl PartySet {
         ensures members { IfOk result (λ s. (party : List ℕ) → has_party s party ≡ has_party names.now party) }
     {
         let mut set = PartySet {
-            names: Vec::new(alloc),
+            names: FewNames::new(alloc),
         };
         for name in names.as_slice() {
             set.insert(*name)?;
@@ -110,7 +118,7 @@ impl PartySet {
         if !is_above(self.names.as_slice(), party) {
             return Ok(false);
         }
-        push_closely(&mut self.names, party)?;
+        self.names.push(party)?;
         Ok(true)
     }
 
@@ -130,14 +138,14 @@ impl PartySet {
     pub fn len(&self) -> usize
         ensures { result ≡ length self.now }
     {
-        self.names.len()
+        self.names.as_slice().len()
     }
 
     /// Whether there are none.
     pub fn is_empty(&self) -> bool
         ensures { IsTrue result ↔ (self.now ≡ []) }
     {
-        self.names.is_empty()
+        self.names.as_slice().is_empty()
     }
 
     /// The names in rising order.
@@ -189,7 +197,7 @@ impl PartialEq for PartySet {
     ghost laws = { laws.partial_equiv_from_equiv (lists_equiv nat_list_eq_equiv) };
 
     fn eq(&self, other: &PartySet) -> bool {
-        self.names == other.names
+        self.names.as_slice() == other.names.as_slice()
     }
 }
 

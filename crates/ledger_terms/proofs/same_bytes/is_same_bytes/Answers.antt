@@ -1,4 +1,3 @@
-use Rattle.std.proofs.Common.{rules, ◌≡◌}
 use Rattle.ledger_terms.proofs.SameBytes.{told_by_mask}
 use Rattle.ledger_terms.proofs.same_bytes.is_same_bytes.Goals as goal
 
