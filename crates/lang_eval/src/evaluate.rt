@@ -99,8 +99,7 @@ fn hold_either<'a>(
     Ok(first)
 }
 
-/// The value of an expression, or the first fault from the left, borrowed where it stands in a field or in the expression.
-/// What `hold_expr` answers. Where an expression is an operation, room on the stack is made for all that one may need.
+/// What `hold_expr` answers, apart from it so that room on the stack for all operations is made for an operation alone.
 #[cycle(eval)]
 #[inline(never)]
 #[tactic(auto, using(ledger_terms::proofs::ExprRows::form_SetOf))]
