@@ -4,6 +4,7 @@ ghost use Rattle.sha2.specs.Hashers.{Holds256};
 ghost use Rattle.sha2.specs.Sha256.{sha256};
 ghost use Rattle.hash_id.specs.Strings.{child_seed_string, contract_id_string, root_seed_string, spelled_name};
 
+use crate::piece::tag_and_hash;
 use crate::tag::Tag;
 use ledger_terms::{Hash, Name};
 use sha2::{Digest, Sha256};
@@ -12,8 +13,8 @@ use sha2::{Digest, Sha256};
 pub fn contract_id_of_bytes(salt: &Hash, instance_bytes: &[u8]) -> Hash
     ensures { result ≡ sha256 (contract_id_string salt.now instance_bytes.now) }
 {
-    let mut hasher = Tag::ContractId.hasher();
-    hasher.update(salt.0);
+    let mut hasher = Sha256::new();
+    hasher.update(tag_and_hash(Tag::ContractId, salt));
     hasher.update(instance_bytes);
     Hash(hasher.finalize())
 }
@@ -22,8 +23,8 @@ pub fn contract_id_of_bytes(salt: &Hash, instance_bytes: &[u8]) -> Hash
 pub fn child_seed(seed: &Hash, index: u32) -> Hash
     ensures { result ≡ sha256 (child_seed_string seed.now index) }
 {
-    let mut hasher = Tag::ChildSeed.hasher();
-    hasher.update(seed.0);
+    let mut hasher = Sha256::new();
+    hasher.update(tag_and_hash(Tag::ChildSeed, seed));
     hasher.update(index.to_be_bytes());
     Hash(hasher.finalize())
 }
