@@ -6,7 +6,7 @@ use Rattle.lang_eval.specs.Language.{roles_in}
 use Rattle.view_split.proofs.Walks.{walked_none, walked_more, walked_inner, walked_hole, started}
 use Rattle.view_split.proofs.FaultFacts.{found_here, none_so_far}
 use Rattle.view_split.proofs.splitting.+split.Goals as goal
-use Rattle.view_split.proofs.splitting.+split.Goals.{split_node-then-stays_inside+in_ok-add_parties+in_ok-split_children+in_ok-core_node+in_ok-push, split_node-else-stays_inside+in_ok-below+in_ok-put_view}
+use Rattle.view_split.proofs.splitting.+split.Goals.{split_node-then-stays_inside+in_ok-add_parties+in_ok-split_children+in_ok-core_node+in_ok-push+in-More-1, split_node-then-stays_inside+in_ok-add_parties+in_ok-split_children+in_ok-core_node+in_ok-push+in-Nothing-1, split_node-else-stays_inside+in_ok-below+in_ok-put_view}
 
 pub split_children-loop-at-init : goal.split_children-loop-at-init
 split_children-loop-at-init t c = (walked_none _ _ _, refl)
@@ -33,7 +33,10 @@ split_children-loop-at-preserved t c = (
 pub split_node-returns-clause-walked : goal.split_node-returns-clause-walked
 split_node-returns-clause-walked t c =
     elim c.if-stays_inside.branch [
-      | split_node-then-stays_inside+in_ok-add_parties+in_ok-split_children+in_ok-core_node+in_ok-push w ↦ rw (w.view-is, w.children-is)
+      | split_node-then-stays_inside+in_ok-add_parties+in_ok-split_children+in_ok-core_node+in_ok-push+in-More-1 w ↦ rw (w.view-is, w.children-is)
+          (walked_inner (roles_in c.args.checked.now) c.args.node.now c.in_ok-roles.roles c.stays_inside.result c.args.view.now (record { informees = c.args.view.now.informees; confirmers = w.add_parties.new.set; subviews = c.args.view.now.subviews }) _ _ _ _ _ _
+          c.in_ok-roles.ensures.1 c.stays_inside.ensures w.if-stays_inside.true refl w.in_ok-add_parties.ensures refl w.new-below.ensures w.in_ok-split_children.ensures.walked w.in_ok-core_node.ensures w.in_ok-push.ensures.ok)
+      | split_node-then-stays_inside+in_ok-add_parties+in_ok-split_children+in_ok-core_node+in_ok-push+in-Nothing-1 w ↦ rw (w.view-is, w.children-is)
           (walked_inner (roles_in c.args.checked.now) c.args.node.now c.in_ok-roles.roles c.stays_inside.result c.args.view.now (record { informees = c.args.view.now.informees; confirmers = w.add_parties.new.set; subviews = c.args.view.now.subviews }) _ _ _ _ _ _
           c.in_ok-roles.ensures.1 c.stays_inside.ensures w.if-stays_inside.true refl w.in_ok-add_parties.ensures refl w.new-below.ensures w.in_ok-split_children.ensures.walked w.in_ok-core_node.ensures w.in_ok-push.ensures.ok)
       | split_node-else-stays_inside+in_ok-below+in_ok-put_view w ↦ rw (w.view-is, w.children-is)
