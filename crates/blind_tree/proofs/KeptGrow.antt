@@ -44,7 +44,7 @@ kept_end vs i all out past before = sym (join-end out) ∙ (rw (drop_of_length-l
 
 -- ---- views with their hashes, one at a time
 
-next_kept : (vs : List (Tree KeptView)) (i : ℕ) (v : Tree KeptView) → i < length vs → v ≡ get_or vs i v → forest_of (drop i vs) ≡ Root v.root v.below (forest_of (drop (i + 1) vs))
+pub next_kept : (vs : List (Tree KeptView)) (i : ℕ) (v : Tree KeptView) → i < length vs → v ≡ get_or vs i v → forest_of (drop i vs) ≡ Root v.root v.below (forest_of (drop (i + 1) vs))
 next_kept vs i v h at = rw (drop_more vs i v h, ← at) refl
 
 pub digests_step : (vs : List (Tree KeptView)) (i : ℕ) (v : Tree KeptView) (all out new : List (List ℕ)) → i < length vs → v ≡ get_or vs i v → new ≡ out ++ v.root.hash ∷ []
@@ -93,7 +93,7 @@ root_step hosts vs i v all h at before = ap (sees_kept_root hosts) (sym (next_ke
 
 -- ---- what is cut, one view at a time
 
-one_more : (sees below : Bool) (part : KeptView) (s o : Vertices) → cut_part sees below part s o ≡ beside (cut_part sees below part s NoVertices) o
+pub one_more : (sees below : Bool) (part : KeptView) (s o : Vertices) → cut_part sees below part s o ≡ beside (cut_part sees below part s NoVertices) o
 one_more true below part s o = refl
 one_more false true part s o = refl
 one_more false false part s o = refl

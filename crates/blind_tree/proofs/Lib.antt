@@ -6,6 +6,7 @@ pub mod Agreement
 pub mod Levels
 pub mod KeptGrow
 pub mod KeptLaws
+pub mod SpelledCut
 pub mod CoreGrow
 pub mod ToldLaws
 pub mod OpenedLaws

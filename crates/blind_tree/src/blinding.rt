@@ -3,12 +3,17 @@ ghost use Rattle.std.specs.Prelude.{◌≡◌, IfOk, map};
 ghost use Rattle.sha2.specs.Sha256.{sha256};
 ghost use Rattle.blind_tree.specs.LeafBytes.{AreSpellable};
 ghost use Rattle.blind_tree.specs.Blind.{blind_for};
+ghost use Rattle.blind_tree.specs.Kept.{cut_tree};
+ghost use Rattle.blind_tree.specs.Spelling.{spell_tree};
 
 use crate::cut::cut_for;
-use crate::keep::keep;
+use crate::encode::USUAL_TREE;
+use crate::keep::keep_tree;
+use crate::kept_tree::KeptTree;
 use crate::recipient::{Recipient, RecipientList};
+use crate::spelled_cut::spell_for;
 use crate::tree::{Tree, TreeList};
-use ledger_terms::{Name, Topology};
+use ledger_terms::{Bytes, Exact, Name, Topology};
 use std::alloc::{AllocError, Global};
 use view_split::Views;
 
@@ -24,7 +29,7 @@ pub fn blind(
     requires { AreSpellable views.now }
     ensures { IfOk result (λ tree. tree ≡ blind_for sha256 views.now sender topology.now.hosts to) }
 {
-    let kept = keep(alloc, views, sender)?;
+    let kept = keep_tree(alloc, views, sender)?;
     cut_for(alloc, &kept, sender, topology, to)
 }
 
@@ -40,10 +45,27 @@ pub fn blind_all(
     requires { AreSpellable views.now }
     ensures { IfOk result (λ trees. trees ≡ map (blind_for sha256 views.now sender topology.now.hosts) to.now) }
 {
-    let kept = keep(alloc, views, sender)?;
+    let kept = keep_tree(alloc, views, sender)?;
     let mut trees = TreeList::with_room(alloc, to.len())?;
     for recipient in to.as_slice() {
         trees.push(cut_for(alloc, &kept, sender, topology, *recipient)?)?;
     }
     Ok(trees)
+}
+
+/// The spelling of the tree that a recipient gets of a transaction whose tree is kept with every hash: that of `blind`, which is
+/// not made for it. `sender` is the name with which the tree was kept.
+pub fn spelled_for(
+    alloc: Global,
+    kept: &KeptTree,
+    sender: Name,
+    topology: &Topology,
+    to: Recipient,
+) -> Result<Bytes, AllocError>
+    ensures { IfOk result (λ bytes. bytes ≡ spell_tree (cut_tree kept.now sender topology.now.hosts to)) }
+{
+    let mut out = Bytes::with_room(alloc, USUAL_TREE)?;
+    spell_for(kept, sender, topology, to, &mut out)?;
+    // what is kept has no room that is left over
+    out.copied()
 }

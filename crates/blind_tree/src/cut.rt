@@ -46,8 +46,8 @@ pub(crate) fn cut_for(
     })
 }
 
-// Whether the participant at an index has the sender's name.
-fn is_sender(topology: &Topology, at: ParticipantId, sender: Name) -> bool
+/// Whether the participant at an index has the sender's name.
+pub(crate) fn is_sender(topology: &Topology, at: ParticipantId, sender: Name) -> bool
     ensures { result ≡ is_host_named topology.now.hosts at sender }
 {
     match topology.hosts.get(at.0 as usize) {
@@ -56,8 +56,8 @@ fn is_sender(topology: &Topology, at: ParticipantId, sender: Name) -> bool
     }
 }
 
-// Whether a participant sees one of these views, those below them not counted.
-fn sees_root(views: &KeptList, topology: &Topology, at: ParticipantId) -> bool
+/// Whether a participant sees one of these views, those below them not counted.
+pub(crate) fn sees_root(views: &KeptList, topology: &Topology, at: ParticipantId) -> bool
     ensures { result ≡ sees_kept_root (hosts_at topology.now.hosts at) views.now }
 {
     for view in views.as_slice() {
@@ -68,8 +68,8 @@ fn sees_root(views: &KeptList, topology: &Topology, at: ParticipantId) -> bool
     false
 }
 
-// Whether a participant sees one of these views, or one below them.
-fn is_seen(views: &KeptList, topology: &Topology, at: ParticipantId) -> bool
+/// Whether a participant sees one of these views, or one below them.
+pub(crate) fn is_seen(views: &KeptList, topology: &Topology, at: ParticipantId) -> bool
     ensures { result ≡ has_kept_sight (hosts_at topology.now.hosts at) views.now }
 {
     for view in views.as_slice() {

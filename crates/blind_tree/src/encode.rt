@@ -10,7 +10,7 @@ use std::alloc::{AllocError, Global};
 use wire_form::{encode_hash, encode_u32};
 
 /// How many bytes are made room for at first: a tree of a few views has no more.
-const USUAL_TREE: usize = 960;
+pub(crate) const USUAL_TREE: usize = 960;
 
 /// The spelling of a tree. A count or a length that has no room is written by its lowest bytes, so that a tree can be read again
 /// only where `is_spellable` says so.

@@ -22,14 +22,17 @@ mod roles_tree;
 mod root;
 mod sight;
 mod spellable;
+mod spelled_cut;
 mod tree;
 mod vertex;
 mod view_roles;
 
-pub use blinding::{blind, blind_all};
+pub use blinding::{blind, blind_all, spelled_for};
 pub use decode::decode_tree;
 pub use encode::encode_tree;
 pub use informees::informee_tree;
+pub use keep::keep_tree;
+pub use kept_tree::KeptTree;
 pub use leaf::Leaf;
 pub use opening::opened;
 pub use recipient::{Recipient, RecipientList};

@@ -16,6 +16,7 @@ use Rattle.ledger_terms.proofs.Deciding.{bytes_decide}
 use Rattle.ledger_model.specs.Opening.{Transaction}
 use Rattle.ledger_model.specs.declared.roles.Roles.{Roles}
 use Rattle.canton_model.specs.declared.envelope.Envelope.{Envelope}
+use Rattle.canton_model.specs.declared.request.Request.{Request}
 use Rattle.lang_eval.specs.Found.{Packages}
 use Rattle.lang_eval.specs.Language.{roles_in}
 use Rattle.lang_eval.proofs.Informed.{no_size}
@@ -26,19 +27,21 @@ use Rattle.view_split.specs.declared.split_view.SplitView.{SplitView}
 use Rattle.view_split.specs.declared.views.Views.{Views}
 use Rattle.blind_tree.specs.Blind.{blind_for, has_name, is_host_named, salts_of}
 use Rattle.blind_tree.specs.InRange.{AreVertices, IsTree}
+use Rattle.blind_tree.specs.Kept.{cut_tree, kept_tree}
 use Rattle.blind_tree.specs.Recipients.{is_recipient}
 use Rattle.blind_tree.specs.Spelling.{spell_tree}
 use Rattle.blind_tree.specs.Vertices.{Vertices, NoVertices, BlindVertex, InnerVertex, AreNarrow, IsNarrow}
-use Rattle.blind_tree.specs.declared.recipient.Recipient.{Recipient}
+use Rattle.blind_tree.specs.declared.kept_tree.KeptTree.{KeptTree}
 use Rattle.blind_tree.specs.declared.recipient.Recipient.TheVariants.{Mediator, Participant}
 use Rattle.blind_tree.specs.declared.tree.Tree.{Tree}
+use Rattle.blind_tree.proofs.KeptLaws.{cut_is_for}
 use Rattle.sealed_form.specs.SealedForm.{confirming_by, envelope_for, roles_by, views_by}
 use Rattle.sealed_form.specs.Submission.{whole_with_seed}
 use Rattle.sealed_form.specs.Within.{participants_of}
 use Rattle.sealed_form.proofs.Asked.{asked_by_views}
 use Rattle.sealed_form.proofs.Blinded.{blinded_for, blinded_for_mediator}
 use Rattle.sealed_form.proofs.Given.{made_of}
-use Rattle.proto_model.specs.Made.{envelope_with, envelopes_with, request_by, request_of_tx, to_all}
+use Rattle.proto_model.specs.Made.{envelope_by, envelope_cut, request_by, request_of_tx}
 
 -- ---- lists
 
@@ -66,34 +69,36 @@ module _ (test : ℕ → Bool) (xs : List ℕ) (i x : ℕ) (done whole : List �
   pub left_next : test x ≡ false → done ++ filter test (drop i xs) ≡ whole → done ++ filter test (drop (i + 1) xs) ≡ whole
   left_next fails sofar = rw (here, fails) at sofar
 
--- the next envelope goes from what is left to what is made
-pub next_envelope : (ps : List ℕ) (trees : List Tree) (i p : ℕ) (tree : Tree) (es whole : List Envelope) → i < length ps → i < length trees
-    → p ≡ get_or ps i p → tree ≡ get_or trees i tree
-    → es ++ envelopes_with (drop i ps) (drop i trees) ≡ whole
-    → (es ++ envelope_with (p, tree) ∷ []) ++ envelopes_with (drop (i + 1) ps) (drop (i + 1) trees) ≡ whole
-next_envelope ps trees i p tree es whole in_ps in_trees p_is tree_is sofar =
-    let this_p : drop i ps ≡ p ∷ drop (i + 1) ps = drop_more ps i p in_ps ∙ ap (λ (x : ℕ). x ∷ drop (i + 1) ps) (sym p_is) in
-    let this_tree : drop i trees ≡ tree ∷ drop (i + 1) trees = drop_more trees i tree in_trees ∙ ap (λ (x : Tree). x ∷ drop (i + 1) trees) (sym tree_is) in
-    append_assoc es (envelope_with (p, tree) ∷ []) (envelopes_with (drop (i + 1) ps) (drop (i + 1) trees)) ∙ (rw (this_p, this_tree) at sofar)
+-- ---- what is made from the tree with every hash
 
-at_end : {A : Type 0} (xs : List A) (x d : A) → get_or (xs ++ x ∷ []) (length xs) d ≡ x
-at_end [] x d = refl
-at_end (y ∷ ys) x d = at_end ys x d
+-- what is cut of it for participants is their envelopes
+envelopes_cut : (views : Views) (name : List ℕ) (hosts : List Host) (ps : List ℕ)
+    → map (envelope_cut (kept_tree sha256 views name) name hosts) ps ≡ map (envelope_by hosts name views) ps
+envelopes_cut views name hosts ps = λ i. map (λ (p : ℕ). record { to = p; bytes = spell_tree (cut_is_for sha256 views name hosts (Participant p) i) }) ps
 
-module _ (f : Recipient → Tree) where
-  -- there is one tree more than participants
-  pub trees_count : (ps : List ℕ) → length (map f (to_all ps)) ≡ suc (length ps)
-  trees_count [] = refl
-  trees_count (p ∷ ps) = ap suc (trees_count ps)
+module _ (topology : Topology) (sender : ℕ) (name command : List ℕ) (views : Views) where
+  abbrev confirming_of : List ℕ → List ℕ
+  confirming_of ps = confirming_by (confirms_at topology.hosts) ps views.roots
 
-  -- and that is the mediator's
-  pub last_tree : (ps : List ℕ) (d : Tree) → get_or (map f (to_all ps)) (length ps) d ≡ f Mediator
-  last_tree [] d = refl
-  last_tree (p ∷ ps) d = last_tree ps d
+  abbrev recipients_of : List ℕ → List ℕ
+  recipients_of ps = filter (is_recipient topology.hosts views.roots sender) ps
 
-  pub envelopes_are : (ps : List ℕ) → envelopes_with ps (map f (to_all ps)) ≡ map (λ (p : ℕ). record { to = p; bytes = spell_tree (f (Participant p)) }) ps
-  envelopes_are [] = refl
-  envelopes_are (p ∷ ps) = ap (λ (es : List Envelope). record { to = p; bytes = spell_tree (f (Participant p)) } ∷ es) (envelopes_are ps)
+  abbrev made_with : (confirming mediator : List ℕ) → List Envelope → Request
+  made_with confirming mediator envelopes = record { sender = sender; command = command; confirming = confirming; mediator = mediator; envelopes = envelopes }
+
+  -- the request is that of the views
+  pub request_made : (all ps confirming reached mediator : List ℕ) (kept : KeptTree) (envelopes : List Envelope)
+      → all ≡ ps → confirming ≡ confirming_of all → reached ≡ recipients_of all → kept ≡ kept_tree sha256 views name
+      → envelopes ≡ map (envelope_cut kept name topology.hosts) reached → mediator ≡ spell_tree (cut_tree kept name topology.hosts Mediator)
+      → made_with confirming mediator envelopes ≡ request_by topology ps sender name command views
+  request_made all ps confirming reached mediator kept envelopes all_is asks reaches keeps sends tells =
+      let asked : confirming ≡ confirming_of ps = asks ∙ ap confirming_of all_is in
+      let told : mediator ≡ spell_tree (blind_for sha256 views name topology.hosts Mediator) =
+      tells ∙ ap spell_tree (ap (λ (k : KeptTree). cut_tree k name topology.hosts Mediator) keeps ∙ cut_is_for sha256 views name topology.hosts Mediator) in
+      let to : reached ≡ recipients_of ps = reaches ∙ ap recipients_of all_is in
+      let sent : envelopes ≡ map (envelope_by topology.hosts name views) (recipients_of ps) =
+      sends ∙ ((λ i. map (envelope_cut (keeps i) name topology.hosts) (to i)) ∙ envelopes_cut views name topology.hosts (recipients_of ps)) in
+      λ i. made_with (asked i) (told i) (sent i)
 
 -- ---- trees that were read
 
@@ -151,9 +156,8 @@ module _ (topology : Topology) (packages : Packages) (valid : IsValid topology) 
 
       sent : (request_by topology (participants_of topology) sender name command made).envelopes ≡ (request_of_tx topology packages sender name command tx).envelopes
       sent =
-          envelopes_are (blind_for sha256 made name topology.hosts) (reached made.roots)
-          ∙ ((λ i. map (λ (p : ℕ). record { to = p; bytes = spell_tree (blinded_for topology packages valid sender name sends t tx.seed p i) }) (reached made.roots))
-          ∙ ap (λ (views : Forest SplitView). map (envelope_for topology packages sender name (salts_of sha256 tx.seed) t) (reached views)) same_views)
+          (λ i. map (λ (p : ℕ). record { to = p; bytes = spell_tree (blinded_for topology packages valid sender name sends t tx.seed p i) }) (reached made.roots))
+          ∙ ap (λ (views : Forest SplitView). map (envelope_for topology packages sender name (salts_of sha256 tx.seed) t) (reached views)) same_views
 
   pub request_is : (views : Views) → views_of_tx packages tx ≡ Ok views
       → request_by topology (participants_of topology) sender name command views ≡ request_of_tx topology packages sender name command tx

@@ -1,6 +1,6 @@
 -- A request as it is made of views, from the participants of the topology.
-use Rattle.std.specs.Prelude.{ℕ, Bool, List, [], ◌∷◌, ◌++◌, map, filter}
-use Rattle.std.specs.List.{list_any, zip}
+use Rattle.std.specs.Prelude.{ℕ, Bool, List, map, filter}
+use Rattle.std.specs.List.{list_any}
 use Rattle.sha2.specs.Sha256.{sha256}
 use Rattle.ledger_terms.specs.Forest.{Forest, preorder}
 use Rattle.ledger_terms.specs.Hosting.{confirms_at}
@@ -13,11 +13,11 @@ use Rattle.lang_eval.specs.Found.{Packages}
 use Rattle.view_split.specs.declared.split_view.SplitView.{SplitView}
 use Rattle.view_split.specs.declared.views.Views.{Views}
 use Rattle.blind_tree.specs.Blind.{blind_for, salts_of}
+use Rattle.blind_tree.specs.Kept.{cut_tree}
 use Rattle.blind_tree.specs.Recipients.{is_recipient}
 use Rattle.blind_tree.specs.Spelling.{spell_tree}
-use Rattle.blind_tree.specs.declared.recipient.Recipient.{Recipient}
+use Rattle.blind_tree.specs.declared.kept_tree.KeptTree.{KeptTree}
 use Rattle.blind_tree.specs.declared.recipient.Recipient.TheVariants.{Mediator, Participant}
-use Rattle.blind_tree.specs.declared.tree.Tree.{Tree}
 use Rattle.sealed_form.specs.SealedForm.{confirming_by, request_of}
 use Rattle.sealed_form.specs.Submission.{whole_with_seed}
 
@@ -31,26 +31,19 @@ request_of_tx topology packages sender name command tx =
 abbrev pub confirms_any_view : (confirms : List ℕ → Bool) → Forest SplitView → Bool
 confirms_any_view confirms views = list_any (λ (view : SplitView). list_any confirms view.confirmers) (preorder views)
 
-abbrev pub to_all : List ℕ → List Recipient
-to_all participants = map Participant participants ++ Mediator ∷ []
+-- a participant's envelope, cut from the tree with every hash, and as it is blinded
+abbrev pub envelope_cut : KeptTree → (name : List ℕ) → List Host → ℕ → Envelope
+envelope_cut kept name hosts p = record { to = p; bytes = spell_tree (cut_tree kept name hosts (Participant p)) }
 
--- a tree for each of these, and the mediator's after them
-abbrev pub trees_for : List Host → (name : List ℕ) → Views → List ℕ → List Tree
-trees_for hosts name views participants = map (blind_for sha256 views name hosts) (to_all participants)
-
-abbrev pub envelope_with : ℕ × Tree → Envelope
-envelope_with x = record { to = x.0; bytes = spell_tree x.1 }
-
-abbrev pub envelopes_with : List ℕ → List Tree → List Envelope
-envelopes_with participants trees = map envelope_with (zip participants trees)
+abbrev pub envelope_by : List Host → (name : List ℕ) → Views → ℕ → Envelope
+envelope_by hosts name views p = record { to = p; bytes = spell_tree (blind_for sha256 views name hosts (Participant p)) }
 
 abbrev pub request_by : Topology → (participants : List ℕ) (sender : ℕ) (name command : List ℕ) → Views → Request
 request_by topology participants sender name command views =
-    let recipients = filter (is_recipient topology.hosts views.roots sender) participants in
     record {
       sender = sender;
       command = command;
       confirming = confirming_by (confirms_at topology.hosts) participants views.roots;
       mediator = spell_tree (blind_for sha256 views name topology.hosts Mediator);
-      envelopes = envelopes_with recipients (trees_for topology.hosts name views recipients);
+      envelopes = map (envelope_by topology.hosts name views) (filter (is_recipient topology.hosts views.roots sender) participants);
     }

@@ -1,5 +1,5 @@
 //! From views to a request.
-ghost use Rattle.std.specs.Prelude.{◌≡◌, ◌≤◌, ◌<◌, ℕ, true, List, Ok, IfOk, length};
+ghost use Rattle.std.specs.Prelude.{◌≡◌, ◌≤◌, ◌<◌, ℕ, true, List, Ok, IfOk, length, map};
 ghost use Rattle.ledger_terms.specs.Topologies.{IsValid};
 ghost use Rattle.ledger_terms.specs.declared.tx.Tx.{Tx};
 ghost use Rattle.ledger_terms.specs.Drafts.{Drafts};
@@ -11,15 +11,16 @@ ghost use Rattle.interpret.specs.FilledTree.{IsFilled};
 ghost use Rattle.interpret.specs.Wanted.{IsWanted};
 ghost use Rattle.view_split.specs.Faults.{views_of_tx};
 ghost use Rattle.blind_tree.specs.Blind.{is_host_named};
+ghost use Rattle.blind_tree.specs.Kept.{cut_tree};
 ghost use Rattle.blind_tree.specs.LeafBytes.{AreSpellable};
 ghost use Rattle.blind_tree.specs.Spelling.{spell_tree};
 ghost use Rattle.sealed_form.specs.Submission.{IsSubmittedWithin};
 ghost use Rattle.sealed_form.specs.Within.{participants_of};
-ghost use Rattle.proto_model.specs.Made.{envelopes_with, request_by, request_of_tx, trees_for};
+ghost use Rattle.proto_model.specs.Made.{envelope_cut, request_by, request_of_tx};
 ghost use Rattle.proto_model.specs.SealedRequests.{IsSealedOf};
 
 use crate::participants::{all_participants, confirming, recipients};
-use blind_tree::{Recipient, RecipientList, Tree, TreeList, blind_all, encode_tree};
+use blind_tree::{KeptTree, Recipient, keep_tree, spelled_for};
 use canton_model::{Envelope, EnvelopeList, Request, SharedBytes};
 use ledger_terms::{Name, ParticipantId, ParticipantIdList, Topology};
 use sealed_form::is_sealable;
@@ -28,7 +29,7 @@ use view_split::Views;
 
 /// The request of a transaction that is split (Canton protocol: confirmation request). Its sender and every participant that
 /// sees a view get an envelope, in the order of the topology, and who confirms for a confirmer of a view is asked to confirm.
-/// All trees are cut from one, whose leaves and views are hashed once each.
+/// All trees are spelled from one, whose leaves and views are hashed once each.
 pub fn seal(
     alloc: Global,
     topology: &Topology,
@@ -79,9 +80,9 @@ fn seal_as(
     let all = all_participants(alloc, topology)?;
     let confirming = confirming(alloc, topology, &all, &views.roots)?;
     let reached = recipients(alloc, topology, &all, &views.roots, sender)?;
-    let trees = trees_for(alloc, topology, name, views, &reached)?;
-    let envelopes = envelopes_with(alloc, reached.as_slice(), trees.as_slice())?;
-    let mediator = spelled(alloc, &trees.as_slice()[reached.len()])?;
+    let kept = keep_tree(alloc, views, name)?;
+    let envelopes = envelopes_for(alloc, topology, name, &kept, &reached)?;
+    let mediator = spelled(alloc, topology, name, &kept, Recipient::Mediator)?;
     Ok(Request {
         sender,
         command,
@@ -91,47 +92,35 @@ fn seal_as(
     })
 }
 
-// A tree for each participant, and the mediator's after them.
-fn trees_for(
+// The envelopes of participants, each with the spelling of its tree.
+fn envelopes_for(
     alloc: Global,
     topology: &Topology,
     name: Name,
-    views: &Views,
+    kept: &KeptTree,
     participants: &ParticipantIdList,
-) -> Result<TreeList, AllocError>
-    requires { AreSpellable views.now }
-    ensures { IfOk result (λ trees. trees ≡ trees_for topology.now.hosts name views.now participants.now) }
-{
-    let mut to = RecipientList::with_room(alloc, participants.len().saturating_add(1))?;
-    for p in participants.as_slice() {
-        to.push(Recipient::Participant(*p))?;
-    }
-    to.push(Recipient::Mediator)?;
-    blind_all(alloc, views, name, topology, &to)
-}
-
-// The envelopes of participants with their trees.
-fn envelopes_with(
-    alloc: Global,
-    participants: &[ParticipantId],
-    trees: &[Tree],
 ) -> Result<EnvelopeList, AllocError>
-    requires { length participants.now ≤ length trees.now }
-    ensures { IfOk result (λ envelopes. envelopes ≡ envelopes_with participants.now trees.now) }
+    ensures { IfOk result (λ envelopes. envelopes ≡ map (envelope_cut kept.now name topology.now.hosts) participants.now) }
 {
     let mut envelopes = EnvelopeList::with_room(alloc, participants.len())?;
-    for at in 0..participants.len() {
-        let bytes = spelled(alloc, &trees[at])?;
-        let to = participants[at];
+    for p in participants.as_slice() {
+        let to = *p;
+        let bytes = spelled(alloc, topology, name, kept, Recipient::Participant(to))?;
         envelopes.push(Envelope { to, bytes })?;
     }
     Ok(envelopes)
 }
 
-// The spelling of a tree, which all copies of the request share.
-fn spelled(alloc: Global, tree: &Tree) -> Result<SharedBytes, AllocError>
-    ensures { IfOk result (λ bytes. bytes ≡ spell_tree tree.now) }
+// The spelling of a recipient's tree, which all copies of the request share.
+fn spelled(
+    alloc: Global,
+    topology: &Topology,
+    name: Name,
+    kept: &KeptTree,
+    to: Recipient,
+) -> Result<SharedBytes, AllocError>
+    ensures { IfOk result (λ bytes. bytes ≡ spell_tree (cut_tree kept.now name topology.now.hosts to)) }
 {
-    let bytes = encode_tree(alloc, tree)?;
+    let bytes = spelled_for(alloc, kept, name, topology, to)?;
     SharedBytes::new(alloc, bytes)
 }
