@@ -1,10 +1,12 @@
 -- The ids of contracts with a hosted stakeholder, as changes bring them into a store.
-use Rattle.std.proofs.Common.{◌≡◌, ℕ, ◌+◌, ◌<◌, ◌≤◌, Bool, true, false, ◌&&◌, if◌then◌else◌, cond, List, [], ◌∷◌, ◌++◌, length, drop, get_or, Option, Some, None, is_some, inl, inr, refl, sym, ap, ◌∙◌, subst, append-nil, append_assoc, true≢false}
-use Rattle.std.specs.Prelude.{◌||◌, not}
+use Rattle.std.proofs.Common.{◌≡◌, ℕ, ◌+◌, ◌<◌, ◌≤◌, Bool, true, false, ◌&&◌, if◌then◌else◌, cond, List, [], ◌∷◌, ◌++◌, length, drop, take, get_or, map, Option, Some, None, is_some, inl, inr, refl, sym, ap, ◌∙◌, subst, append-nil, append_assoc, true≢false, arith}
+use Rattle.std.specs.Prelude.{◌||◌, nat_le, not}
 use Rattle.std.specs.Str.{bytes_eq}
 use Rattle.indexmap.specs.IndexMap.{IndexMap, get, keys}
-use Rattle.std.proofs.lemmas.Bool.{cases_Bool}
-use Rattle.std.proofs.lemmas.List.{drop_more}
+use Rattle.std.proofs.lemmas.Bool.{cases_Bool, leb-false, leb-true}
+use Rattle.std.specs.List.{list_any}
+use Rattle.std.proofs.lemmas.List.{drop_more, get_or-take, length-take, map_more, take_all}
+use Rattle.std.proofs.Math.Nat.{min-le_left}
 use Rattle.std.proofs.lemmas.List.Folds.{list_any-append}
 use Rattle.std.proofs.Math.ListN.{drop_of_length-le}
 use Rattle.ledger_terms.specs.declared.known.Known.{Known}
@@ -15,10 +17,10 @@ use Rattle.contract_store.specs.Rows.{consumed, created, is_of, put, row_of, sma
 use Rattle.contract_store.specs.Written.{Placed, contract_of, write, written}
 use Rattle.contract_store.specs.declared.row.StoreRow.{StoreRow}
 use Rattle.contract_store.proofs.Maps.{equal_bytes, same_bytes, there}
-use Rattle.inbox_standing.specs.ChangeLists.{write_change, write_changes}
+use Rattle.inbox_standing.specs.ChangeLists.{id_in, write_change, write_changes}
 use Rattle.inbox_standing.specs.declared.change.Change.{Change}
 use Rattle.prepare_request.specs.Hosted.{AreTold, is_among}
-use Rattle.node_inbox.specs.AddedIds.{added_behind, added_by, is_new, is_unknown}
+use Rattle.node_inbox.specs.AddedIds.{added_behind, added_by, is_new, is_on, is_unknown}
 
 either : (a b : Hash) → bytes_eq a b ≡ bytes_eq b a
 either a b = elim (cases_Bool (bytes_eq a b)) [
@@ -63,6 +65,69 @@ put_step ids i x old new c all lt at among before =
 pub put_end : (ids : List Hash) (i : ℕ) (old : List Hash) (c : Hash) (all : Bool) → length ids ≤ i → (is_among (drop i ids) c || is_among old c) ≡ all
     → is_among old c ≡ all
 put_end ids i old c all past before = rw (drop_of_length-le ids past) at before
+
+-- ---- the first changes, and the contracts of later ones
+
+-- whether one of them is on a contract
+pub on_one : (changes : List Change) (c : Hash) → list_any (is_on c) changes ≡ is_among (map id_in changes) c
+on_one [] c = refl
+on_one (change ∷ changes) c = ap (λ (b : Bool). bytes_eq c change.known.id || b) (on_one changes c)
+
+-- the contracts of first changes and later ones
+pub among_both : (first : List Change) (later : List Hash) (c : Hash)
+    → is_among (map id_in first ++ later) c ≡ (list_any (is_on c) first || is_among later c)
+among_both first later c =
+    list_any-append (bytes_eq c) (map id_in first) later ∙ ap (λ (b : Bool). b || is_among later c) (sym (on_one first c))
+
+first_more : (x y : Bool) (a l : Bool) → x ≡ y → ((a || (x || false)) || l) ≡ (y || (a || l))
+first_more x y a l e = ap (λ (b : Bool). (a || (b || false)) || l) e ∙ by a y
+  where
+    by : (a y : Bool) → ((a || (y || false)) || l) ≡ (y || (a || l))
+    by true true = refl
+    by true false = refl
+    by false true = refl
+    by false false = refl
+
+later_more : (x a l : Bool) → (a || (x || l)) ≡ (x || (a || l))
+later_more true true l = refl
+later_more true false l = refl
+later_more false a l = refl
+
+-- one change more is among the first ones, or its contract is put to those of later ones
+pub changed_step : (changes : List Change) (n i : ℕ) (x : Change) (few : List Change) (old new : List Hash)
+    → few ≡ take n changes → i < length changes → x ≡ get_or changes i x
+    → ((c : Hash) → is_among new c ≡ ((nat_le (length few) i && bytes_eq x.known.id c) || is_among old c)) → (c : Hash)
+    → is_among (map id_in (take (i + 1) few) ++ new) c ≡ (bytes_eq x.known.id c || is_among (map id_in (take i few) ++ old) c)
+changed_step changes n i x few old new is_few lt at among c = by (nat_le (length few) i) refl (among c)
+  where
+    both : (first : List Change) (later : List Hash) → is_among (map id_in first ++ later) c ≡ (is_among (map id_in first) c || is_among later c)
+    both first later = list_any-append (bytes_eq c) (map id_in first) later
+
+    by : (b : Bool) → nat_le (length few) i ≡ b → is_among new c ≡ ((b && bytes_eq x.known.id c) || is_among old c)
+        → is_among (map id_in (take (i + 1) few) ++ new) c ≡ (bytes_eq x.known.id c || is_among (map id_in (take i few) ++ old) c)
+    by true e put =
+        let all : length few ≤ i = leb-true (length few) i e in
+        let more : length few ≤ i + 1 = omega (arith, all) in
+        ap (λ (xs : List Change). is_among (map id_in xs ++ new) c) (take_all (i + 1) few more)
+        ∙ (both few new
+        ∙ (ap (λ (b : Bool). is_among (map id_in few) c || b) put
+        ∙ (later_more (bytes_eq x.known.id c) (is_among (map id_in few) c) (is_among old c)
+        ∙ ap (λ (b : Bool). bytes_eq x.known.id c || b)
+        (sym (both few old) ∙ ap (λ (xs : List Change). is_among (map id_in xs ++ old) c) (sym (take_all i few all))))))
+    by false e put =
+        let here : i < length few = leb-false (length few) i e in
+        let short : length few ≤ n = rw (is_few, length-take n changes) (min-le_left n (length changes)) in
+        let same : get_or few i x ≡ x =
+        ap (λ (xs : List Change). get_or xs i x) is_few ∙ (get_or-take n changes i x (omega (arith, here, short)) ∙ sym at) in
+        let ids : List Hash = map id_in (take i few) in
+        let last : Change = get_or few i x in
+        both (take (i + 1) few) new
+        ∙ (ap (λ (xs : List Hash). is_among xs c || is_among new c) (map_more id_in few i x here)
+        ∙ (ap (λ (b : Bool). b || is_among new c) (list_any-append (bytes_eq c) ids (last.known.id ∷ []))
+        ∙ (ap (λ (b : Bool). (is_among ids c || (bytes_eq c last.known.id || false)) || b) put
+        ∙ (first_more (bytes_eq c last.known.id) (bytes_eq x.known.id c) (is_among ids c) (is_among old c)
+        (ap (λ (y : Change). bytes_eq c y.known.id) same ∙ either c x.known.id)
+        ∙ ap (λ (b : Bool). bytes_eq x.known.id c || b) (sym (both (take i few) old))))))
 
 -- ---- changes one after another
 

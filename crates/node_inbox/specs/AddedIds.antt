@@ -1,5 +1,6 @@
 -- The contracts with a hosted stakeholder that changes bring into a store.
 use Rattle.std.specs.Prelude.{Bool, true, false, List, [], ◌∷◌, ◌++◌, if◌then◌else◌, ◌&&◌, not}
+use Rattle.std.specs.Str.{bytes_eq}
 use Rattle.ledger_model.specs.Terms.{Hash, ParticipantId}
 use Rattle.ledger_model.specs.declared.status.Status.{Status}
 use Rattle.ledger_model.specs.declared.status.Status.TheVariants.{Unknown, Active, Consumed}
@@ -19,14 +20,21 @@ is_unknown Consumed = false
 abbrev pub is_unheard : List StoreRow → (changed : List Hash) → Hash → Bool
 is_unheard rows changed id = is_unknown (status_in rows id) && not (is_among changed id)
 
+-- a change is on the contract with this id
+abbrev pub is_on : Hash → Change → Bool
+is_on id change = bytes_eq id change.known.id
+
 -- it creates one of these
 abbrev pub is_new : List StoreRow → (changed : List Hash) → Change → Bool
 is_new rows changed change = change.is_create && is_unheard rows changed change.known.id
 
--- the id of the contract that a change brings, where it has a hosted stakeholder
+-- the id of a change's contract, where it is new and has a hosted stakeholder
+abbrev pub added_if : Reading → ParticipantId → (is_new : Bool) → Change → List Hash
+added_if reading p is_new change = if is_new && is_stakeholder_hosted reading p change.known.instance then change.known.id ∷ [] else []
+
+-- that of the contract that a change brings
 abbrev pub added_by : Reading → ParticipantId → List StoreRow → (changed : List Hash) → Change → List Hash
-added_by reading p rows changed change =
-    if is_new rows changed change && is_stakeholder_hosted reading p change.known.instance then change.known.id ∷ [] else []
+added_by reading p rows changed change = added_if reading p (is_new rows changed change) change
 
 -- those of changes behind ones on these contracts
 abbrev pub added_behind : Reading → ParticipantId → List StoreRow → (changed : List Hash) → List Change → List Hash

@@ -1,11 +1,13 @@
 //! The contracts with a hosted stakeholder that changes bring into a store.
-ghost use Rattle.std.specs.Prelude.{◌≡◌, ◌++◌, ◌||◌, ◌≤◌, ℕ, [], List, IfOk, OnOk, length};
+ghost use Rattle.std.specs.Prelude.{◌≡◌, ◌++◌, ◌&&◌, ◌||◌, ◌≤◌, ℕ, [], List, IfOk, OnOk, length, map, take};
+ghost use Rattle.std.specs.List.{list_any};
 ghost use Rattle.std.specs.Str.{bytes_eq};
 ghost use Rattle.indexmap.specs.IndexMap.{keys};
 ghost use Rattle.contract_store.specs.Rows.{status_in};
 ghost use Rattle.prepare_request.specs.Hosted.{is_among};
 ghost use Rattle.sealed_form.specs.SealedReading.{sealed_reading};
-ghost use Rattle.node_inbox.specs.AddedIds.{added_behind, added_by, is_new, is_unheard, is_unknown};
+ghost use Rattle.inbox_standing.specs.ChangeLists.{id_in};
+ghost use Rattle.node_inbox.specs.AddedIds.{added_behind, added_if, is_new, is_on, is_unheard, is_unknown};
 
 use confirm_reply::Setup;
 use contract_store::Store;
@@ -15,6 +17,9 @@ use ledger_model::Status;
 use ledger_terms::{Hash, HashList, ParticipantId};
 use prepare_request::{HostedIds, has_hosted_stakeholder};
 use std::alloc::{AllocError, Global};
+
+// So many changes are compared one by one, which costs less than a map; the contracts of later ones stand in a map.
+const FEW_CHANGES: usize = 8;
 
 fn is_unknown(status: Status) -> bool
     ensures { result ≡ is_unknown status }
@@ -26,43 +31,66 @@ fn is_unknown(status: Status) -> bool
     }
 }
 
+// Whether a change is on the contract with this id.
+fn is_on_one(changes: &[Change], id: &Hash) -> bool
+    ensures { result ≡ list_any (is_on id.now) changes.now }
+{
+    changes.iter().any(|change| *id == change.known.id)
+}
+
+// Whether a contract is that of one of the first changes, or of a later one.
+fn is_changed(first: &[Change], later: &IndexMap<Hash, ()>, id: &Hash) -> bool
+    ensures { result ≡ is_among (map id_in first.now ++ keys later.now) id.now }
+{
+    is_on_one(first, id) || later.contains_key(id)
+}
+
 // Whether the store doesn't know a contract and no change before is on it.
-fn is_unheard(store: &Store, changed: &IndexMap<Hash, ()>, id: &Hash) -> bool
-    ensures { result ≡ is_unheard store.now.rows (keys changed.now) id.now }
+fn is_unheard(store: &Store, first: &[Change], later: &IndexMap<Hash, ()>, id: &Hash) -> bool
+    ensures { result ≡ is_unheard store.now.rows (map id_in first.now ++ keys later.now) id.now }
 {
-    is_unknown(store.status(id)) && !changed.contains_key(id)
+    is_unknown(store.status(id)) && !is_changed(first, later, id)
 }
 
-fn is_new(store: &Store, changed: &IndexMap<Hash, ()>, change: &Change) -> bool
-    ensures { result ≡ is_new store.now.rows (keys changed.now) change.now }
+fn is_new(store: &Store, first: &[Change], later: &IndexMap<Hash, ()>, change: &Change) -> bool
+    ensures { result ≡ is_new store.now.rows (map id_in first.now ++ keys later.now) change.now }
 {
-    change.is_create && is_unheard(store, changed, &change.known.id)
+    change.is_create && is_unheard(store, first, later, &change.known.id)
 }
 
-fn add(
+fn add_if(
     setup: &Setup,
     me: ParticipantId,
-    store: &Store,
-    changed: &IndexMap<Hash, ()>,
+    is_new: bool,
     change: &Change,
     ids: &mut HashList,
 ) -> Result<(), AllocError>
     ensures { OnOk result (ids.new ≡ ids.old
-        ++ added_by (sealed_reading setup.now.topology setup.now.checked) me store.now.rows (keys changed.now) change.now) }
+        ++ added_if (sealed_reading setup.now.topology setup.now.checked) me is_new change.now) }
 {
-    if is_new(store, changed, change)
-        && has_hosted_stakeholder(*ids.allocator(), setup, me, &change.known.instance)?
-    {
+    if is_new && has_hosted_stakeholder(*ids.allocator(), setup, me, &change.known.instance)? {
         ids.push(change.known.id)?;
     }
     Ok(())
 }
 
-fn put_id(changed: &mut IndexMap<Hash, ()>, id: Hash) -> Result<(), AllocError>
-    ensures { OnOk result ((c : List ℕ) → is_among (keys changed.new) c ≡ (bytes_eq id c || is_among (keys changed.old) c)) }
+fn put_if(changed: &mut IndexMap<Hash, ()>, wanted: bool, id: Hash) -> Result<(), AllocError>
+    ensures { OnOk result ((c : List ℕ) → is_among (keys changed.new) c ≡ ((wanted && bytes_eq id c) || is_among (keys changed.old) c)) }
 {
-    let _ = changed.insert(id, ())?;
+    if wanted {
+        let _ = changed.insert(id, ())?;
+    }
     Ok(())
+}
+
+fn front(changes: &[Change], count: usize) -> &[Change]
+    ensures { result.now ≡ take count changes.now }
+{
+    if count < changes.len() {
+        &changes[..count]
+    } else {
+        changes
+    }
 }
 
 /// The ids of those contracts that changes bring into a store and that have a hosted stakeholder.
@@ -76,10 +104,13 @@ pub fn added_ids(
     ensures { IfOk result (λ ids. ids ≡ added_behind (sealed_reading setup.now.topology setup.now.checked) me store.now.rows [] changes.now) }
 {
     let mut ids = HashList::new(alloc);
-    let mut changed = IndexMap::new(alloc);
-    for change in changes {
-        add(setup, me, store, &changed, change, &mut ids)?;
-        put_id(&mut changed, change.known.id)?;
+    let first = front(changes, FEW_CHANGES);
+    let mut later = IndexMap::new(alloc);
+    for at in 0..changes.len() {
+        let change = &changes[at];
+        let is_new = is_new(store, front(first, at), &later, change);
+        add_if(setup, me, is_new, change, &mut ids)?;
+        put_if(&mut later, at >= first.len(), change.known.id)?;
     }
     Ok(ids)
 }

@@ -1,10 +1,23 @@
+use Rattle.std.proofs.Common.{◌++◌, ◌+◌, map, take, ap, ◌∙◌, List, Bool}
 use Rattle.indexmap.specs.IndexMap.{keys}
+use Rattle.ledger_model.specs.Terms.{Hash}
 use Rattle.sealed_form.specs.SealedReading.{sealed_reading}
-use Rattle.node_inbox.proofs.AddedIds.{added_step}
+use Rattle.inbox_standing.specs.ChangeLists.{id_in}
+use Rattle.node_inbox.specs.AddedIds.{added_by, added_if, is_new}
+use Rattle.node_inbox.proofs.AddedIds.{added_step, changed_step}
 use Rattle.node_inbox.proofs.added_ids.added_ids.Goals as goal
 
-pub loop-change-preserved : goal.loop-change-preserved
-loop-change-preserved c =
-    added_step (sealed_reading c.args.setup.now.topology c.args.setup.now.checked) c.args.me c.args.store.now.rows c.args.changes.now c.loop-change.change-index
-    c.change-item.result c.loop-change.ids _ _ (keys c.loop-change.changed) (keys c.put_id.new.changed) c.loop-change-test.true c.change-item.is
-    c.in_ok-add.ensures c.in_ok-put_id.ensures c.loop-change.invariant
+pub loop-at-preserved : goal.loop-at-preserved
+loop-at-preserved c =
+    let reading = sealed_reading c.args.setup.now.topology c.args.setup.now.checked in
+    let few = c.front-first.result.now in
+    let before : List Hash = map id_in (take c.loop-at.at few) ++ keys c.loop-at.later in
+    let grown =
+    c.in_ok-add_if.ensures
+    ∙ ap (λ (b : Bool). c.loop-at.ids ++ added_if reading c.args.me b c.index-changes-at.result)
+    (c.is_new-is_new.ensures
+    ∙ ap (λ first. is_new c.args.store.now.rows (map id_in first ++ keys c.loop-at.later) c.index-changes-at.result) c.front.ensures) in
+    added_step reading c.args.me c.args.store.now.rows c.args.changes.now c.loop-at.at c.index-changes-at.result c.loop-at.ids c.add_if.new.ids _
+    before (map id_in (take (c.loop-at.at + 1) few) ++ keys c.put_if.new.changed) c.loop-at-test.true c.index-changes-at.is grown
+    (changed_step c.args.changes.now 8 c.loop-at.at c.index-changes-at.result few (keys c.loop-at.later) (keys c.put_if.new.changed)
+    c.front-first.ensures c.loop-at-test.true c.index-changes-at.is c.in_ok-put_if.ensures) c.loop-at.invariant
