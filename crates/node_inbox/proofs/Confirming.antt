@@ -1,13 +1,18 @@
 -- Paths of views that are confirmed, one view at a time.
-use Rattle.std.proofs.Common.{subst, ◌≡◌, ℕ, zero, suc, ◌+◌, ◌<◌, ◌≤◌, Bool, List, [], ◌∷◌, ◌++◌, length, drop, get_or, refl, sym, ap, ◌∙◌, arith, append-nil, append_assoc}
+use Rattle.std.proofs.Common.{subst, ◌≡◌, ℕ, zero, suc, ◌+◌, ◌<◌, ◌≤◌, Bool, List, [], ◌∷◌, ◌++◌, ◌-◌, length, drop, take, get_or, refl, sym, ap, ◌∙◌, arith, append-nil, append_assoc}
 use Rattle.std.specs.Prelude.{All}
-use Rattle.std.proofs.lemmas.List.{drop_more}
+use Rattle.std.proofs.lemmas.List.{drop_more, length-append, take_at}
 use Rattle.std.proofs.lemmas.List.Elements.{All-head, All-tail}
 use Rattle.std.proofs.Math.ListN.{drop_of_length-le}
+use Rattle.std.specs.List.{list_any}
+use Rattle.ledger_terms.specs.Forest.{Forest, NoRoots, Root}
 use Rattle.ledger_terms.specs.Grown.{forest_of, tree_of}
+use Rattle.ledger_terms.specs.Roots.{trees_count}
+use Rattle.view_split.specs.declared.split_view.SplitView.{SplitView}
 use Rattle.view_split.specs.ViewTrees.{View}
 use Rattle.view_split.specs.declared.placed_view.PlacedView.{PlacedView}
 use Rattle.blind_tree.specs.LeafBytes.{AreSpellableViews}
+use Rattle.blind_tree.specs.ShownViews.{path_if}
 use Rattle.node_inbox.specs.Confirmed.{confirmed_in, confirmed_of, confirmed_placed}
 
 pub in_step : (confirms : List ℕ → Bool) (above : List ℕ) (k : ℕ) (vs : List View) (i : ℕ) (v : View) (all out new : List (List ℕ)) → i < length vs → v ≡ get_or vs i v
@@ -54,3 +59,21 @@ pub placed_spellable : (P : PlacedView → Type 0) (ps : List PlacedView) (i : �
 placed_spellable P [] i p all lt e = absurd (omega arith)
 placed_spellable P (x ∷ ps) zero p all lt e = subst P (sym e) (All-head P x ps all)
 placed_spellable P (x ∷ ps) (suc i) p all lt e = placed_spellable P ps i p (All-tail P x ps all) (omega (arith, lt)) e
+
+-- the last step taken off again
+pub last_off : (above : List ℕ) (k : ℕ) (path : List ℕ) (n : ℕ) → n ≡ length path → path ≡ above ++ k ∷ [] → take (n - 1) path ≡ above
+last_off above k path n count e =
+    rw (count, e)
+    (let short : length (above ++ k ∷ []) - 1 ≡ length above = omega (arith, length-append above (k ∷ [])) in
+    rw short (take_at above (k ∷ []) (length above) refl))
+
+-- a view without others below it
+pub alone : (confirms : List ℕ → Bool) (path : List ℕ) (view : View) → trees_count view.below ≡ 0
+    → path_if (list_any confirms view.root.confirmers) path ≡ confirmed_of confirms path view
+alone confirms path view none = by view.below none
+  where
+    by : (below : Forest SplitView) → trees_count below ≡ 0
+        → path_if (list_any confirms view.root.confirmers) path
+        ≡ path_if (list_any confirms view.root.confirmers) path ++ confirmed_in confirms path 0 below
+    by NoRoots none = sym (append-nil (path_if (list_any confirms view.root.confirmers) path))
+    by (Root v subviews others) none = absurd (omega (arith, none))

@@ -3,7 +3,7 @@ use Rattle.indexmap.specs.IndexMap.{keys}
 use Rattle.ledger_model.specs.Terms.{Hash}
 use Rattle.sealed_form.specs.SealedReading.{sealed_reading}
 use Rattle.inbox_standing.specs.ChangeLists.{id_in}
-use Rattle.node_inbox.specs.AddedIds.{added_by, added_if, is_new}
+use Rattle.node_inbox.specs.AddedIds.{added_if, is_new}
 use Rattle.node_inbox.proofs.AddedIds.{added_step, changed_step}
 use Rattle.node_inbox.proofs.added_ids.added_ids.Goals as goal
 
