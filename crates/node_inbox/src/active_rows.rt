@@ -64,7 +64,8 @@ fn live_below<'k>(
     ensures { IfOk result (λ live. live
         ≡ written (placed_below (sealed_reading setup.now.topology setup.now.checked) (model_items items.now) end) []) }
 {
-    let mut live = LiveRows::new(alloc);
+    // each of these contracts has a row in the store
+    let mut live = LiveRows::with_room(alloc, standing.store().len())?;
     'places: for place in 0..end {
         write_approved(setup, items, standing, place, &mut live)?;
     }
@@ -127,7 +128,7 @@ fn hosted_rows(
 ) -> Result<ActiveRowList, AllocError>
     ensures { IfOk result (λ kept. kept ≡ filter (is_offered (reading_by hosting.now) hosting.now.me) (listed live.now)) }
 {
-    let mut kept = ActiveRowList::new(alloc);
+    let mut kept = ActiveRowList::with_room(alloc, live.len())?;
     'rows: for at in 0..live.len() {
         push_row(alloc, hosting, live, at, &mut kept)?;
     }

@@ -1,5 +1,5 @@
 //! The rows of contracts that changes hold, by id.
-ghost use Rattle.std.specs.Prelude.{◌≡◌, [], length, option_copied, slice_get, OnErr, OnOk};
+ghost use Rattle.std.specs.Prelude.{◌≡◌, [], length, option_copied, slice_get, IfOk, OnErr, OnOk};
 ghost use Rattle.std.specs.Str.{bytes_eq};
 ghost use Rattle.indexmap.specs.IndexMap.{get, insert_entry};
 ghost use Rattle.inbox_standing.specs.ChangeLists.{write_change};
@@ -48,13 +48,13 @@ fn put<'k>(
 }
 
 impl<'k> LiveRows<'k> {
-    /// No rows.
-    pub fn new(alloc: Global) -> LiveRows<'k>
-        ensures { result ≡ [] }
+    /// No rows, with room for so many.
+    pub fn with_room(alloc: Global, count: usize) -> Result<LiveRows<'k>, AllocError>
+        ensures { IfOk result (λ live. live ≡ []) }
     {
-        LiveRows {
-            rows: IndexMap::new(alloc),
-        }
+        let mut rows = IndexMap::new(alloc);
+        rows.reserve(count)?;
+        Ok(LiveRows { rows })
     }
 
     /// A change by the request at a place.
