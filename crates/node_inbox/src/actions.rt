@@ -2,7 +2,7 @@
 ghost use Rattle.std.specs.Prelude.{◌≡◌, ◌++◌, ◌∷◌, [], All, IfOk, OnOk, map, filter};
 ghost use Rattle.ledger_terms.specs.declared.act.Act.{Act};
 ghost use Rattle.ledger_model.specs.Terms.{id_of, instance_of};
-ghost use Rattle.contract_store.specs.Written.{contract_of, salt_in};
+ghost use Rattle.contract_store.specs.Written.{contract_of, is_change, salt_in};
 ghost use Rattle.wire_form.specs.Spellable.{IsSpellableInstance};
 ghost use Rattle.interpret.specs.Ids.{is_authentic};
 ghost use Rattle.view_split.specs.Placed.{placed_forest};
@@ -56,12 +56,18 @@ fn change_of(act: &ActRef<'_>) -> Result<Change, AllocError>
     })
 }
 
+fn is_change(act: &ActRef<'_>) -> bool
+    ensures { result ≡ is_change act.now }
+{
+    act.action().is_create() || act.action().is_consuming()
+}
+
 // Whether an action creates or consumes its contract, and is authentic.
 fn is_authentic_change(alloc: Global, act: &ActRef<'_>) -> Result<bool, AllocError>
     requires { IsSpellableInstance (instance_of act.now.action) }
     ensures { IfOk result (λ b. b ≡ is_authentic_change act.now) }
 {
-    if act.action().is_create() || act.action().is_consuming() {
+    if is_change(act) {
         return is_authentic(alloc, act.seed(), act.action());
     }
     Ok(false)
@@ -77,12 +83,22 @@ fn push_change(alloc: Global, act: &ActRef<'_>, changes: &mut Vec<Change>) -> Re
     Ok(())
 }
 
+// Room for as many changes as there can be.
+fn room_for(alloc: Global, found: &[ActRef<'_>]) -> Result<Vec<Change>, AllocError>
+    ensures { IfOk result (λ changes. changes.items ≡ []) }
+{
+    let count = found.iter().filter(|act| is_change(act)).count();
+    let mut changes = Vec::new(alloc);
+    changes.reserve_exact(count)?;
+    Ok(changes)
+}
+
 /// The changes among the authentic ones of actions.
 pub fn changes_of(alloc: Global, found: &[ActRef<'_>]) -> Result<Vec<Change>, AllocError>
     requires { All (λ (act : Act). IsSpellableInstance (instance_of act.action)) found.now }
     ensures { IfOk result (λ changes. changes.items ≡ changes_of (filter is_authentic found.now)) }
 {
-    let mut changes = Vec::new(alloc);
+    let mut changes = room_for(alloc, found)?;
     for act in found {
         push_change(alloc, act, &mut changes)?;
     }
