@@ -8,6 +8,7 @@
 
 mod chain;
 mod json;
+mod laws;
 mod limit;
 mod limits;
 mod list;
@@ -18,6 +19,7 @@ mod texts;
 mod walk_fault;
 
 pub use json::read_json;
+pub use laws::limits_are_those_of_scripts;
 pub use limit::Limit;
 pub use limits::{
     ACT_AS, ADVANCE, CHOICES, COMMANDS, DRAFT_DEPTH, DRAFTS, EXPRESSION_DEPTH, FIELDS, LABEL_STEPS,

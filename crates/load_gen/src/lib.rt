@@ -13,7 +13,7 @@ mod submissions;
 mod topology;
 
 pub use iou::iou_package;
-pub use laws::generated_scripts_are_accepted;
+pub use laws::{generated_scripts_are_accepted, numbers_are_those_of_the_format};
 pub use packages::generated_packages;
 pub use script::generate;
 pub use submissions::{generated_debts, generated_transfers};
