@@ -1,4 +1,5 @@
 pub mod Values
+pub mod ExprSizes
 pub mod KindLists
 pub mod Spelled
 pub mod Runs

@@ -1,5 +1,5 @@
 -- How a `when` ends, and names without values.
-use Rattle.std.proofs.Common.{◌≡◌, ℕ, Bool, true, false, cond, List, [], ◌∷◌, Result, Ok, refl, sym, ap, ◌∙◌}
+use Rattle.std.proofs.Common.{◌≡◌, ℕ, Bool, true, false, cond, List, [], ◌∷◌, length, take, Result, Ok, Err, refl, sym, ap, ◌∙◌}
 use Rattle.ledger_terms.specs.declared.expr.Expr.{Expr}
 use Rattle.ledger_terms.specs.declared.stmt.Stmt.{Stmt}
 use Rattle.ledger_terms.specs.declared.stmt.Stmt.TheVariants.{When as WhenStmt}
@@ -9,6 +9,9 @@ use Rattle.ledger_terms.specs.StmtForms.{stmt_form, stmt_list_form}
 use Rattle.ledger_terms.proofs.StmtRows.{form_When}
 use Rattle.ledger_model.specs.declared.step.ChildResult.{ChildResult}
 use Rattle.lang_eval.specs.declared.eval_fault.EvalFault.{EvalFault}
+use Rattle.lang_eval.specs.declared.run.Run.{Run}
+use Rattle.lang_eval.specs.declared.run.Run.TheVariants.{Stopped as StoppedAt, Went as WentTo}
+use Rattle.lang_eval.specs.RunAnswers.{shown}
 use Rattle.lang_eval.specs.Names.{Names, with_fields}
 use Rattle.lang_eval.specs.Value.{truth}
 use Rattle.lang_eval.specs.Found.{Packages}
@@ -36,3 +39,14 @@ pub when_no : (r : Ran) (s : Stmt) (e : Expr) (first second : List Stmt) (p : Pa
     → r ≡ closed names (ran_all (stmt_list_form second) p names seen) → s ≡ WhenStmt e first second → b ≡ false → Ok b ≡ truth (expr_form e) names
     → r ≡ ran (stmt_form s) p names seen
 when_no r s e first second p names seen b done is same h = done ∙ sym (when_is s e first second p names seen b false is h same)
+
+shown_closed : (r : Result Run EvalFault) (names more : Names) → shown r (take (length names) more) ≡ closed names (shown r more)
+shown_closed (Ok (StoppedAt step)) names more = refl
+shown_closed (Ok (WentTo seen)) names more = refl
+shown_closed (Err e) names more = refl
+
+-- The names that a side bound end with it, however it ends.
+pub side_closed : (r : Result Run EvalFault) (whole : Ran) (names more cut : Names) (kept : ℕ) → kept ≡ length names → cut ≡ take kept more
+    → shown r more ≡ whole → shown r cut ≡ closed names whole
+side_closed r whole names more cut kept many is h =
+    ap (λ (l : Names). shown r l) (is ∙ ap (λ (n : ℕ). take n more) many) ∙ (shown_closed r names more ∙ ap (closed names) h)

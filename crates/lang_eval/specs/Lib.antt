@@ -4,6 +4,7 @@ pub mod Spellings
 pub mod Names
 pub mod Value
 pub mod Operation
+pub mod ExprParts
 pub mod Found
 pub mod Next
 pub mod RunAnswers

@@ -30,10 +30,12 @@ impl<'a> Model for Bindings<'a> {
 fn made_value<'a>(made: &'a [Binding<'_>], name: &Text) -> Option<&'a Value>
     ensures { option_copied result ≡ value_bound (binding_of name.now made.now) }
 {
-    match made.iter().find(|binding| binding.name.is_spelled(name)) {
-        Some(binding) => Some(binding.value.as_value()),
-        None => None,
+    for binding in made {
+        if binding.name.is_spelled(name) {
+            return Some(binding.value.as_value());
+        }
     }
+    None
 }
 
 impl<'a> Bindings<'a> {

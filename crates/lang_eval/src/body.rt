@@ -7,7 +7,7 @@ ghost use Rattle.lang_eval.specs.Names.{bound_to, with_fields, with_this};
 ghost use Rattle.lang_eval.specs.Found.{template_in, fields_of};
 ghost use Rattle.lang_eval.specs.Spellings.{owner_word};
 ghost use Rattle.lang_eval.specs.Next.{Stopped, Went, on_value, asserted, taken, create_step, exercise_step, fetch_step, ran, ran_all, next};
-ghost use Rattle.lang_eval.specs.Next.{next_of, names_of, closed, id_of, value_seen, fields_seen};
+ghost use Rattle.lang_eval.specs.Next.{next_of, names_of, ended, closed, id_of, value_seen, fields_seen};
 ghost use Rattle.lang_eval.specs.Value.{val, vals, truth};
 ghost use Rattle.lang_eval.specs.RunAnswers.{shown};
 
@@ -271,13 +271,9 @@ fn run_side<'s>(
     ensures { result ≢ Err EvalFault.Memory → shown result names.new ≡ closed names.old (ran_all (stmt_list_form stmts.now) checked.now names.old seen.now) }
 {
     let kept = names.len();
-    match run_list(stmts, checked, names, seen)? {
-        Run::Stopped(step) => Ok(Run::Stopped(step)),
-        Run::Went(rest) => {
-            names.truncate(kept);
-            Ok(Run::Went(rest))
-        }
-    }
+    let run = run_list(stmts, checked, names, seen);
+    names.truncate(kept);
+    run
 }
 
 #[cycle(run)]
@@ -349,6 +345,21 @@ fn body_names<'a>(
     )
 }
 
+/// What the body of a choice does next under the names that it begins with.
+fn next_under<'s>(
+    checked: &Checked,
+    choice: &Choice,
+    names: &mut Bindings<'s>,
+    so_far: &'s [ChildResult],
+) -> Result<Step, EvalFault>
+    ensures { UnlessMemory EvalFault.Memory result (ended choice.now (ran_all choice.now.body checked.now names.old so_far.now)) }
+{
+    match run_list(&choice.body, checked, names, so_far)? {
+        Run::Stopped(step) => Ok(step),
+        Run::Went(_) => Ok(Step::Done(eval_expr(&choice.result, names)?)),
+    }
+}
+
 /// What the body of a choice does next, with its template at hand.
 pub fn next_of_choice(
     alloc: Global,
@@ -361,13 +372,7 @@ pub fn next_of_choice(
     ensures { UnlessMemory EvalFault.Memory result (next_of template.now choice.now checked.now call.now so_far.now) }
 {
     let mut names = body_names(alloc, template, choice, call);
-    match run_list(&choice.body, checked, &mut names, so_far)? {
-        Run::Stopped(step) => Ok(step),
-        Run::Went(_) => {
-            let result = eval_expr(&choice.result, &names)?;
-            Ok(Step::Done(result))
-        }
-    }
+    next_under(checked, choice, &mut names, so_far)
 }
 
 /// The next thing that the body of the call's choice does after `so_far`, what its children gave in order: a child that

@@ -1,5 +1,5 @@
 //! Packages that are well typed.
-ghost use Rattle.std.specs.Prelude.{◌≡◌, ◌∷◌, [], Some, find, IfOk, OnOk, option_copied};
+ghost use Rattle.std.specs.Prelude.{◌≡◌, ◌++◌, ◌∷◌, [], Some, find, IfOk, OnOk, option_copied};
 ghost use Rattle.ledger_terms.specs.ExprForms.{expr_form};
 ghost use Rattle.ledger_terms.specs.Parties.{same_name};
 ghost use Rattle.lang_eval.specs.Found.{template_in, choice_in, choice_of};
@@ -41,21 +41,36 @@ impl Model for Checked {
 pub fn package_named(packages: &[Package], name: Name) -> Option<&Package>
     ensures { option_copied result ≡ find (λ p. same_name p.name name) packages.now }
 {
-    packages.iter().find(|package| package.name == name)
+    for package in packages {
+        if package.name == name {
+            return Some(package);
+        }
+    }
+    None
 }
 
 /// The first template of that name.
 pub fn template_named(templates: &[Template], name: Name) -> Option<&Template>
     ensures { option_copied result ≡ find (λ t. same_name t.name name) templates.now }
 {
-    templates.iter().find(|template| template.name == name)
+    for template in templates {
+        if template.name == name {
+            return Some(template);
+        }
+    }
+    None
 }
 
 /// The first choice of that name.
 pub fn choice_named(choices: &[Choice], name: Name) -> Option<&Choice>
     ensures { option_copied result ≡ find (λ c. same_name c.name name) choices.now }
 {
-    choices.iter().find(|choice| choice.name == name)
+    for choice in choices {
+        if choice.name == name {
+            return Some(choice);
+        }
+    }
+    None
 }
 
 /// The choice of that name of a template.
@@ -85,8 +100,7 @@ fn add_archive(alloc: Global, template: &mut Template) -> Result<(), AllocError>
     ensures { OnOk result (template.new ≡ with_archive template.old) }
 {
     let archive = archive(alloc, &template.signatories)?;
-    template.choices.push(archive)?;
-    Ok(())
+    template.choices.push(archive)
 }
 
 fn package_with_archives(alloc: Global, given: Package) -> Result<Package, AllocError>
@@ -103,6 +117,18 @@ fn package_with_archives(alloc: Global, given: Package) -> Result<Package, Alloc
     })
 }
 
+/// Puts a package at the end, with the choice Archive in its templates.
+fn push_with_archives(
+    alloc: Global,
+    packages: &mut PackageList,
+    given: Package,
+) -> Result<(), AllocError>
+    ensures { OnOk result (packages.new ≡ packages.old ++ with_archives given ∷ []) }
+{
+    let given = package_with_archives(alloc, given)?;
+    packages.push(given)
+}
+
 impl Checked {
     ghost use Rattle.lang_eval.specs.Checking.{AreChecked};
 
@@ -112,9 +138,9 @@ impl Checked {
         ensures { IfOk result (λ c. c ≡ checked_packages packages) }
     {
         let mut checked = PackageList::new(alloc);
-        checked.push(package_with_archives(alloc, note_package(alloc)?)?)?;
+        push_with_archives(alloc, &mut checked, note_package(alloc)?)?;
         for given in packages.into_vec() {
-            checked.push(package_with_archives(alloc, given)?)?;
+            push_with_archives(alloc, &mut checked, given)?;
         }
         Ok(Checked { packages: checked })
     }

@@ -9,10 +9,12 @@ ghost use Rattle.lang_eval.specs.Value.{Answer, val, vals, truth, value_in, with
 
 use crate::bindings::Bindings;
 use crate::eval_fault::EvalFault;
+use crate::expr_parts::{ExprParts, parts};
 use crate::held_value::HeldValue;
 use crate::operator::Operator;
 use crate::operators::{apply, negate, put_party};
 use ledger_terms::{Expr, ExprList, PartySet, Text, Value, ValueList};
+use std::alloc::Global;
 
 #[tactic(auto, using(crate::proofs::Given::value_there, crate::proofs::Given::value_absent))]
 fn named_value<'a>(name: &Text, names: &'a Bindings<'a>) -> HeldValue<'a>
@@ -40,6 +42,22 @@ pub(crate) fn eval_set<'a>(
     Ok(set)
 }
 
+/// An operator applied to a value and to what was evaluated second.
+fn applied<'a>(
+    alloc: Global,
+    operator: Operator,
+    first: &Value,
+    second: Result<HeldValue<'a>, EvalFault>,
+) -> Result<HeldValue<'a>, EvalFault>
+    ensures { (answer : Answer)
+        → UnlessMemory EvalFault.Memory second.entry answer
+        → UnlessMemory EvalFault.Memory result (with_value answer (λ y. operation operator first.now y)) }
+{
+    let second = second?;
+    let value = apply(alloc, operator, first, second.as_value())?;
+    Ok(HeldValue::made(value))
+}
+
 /// An operator applied to what was evaluated first and to a second expression.
 #[cycle(eval)]
 fn eval_operation<'a>(
@@ -53,14 +71,12 @@ fn eval_operation<'a>(
         → UnlessMemory EvalFault.Memory result (with_value answer (λ x. with_value (val (expr_form second.now) names.now) (λ y. operation operator x y))) }
 {
     let first = first?;
-    let second = hold_expr(second, names)?;
-    let value = apply(
+    applied(
         *names.allocator(),
         operator,
         first.as_value(),
-        second.as_value(),
-    )?;
-    Ok(HeldValue::made(value))
+        hold_expr(second, names),
+    )
 }
 
 /// The second expression where the first was evaluated to true.
@@ -102,36 +118,29 @@ fn hold_either<'a>(
 /// What `hold_expr` answers, apart from it so that room on the stack for all operations is made for an operation alone.
 #[cycle(eval)]
 #[inline(never)]
-#[tactic(auto, using(ledger_terms::proofs::ExprRows::form_SetOf))]
 fn hold_operation<'a>(expr: &'a Expr, names: &'a Bindings<'a>) -> Result<HeldValue<'a>, EvalFault>
     ensures { UnlessMemory EvalFault.Memory result (val (expr_form expr.now) names.now) }
 {
-    match expr {
-        Expr::Literal(value) => Ok(HeldValue::given(value)),
-        Expr::Var(name) => Ok(named_value(name, names)),
-        Expr::Add(a, b) => eval_operation(Operator::Add, hold_expr(a, names), b, names),
-        Expr::Sub(a, b) => eval_operation(Operator::Subtract, hold_expr(a, names), b, names),
-        Expr::Mul(a, b) => eval_operation(Operator::Multiply, hold_expr(a, names), b, names),
-        Expr::Less(a, b) => eval_operation(Operator::Less, hold_expr(a, names), b, names),
-        Expr::LessEq(a, b) => eval_operation(Operator::LessEq, hold_expr(a, names), b, names),
-        Expr::Equal(a, b) => eval_operation(Operator::Equal, hold_expr(a, names), b, names),
-        Expr::Both(a, b) => hold_both(hold_expr(a, names), b, names),
-        Expr::Either(a, b) => hold_either(hold_expr(a, names), b, names),
-        Expr::Negate(a) => {
+    match parts(expr) {
+        ExprParts::Literal(value) => Ok(HeldValue::given(value)),
+        ExprParts::Var(name) => Ok(named_value(name, names)),
+        ExprParts::Operation(operator, a, b) => {
+            eval_operation(operator, hold_expr(a, names), b, names)
+        }
+        ExprParts::Both(a, b) => hold_both(hold_expr(a, names), b, names),
+        ExprParts::Either(a, b) => hold_either(hold_expr(a, names), b, names),
+        ExprParts::Negate(a) => {
             let a = hold_expr(a, names)?;
             Ok(HeldValue::made(negate(a.as_value())))
         }
-        Expr::Cond(test, first, second) => {
+        ExprParts::Cond(test, first, second) => {
             let test = hold_expr(test, names)?;
             if test.is_true() {
                 return hold_expr(first, names);
             }
             hold_expr(second, names)
         }
-        Expr::Cat(a, b) => eval_operation(Operator::Cat, hold_expr(a, names), b, names),
-        Expr::SetOf(parties) => Ok(HeldValue::made(Value::Parties(eval_set(parties, names)?))),
-        Expr::Union(a, b) => eval_operation(Operator::Union, hold_expr(a, names), b, names),
-        Expr::Has(a, b) => eval_operation(Operator::Has, hold_expr(a, names), b, names),
+        ExprParts::SetOf(parties) => Ok(HeldValue::made(Value::Parties(eval_set(parties, names)?))),
     }
 }
 

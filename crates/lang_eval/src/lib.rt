@@ -13,6 +13,7 @@ mod contract_parties;
 mod eval_fault;
 mod evaluate;
 mod expr_copy;
+mod expr_parts;
 mod forms;
 mod given_names;
 mod held_value;

@@ -1,10 +1,12 @@
 //! The tests of a Create and of an Exercise before its body, but for sizes.
-ghost use Rattle.std.specs.Prelude.{◌≡◌};
+ghost use Rattle.std.specs.Prelude.{◌≡◌, Ok, Err, cond};
 ghost use Rattle.ledger_terms.specs.Answers.{UnlessMemory};
 ghost use Rattle.ledger_terms.specs.ExprForms.{expr_form};
 ghost use Rattle.lang_eval.specs.Parts.{parties_of, call_names, contract_parties_of, created_parties_of, parties_under, choice_parties_of};
 ghost use Rattle.lang_eval.specs.Parts.{choice_observers_of, parties_of_contract, parties_of_created, parties_of_choice};
 ghost use Rattle.lang_eval.specs.Parts.{observers_of_choice, is_consuming_call};
+ghost use Rattle.lang_eval.specs.Value.{truth, with_value};
+ghost use Rattle.lang_eval.specs.declared.eval_fault.EvalFault.TheVariants.{Ensure};
 
 use crate::bindings::Bindings;
 use crate::body::field_names;
@@ -83,6 +85,17 @@ pub(crate) fn parties_by(
     parties_under(template, &names)
 }
 
+/// The same after the `ensure` of a contract that is created.
+fn created_under(template: &Template, names: &Bindings<'_>) -> Result<ContractParties, EvalFault>
+    ensures { UnlessMemory EvalFault.Memory result
+        (with_value (truth template.now.ensure names.now) (λ b. cond b (parties_under template.now names.now) (Err Ensure))) }
+{
+    if !eval_test(&template.ensure, names)? {
+        return Err(EvalFault::Ensure);
+    }
+    parties_under(template, names)
+}
+
 fn created_by(
     alloc: Global,
     template: &Template,
@@ -91,10 +104,20 @@ fn created_by(
     ensures { UnlessMemory EvalFault.Memory result (created_parties_of template.now instance.now) }
 {
     let names = field_names(alloc, template, instance);
-    if !eval_test(&template.ensure, &names)? {
-        return Err(EvalFault::Ensure);
-    }
-    parties_under(template, &names)
+    created_under(template, &names)
+}
+
+fn choice_under(choice: &Choice, names: &Bindings<'_>) -> Result<ChoiceParties, EvalFault>
+    ensures { UnlessMemory EvalFault.Memory result
+        (with_value (parties_of choice.now.controllers names.now) (λ s.
+        with_value (parties_of choice.now.observers names.now) (λ o. Ok (record { controllers = s; observers = o })))) }
+{
+    let controllers = eval_parties(&choice.controllers, names)?;
+    let observers = eval_parties(&choice.observers, names)?;
+    Ok(ChoiceParties {
+        controllers,
+        observers,
+    })
 }
 
 fn choice_by(
@@ -106,12 +129,7 @@ fn choice_by(
     ensures { UnlessMemory EvalFault.Memory result (choice_parties_of template.now choice.now call.now) }
 {
     let names = call_names(alloc, template, choice, call);
-    let controllers = eval_parties(&choice.controllers, &names)?;
-    let observers = eval_parties(&choice.observers, &names)?;
-    Ok(ChoiceParties {
-        controllers,
-        observers,
-    })
+    choice_under(choice, &names)
 }
 
 pub(crate) fn observers_by(

@@ -11,6 +11,7 @@ ghost use Rattle.lang_eval.specs.RoleSets.{stakeholders_in, told_first, with_act
 use crate::call_parts::CallParts;
 use crate::checked::{Checked, choice_of};
 use crate::contract_parties::ContractParties;
+use crate::forms::both;
 use crate::kinds::have_kinds;
 use crate::parties::{observers_by, parties_by};
 use crate::role_fault::{RoleFault, of_fault};
@@ -132,14 +133,27 @@ fn told_first(parties: &ContractParties, consuming: bool) -> Result<PartySet, Al
     }
 }
 
+/// Those that an Exercise is told to beside the observers of its choice, and these.
+fn informees_of(
+    parties: &ContractParties,
+    observers: PartySet,
+    actors: &PartySet,
+    consuming: bool,
+) -> Result<PartySet, AllocError>
+    ensures { IfOk result (λ s. s ≡ set_of (told_first parties.now consuming ++ (actors.now ++ observers))) }
+{
+    let told = told_first(parties, consuming)?;
+    union_of_three(told, actors, &observers)
+}
+
 fn with_actors(
     parties: ContractParties,
-    actors: PartySet,
+    actors: &PartySet,
     informees: PartySet,
 ) -> Result<Roles, AllocError>
-    ensures { IfOk result (λ r. r ≡ with_actors parties actors informees) }
+    ensures { IfOk result (λ r. r ≡ with_actors parties actors.now informees) }
 {
-    let confirmers = union_of_two(&parties.signatories, &actors)?;
+    let (confirmers, actors) = both(union_of_two(&parties.signatories, actors), actors.clone())?;
     Ok(Roles {
         signatories: parties.signatories,
         observers: parties.observers,
@@ -154,7 +168,7 @@ fn create_roles(alloc: Global, checked: &Checked, instance: &Instance) -> Result
 {
     let parties = parties_if_typed(alloc, checked, instance)?;
     let informees = union_of_two(&parties.signatories, &parties.observers)?;
-    Ok(with_actors(parties, PartySet::new(alloc), informees)?)
+    Ok(with_actors(parties, &PartySet::new(alloc), informees)?)
 }
 
 fn exercise_roles(
@@ -168,9 +182,8 @@ fn exercise_roles(
 {
     let parties = parties_if_typed(alloc, checked, call.instance())?;
     let observers = observers_if_typed(alloc, checked, call)?;
-    let told = told_first(&parties, consuming)?;
-    let informees = union_of_three(told, actors, &observers)?;
-    Ok(with_actors(parties, actors.clone()?, informees)?)
+    let informees = informees_of(&parties, observers, actors, consuming)?;
+    Ok(with_actors(parties, actors, informees)?)
 }
 
 fn fetch_roles(
@@ -183,7 +196,7 @@ fn fetch_roles(
 {
     let parties = parties_if_typed(alloc, checked, instance)?;
     let informees = union_of_two(&parties.signatories, actors)?;
-    Ok(with_actors(parties, actors.clone()?, informees)?)
+    Ok(with_actors(parties, actors, informees)?)
 }
 
 /// The parties of an action (Ledger Model: informees): the informees of a Create are the stakeholders, of a consuming

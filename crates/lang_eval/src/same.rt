@@ -4,6 +4,8 @@ ghost use Rattle.ledger_terms.specs.ExprForms.{expr_form, list_form};
 ghost use Rattle.ledger_terms.specs.StmtForms.{stmt_form, stmt_list_form};
 ghost use Rattle.ledger_terms.specs.Syntax.{Bind, Assert, Create, Exercise, Fetch};
 
+use crate::expr_parts::{ExprParts, parts};
+use crate::operator::Operator;
 use ledger_terms::{
     Choice, Expr, ExprList, FieldDeclList, Kind, Name, Stmt, StmtList, TemplateName, Text, Value,
 };
@@ -48,6 +50,23 @@ fn same_decls(a: &FieldDeclList, b: &FieldDeclList) -> bool
     *a == *b
 }
 
+fn same_operators(a: Operator, b: Operator) -> bool
+    ensures { IsTrue result → a ≡ b }
+{
+    match (a, b) {
+        (Operator::Add, Operator::Add) => true,
+        (Operator::Subtract, Operator::Subtract) => true,
+        (Operator::Multiply, Operator::Multiply) => true,
+        (Operator::Less, Operator::Less) => true,
+        (Operator::LessEq, Operator::LessEq) => true,
+        (Operator::Equal, Operator::Equal) => true,
+        (Operator::Cat, Operator::Cat) => true,
+        (Operator::Union, Operator::Union) => true,
+        (Operator::Has, Operator::Has) => true,
+        _ => false,
+    }
+}
+
 #[cycle(exprs)]
 fn same_lists(a: &ExprList, b: &ExprList) -> bool
     ensures { IsTrue result → list_form a.now ≡ list_form b.now }
@@ -70,29 +89,22 @@ fn same_lists(a: &ExprList, b: &ExprList) -> bool
 
 /// Whether two expressions are of one form.
 #[cycle(exprs)]
-#[tactic(auto, using(ledger_terms::proofs::ExprRows::form_SetOf))]
 fn same_exprs(a: &Expr, b: &Expr) -> bool
     ensures { IsTrue result → expr_form a.now ≡ expr_form b.now }
 {
-    match (a, b) {
-        (Expr::Literal(a), Expr::Literal(b)) => same_values(a, b),
-        (Expr::Var(a), Expr::Var(b)) => same_texts(a, b),
-        (Expr::Add(a, c), Expr::Add(b, d)) => same_exprs(a, b) && same_exprs(c, d),
-        (Expr::Sub(a, c), Expr::Sub(b, d)) => same_exprs(a, b) && same_exprs(c, d),
-        (Expr::Mul(a, c), Expr::Mul(b, d)) => same_exprs(a, b) && same_exprs(c, d),
-        (Expr::Less(a, c), Expr::Less(b, d)) => same_exprs(a, b) && same_exprs(c, d),
-        (Expr::LessEq(a, c), Expr::LessEq(b, d)) => same_exprs(a, b) && same_exprs(c, d),
-        (Expr::Equal(a, c), Expr::Equal(b, d)) => same_exprs(a, b) && same_exprs(c, d),
-        (Expr::Both(a, c), Expr::Both(b, d)) => same_exprs(a, b) && same_exprs(c, d),
-        (Expr::Either(a, c), Expr::Either(b, d)) => same_exprs(a, b) && same_exprs(c, d),
-        (Expr::Negate(a), Expr::Negate(b)) => same_exprs(a, b),
-        (Expr::Cond(a, c, e), Expr::Cond(b, d, f)) => {
+    match (parts(a), parts(b)) {
+        (ExprParts::Literal(a), ExprParts::Literal(b)) => same_values(a, b),
+        (ExprParts::Var(a), ExprParts::Var(b)) => same_texts(a, b),
+        (ExprParts::Operation(o, a, c), ExprParts::Operation(p, b, d)) => {
+            same_operators(o, p) && same_exprs(a, b) && same_exprs(c, d)
+        }
+        (ExprParts::Both(a, c), ExprParts::Both(b, d)) => same_exprs(a, b) && same_exprs(c, d),
+        (ExprParts::Either(a, c), ExprParts::Either(b, d)) => same_exprs(a, b) && same_exprs(c, d),
+        (ExprParts::Negate(a), ExprParts::Negate(b)) => same_exprs(a, b),
+        (ExprParts::Cond(a, c, e), ExprParts::Cond(b, d, f)) => {
             same_exprs(a, b) && same_exprs(c, d) && same_exprs(e, f)
         }
-        (Expr::Cat(a, c), Expr::Cat(b, d)) => same_exprs(a, b) && same_exprs(c, d),
-        (Expr::SetOf(a), Expr::SetOf(b)) => same_lists(a, b),
-        (Expr::Union(a, c), Expr::Union(b, d)) => same_exprs(a, b) && same_exprs(c, d),
-        (Expr::Has(a, c), Expr::Has(b, d)) => same_exprs(a, b) && same_exprs(c, d),
+        (ExprParts::SetOf(a), ExprParts::SetOf(b)) => same_lists(a, b),
         _ => false,
     }
 }
