@@ -4,6 +4,7 @@ pub mod Within
 pub mod NamedValues
 pub mod Encoding
 pub mod Steps
+pub mod Roots
 pub mod Exercises
 pub mod Handed
 pub mod Facts

@@ -54,6 +54,14 @@ pub act_at : (n m : ℕ) (p : Packages) (k : List Known) (progress : Progress) (
     → n ≡ m → r ≡ act n p k progress path seed by demand → r ≡ act m p k progress path seed by demand
 act_at n m p k progress path seed by demand r same h = h ∙ ap (λ (n : ℕ). act n p k progress path seed by demand) same
 
+-- and at its path and seed
+pub act_there : (n m : ℕ) (p : Packages) (k : List Known) (progress : Progress) (path path' : List ℕ) (seed seed' : Hash) (by : PartyNames) (demand : Demand)
+    (r : Result (ActionNode × Progress) CommandFault)
+    → n ≡ m → path ≡ path' → seed ≡ seed' → r ≡ act n p k progress path seed by demand → r ≡ act m p k progress path' seed' by demand
+act_there n m p k progress path path' seed seed' by demand r same at is h =
+    act_at n m p k progress path seed by demand r same h
+    ∙ (ap (λ (q : List ℕ). act m p k progress q seed by demand) at ∙ ap (λ (s : Hash). act m p k progress path' s by demand) is)
+
 module _ (source : Source) (run : Runner) (seed : Hash) (path : List ℕ) (by : PartyNames) (progress : Progress) (seen : List ChildResult)
     (children : Actions) (index : ℕ) where
   pub follow_none : (n : ℕ) → n ≡ 0 → follow n source run seed path by progress seen children index ≡ Err (TooMany path)

@@ -6,6 +6,7 @@ pub mod Usable
 pub mod Tested
 pub mod Act
 pub mod Commands
+pub mod Asked
 pub mod Interpreted
 pub mod TurnAnswers
 pub mod Wanted

@@ -1,6 +1,6 @@
 //! Why commands or drafts give no transaction.
 ghost use Rattle.std.specs.Prelude.{◌≡◌, ◌≢◌, ◌∷◌, [], IfOk};
-ghost use Rattle.interpret.specs.declared.command_fault.CommandFault.TheVariants.{Eval, Memory};
+ghost use Rattle.interpret.specs.declared.command_fault.CommandFault.TheVariants.{ContractUnknown, Eval, Memory, TooDeep, TooMany, Unauthorised};
 
 use lang_eval::EvalFault;
 use ledger_terms::Path;
@@ -58,6 +58,56 @@ pub(crate) fn eval_fault(path: &Path, fault: EvalFault) -> CommandFault
             Ok(path) => CommandFault::Eval { path, fault },
             Err(_) => CommandFault::Memory,
         },
+    }
+}
+
+/// That an action would stand too deep. Want of memory for its path is want of memory, here and below.
+pub(crate) fn too_deep(path: &Path) -> CommandFault
+    ensures { result ≢ CommandFault.Memory → result ≡ TooDeep path.now }
+{
+    match copy_path(path) {
+        Ok(path) => CommandFault::TooDeep { path },
+        Err(_) => CommandFault::Memory,
+    }
+}
+
+/// That an action would be one too many.
+pub(crate) fn too_many(path: &Path) -> CommandFault
+    ensures { result ≢ CommandFault.Memory → result ≡ TooMany path.now }
+{
+    match copy_path(path) {
+        Ok(path) => CommandFault::TooMany { path },
+        Err(_) => CommandFault::Memory,
+    }
+}
+
+/// That an action isn't authorised.
+pub(crate) fn unauthorised(path: &Path) -> CommandFault
+    ensures { result ≢ CommandFault.Memory → result ≡ Unauthorised path.now }
+{
+    match copy_path(path) {
+        Ok(path) => CommandFault::Unauthorised { path },
+        Err(_) => CommandFault::Memory,
+    }
+}
+
+/// That an action's contract isn't known.
+pub(crate) fn contract_unknown(path: &Path) -> CommandFault
+    ensures { result ≢ CommandFault.Memory → result ≡ ContractUnknown path.now }
+{
+    match copy_path(path) {
+        Ok(path) => CommandFault::ContractUnknown { path },
+        Err(_) => CommandFault::Memory,
+    }
+}
+
+/// The same of a root action.
+pub(crate) fn root_unknown(alloc: Global, root: u16) -> CommandFault
+    ensures { result ≢ CommandFault.Memory → result ≡ ContractUnknown (root ∷ []) }
+{
+    match root_path(alloc, root) {
+        Ok(path) => CommandFault::ContractUnknown { path },
+        Err(_) => CommandFault::Memory,
     }
 }
 

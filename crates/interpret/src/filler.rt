@@ -8,7 +8,7 @@ ghost use Rattle.interpret.specs.FilledTree.{IsFilled, FillStops};
 ghost use Rattle.interpret.specs.Filled.{fetch_of_draft, fill_all, fill_tree, filled_action, filled_roots};
 ghost use Rattle.interpret.specs.Filled.{filling, forged_contract, forged_id, id_of, input_of, known_of, list_answer, node_answer};
 
-use crate::command_fault::{CommandFault, copy_path};
+use crate::command_fault::{CommandFault, contract_unknown, too_deep, too_many};
 use crate::encoded::if_small;
 use crate::ids::{contract_id, label_seed};
 use crate::labels::is_draft_named;
@@ -208,19 +208,13 @@ impl<K: KnownContracts> Filler<'_, K> {
         ensures grows { OnOk result ((count.old < count.new) × (count.new ≤ MOST_ACTIONS)) }
     {
         if place.left == 0 {
-            return Err(CommandFault::TooDeep {
-                path: copy_path(&place.path)?,
-            });
+            return Err(too_deep(&place.path));
         }
         if *count >= MOST_ACTIONS {
-            return Err(CommandFault::TooMany {
-                path: copy_path(&place.path)?,
-            });
+            return Err(too_many(&place.path));
         }
         let Some(action) = self.filled_action(&place.seed, &draft.root)? else {
-            return Err(CommandFault::ContractUnknown {
-                path: copy_path(&place.path)?,
-            });
+            return Err(contract_unknown(&place.path));
         };
         *count += 1;
         let below = match self.fill_list(count, place, &draft.below) {
@@ -262,9 +256,7 @@ impl<K: KnownContracts> Filler<'_, K> {
             };
             filled.push(node)?;
         }
-        Err(CommandFault::TooMany {
-            path: copy_path(&place.path)?,
-        })
+        Err(too_many(&place.path))
     }
 
     fn fill_roots(&self, seed: &Hash, drafts: &DraftList) -> Result<ActionNodeList, CommandFault>

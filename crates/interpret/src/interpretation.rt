@@ -8,7 +8,8 @@ ghost use Rattle.interpret.specs.TurnAnswers.{turn_shown};
 ghost use Rattle.interpret.specs.Stops.{StopsWith};
 ghost use Rattle.interpret.specs.Wanted.{IsWanted};
 
-use crate::command_fault::{CommandFault, root_path};
+use crate::asking::Asking;
+use crate::command_fault::{CommandFault, root_path, root_unknown};
 use crate::demand::Demand;
 use crate::encoded::if_small;
 use crate::interpreter::Interpreter;
@@ -20,7 +21,7 @@ use crate::turn::Turn;
 use lang_eval::{Checked, NativeList, kind_of};
 use ledger_terms::{
     ActionNodeList, Arg, ArgList, Command, CommandList, ContractRef, FieldDecl, Hash, Kind,
-    KnownContracts, Name, PartySet, Path, TemplateName, Value,
+    KnownContracts, Name, PartySet, TemplateName, Value,
 };
 
 /// The kind of what is handed in.
@@ -82,9 +83,7 @@ impl<K: KnownContracts, S: Stepping> Interpreter<'_, K, S> {
         ensures { UnlessMemory CommandFault.Memory result (called_demand (K.rows self.now.known.now) root template contract.now choice args.now) }
     {
         let Some(id) = referenced_id(self.known, contract) else {
-            return Err(CommandFault::ContractUnknown {
-                path: root_path(self.alloc, root)?,
-            });
+            return Err(root_unknown(self.alloc, root));
         };
         match referenced_values(self.alloc, self.known, args)? {
             Some(args) => Ok(Demand::Exercise {
@@ -93,9 +92,7 @@ impl<K: KnownContracts, S: Stepping> Interpreter<'_, K, S> {
                 choice,
                 args,
             }),
-            None => Err(CommandFault::ContractUnknown {
-                path: root_path(self.alloc, root)?,
-            }),
+            None => Err(root_unknown(self.alloc, root)),
         }
     }
 
@@ -138,7 +135,11 @@ impl<K: KnownContracts, S: Stepping> Interpreter<'_, K, S> {
     }
 
     /// What the commands ask for at an index, or their end.
-    fn command_turn(&self, commands: &CommandList, index: u16) -> Result<Turn, CommandFault>
+    pub(crate) fn command_turn(
+        &self,
+        commands: &CommandList,
+        index: u16,
+    ) -> Result<Turn, CommandFault>
         ensures { result ≢ Err CommandFault.Memory → turn_shown result ≡ command_turn self.now.checked.now (K.rows self.now.known.now) index
             (slice_get commands.now index) }
     {
@@ -162,22 +163,13 @@ impl<K: KnownContracts, S: Stepping> Interpreter<'_, K, S> {
     {
         let mut progress = nothing_done(self.alloc);
         let mut roots = ActionNodeList::new(self.alloc);
-        for index in 0..65u16 {
-            let demand = match self.command_turn(commands, index) {
-                Ok(Turn::Child(demand)) => demand,
-                Ok(Turn::End(_)) => return Ok(roots),
-                Err(fault) => return Err(fault),
-            };
-            let place = Place::root(self.alloc, seed, index)?;
-            let root = match self.act(&mut progress, &place, act_as, demand) {
-                Ok(root) => root,
-                Err(fault) => return Err(fault),
-            };
-            roots.push(root)?;
-        }
-        Err(CommandFault::TooMany {
-            path: Path::new(self.alloc),
-        })
+        let place = Place::top(self.alloc, seed);
+        let asking = Asking::Commands(commands);
+        let _end = match self.follow(&mut progress, &place, act_as, asking, &mut roots) {
+            Ok(end) => end,
+            Err(fault) => return Err(fault),
+        };
+        Ok(roots)
     }
 
     /// The transaction that commands ask for.

@@ -1,18 +1,26 @@
 //! Actions, each with its consequences.
-ghost use Rattle.std.specs.Prelude.{◌≡◌, ◌≢◌, ◌<◌, ◌-◌, [], IfOk, Ok, Err};
-ghost use Rattle.ledger_terms.specs.Forest.{NoRoots};
+ghost use Rattle.std.specs.Prelude.{◌≡◌, ◌≢◌, ◌<◌, ◌-◌, ◌++◌, ◌∷◌, [], IfOk, OnOk, Ok, Err};
+ghost use Rattle.ledger_terms.specs.Forest.{NoRoots, join};
+ghost use Rattle.ledger_terms.specs.Grown.{tree_of};
+ghost use Rattle.wire_form.specs.Spellable.{IsSpellableInstance};
+ghost use Rattle.interpret.specs.Ids.{child_seed, contract_id};
+ghost use Rattle.interpret.specs.Tested.{authorisers};
 ghost use Rattle.ledger_terms.specs.declared.action.Action.TheVariants.{Exercise};
 ghost use Rattle.lang_eval.specs.Next.{next};
-ghost use Rattle.interpret.specs.Act.{act, action_answer, body_answer, body_source, do_create, do_demand, do_fetch, exercise_on, follow};
-ghost use Rattle.interpret.specs.Act.{most_children, turn_of};
+ghost use Rattle.interpret.specs.Act.{act, action_answer, body_answer, do_create, do_demand, do_fetch, exercise_on, follow};
+ghost use Rattle.interpret.specs.Act.{created_known, most_children, turn_of, with_consumed, with_created};
+ghost use Rattle.interpret.specs.Asked.{asked_turn, learnt, source_of};
 ghost use Rattle.interpret.specs.TurnAnswers.{turn_shown};
 
-use crate::command_fault::{CommandFault, copy_path, eval_fault};
+use crate::asking::Asking;
+use crate::command_fault::{
+    CommandFault, contract_unknown, eval_fault, too_deep, too_many, unauthorised,
+};
 use crate::demand::Demand;
 use crate::ids::contract_id;
 use crate::place::Place;
 use crate::progress::{Progress, consume, usable};
-use crate::result_of_child::result_of_child;
+use crate::result_of_child::learn_as;
 use crate::sizes::is_small_result;
 use crate::stepping::Stepping;
 use crate::tested::{are_authorised, authorisers, call_controllers, created_signatories, fetchers};
@@ -51,10 +59,7 @@ fn end_of_body(path: &Path, value: Value) -> Result<Turn, CommandFault>
     ensures { result ≢ Err CommandFault.Memory → turn_shown result ≡ turn_of path.now (Ok (Step.Done value)) }
 {
     if !is_small_result(&value) {
-        return Err(CommandFault::Eval {
-            path: copy_path(path)?,
-            fault: EvalFault::TooLarge,
-        });
+        return Err(eval_fault(path, EvalFault::TooLarge));
     }
     Ok(Turn::End(value))
 }
@@ -123,6 +128,21 @@ fn exercise_action(
     }
 }
 
+/// Keeps a child at the end of the others, and what is learnt of it.
+fn keep_child(
+    asking: Asking<'_>,
+    seen: &mut ChildResultList,
+    children: &mut ActionNodeList,
+    child: ActionNode,
+) -> Result<(), AllocError>
+    ensures seen { OnOk result (seen.new ≡ learnt asking.entry seen.old child.root.action) }
+    ensures children { OnOk result (children.new ≡ join children.old (tree_of child)) }
+{
+    let learnt = learn_as(asking, seen, &child.root.action);
+    children.push(child)?;
+    learnt
+}
+
 impl<K: KnownContracts, S: Stepping> Interpreter<'_, K, S> {
     /// An action without consequences.
     fn leaf(&self, seed: Hash, action: Action) -> ActionNode
@@ -132,6 +152,23 @@ impl<K: KnownContracts, S: Stepping> Interpreter<'_, K, S> {
             root: Act { seed, action },
             below: ActionNodeList::new(self.alloc),
         }
+    }
+
+    /// Notes a contract as created, and gives its id.
+    fn note_created(
+        &self,
+        progress: &mut Progress,
+        seed: &Hash,
+        instance: &Instance,
+    ) -> Result<Hash, AllocError>
+        requires { IsSpellableInstance instance.now }
+        ensures id { IfOk result (λ id. id ≡ contract_id seed.now instance.now) }
+        ensures progress { OnOk result (progress.new ≡ with_created (created_known seed.now instance.now) progress.old) }
+    {
+        let id = contract_id(self.alloc, seed, instance)?;
+        let known = created_known(id, *seed, instance)?;
+        progress.created.push(known)?;
+        Ok(id)
     }
 
     fn create(
@@ -149,14 +186,9 @@ impl<K: KnownContracts, S: Stepping> Interpreter<'_, K, S> {
             Err(fault) => return Err(eval_fault(&place.path, fault)),
         };
         if !signatories.subset(by) {
-            return Err(CommandFault::Unauthorised {
-                path: copy_path(&place.path)?,
-            });
+            return Err(unauthorised(&place.path));
         }
-        let id = contract_id(self.alloc, &place.seed, &instance)?;
-        progress
-            .created
-            .push(created_known(id, place.seed, &instance)?)?;
+        let id = self.note_created(progress, &place.seed, &instance)?;
         let action = Action::Create { id, instance };
         Ok(self.leaf(place.seed, action))
     }
@@ -174,17 +206,11 @@ impl<K: KnownContracts, S: Stepping> Interpreter<'_, K, S> {
     {
         let contract = match contract {
             Some(contract) => contract,
-            None => {
-                return Err(CommandFault::ContractUnknown {
-                    path: copy_path(&place.path)?,
-                });
-            }
+            None => return Err(contract_unknown(&place.path)),
         };
         let actors = fetchers(self.alloc, self.checked, &contract.instance, by)?;
         if actors.as_slice().is_empty() {
-            return Err(CommandFault::Unauthorised {
-                path: copy_path(&place.path)?,
-            });
+            return Err(unauthorised(&place.path));
         }
         progress.count += 1;
         let Known { id, salt, instance } = contract;
@@ -215,6 +241,21 @@ impl<K: KnownContracts, S: Stepping> Interpreter<'_, K, S> {
         }
     }
 
+    /// Notes what a call consumes, and gives who authorises its consequences.
+    fn spend(
+        &self,
+        progress: &mut Progress,
+        consuming: bool,
+        call: &ChoiceCall,
+        actors: &PartySet,
+    ) -> Result<PartySet, AllocError>
+        ensures consumed { OnOk result (progress.new ≡ with_consumed consuming call.now.id progress.old) }
+        ensures by { IfOk result (λ s. s ≡ authorisers self.now.checked.now call.now.instance actors.now) }
+    {
+        consume(progress, consuming, call.id)?;
+        authorisers(self.alloc, self.checked, &call.instance, actors)
+    }
+
     /// The Exercise of a call on a contract with that salt.
     #[cycle(act)]
     fn exercise(
@@ -234,15 +275,13 @@ impl<K: KnownContracts, S: Stepping> Interpreter<'_, K, S> {
             Err(fault) => return Err(eval_fault(&place.path, fault)),
         };
         if !are_authorised(&actors, by) {
-            return Err(CommandFault::Unauthorised {
-                path: copy_path(&place.path)?,
-            });
+            return Err(unauthorised(&place.path));
         }
         let consuming = is_consuming_call(self.checked, &call);
-        consume(progress, consuming, call.id)?;
-        let below = authorisers(self.alloc, self.checked, &call.instance, &actors)?;
+        let below = self.spend(progress, consuming, &call, &actors)?;
         let mut children = ActionNodeList::new(self.alloc);
-        let value = match self.follow(progress, place, &below, &call, &mut children) {
+        let asking = Asking::Body(&call);
+        let value = match self.follow(progress, place, &below, asking, &mut children) {
             Ok(value) => value,
             Err(fault) => return Err(fault),
         };
@@ -254,39 +293,71 @@ impl<K: KnownContracts, S: Stepping> Interpreter<'_, K, S> {
         })
     }
 
-    /// The consequences of the Exercise at a place, put at the end of `children`, and its result.
+    /// What is asked for next, of what stands at a path.
+    fn turn_at(
+        &self,
+        asking: Asking<'_>,
+        path: &Path,
+        index: u16,
+        seen: &ChildResultList,
+    ) -> Result<Turn, CommandFault>
+        ensures { result ≢ Err CommandFault.Memory → turn_shown result
+            ≡ asked_turn self.now.checked.now (K.rows self.now.known.now) path.now asking.entry index seen.now }
+    {
+        match asking {
+            Asking::Body(call) => self.turn(call, path, seen),
+            Asking::Commands(commands) => self.command_turn(commands, index),
+        }
+    }
+
+    /// What is asked for at a place, put at the end of `children`, and the result of the body that asks.
     #[cycle(act)]
-    fn follow(
+    pub(crate) fn follow(
         &self,
         progress: &mut Progress,
         place: &Place,
         by: &PartySet,
-        call: &ChoiceCall,
+        asking: Asking<'_>,
         children: &mut ActionNodeList,
     ) -> Result<Value, CommandFault>
         requires level { 0 < place.now.left }
         ensures { result ≢ Err CommandFault.Memory → body_answer result children.new progress.new ≡ follow most_children
-            (body_source self.now.checked.now call.now place.now.path) (act (place.now.left - 1) self.now.checked.now (K.rows self.now.known.now))
+            (source_of self.now.checked.now (K.rows self.now.known.now) place.now.path asking.entry)
+            (act (place.now.left - 1) self.now.checked.now (K.rows self.now.known.now))
             place.now.seed place.now.path by.now progress.old [] children.old 0 }
     {
         let mut seen = ChildResultList::new(self.alloc);
         for index in 0..65u16 {
-            let demand = match self.turn(call, &place.path, &seen) {
+            let demand = match self.turn_at(asking, &place.path, index, &seen) {
                 Ok(Turn::Child(demand)) => demand,
                 Ok(Turn::End(value)) => return Ok(value),
                 Err(fault) => return Err(fault),
             };
-            let below = place.child(index)?;
-            let child = match self.act(progress, &below, by, demand) {
+            let child = match self.act_below(progress, place, by, index, demand) {
                 Ok(child) => child,
                 Err(fault) => return Err(fault),
             };
-            seen.push(result_of_child(&child.root.action)?)?;
-            children.push(child)?;
+            keep_child(asking, &mut seen, children, child)?;
         }
-        Err(CommandFault::TooMany {
-            path: copy_path(&place.path)?,
-        })
+        Err(too_many(&place.path))
+    }
+
+    /// The child at an index of a place that is asked for, with its consequences.
+    #[cycle(act)]
+    fn act_below(
+        &self,
+        progress: &mut Progress,
+        place: &Place,
+        by: &PartySet,
+        index: u16,
+        demand: Demand,
+    ) -> Result<ActionNode, CommandFault>
+        requires level { 0 < place.now.left }
+        ensures { result ≢ Err CommandFault.Memory → action_answer result progress.new ≡ act (place.now.left - 1) self.now.checked.now
+            (K.rows self.now.known.now) progress.old (place.now.path ++ index ∷ []) (child_seed place.now.seed index) by.now demand }
+    {
+        let below = place.child(index)?;
+        self.act(progress, &below, by, demand)
     }
 
     /// The action that is asked for at a place, with its consequences.
@@ -302,14 +373,10 @@ impl<K: KnownContracts, S: Stepping> Interpreter<'_, K, S> {
             (K.rows self.now.known.now) progress.old place.now.path place.now.seed by.now demand }
     {
         if place.left == 0 {
-            return Err(CommandFault::TooDeep {
-                path: copy_path(&place.path)?,
-            });
+            return Err(too_deep(&place.path));
         }
         if progress.count >= MOST_ACTIONS {
-            return Err(CommandFault::TooMany {
-                path: copy_path(&place.path)?,
-            });
+            return Err(too_many(&place.path));
         }
         self.act_in_room(progress, place, by, demand)
     }
@@ -342,9 +409,7 @@ impl<K: KnownContracts, S: Stepping> Interpreter<'_, K, S> {
             } => {
                 let Some(contract) = usable(self.checked, self.known, progress, &id, template)?
                 else {
-                    return Err(CommandFault::ContractUnknown {
-                        path: copy_path(&place.path)?,
-                    });
+                    return Err(contract_unknown(&place.path));
                 };
                 progress.count += 1;
                 let (salt, call) = call_on(contract, choice, args);

@@ -1,6 +1,7 @@
 //! Commands become trees of actions, and trees of actions are tried by running them again.
 #![tactic(auto)]
 
+mod asking;
 mod command_fault;
 mod demand;
 mod encoded;

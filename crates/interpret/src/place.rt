@@ -1,5 +1,5 @@
 //! Where an action stands.
-ghost use Rattle.std.specs.Prelude.{◌≡◌, ◌<◌, ◌-◌, ◌++◌, ◌∷◌, [], IfOk};
+ghost use Rattle.std.specs.Prelude.{◌≡◌, ◌<◌, ◌+◌, ◌-◌, ◌++◌, ◌∷◌, [], IfOk};
 ghost use Rattle.interpret.specs.Ids.{child_seed};
 
 use crate::command_fault::{copy_path, root_path};
@@ -28,6 +28,19 @@ impl Place {
             seed: seed_of_child(seed, index),
             left: MOST_ACTION_DEPTH as u32,
         })
+    }
+
+    /// The place over the root actions, of a transaction with that seed.
+    pub(crate) fn top(alloc: Global, seed: &Hash) -> Place
+        ensures path { result.path ≡ [] }
+        ensures seed { result.seed ≡ seed.now }
+        ensures left { result.left ≡ MOST_ACTION_DEPTH + 1 }
+    {
+        Place {
+            path: Path::new(alloc),
+            seed: *seed,
+            left: MOST_ACTION_DEPTH as u32 + 1,
+        }
     }
 
     /// The place of the child at an index.

@@ -8,7 +8,7 @@ ghost use Rattle.lang_eval.specs.Next.{next};
 ghost use Rattle.interpret.specs.Language.{the_language, same_truth, are_controllers, is_creatable, is_exercisable};
 ghost use Rattle.interpret.specs.Tries.{are_rest, asks, gives, has_none, is_demanded, is_done, is_possible, is_tree_possible};
 
-use crate::result_of_child::result_of_child;
+use crate::result_of_child::learn;
 use crate::sizes::{are_small_args, is_small_instance, is_small_result};
 use crate::stepping::Stepping;
 use lang_eval::{
@@ -292,7 +292,7 @@ impl<S: Stepping> Replay<'_, S> {
             if !self.child_follows(call, &seen, node)? {
                 return Ok(false);
             }
-            seen.push(result_of_child(&node.root.action)?)?;
+            learn(&mut seen, &node.root.action)?;
         }
         self.ends_with(call, &seen, wanted)
     }

@@ -1,8 +1,10 @@
 //! What the body that asked for an action learns of it.
-ghost use Rattle.std.specs.Prelude.{◌≡◌, IfOk};
+ghost use Rattle.std.specs.Prelude.{◌≡◌, ◌++◌, ◌∷◌, [], IfOk, OnOk};
 ghost use Rattle.ledger_model.specs.Conformance.{result_of_child};
+ghost use Rattle.interpret.specs.Asked.{learnt};
 
-use ledger_model::ChildResult;
+use crate::asking::Asking;
+use ledger_model::{ChildResult, ChildResultList};
 use ledger_terms::{Action, Exact};
 use std::alloc::AllocError;
 
@@ -14,5 +16,31 @@ pub(crate) fn result_of_child(action: &Action) -> Result<ChildResult, AllocError
         Action::Create { id, instance: _ } => Ok(ChildResult::Created(*id)),
         Action::Exercise { result, .. } => Ok(ChildResult::Returned(result.copied()?)),
         Action::Fetch { instance, .. } => Ok(ChildResult::Fetched(instance.copied()?)),
+    }
+}
+
+/// Puts at the end what a body learns of an action.
+pub(crate) fn learn(seen: &mut ChildResultList, action: &Action) -> Result<(), AllocError>
+    ensures { OnOk result (seen.new ≡ seen.old ++ result_of_child action.now ∷ []) }
+{
+    let result = result_of_child(action)?;
+    seen.push(result)
+}
+
+/// Puts at the end what is learnt of an action. A command learns nothing of those before it.
+pub(crate) fn learn_as(
+    asking: Asking<'_>,
+    seen: &mut ChildResultList,
+    action: &Action,
+) -> Result<(), AllocError>
+    ensures { OnOk result (seen.new ≡ learnt asking.entry seen.old action.now) }
+{
+    match asking {
+        Asking::Body(_) => learn(seen, action),
+        Asking::Commands(_) => {
+            let alloc = *seen.allocator();
+            *seen = ChildResultList::new(alloc);
+            Ok(())
+        }
     }
 }

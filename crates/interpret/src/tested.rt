@@ -118,8 +118,23 @@ fn insert_within(set: &mut PartySet, parties: &PartySet, by: &PartySet) -> Resul
     Ok(())
 }
 
+/// The stakeholders that are among the authorisers.
+#[tactic(auto, using(crate::proofs::Within::within_sets))]
+fn stakeholders_within(
+    alloc: Global,
+    parties: &ContractParties,
+    by: &PartySet,
+) -> Result<PartySet, AllocError>
+    ensures { IfOk result (λ s. s ≡ set_of (within (parties.now.signatories ++ parties.now.observers) by.now)) }
+{
+    let mut set = PartySet::new(alloc);
+    insert_within(&mut set, &parties.signatories, by)?;
+    insert_within(&mut set, &parties.observers, by)?;
+    Ok(set)
+}
+
 /// The stakeholders of a contract that are among the authorisers.
-#[tactic(auto, unfolding(crate::specs::Tested::fetchers), using(crate::proofs::Within::within_sets))]
+#[tactic(auto, unfolding(crate::specs::Tested::fetchers))]
 pub(crate) fn fetchers(
     alloc: Global,
     checked: &Checked,
@@ -129,8 +144,5 @@ pub(crate) fn fetchers(
     ensures { IfOk result (λ s. s ≡ fetchers checked.now instance.now by.now) }
 {
     let parties = contract_parties(alloc, checked, instance)?;
-    let mut set = PartySet::new(alloc);
-    insert_within(&mut set, &parties.signatories, by)?;
-    insert_within(&mut set, &parties.observers, by)?;
-    Ok(set)
+    stakeholders_within(alloc, &parties, by)
 }

@@ -1,0 +1,28 @@
+-- What the body of a choice asks for, and what commands do.
+use Rattle.std.specs.Prelude.{ℕ, List, [], ◌∷◌, ◌++◌, slice_get}
+use Rattle.ledger_terms.specs.declared.known.Known.{Known}
+use Rattle.ledger_terms.specs.declared.action.Action.{Action}
+use Rattle.ledger_model.specs.Conformance.{result_of_child}
+use Rattle.ledger_model.specs.declared.step.ChildResult.{ChildResult}
+use Rattle.lang_eval.specs.Found.{Packages}
+use Rattle.lang_eval.specs.Next.{next}
+use Rattle.interpret.specs.declared.asking.Asking.{Asking}
+use Rattle.interpret.specs.declared.asking.Asking.TheVariants.{Body, Commands}
+use Rattle.interpret.specs.Act.{Source, Turn, turn_of}
+use Rattle.interpret.specs.Commands.{command_turn}
+
+abbrev pub asked_turn : Packages → List Known → List ℕ → Asking → ℕ → List ChildResult → Turn
+asked_turn packages known path (Body call) index seen = turn_of path (next packages call.now seen)
+asked_turn packages known path (Commands commands) index seen = command_turn packages known index (slice_get commands.now index)
+
+-- A command learns nothing of those before it.
+abbrev pub learnt : Asking → List ChildResult → Action → List ChildResult
+learnt (Body call) seen a = seen ++ result_of_child a ∷ []
+learnt (Commands commands) seen a = []
+
+abbrev pub source_of : Packages → List Known → List ℕ → Asking → Source
+source_of packages known path asking =
+    record {
+      turn = λ index seen. asked_turn packages known path asking index seen;
+      learn = λ seen a. learnt asking seen a;
+    }
