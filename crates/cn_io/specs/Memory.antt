@@ -1,6 +1,7 @@
 -- What contracts see of the sources and sinks in memory.
-use Rattle.std.specs.Prelude.{ℕ, Bool, List, ◌==◌}
+use Rattle.std.specs.Prelude.{ℕ, Bool, List, Result, MatchResult, IfOk, ◌≡◌, ◌<◌, ◌==◌, min, length}
 use Rattle.std.specs.List.{list_any}
+use Rattle.cn_io.specs.Faults.{counted}
 
 -- A source in memory: the bytes left, how many a call moves at most, the calls that fail, and the calls and faults so far.
 pub record Supply : Type 0 where
@@ -29,3 +30,12 @@ pub record Roomy : Type 0 where
 -- whether a call's number is listed
 abbrev pub is_listed : ℕ → List ℕ → Bool
 is_listed call calls = list_any (λ c. c == call) calls
+
+-- a put was counted as a call, and where it took bytes these are a piece
+abbrev pub PutsPiece : {E : Type 0} → Store → List ℕ → Result ℕ E → Store → Type 0
+PutsPiece store from result store' =
+    (store'.calls ≡ counted store.calls) × (store'.piece ≡ store.piece) × IfOk result (λ n. n ≡ min (length from) store.piece)
+
+-- a put took all, or there was no room for all
+abbrev pub PutsWhole : {E : Type 0} → Roomy → List ℕ → Result ℕ E → Roomy → Type 0
+PutsWhole roomy from result roomy' = MatchResult result (λ n. n ≡ length from) (λ _. roomy.room < length from)

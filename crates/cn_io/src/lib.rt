@@ -2,6 +2,7 @@
 #![tactic(auto)]
 
 mod failed;
+mod laws;
 mod mem_sink;
 mod mem_source;
 mod read_source;
@@ -13,6 +14,7 @@ mod whole;
 mod write_sink;
 
 pub use failed::Failed;
+pub use laws::whole_puts_are_one;
 pub use mem_sink::MemSink;
 pub use mem_source::MemSource;
 pub use read_source::ReadSource;

@@ -2,7 +2,7 @@
 ghost use Rattle.std.specs.Prelude.{◌≡◌, ◌<◌, ◌≤◌, [], IsTrue, IsErr, IfOk, OnOk, OnErr, Some, min, length};
 ghost use Rattle.cn_io.specs.Faults.{counted};
 ghost use Rattle.cn_io.specs.Sink.{Puts, TakesAll};
-ghost use Rattle.cn_io.specs.Memory.{is_listed};
+ghost use Rattle.cn_io.specs.Memory.{PutsPiece, is_listed};
 
 use crate::failed::Failed;
 use crate::sink::Sink;
@@ -77,11 +77,14 @@ impl Sink for MemSink {
 
     ghost room = { λ s. 0 };
 
+    ghost may_put = { PutsPiece };
+
     fn put(&mut self, from: &[u8]) -> Result<usize, Failed>
         requires { 0 < length from.now }
         ensures moved { Puts (Some self.old.held) (Some self.new.held) self.old.faults self.new.faults result from.now }
         ensures count { self.old.faults ≤ self.new.faults }
         ensures sure { length from.now ≤ 0 → TakesAll self.old.faults self.new.faults 0 0 result from.now }
+        ensures answer { PutsPiece self.old from.now result self.new }
         ensures call { self.new.calls ≡ counted self.old.calls }
         ensures fails { IsTrue (is_listed self.new.calls self.old.fails) → IsErr result }
         ensures only { min (length from.now) self.old.piece ≤ self.old.room → IsErr result → IsTrue (is_listed self.new.calls self.old.fails) }

@@ -1,6 +1,7 @@
 //! A sink in memory that takes its room ahead.
 ghost use Rattle.std.specs.Prelude.{◌≡◌, ◌≤◌, ◌<◌, [], IsErr, OnOk, OnErr, Some, length};
 ghost use Rattle.cn_io.specs.Faults.{counted};
+ghost use Rattle.cn_io.specs.Memory.{PutsWhole};
 ghost use Rattle.cn_io.specs.Sink.{Puts, TakesAll};
 
 use crate::failed::Failed;
@@ -64,12 +65,15 @@ impl Sink for SureSink {
 
     ghost room = { λ s. s.room };
 
+    ghost may_put = { PutsWhole };
+
     fn put(&mut self, from: &[u8]) -> Result<usize, Failed>
         requires { 0 < length from.now }
         ensures moved { Puts (Some self.old.held) (Some self.new.held) self.old.faults self.new.faults result from.now }
         ensures count { self.old.faults ≤ self.new.faults }
         ensures sure { length from.now ≤ self.old.room
             → TakesAll self.old.faults self.new.faults self.old.room self.new.room result from.now }
+        ensures answer { PutsWhole self.old from.now result self.new }
         ensures past { self.old.room < length from.now → IsErr result × (self.new ≡ record self.old { faults = counted self.old.faults }) }
     {
         let room = self.bytes.capacity() - self.bytes.len();

@@ -1,7 +1,8 @@
 //! Whole texts in and out.
-ghost use Rattle.std.specs.Prelude.{◌≡◌, ℕ, ◌≤◌, ◌⊎◌, take, length, IfOk, IfErr, IsOk, OnOk, OnErr, IsErrOf};
+ghost use Rattle.std.specs.Prelude.{◌≡◌, ℕ, ◌≤◌, ◌⊎◌, take, length, IfOk, IfErr, IsOk, IsErr, OnOk, OnErr, IsErrOf};
 ghost use Rattle.std.specs.Io.KnownBytes.{Appends, Consumes, IsAtEnd};
-ghost use Rattle.cn_io.specs.Faults.{Rose};
+ghost use Rattle.cn_io.specs.Faults.{Rose, counted};
+ghost use Rattle.cn_io.specs.Sink.{OffersAll};
 ghost use Rattle.cn_io.specs.Whole.{StoppedAfter};
 
 use crate::failed::Failed;
@@ -34,6 +35,7 @@ pub fn read_all<S: Source>(alloc: Global, source: &mut S, limit: usize) -> Resul
     ensures whole { IfOk result (λ bytes. Consumes (S.left source.old) (S.left source.new) bytes
         × IsAtEnd (S.left source.new) × (length bytes ≤ limit)) }
     ensures failed { IsErrOf result ReadFault.Failed → Rose (S.faults source.old) (S.faults source.new) }
+    ensures once { IsErrOf result ReadFault.Failed → S.faults source.new ≡ counted (S.faults source.old) }
     ensures stopped { IfErr result (λ fault.
         StoppedAfter limit (S.left source.old) (S.left source.new) (fault ≡ ReadFault.TooLong)) }
     ensures count { S.faults source.old ≤ S.faults source.new }
@@ -62,11 +64,13 @@ pub fn read_all<S: Source>(alloc: Global, source: &mut S, limit: usize) -> Resul
     }
 }
 
-/// Writes all bytes, and offers all that remain at each call.
+/// Writes all bytes. Each put is offered all that remain.
 pub fn write_all<K: Sink>(sink: &mut K, bytes: &[u8]) -> Result<(), Failed>
     ensures whole { OnOk result (Appends (K.held sink.old) (K.held sink.new) bytes.now) }
     ensures part { OnErr result (Rose (K.faults sink.old) (K.faults sink.new)
         × ((n : ℕ) × Appends (K.held sink.old) (K.held sink.new) (take n bytes.now))) }
+    ensures offers { OffersAll K.may_put sink.old sink.new bytes.now result }
+    ensures once { IsErr result → K.faults sink.new ≡ counted (K.faults sink.old) }
     ensures sure { length bytes.now ≤ K.room sink.old → IsOk result × (K.faults sink.new ≡ K.faults sink.old) }
     ensures count { K.faults sink.old ≤ K.faults sink.new }
     ensures kept { OnOk result (K.faults sink.new ≡ K.faults sink.old) }

@@ -37,6 +37,9 @@ impl<W: Write> Sink for WriteSink<W> {
 
     ghost room = { λ s. 0 };
 
+    // What a writer does with a write is its own.
+    ghost may_put = { λ _ _ _ _. Unit {0} };
+
     fn put(&mut self, from: &[u8]) -> Result<usize, Failed> {
         match self.inner.write(from) {
             Ok(count) if count > 0 => Ok(count),
