@@ -1,5 +1,5 @@
 //! The log with one writer.
-ghost use Rattle.std.specs.Prelude.{◌≡◌, ℕ, ◌+◌, ◌<◌, ◌^◌, ◌++◌, ◌∷◌, [], length, Some, slice_get, IfOk, MatchResult};
+ghost use Rattle.std.specs.Prelude.{◌≡◌, ℕ, ◌+◌, ◌<◌, ◌^◌, ◌++◌, ◌∷◌, [], length, Some, slice_get, IfOk, MatchResult, OnErr, OnOk};
 ghost use Rattle.log_row.specs.LogPrefix.{extended, Agree};
 ghost use Rattle.log_row.specs.Seats.{writer};
 ghost use mathlib.Core.List.{IsPrefix};
@@ -28,13 +28,48 @@ impl Storage {
     }
 }
 
-/// The place of a log. To a contract it is the name of the history that `open` begins next.
+// The history that is written, and the next one with the seat of its writer.
 #[derive(Drop)]
-pub struct LogRow {
+struct Histories {
     alloc: Global,
     current: Storage,
     next: Storage,
     seat: RowSeat,
+}
+
+impl Histories {
+    fn new(alloc: Global) -> Result<Histories, AllocError>
+        ensures { IfOk result (λ h. (h.seat.table_id ≡ h.next.table.shared.table_id) × (h.seat.table_id.words ≡ 1) × (h.seat.me ≡ (writer [], []))) }
+    {
+        let (current, _seat) = Storage::new(alloc)?;
+        let (next, seat) = Storage::new(alloc)?;
+        Ok(Histories {
+            alloc,
+            current,
+            next,
+            seat,
+        })
+    }
+
+    // The next one is written from here on, and a fresh one is next. It gives the seat of the writer. It stands alone since no clause
+    // of `open` can say what a refusal leaves of a row that its answer may borrow.
+    fn turn(&mut self) -> Result<RowSeat, AllocError>
+        ensures seat { IfOk result (λ seat. seat ≡ self.old.seat) }
+        ensures current { OnOk result (self.new.current ≡ self.old.next) }
+        ensures next { OnOk result ((self.new.seat.table_id ≡ self.new.next.table.shared.table_id) × (self.new.seat.table_id.words ≡ 1)
+            × (self.new.seat.me ≡ (writer [], []))) }
+        ensures err { OnErr result (self.new ≡ self.old) }
+    {
+        let (fresh, fresh_seat) = Storage::new(self.alloc)?;
+        self.current = mem::replace(&mut self.next, fresh);
+        Ok(mem::replace(&mut self.seat, fresh_seat))
+    }
+}
+
+/// The place of a log. To a contract it is the name of the history that `open` begins next.
+#[derive(Drop)]
+pub struct LogRow {
+    histories: Histories,
 }
 
 impl Model for LogRow {
@@ -47,9 +82,10 @@ impl Model for LogRow {
 
     ghost use Rattle.log_row.specs.Seats.{writer};
 
-    ghost view = { λ r. r.seat.table_id };
+    ghost view = { λ r. r.histories.seat.table_id };
 
-    ghost invariant = { λ r. (r.seat.table_id ≡ r.next.table.shared.table_id) × (r.seat.table_id.words ≡ 1) × (r.seat.me ≡ (writer [], [])) };
+    ghost invariant = { λ r. (r.histories.seat.table_id ≡ r.histories.next.table.shared.table_id) × (r.histories.seat.table_id.words ≡ 1)
+        × (r.histories.seat.me ≡ (writer [], [])) };
 }
 
 /// The one writer of a history.
@@ -99,26 +135,18 @@ impl<'r> Model for Slip<'r> {
 
 impl LogRow {
     pub fn new(alloc: Global) -> Result<LogRow, AllocError> {
-        let (current, _seat) = Storage::new(alloc)?;
-        let (next, seat) = Storage::new(alloc)?;
-        Ok(LogRow {
-            alloc,
-            current,
-            next,
-            seat,
-        })
+        let histories = Histories::new(alloc)?;
+        Ok(LogRow { histories })
     }
 
-    /// Begins a new and empty history, and gives its one writer.
+    /// Begins a new and empty history, and gives its one writer. All memory is taken before anything changes.
     pub fn open<'r>(&'r mut self) -> Result<Pen<'r>, AllocError>
         ensures named { IfOk result (λ p. p.row ≡ self.old) }
         ensures empty { IfOk result (λ p. p.list ≡ []) }
     {
-        let (fresh, fresh_seat) = Storage::new(self.alloc)?;
-        let seat = mem::replace(&mut self.seat, fresh_seat);
-        self.current = mem::replace(&mut self.next, fresh);
+        let seat = self.histories.turn()?;
         Ok(Pen {
-            storage: &self.current,
+            storage: &self.histories.current,
             seat,
             count: 0,
         })
