@@ -1,12 +1,14 @@
 //! What the mediator's calls do, in terms of the log.
-ghost use Rattle.std.specs.Prelude.{◌≡◌, ℕ, List, [], ◌∷◌, ◌++◌, Option, IfSome};
+ghost use Rattle.std.specs.Prelude.{◌≡◌, ◌<◌, ℕ, List, [], ◌∷◌, ◌++◌, Option, IfNone, IfSome};
+ghost use Rattle.canton_model.specs.Log.{Params};
 ghost use Rattle.world_model.specs.Messages.{Entry as EntryValue};
 ghost use Rattle.canton_model.specs.declared.verdict.Verdict.{Verdict as VerdictValue};
 ghost use Rattle.world_model.specs.Machine.{Machine, GenuineLog};
 ghost use Rattle.world_model.specs.Fits.{IsDecision};
 ghost use Rattle.world_model.specs.Mediator.{MediatorState, new_mediator, read_by_mediator, next_verdict, give_back};
-ghost use Rattle.world_model.specs.Lawful.{MediatorHas};
+ghost use Rattle.world_model.specs.Places.{without_place};
 ghost use Rattle.mediator.specs.Kept.{Kept, Keeps, Knows, taken};
+ghost use Rattle.mediator.specs.Order.{HasGiven, IsFirstDue, NothingIsDue};
 
 /// What a mediator knows of the log that it has read: at first nothing, an entry more after each read, and the same after a
 /// verdict is taken or given back. Each verdict that it takes is the scan of the log.
@@ -29,4 +31,39 @@ pub fn mediator_knows()
         → after.params ≡ before.params
         → ((state : MediatorState) → Keeps before state → Keeps after (give_back state k))
         → Knows m log after }
+{}
+
+/// What a mediator takes, by the log that it has read and the places of the requests whose verdicts count as taken: the decision on
+/// the first request that is due, and none only where nothing is. A verdict counts as taken until it is given back. So each is taken
+/// once, and over one log they are taken by rising places.
+pub fn verdicts_are_taken_in_order()
+    ensures new { (m : Machine) (kept : Kept) → kept.params ≡ m.params → Keeps kept new_mediator → HasGiven m [] [] kept }
+    ensures read { (m : Machine) (log : List EntryValue) (given : List ℕ) (before after : Kept) (entry : EntryValue)
+        → HasGiven m log given before
+        → after.params ≡ before.params
+        → ((state : MediatorState) → Keeps before state → Keeps after (read_by_mediator before.params state entry))
+        → HasGiven m (log ++ entry ∷ []) given after }
+    ensures first { (m : Machine) (log : List EntryValue) (given : List ℕ) (before after : Kept) (verdict : Option VerdictValue)
+        → GenuineLog m log
+        → HasGiven m log given before
+        → after.params ≡ before.params
+        → ((state : MediatorState) → Keeps before state → verdict ≡ next_verdict state)
+        → ((state : MediatorState) → Keeps before state → Keeps after (taken state verdict))
+        → IfSome verdict (λ v. IsFirstDue m.params log given v × HasGiven m log (v.request ∷ given) after) }
+    ensures none { (m : Machine) (log : List EntryValue) (given : List ℕ) (before after : Kept) (verdict : Option VerdictValue)
+        → GenuineLog m log
+        → HasGiven m log given before
+        → after.params ≡ before.params
+        → ((state : MediatorState) → Keeps before state → verdict ≡ next_verdict state)
+        → ((state : MediatorState) → Keeps before state → Keeps after (taken state verdict))
+        → IfNone verdict (NothingIsDue m.params log given × HasGiven m log given after) }
+    ensures give_back { (m : Machine) (log : List EntryValue) (given : List ℕ) (before after : Kept) (k : ℕ)
+        → HasGiven m log given before
+        → after.params ≡ before.params
+        → ((state : MediatorState) → Keeps before state → Keeps after (give_back state k))
+        → HasGiven m log (without_place k given) after }
+    ensures rising { (params : Params) (log : List EntryValue) (given : List ℕ) (one next : VerdictValue)
+        → IsFirstDue params log given one
+        → IsFirstDue params log (one.request ∷ given) next
+        → one.request < next.request }
 {}
