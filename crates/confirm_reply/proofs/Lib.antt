@@ -14,4 +14,5 @@ pub mod Checked
 pub mod Checkable
 pub mod FactsAt
 mod Sure
+mod Ready
 mod EachPlace

@@ -1,11 +1,24 @@
 -- What is asked of every action that is opened before a view is checked.
-use Rattle.std.specs.Prelude.{◌≡◌, true}
-use Rattle.ledger_model.specs.Terms.{Action, instance_of}
+use Rattle.std.specs.Prelude.{◌≡◌, ◌≤◌, true, All, Some, length}
+use Rattle.ledger_terms.specs.declared.act.Act.{Act}
+use Rattle.ledger_model.specs.Forest.{acts}
+use Rattle.ledger_model.specs.Opening.{OpenedView}
+use Rattle.ledger_model.specs.Terms.{Action, Path, instance_of}
 use Rattle.lang_eval.specs.Found.{Packages}
 use Rattle.lang_eval.specs.Language.{has_roles}
 use Rattle.wire_form.specs.Spellable.{IsSpellableInstance}
+use Rattle.view_split.specs.Placed.{shown_by}
+use Rattle.view_split.specs.declared.opened_tree.OpenedTree.{OpenedTree}
+use Rattle.confirm_reply.specs.Opened.{view_at}
 
 -- the action has roles, and its contract's id can be told
 pub record IsSure (packages : Packages) (action : Action) : Type 0 where
   pub roles : has_roles packages action ≡ true
   pub spellable : IsSpellableInstance (instance_of action)
+
+-- Every action that is opened is so, and a view with this path is opened, whose core has no more than a verdict can number.
+pub record IsReady (packages : Packages) (tree : OpenedTree) (path : Path) : Type 0 where
+  pub each : All (λ (act : Act). IsSure packages act.action) (acts (shown_by tree).roots)
+  pub view : OpenedView
+  pub opened : view_at path tree ≡ Some view
+  pub few : length view.core ≤ 65536

@@ -1,10 +1,11 @@
 //! Whether views can be checked.
 ghost use Rattle.std.specs.Prelude.{◌≡◌, true, IfOk, IsSome, Some};
+ghost use Rattle.std.specs.Bool.{Decides};
 ghost use Rattle.std.specs.List.{AllByRecursion};
 ghost use Rattle.ledger_terms.specs.declared.act.Act.{Act};
 ghost use Rattle.ledger_model.specs.Opening.{OpenedView};
 ghost use Rattle.view_split.specs.Placed.{shown_by};
-ghost use Rattle.confirm_reply.specs.Sure.{IsSure};
+ghost use Rattle.confirm_reply.specs.Sure.{IsReady, IsSure};
 ghost use Rattle.confirm_reply.specs.Nodes.{acts_of};
 ghost use Rattle.confirm_reply.specs.Opened.{CanBeChecked, view_at};
 
@@ -20,8 +21,9 @@ use wire_form::is_spellable_instance;
 // The most actions of a core that a verdict can number.
 const MOST_CORE_ACTIONS: usize = 65_536;
 
+#[tactic(auto, using(crate::proofs::Ready::sure_by, crate::proofs::Ready::never_sure))]
 fn is_sure(alloc: Global, checked: &Checked, action: &Action) -> Result<bool, AllocError>
-    ensures { IfOk result (λ sure. sure ≡ true → IsSure checked.now action.now) }
+    ensures { IfOk result (λ sure. Decides sure (IsSure checked.now action.now)) }
 {
     match roles(alloc, checked, action) {
         Ok(_) => Ok(is_spellable_instance(action.instance())),
@@ -30,8 +32,9 @@ fn is_sure(alloc: Global, checked: &Checked, action: &Action) -> Result<bool, Al
     }
 }
 
+#[tactic(auto, using(crate::proofs::Ready::first_of))]
 fn are_sure(alloc: Global, checked: &Checked, nodes: &[&ActionNode]) -> Result<bool, AllocError>
-    ensures { IfOk result (λ sure. sure ≡ true → AllByRecursion (λ (act : Act). IsSure checked.now act.action) (acts_of nodes.now)) }
+    ensures { IfOk result (λ sure. Decides sure (AllByRecursion (λ (act : Act). IsSure checked.now act.action) (acts_of nodes.now))) }
 {
     for node in nodes {
         if !is_sure(alloc, checked, &node.root.action)? {
@@ -49,6 +52,7 @@ pub fn can_check(
     tree: &OpenedTree,
     view: &Path,
 ) -> Result<bool, AllocError>
+    ensures decides { IfOk result (λ can. Decides can (IsReady checked.now tree.now view.now)) }
     ensures opened { IfOk result (λ can. can ≡ true → IsSome (view_at view.now tree.now)) }
     ensures checkable { IfOk result (λ can. can ≡ true → (opened : OpenedView) → view_at view.now tree.now ≡ Some opened
         → CanBeChecked checked.now (shown_by tree.now) opened) }
