@@ -2,6 +2,7 @@ pub mod Hosts
 pub mod Recipients
 pub mod Trees
 pub mod Opens
+pub mod Envelopes
 pub mod Conforming
 pub mod Deciding
 pub mod RangeDecided

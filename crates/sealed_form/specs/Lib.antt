@@ -1,4 +1,5 @@
 pub mod SealedForm
+pub mod Envelopes
 pub mod RangeTests
 pub mod SealedTest
 pub mod SealedReading

@@ -1,10 +1,10 @@
 //! The laws of the sealed form, as the clauses of functions that do nothing.
-ghost use Rattle.std.specs.Prelude.{◌≡◌, ℕ, Bool, true, List, Some, Contains, ◌≤◌, [], Ok, length, nat_eq};
+ghost use Rattle.std.specs.Prelude.{◌≡◌, ℕ, Bool, true, false, List, Some, None, IsSome, Contains, ◌≤◌, [], Ok, length, nat_eq, option_map, if◌then◌else◌};
 ghost use Rattle.std.specs.Bool.{Decides};
 ghost use Rattle.ledger_terms.specs.declared.act.Act.{Act};
 ghost use Rattle.ledger_terms.specs.Trees.{Actions};
 ghost use Rattle.ledger_terms.specs.Forest.{Forest, below_at};
-ghost use Rattle.ledger_model.specs.Terms.{Name, ParticipantId};
+ghost use Rattle.ledger_model.specs.Terms.{Name, ParticipantId, Path};
 ghost use Rattle.ledger_model.specs.Opening.{seen_paths, shown_of, Transaction, Shown, confirming_of};
 ghost use Rattle.ledger_model.specs.Forest.{acts, ledger_acts};
 ghost use Rattle.canton_model.specs.Reading.{Reading};
@@ -42,9 +42,13 @@ ghost use Rattle.lang_eval.specs.Language.{has_roles, roles_in};
 ghost use Rattle.view_split.specs.Faults.{views_of_tx};
 ghost use Rattle.view_split.specs.declared.views.Views.{Views};
 ghost use Rattle.blind_tree.specs.Limits.{KeepLimits};
+ghost use Rattle.blind_tree.specs.LeafBytes.{core_bytes};
 ghost use Rattle.blind_tree.specs.ShownViews.{contents_shown};
+ghost use Rattle.blind_tree.specs.declared.tree.Tree.{Tree};
+ghost use Rattle.sealed_form.specs.Envelopes.{contents_at, sees_at, view_at};
 ghost use Rattle.sealed_form.specs.Collisions.{AreSealed, Collides};
-ghost use Rattle.sealed_form.specs.SealedForm.{CanBeSealed, IsSealedForm, Whole, confirming_by, request_of, roles_by, tree_for, views_by, whole_of};
+ghost use Rattle.sealed_form.specs.SealedForm.{CanBeSealed, IsSealedForm, Whole, confirming_by, envelope_to, request_of, roles_by, tree_for, tree_in};
+ghost use Rattle.sealed_form.specs.SealedForm.{views_by, whole_of};
 ghost use Rattle.sealed_form.specs.SealedTest.{is_sealed_form};
 ghost use Rattle.sealed_form.specs.SealedReading.{sealed_reading};
 
@@ -72,6 +76,19 @@ pub fn trees_show_the_contents_of_what_is_seen()
         → CanBeSealed topology packages sender whole
         → contents_shown [] 0 (tree_for topology packages sender whole.sender whole.salts whole.transaction p).views ≡ seen_paths (roles_by packages)
         (hosts_at topology.hosts p) (whole.transaction).roots }
+{}
+
+/// The envelope of a sealed request to a participant shows the contents of exactly those views of which the participant hosts an
+/// informee, or an informee of a view above. Of every other view it holds at most a hash of them. Who sees a view gets an envelope.
+pub fn envelopes_show_the_contents_of_what_is_seen()
+    ensures read { (topology : Topology) (packages : Packages) (request : Request) (sealed : IsSealedForm topology packages request) (p : ℕ) (bytes : List ℕ)
+        → envelope_to p request.envelopes ≡ Some bytes → IsSome (tree_in bytes) }
+    ensures shown { (topology : Topology) (packages : Packages) (request : Request) (sealed : IsSealedForm topology packages request) (p : ℕ) (bytes : List ℕ)
+        (tree : Tree) (path : Path) → envelope_to p request.envelopes ≡ Some bytes → tree_in bytes ≡ Some tree
+        → contents_at path tree.views ≡ (if sees_at (hosts_at topology.hosts p) path (views_by packages (sealed.whole).transaction)
+        then option_map core_bytes (view_at path (views_by packages (sealed.whole).transaction)) else None) }
+    ensures none { (topology : Topology) (packages : Packages) (request : Request) (sealed : IsSealedForm topology packages request) (p : ℕ) (path : Path)
+        → envelope_to p request.envelopes ≡ None → sees_at (hosts_at topology.hosts p) path (views_by packages (sealed.whole).transaction) ≡ false }
 {}
 
 /// A request that is sealed in form is sealed to the laws of the ledger.
