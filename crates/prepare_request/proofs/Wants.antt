@@ -36,7 +36,7 @@ use Rattle.prepare_request.specs.Causes.{AreWantedBy, HasCause, HostsRequesters,
 use Rattle.prepare_request.specs.Prepared.{actions_for, actions_of, first_unhosted, prepared, request_for, seed_for, sealed_if_split, time_or}
 use Rattle.prepare_request.specs.Prepared.{tx_for, tx_where_wanted, unless_unhosted, where_split}
 use Rattle.prepare_request.specs.declared.submit_fault.SubmitFault.{SubmitFault}
-use Rattle.prepare_request.specs.declared.submit_fault.SubmitFault.TheVariants.{NotHosted, Command, Split}
+use Rattle.prepare_request.specs.declared.submit_fault.SubmitFault.TheVariants.{NotHosted, Command, Split, Paused, Duplicate, LogFull, Memory}
 
 -- ---- the actions
 
@@ -54,6 +54,11 @@ given_stops : (packages : Packages) (known : List Known) (seed : Hash) (act_as :
     → actions_of packages known seed act_as w ≡ Err fault → StopsBy packages known seed act_as w fault
 given_stops packages known seed act_as (Commands cs) fault e = commands.given_stops packages known seed act_as cs fault e
 given_stops packages known seed act_as (Prepared borrowed ds) fault e = drafts.given_stops known seed ds fault e
+
+stops_given : (packages : Packages) (known : List Known) (seed : Hash) (act_as : PartyNames) (w : What) (fault : CommandFault)
+    → StopsBy packages known seed act_as w fault → actions_of packages known seed act_as w ≡ Err fault
+stops_given packages known seed act_as (Commands cs) fault h = commands.stop_is_given packages known seed act_as cs fault h
+stops_given packages known seed act_as (Prepared borrowed ds) fault h = drafts.stop_is_given known seed ds fault h
 
 -- ---- the requesters
 
@@ -196,3 +201,23 @@ module _ (topology : Topology) (packages : Packages) (me : ℕ) (known : List Kn
           → answer o (actions_for topology packages me known what) ≡ Err fault → Cause fault
       by_host None u h = by_actions (actions_for topology packages me known what) u refl h
       by_host (Some party) u h = let is : NotHosted party ≡ fault = cc in subst Cause is u
+
+  unhosted_answer : (o : Option (List ℕ)) → first_unhosted topology me what.act_as ≡ o
+      → prepared topology packages me known what now ≡ answer o (actions_for topology packages me known what)
+  unhosted_answer o e = ap (λ (o : Option (List ℕ)). answer o (actions_for topology packages me known what)) e
+
+  hosted_answer : (r : Result Actions CommandFault) → HostsRequesters topology me what → actions_for topology packages me known what ≡ r
+      → prepared topology packages me known what now ≡ answer None r
+  hosted_answer r hosted e = unhosted_answer None (none_unhosted topology me what hosted) ∙ ap (answer None) e
+
+  pub refused : (fault : SubmitFault) → HasCause topology packages me known what now fault → prepared topology packages me known what now ≡ Err fault
+  refused (NotHosted party) h = unhosted_answer (Some party) h
+  refused (Command f) h = hosted_answer (Err f) h.0 (stops_given packages known seed what.act_as what.what f h.1)
+  refused (Split f) h =
+      let u = h.1 in
+      hosted_answer (Ok u.roots) h.0 (wanted_given packages known seed what.act_as what.what u.roots u.wanted)
+      ∙ ap (λ (v : Result Views SplitFault). where_split v (request_for topology packages me what.command (tx u.roots))) u.no_roles
+  refused Paused h = absurd h
+  refused (Duplicate place) h = absurd h
+  refused (LogFull reserved need) h = absurd h
+  refused Memory h = absurd h

@@ -46,6 +46,14 @@ pub fn faults_have_causes()
         → HasCause topology packages me known what now fault }
 {}
 
+/// A submission that has the cause of a fault is refused with that fault. So a fault is given exactly where its cause is the first
+/// that holds.
+pub fn causes_are_given()
+    ensures { (topology : Topology) (packages : Packages) (me : ℕ) (known : List Known) (what : Submission) (now : ℕ) (fault : SubmitFault)
+        → HasCause topology packages me known what now fault
+        → prepared topology packages me known what now ≡ Err fault }
+{}
+
 /// Where the wanted transaction can be sealed its request is sealed, and is read back as that transaction.
 pub fn prepared_requests_are_sealed()
     ensures whole { (topology : Topology) (packages : Packages) (me : ℕ) (known : List Known) (what : Submission) (now : ℕ) (roots : Actions)
