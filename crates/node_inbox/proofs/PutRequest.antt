@@ -90,7 +90,14 @@ module _ (topology : Topology) (packages : Packages) (me : ParticipantId) (old :
 
     kept_is : IsKept topology packages me (model_items old ++ x ∷ []) (length old) (kept_with coming.kept mid.store)
     kept_is = record {
-      came = comes.came;
+      came = record {
+        request = comes.came.request;
+        is_sealed = comes.came.is_sealed;
+        is_to = comes.came.is_to;
+        root_is = comes.came.root_is;
+        sender_is = comes.came.sender_is;
+        command_is = comes.came.command_is;
+      };
       changes = comes.parts.changes_are;
       views = comes.views;
       facts = all_mapped (IsFactAt reading topology.params (model_items old ++ x ∷ []) (length old)) (fact_in mid.store) (coming.kept).facts fact_is;

@@ -28,7 +28,7 @@ pub record AreParts (tree : OpenedTree) (facts : List IdFacts) (changes : List C
 
 -- a request that comes
 pub record IsComing (topology : Topology) (packages : Packages) (me : ParticipantId) (coming : ComingRequest) : Type 0 where
-  pub came : Came topology packages me (coming.kept).tree
+  pub came : Came topology packages me coming.kept
   pub views : (coming.kept).views ≡ confirmed_paths topology me (coming.kept).tree
   pub parts : AreParts (coming.kept).tree (coming.kept).facts ((coming.kept).changes).items
   pub ids : coming.ids ≡ map id_in ((coming.kept).changes).items

@@ -1,5 +1,6 @@
 -- What the items of an inbox keep beside what came.
-use Rattle.std.specs.Prelude.{◌≡◌, ℕ, suc, true, All, List, Option, Some, None, filter, map, slice_get, take}
+use Rattle.std.specs.Prelude.{◌≡◌, ℕ, suc, true, All, List, Option, Some, None, filter, map, option_and_then, option_map, slice_get, take}
+use Rattle.sha2.specs.Sha256.{sha256}
 use Rattle.ledger_terms.specs.declared.act.Act.{Act}
 use Rattle.ledger_terms.specs.declared.topology.Topology.{Topology}
 use Rattle.ledger_model.specs.Forest.{acts}
@@ -12,7 +13,8 @@ use Rattle.lang_eval.specs.Found.{Packages}
 use Rattle.interpret.specs.Ids.{is_authentic}
 use Rattle.view_split.specs.Placed.{shown_by}
 use Rattle.view_split.specs.declared.opened_tree.OpenedTree.{OpenedTree}
-use Rattle.sealed_form.specs.SealedForm.{opened_to}
+use Rattle.blind_tree.specs.TreeHashes.{hash_of_root}
+use Rattle.sealed_form.specs.SealedForm.{envelope_to, opened_to, tree_in}
 use Rattle.sealed_form.specs.SealedReading.{sealed_reading}
 use Rattle.inbox_standing.specs.ChangeLists.{changes_of}
 use Rattle.inbox_standing.specs.Order.{IsInOrder}
@@ -38,16 +40,24 @@ opened_ids tree = map (λ (act : Act). id_of act.action) (acts (shown_by tree).r
 abbrev pub opened_changes : OpenedTree → List Change
 opened_changes tree = changes_of (filter is_authentic (acts (shown_by tree).roots))
 
--- A tree that the envelope of a sealed request to the participant opens.
-pub record Came (topology : Topology) (packages : Packages) (me : ParticipantId) (tree : OpenedTree) : Type 0 where
+-- the hash of the tree that a request's envelope to a participant spells
+abbrev pub root_to : ParticipantId → Request → Option Hash
+root_to p request = option_map (hash_of_root sha256) (option_and_then tree_in (envelope_to p request.envelopes))
+
+-- A sealed request came of which this is kept: what its envelope to the participant opens, the hash of the tree there, its sender and
+-- its command.
+pub record Came (topology : Topology) (packages : Packages) (me : ParticipantId) (kept : KeptRequest) : Type 0 where
   pub request : Request
   pub is_sealed : (sealed_reading topology packages).is_sealed request ≡ true
-  pub is_to : opened_to me request ≡ Some tree
+  pub is_to : opened_to me request ≡ Some kept.tree
+  pub root_is : root_to me request ≡ Some kept.root
+  pub sender_is : kept.sender ≡ request.sender
+  pub command_is : kept.command ≡ request.command
 
--- A request at place k of an inbox that ends with it: its tree came in an envelope, the changes are those in it, the paths are those
--- of the views that the participant confirms, and the facts say of each contract in it what the inbox says.
+-- A request at place k of an inbox that ends with it: it came, the changes are those in its tree, the paths are those of the views that
+-- the participant confirms, and the facts say of each contract in it what the inbox says.
 pub record IsKept (topology : Topology) (packages : Packages) (me : ParticipantId) (items : List Item) (k : ℕ) (kept : KeptRequest) : Type 0 where
-  pub came : Came topology packages me kept.tree
+  pub came : Came topology packages me kept
   pub changes : (kept.changes).items ≡ opened_changes kept.tree
   pub views : kept.views ≡ confirmed_paths topology me kept.tree
   pub facts : All (IsFactAt (sealed_reading topology packages) topology.params items k) kept.facts

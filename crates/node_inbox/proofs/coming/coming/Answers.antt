@@ -1,6 +1,6 @@
-use Rattle.std.proofs.Common.{sym, ap, ◌∙◌}
+use Rattle.std.proofs.Common.{refl, sym, ap, ◌∙◌}
 use Rattle.std.specs.Prelude.{option_copied}
-use Rattle.node_inbox.proofs.Came.{coming_is, is_opened_to}
+use Rattle.node_inbox.proofs.Came.{coming_is, is_opened_to, is_root_to}
 use Rattle.node_inbox.proofs.coming.coming.Goals as goal
 
 pub returns-clause-shown : goal.returns-clause-shown
@@ -17,4 +17,9 @@ returns-clause-some c =
     (rw (c.as_slice.ensures) at (sym c.envelope_to.ensures ∙ ap option_copied c.in-Some.is))
     (rw (c.as_slice-2.ensures) at (sym c.in_ok-tree.ensures.exact ∙ c.in-Some-2.is))
     (sym c.in_ok-opened.ensures.exact ∙ c.in-Some-3.is))
+    (is_root_to c.args.me c.args.request.now c.in-Some.envelope.now c.in-Some-2.tree c.in_ok-root.root
+    (rw (c.as_slice.ensures) at (sym c.envelope_to.ensures ∙ ap option_copied c.in-Some.is))
+    (rw (c.as_slice-2.ensures) at (sym c.in_ok-tree.ensures.exact ∙ c.in-Some-2.is))
+    c.in_ok-root.ensures)
+    refl refl
     c.in_ok-views.ensures c.in_ok-facts.ensures (rw (c.as_slice-3.ensures.value) at c.in_ok-ids.ensures))
