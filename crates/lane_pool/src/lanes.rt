@@ -1,46 +1,64 @@
 //! Lanes side by side.
-ghost use Rattle.std.specs.Prelude.{◌≡◌, ℕ, ◌+◌, ◌^◌, ◌<◌, OnErr, Ok};
+ghost use Rattle.std.specs.Prelude.{◌≡◌, ◌+◌, ◌^◌, ◌<◌, OnErr, OnOk, Ok};
+ghost use Rattle.lane_pool.specs.Turns.{EachTurn, SomeTurn};
 ghost use denote.Param.Send.{IsSync};
 
 use crate::lane::Lane;
-use once_cell::race::OnceBool;
+use crate::stop::{Cause, Stop};
 use std::alloc::AllocError;
+use std::marker::Brand;
 use std::sync::Wait;
 use std::thread::{Threads, join};
 
-/// Gives each of the lanes 0 to `lanes - 1` at most `turns` turns, side by side, and fewer once a turn of any lane has
-/// answered Err. All lanes have ended when it returns. It takes no memory of its own; where a thread can't be started,
-/// its lanes run in the caller's.
+/// Gives each of the lanes 0 to `lanes - 1` the turns 0 to `turns - 1`, side by side, and fewer once a turn of any lane has
+/// answered Err. All lanes have ended when it returns. It takes no memory of its own; where a thread can't be started, its lanes
+/// run in the caller's.
 pub fn run_lanes<R: Threads + Wait + Sync, L: Lane>(
     rt: &R,
     lanes: u32,
     turns: u64,
     work: &L,
 ) -> Result<(), AllocError>
-    ensures failed { OnErr result ((lane : ℕ) × (lane < lanes) × L.may_fail work.now lane) }
+    ensures failed { OnErr result (SomeTurn 0 lanes turns (L.may_fail work.now)) }
+    ensures taken { OnOk result (EachTurn 0 lanes turns (L.was_taken work.now)) }
     ensures none { turns ≡ 0 → result ≡ Ok tt }
+{
+    run_until::<Brand, R, L>(rt, lanes, turns, work)
+}
+
+// The same, where what may fail is a cause to stop.
+fn run_until<C: Cause, R: Threads + Sync, L: Lane>(
+    rt: &R,
+    lanes: u32,
+    turns: u64,
+    work: &L,
+) -> Result<(), AllocError>
+    requires cause { SomeTurn 0 lanes turns (L.may_fail work.now) → C.holds }
+    ensures failed { OnErr result C.holds }
+    ensures taken { OnOk result (EachTurn 0 lanes turns (L.was_taken work.now)) }
 {
     if lanes == 0 {
         return Ok(());
     }
-    let stop = OnceBool::new();
+    let stop = Stop::<C>::new();
     lanes_from(rt, 0, lanes, turns, work, &stop)
 }
 
 #[cycle(lanes)]
 // The lanes are halved at each step, and one half goes to a thread of its own.
-fn lanes_from<R: Threads + Sync, L: Lane>(
+fn lanes_from<C: Cause, R: Threads + Sync, L: Lane>(
     rt: &R,
     from: u32,
     count: u32,
     turns: u64,
     work: &L,
-    stop: &OnceBool,
+    stop: &Stop<C>,
 ) -> Result<(), AllocError>
     requires some { 0 < count }
     requires room { from + count < 2 ^ 32 }
-    ensures failed { OnErr result ((lane : ℕ) × (lane < from + count) × L.may_fail work.now lane) }
-    ensures none { turns ≡ 0 → result ≡ Ok tt }
+    requires cause { SomeTurn from (from + count) turns (L.may_fail work.now) → C.holds }
+    ensures failed { OnErr result C.holds }
+    ensures taken { OnOk result (EachTurn from (from + count) turns (L.was_taken work.now)) }
 {
     if count == 1 {
         return take_turns(from, turns, work, stop);
@@ -51,12 +69,12 @@ fn lanes_from<R: Threads + Sync, L: Lane>(
     let (a, b) = join(
         rt,
         || -> Result<(), AllocError>
-            requires { IsSync R.row × (0 < low) × (from + low < 2 ^ 32) }
-            ensures { OnErr result ((lane : ℕ) × (lane < from + low) × L.may_fail work.entry.now lane) × (turns ≡ 0 → result ≡ Ok tt) }
+            requires { IsSync R.row × (0 < low) × (from + low < 2 ^ 32) × (SomeTurn from (from + low) turns (L.may_fail work.now) → C.holds) }
+            ensures { OnErr result C.holds × OnOk result (EachTurn from (from + low) turns (L.was_taken work.entry.now)) }
         { lanes_from(rt, from, low, turns, work, stop) },
         || -> Result<(), AllocError>
-            requires { IsSync R.row × (0 < high) × (up + high < 2 ^ 32) }
-            ensures { OnErr result ((lane : ℕ) × (lane < up + high) × L.may_fail work.entry.now lane) × (turns ≡ 0 → result ≡ Ok tt) }
+            requires { IsSync R.row × (0 < high) × (up + high < 2 ^ 32) × (SomeTurn up (up + high) turns (L.may_fail work.now) → C.holds) }
+            ensures { OnErr result C.holds × OnOk result (EachTurn up (up + high) turns (L.was_taken work.entry.now)) }
         { lanes_from(rt, up, high, turns, work, stop) },
     );
     a?;
@@ -64,16 +82,22 @@ fn lanes_from<R: Threads + Sync, L: Lane>(
 }
 
 // The turns of one lane, until one answers Err or the flag is set.
-fn take_turns<L: Lane>(lane: u32, turns: u64, work: &L, stop: &OnceBool) -> Result<(), AllocError>
-    ensures failed { OnErr result (L.may_fail work.now lane) }
-    ensures none { turns ≡ 0 → result ≡ Ok tt }
+fn take_turns<C: Cause, L: Lane>(
+    lane: u32,
+    turns: u64,
+    work: &L,
+    stop: &Stop<C>,
+) -> Result<(), AllocError>
+    requires cause { SomeTurn lane (lane + 1) turns (L.may_fail work.now) → C.holds }
+    ensures failed { OnErr result C.holds }
+    ensures taken { OnOk result (EachTurn lane (lane + 1) turns (L.was_taken work.now)) }
 {
-    for _ in 0..turns {
-        if stop.get().is_some() {
-            return Ok(());
+    'turns: for turn in 0..turns {
+        if stop.is_set() {
+            return Err(AllocError);
         }
-        if let Err(lack) = work.turn(lane) {
-            let _ = stop.set(true);
+        if let Err(lack) = work.turn(lane, turn) {
+            stop.set();
             return Err(lack);
         }
     }

@@ -4,6 +4,7 @@
 mod gate;
 mod lane;
 mod lanes;
+mod stop;
 
 pub use gate::{FreeGate, Gate};
 pub use lane::Lane;

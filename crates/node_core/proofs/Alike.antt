@@ -1,5 +1,5 @@
 -- What is said of participants in general.
-use Rattle.std.proofs.Common.{◌≡◌, ◌<◌, ℕ, suc, ◌+◌, Bool, true, List, [], ◌∷◌, ◌++◌, length, Some, sym, ap, ◌∙◌, subst, arith}
+use Rattle.std.proofs.Common.{◌≡◌, ◌<◌, ℕ, suc, ◌+◌, Bool, true, false, List, [], ◌∷◌, ◌++◌, length, Option, Some, sym, ap, ◌∙◌, subst, arith}
 use Rattle.canton_model.specs.Checks.{verdicts_owed}
 use Rattle.std.proofs.lemmas.List.{length-append, take-append-le}
 use Rattle.ledger_terms.specs.declared.topology.Topology.{Topology}
@@ -12,7 +12,7 @@ use Rattle.lang_eval.specs.Found.{Packages}
 use Rattle.world_model.specs.Machine.{Machine, GenuineLog}
 use Rattle.world_model.specs.Messages.{Entry, Response}
 use Rattle.world_model.specs.Lawful.{NodeHas}
-use Rattle.world_model.specs.Node.{claim, finish, is_claimable, owes_at, read_entry, response_at}
+use Rattle.world_model.specs.Node.{claim, finish, is_claimable, outbox_head, owes_at, read_entry, response_at}
 use Rattle.world_model.proofs.NodeFacts.{first_from_is, inbox_length}
 use Rattle.world_model.proofs.Steps.{has_claim, has_finish, has_read}
 use Rattle.lang_eval.specs.Named.{AreKnown}
@@ -23,29 +23,40 @@ use Rattle.sealed_form.specs.Within.{is_hosted}
 use Rattle.node_core.specs.Preparing.{offered, offered_by}
 use Rattle.node_core.proofs.OfferedNames.{offers_named}
 use Rattle.node_core.specs.Answers.{Answers, AreAlike, IsOf, answers_of}
-use Rattle.node_core.specs.Participant.{CanRead, Participant, items_of, next_place, owed_there, owes_there, params_of, reading_of, response_there, with_state}
+use Rattle.node_core.specs.Participant.{CanRead, Participant, items_of, next_place, next_response, owed_there, owes_there, params_of, reading_of}
+use Rattle.node_core.specs.Participant.{response_there, with_state}
 use Rattle.node_core.proofs.Growth.{owes_within}
 use Rattle.node_core.proofs.LogEnds.{front_of}
 
 -- the answers, by the parts that they rest on
-abbrev answers_by : Topology → Packages → ParticipantId → List Item → (claimed : List ℕ) → List Response → Bool → Answers
-answers_by topology packages me items claimed outbox is_paused =
+abbrev answers_by : Topology → Packages → ParticipantId → List Item → (claimed : List ℕ) → Bool → Answers
+answers_by topology packages me items claimed is_paused =
     answers_of (record {
       topology = topology;
       packages = packages;
       me = me;
-      state = record { items = items; is_paused = is_paused; claimed = claimed; unfinished = []; outbox = outbox };
+      state = record { items = items; is_paused = is_paused; claimed = claimed; unfinished = []; outbox = [] };
     })
 
 pub alike : (a b : Participant) → AreAlike a b → answers_of a ≡ answers_of b
 alike a b is =
-    ap (λ (t : Topology). answers_by t a.packages a.me (items_of a) a.state.claimed a.state.outbox a.state.is_paused) is.topology
-    ∙ (ap (λ (ps : Packages). answers_by b.topology ps a.me (items_of a) a.state.claimed a.state.outbox a.state.is_paused) is.packages
-    ∙ (ap (λ (me : ParticipantId). answers_by b.topology b.packages me (items_of a) a.state.claimed a.state.outbox a.state.is_paused) is.me
-    ∙ (ap (λ (items : List Item). answers_by b.topology b.packages b.me items a.state.claimed a.state.outbox a.state.is_paused) is.items
-    ∙ (ap (λ (ks : List ℕ). answers_by b.topology b.packages b.me (items_of b) ks a.state.outbox a.state.is_paused) is.claimed
-    ∙ (ap (λ (rs : List Response). answers_by b.topology b.packages b.me (items_of b) b.state.claimed rs a.state.is_paused) is.outbox
-    ∙ ap (answers_by b.topology b.packages b.me (items_of b) b.state.claimed b.state.outbox) is.is_paused)))))
+    ap (λ (t : Topology). answers_by t a.packages a.me (items_of a) a.state.claimed a.state.is_paused) is.topology
+    ∙ (ap (λ (ps : Packages). answers_by b.topology ps a.me (items_of a) a.state.claimed a.state.is_paused) is.packages
+    ∙ (ap (λ (me : ParticipantId). answers_by b.topology b.packages me (items_of a) a.state.claimed a.state.is_paused) is.me
+    ∙ (ap (λ (items : List Item). answers_by b.topology b.packages b.me items a.state.claimed a.state.is_paused) is.items
+    ∙ (ap (λ (ks : List ℕ). answers_by b.topology b.packages b.me (items_of b) ks a.state.is_paused) is.claimed
+    ∙ ap (answers_by b.topology b.packages b.me (items_of b) b.state.claimed) is.is_paused))))
+
+-- the next response, by the parts that it rests on
+abbrev sends_by : Params → List Item → List Response → Option Response
+sends_by params items outbox =
+    outbox_head params (record { items = items; is_paused = false; claimed = []; unfinished = []; outbox = outbox })
+
+pub alike_next : (a b : Participant) → AreAlike a b → a.state.outbox ≡ b.state.outbox → next_response a ≡ next_response b
+alike_next a b is outbox =
+    ap (λ (t : Topology). sends_by t.params (items_of a) a.state.outbox) is.topology
+    ∙ (ap (λ (items : List Item). sends_by (params_of b) items a.state.outbox) is.items
+    ∙ ap (sends_by (params_of b) (items_of b)) outbox)
 
 pub can_read : (m : Machine) (p : Participant) (before : List Entry) (entry : Entry) → IsOf m p → NodeHas m p.me before p.state
     → GenuineLog m (before ++ entry ∷ []) → CanRead p (before ++ entry ∷ [])

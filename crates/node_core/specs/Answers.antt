@@ -1,4 +1,4 @@
--- What a participant answers, as one value.
+-- What a participant answers that doesn't hang on its outbox nor on its unfinished jobs, as one value.
 use Rattle.std.specs.Prelude.{◌≡◌, ℕ, Bool, List, Option, Result, length}
 use Rattle.ledger_terms.specs.declared.submission.Submission.{Submission}
 use Rattle.ledger_model.specs.Terms.{ActiveRow}
@@ -6,11 +6,11 @@ use Rattle.ledger_model.specs.declared.commit.Commit.{Commit}
 use Rattle.canton_model.specs.Inbox.{clean, clean_time, node_active, node_log, outcome_in}
 use Rattle.canton_model.specs.Timeline.{Outcome}
 use Rattle.world_model.specs.Machine.{Machine}
-use Rattle.world_model.specs.Messages.{Request, Response, ViewVerdict}
+use Rattle.world_model.specs.Messages.{Request, ViewVerdict}
 use Rattle.node_inbox.specs.InboxState.{decided_since}
 use Rattle.prepare_request.specs.declared.submit_fault.SubmitFault.{SubmitFault}
 use Rattle.node_core.specs.Preparing.{prepare_answer}
-use Rattle.node_core.specs.Participant.{Participant, is_decided_there, items_of, next_place, next_response, owed_there, owes_there, params_of, reading_of}
+use Rattle.node_core.specs.Participant.{Participant, is_decided_there, items_of, next_place, owed_there, owes_there, params_of, reading_of}
 
 pub record Answers : Type 0 where
   pub cursor : ℕ
@@ -24,7 +24,6 @@ pub record Answers : Type 0 where
   pub owed : (k : ℕ) → List ViewVerdict
   pub is_decided : (k : ℕ) → Bool
   pub decided_since : (k : ℕ) → ℕ
-  pub next_response : Option Response
   pub outcome : (k : ℕ) → Outcome
   pub prepare : Submission → (now : ℕ) → Result Request SubmitFault
 
@@ -42,19 +41,17 @@ answers_of p =
       owed = owed_there p;
       is_decided = is_decided_there p;
       decided_since = decided_since (params_of p) (items_of p);
-      next_response = next_response p;
       outcome = outcome_in (params_of p) (items_of p);
       prepare = prepare_answer p;
     }
 
--- Two participants are one, over one setup, with equal inboxes, claims, outboxes and flags.
+-- Two participants are one, over one setup, with equal inboxes, claims and flags.
 pub record AreAlike (a b : Participant) : Type 0 where
   pub topology : a.topology ≡ b.topology
   pub packages : a.packages ≡ b.packages
   pub me : a.me ≡ b.me
   pub items : items_of a ≡ items_of b
   pub claimed : a.state.claimed ≡ b.state.claimed
-  pub outbox : a.state.outbox ≡ b.state.outbox
   pub is_paused : a.state.is_paused ≡ b.state.is_paused
 
 -- it reads requests as the machine does, and has its times

@@ -5,4 +5,5 @@ pub mod Completion
 pub mod Kept
 pub mod Answers
 pub mod Preparing
+pub mod Machines
 pub mod Views

@@ -4,18 +4,23 @@ ghost use Rattle.world_model.specs.Messages.{Entry};
 ghost use Rattle.world_model.specs.Machine.{Machine, GenuineLog};
 ghost use Rattle.world_model.specs.Node.{claim, finish, put_back, read_entry, sent, with_flag};
 ghost use Rattle.world_model.specs.Lawful.{NodeHas};
+ghost use Rattle.world_model.specs.Places.{has_place};
 ghost use Rattle.lang_eval.specs.Named.{AreKnown};
 ghost use Rattle.interpret.specs.NamedParties.{parties_in_contracts};
 ghost use Rattle.sealed_form.specs.Within.{is_hosted};
 ghost use Rattle.node_inbox.specs.InboxState.{decided_since};
 ghost use Rattle.node_core.specs.Answers.{AreAlike, IsOf, answers_of};
-ghost use Rattle.node_core.specs.Participant.{CanRead, IsDecidedSince, Participant, is_decided_there, items_of, next_place, owed_there, owes_there};
-ghost use Rattle.node_core.specs.Participant.{params_of, reading_of, response_there, with_state};
+ghost use Rattle.node_core.specs.Participant.{CanRead, IsDecidedSince, Participant, is_decided_there, items_of, next_place, next_response};
+ghost use Rattle.node_core.specs.Participant.{owed_there, owes_there, params_of, reading_of, response_there, with_state};
 ghost use Rattle.node_core.specs.Preparing.{offered_by};
 
-/// Two nodes of one participant and setup with equal inboxes, claims, outboxes and flags answer alike, whatever else the logs hold.
+/// Two nodes of one participant and setup with equal inboxes, claims and flags answer alike, whatever else the logs hold; with equal
+/// outboxes they send the same, too, and what is unfinished hangs on the unfinished jobs alone.
 pub fn nodes_answer_alike()
-    ensures { (a b : Participant) → AreAlike a b → answers_of a ≡ answers_of b }
+    ensures answers { (a b : Participant) → AreAlike a b → answers_of a ≡ answers_of b }
+    ensures sends { (a b : Participant) → AreAlike a b → a.state.outbox ≡ b.state.outbox → next_response a ≡ next_response b }
+    ensures unfinished { (a b : Participant) (k : ℕ) → a.state.unfinished ≡ b.state.unfinished
+        → has_place a.state.unfinished k ≡ has_place b.state.unfinished k }
 {}
 
 /// What a participant has over the entries that it has read is kept by each of its calls, and lets it read the next entry of a

@@ -1,6 +1,6 @@
 -- What all clients of a round brought, put together.
-use Rattle.std.proofs.Common.{◌≡◌, ℕ, zero, suc, ◌+◌, ◌<◌, List, [], ◌∷◌, length, map, Some, Result, Ok, Err, refl, sym, ap, ◌∙◌, subst, arith}
-use Rattle.std.specs.Prelude.{All, IfOk, slice_get, slice_index_or, sum_by}
+use Rattle.std.proofs.Common.{◌≡◌, ℕ, zero, suc, ◌+◌, ◌<◌, List, [], ◌∷◌, length, map, Some, refl, sym, ap, ◌∙◌, subst, arith}
+use Rattle.std.specs.Prelude.{All, slice_get, slice_index_or, sum_by}
 use Rattle.std.proofs.lemmas.List.{length-map}
 use Rattle.std.proofs.lemmas.List.Sums.{sum_by-cons}
 use Rattle.std.proofs.lemmas.Option.{get_or_from_slice_get, slice_get_within}
@@ -21,31 +21,12 @@ use Rattle.world_play.specs.Results.{IsPlainResult, results_of}
 use Rattle.world_play.proofs.Passing.{item_at}
 use Rattle.world_play.proofs.Plays.{each_of}
 use Rattle.sync_shared.specs.Clients.{Seen}
-use Rattle.shared_rounds.specs.declared.served.Served.{Served}
+use Rattle.client_threads.specs.declared.served.Served.{Served}
 use Rattle.shared_rounds.specs.Joined.{AreAnswered}
 use Rattle.shared_rounds.specs.Queues.{queue_at, queued}
 use Rattle.shared_rounds.specs.Retired.{list_seen, results_brought, tickets_brought}
-use Rattle.shared_rounds.specs.Served.{IsServed}
-
-pub at_of_map : {X Y : Type 0} (f : X → Y) (xs : List X) (k : ℕ) (x : X) → slice_get xs k ≡ Some x → slice_get (map f xs) k ≡ Some (f x)
-at_of_map f [] k x e = cc
-at_of_map f (y ∷ xs) zero x e = let same : y ≡ x = cc in ap (λ (z : _). Some (f z)) same
-at_of_map f (y ∷ xs) (suc k) x e = at_of_map f xs k x e
-
-pub of_ok : {T E : Type 0} (result : Result T E) (x : T) (holds : T → Type 0) → result ≡ Ok x → IfOk result holds → holds x
-of_ok {T} {E} result x holds is h = subst (λ (r : Result T E). IfOk r holds) is h
-
--- what holds of each that was brought, where it isn't want of memory, holds of all
-pub each_of_all : {X Y E V : Type 0} (items : V → List Y) (holds : ℕ → X → Y → Type 0) (clients : List X) (brought : List (Result Y E))
-    (all : Result V E)
-    → ((p : ℕ) (c : X) (one : Result Y E) → slice_get clients p ≡ Some c → slice_get brought p ≡ Some one → IfOk one (λ (y : Y). holds p c y))
-    → IfOk all (λ (v : V). map Ok (items v) ≡ brought)
-    → IfOk all (λ (v : V). (p : ℕ) (c : X) (y : Y) → slice_get clients p ≡ Some c → slice_get (items v) p ≡ Some y → holds p c y)
-each_of_all {X} {Y} {E} items holds clients brought (Ok v) each same =
-    λ p c y at there.
-    each p c (Ok y) at
-    (subst (λ (xs : List (Result Y E)). slice_get xs p ≡ Some (Ok y)) same (at_of_map (λ (z : Y). Ok z) (items v) p y there))
-each_of_all items holds clients brought (Err e) each same = tt
+use Rattle.client_threads.specs.Served.{IsServed}
+use Rattle.client_threads.proofs.Brought.{at_of_map}
 
 below_first : (f : ℕ → ℕ) (n : ℕ) → sum_below f (suc n) ≡ f 0 + sum_below (λ p. f (suc p)) n
 below_first f zero = omega arith

@@ -1,8 +1,3 @@
-mod OneAnswer
-mod OwnResults
 mod Gathering
 mod Joining
 mod Queued
-mod Captures
-mod KeptCrossings
-mod Crossings

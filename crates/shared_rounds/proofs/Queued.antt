@@ -15,7 +15,7 @@ use Rattle.world_model.proofs.Steps.{take_next}
 use Rattle.world_model.specs.Rounds as r
 use Rattle.world_play.specs.Results.{IsPlainResult, result_of, results_of}
 use Rattle.shared_rounds.specs.Queues.{AreQueuesOf, queue_at, queued}
-use Rattle.shared_rounds.proofs.OwnResults.{results_more}
+use Rattle.client_threads.proofs.OwnResults.{results_more}
 
 -- So many of the submissions have their results, and the queues have those of the others.
 pub record AreInOrder (submits : List Submission) (first queues : List (List SubmitResult)) (count : ℕ) (results : List SubmitResult) : Type 0 where

@@ -1,7 +1,7 @@
 -- The machine of a synchroniser at hand.
 use Rattle.confirm_reply.specs.declared.setup.Setup.{Setup}
 use Rattle.world_model.specs.Machine.{Machine}
-use Rattle.world_play.specs.Machines.{machine_of}
+use Rattle.node_core.specs.Machines.{machine_of}
 use Rattle.world_play.specs.declared.world.World.{World}
 
 -- of its setup, and with the capacity of its log

@@ -4,8 +4,8 @@ use Rattle.node_core.specs.declared.submit_result.SubmitResult.{SubmitResult}
 use Rattle.world_model.specs.Messages.{Entry}
 use Rattle.log_row.specs.LogPrefix.{RowName}
 use Rattle.sync_shared.specs.Slips.{read_to, InRow}
-use Rattle.shared_rounds.specs.declared.served.Served.{Served}
-use Rattle.shared_rounds.specs.declared.served.Retired.{Retired}
+use Rattle.client_threads.specs.declared.served.Served.{Served}
+use Rattle.shared_rounds.specs.declared.retired.Retired.{Retired}
 
 abbrev pub list_seen : {S : Type 0} → Served S → List Entry
 list_seen served = (served.client).list

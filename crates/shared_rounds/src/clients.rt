@@ -1,11 +1,11 @@
 //! Clients of all participants.
-ghost use Rattle.std.specs.Prelude.{◌≡◌, ◌≤◌, ℕ, Some, Ok, IfOk, OnOk, length, map, slice_get, vec_len};
+ghost use Rattle.std.specs.Prelude.{◌≡◌, ◌≤◌, ℕ, Some, IfOk, OnOk, length, slice_get, vec_len};
 ghost use Rattle.sync_shared.specs.Clients.{Seen};
 
-use crate::served::Served;
 use ledger_terms::ParticipantId;
+use shared_world::Synchroniser;
 use std::alloc::{AllocError, Global};
-use sync_shared::{Client, Session, Synchroniser};
+use sync_shared::{Client, Session};
 
 /// A client for each participant, in their order.
 pub fn clients_of<'r, S: Session>(
@@ -25,18 +25,4 @@ pub fn clients_of<'r, S: Session>(
         clients.push(shared.client(ParticipantId(at as u8)))?;
     }
     Ok(clients)
-}
-
-/// What all clients brought, unless one of them found no memory.
-pub fn all_of<'r, S: Session>(
-    alloc: Global,
-    brought: Vec<Result<Served<'r, S>, AllocError>>,
-) -> Result<Vec<Served<'r, S>>, AllocError>
-    ensures { IfOk result (λ all. map Ok all.items ≡ brought.entry.items) }
-{
-    let mut all = Vec::new(alloc);
-    'brought: for one in brought {
-        all.push(one?)?;
-    }
-    Ok(all)
 }

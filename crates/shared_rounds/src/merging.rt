@@ -8,7 +8,7 @@ ghost use Rattle.world_model.specs.Rounds.{Results};
 ghost use Rattle.world_play.specs.Results.{IsPlainResult, results_of};
 ghost use Rattle.shared_rounds.specs.Queues.{AreQueuesOf, queue_at, queued};
 
-use crate::result_queue::ResultQueue;
+use client_threads::ResultQueue;
 use ledger_terms::{ParticipantId, Submission};
 use node_core::{SubmitResult, SubmitResultList};
 use std::alloc::{AllocError, Global};

@@ -4,12 +4,13 @@ ghost use Rattle.sync_shared.specs.Slips.{read_to, InRow};
 ghost use Rattle.shared_rounds.specs.Retired.{list_seen, results_left, list_left, results_brought, tickets_brought, IsLeftIn};
 ghost use mathlib.Core.List.{IsPrefix};
 
-use crate::result_queue::ResultQueue;
-use crate::served::{Retired, Served};
+use crate::retired::Retired;
+use client_threads::{ResultQueue, Served};
 use log_row::Slip;
 use seq_log::Sequencer;
+use shared_world::Synchroniser;
 use std::alloc::{AllocError, Global};
-use sync_shared::{Session, Synchroniser};
+use sync_shared::Session;
 
 fn retire<'r, S: Session>(shared: &mut Synchroniser<'r, S>, served: Served<'r, S>) -> Retired<'r>
     requires ledger { S.parts ≡ 1025 }

@@ -1,5 +1,5 @@
 //! The submissions of a round, by clients beside lanes.
-ghost use Rattle.std.specs.Prelude.{◌≡◌, ◌<◌, ◌≤◌, ◌^◌, ℕ, All, Some, IfOk, length, slice_get, vec_len};
+ghost use Rattle.std.specs.Prelude.{◌≡◌, ◌<◌, ◌≤◌, ◌^◌, All, IfOk, length};
 ghost use Rattle.ledger_terms.specs.Topologies.{IsValid};
 ghost use Rattle.ledger_terms.specs.declared.submission.Submission.{Submission};
 ghost use Rattle.lang_eval.specs.Named.{AreKnown, parties_in_packages};
@@ -10,42 +10,33 @@ ghost use Rattle.world_model.specs.Mediator.{MediatorState};
 ghost use Rattle.world_model.specs.Rounds.{Round};
 ghost use Rattle.threads_model.specs.Shared.{Joined};
 ghost use Rattle.seq_log.specs.Sequenced.{IsFor};
-ghost use Rattle.world_play.specs.Machines.{why_of};
+ghost use Rattle.node_core.specs.Machines.{why_of};
 ghost use Rattle.world_play.specs.Results.{IsPlainResult, results_of};
 ghost use Rattle.world_play.specs.Standing.{GoesOn};
 ghost use Rattle.world_play.specs.Submitting.{AreSetUp, CanSubmit};
 ghost use Rattle.world_play.specs.WorldOf.{IsWorldOf, world_of};
-ghost use Rattle.sync_shared.specs.Clients.{Seen};
 ghost use Rattle.sync_shared.specs.SetUp.{IsSetUp};
 ghost use Rattle.shared_rounds.specs.Joined.{AreAnswered};
 ghost use Rattle.shared_rounds.specs.Machine.{machine_in};
-ghost use Rattle.shared_rounds.specs.Served.{IsServed};
 
-use crate::clients::{all_of, clients_of};
-use crate::lane_work::LaneWork;
+use crate::clients::clients_of;
 use crate::merging::in_order;
-use crate::result_queue::ResultQueue;
 use crate::retiring::{results_of_each, retire_each};
 use crate::round_input::RoundInput;
-use crate::served::Served;
-use crate::serving::serve_each;
-use crate::workers::Workers;
+use client_threads::{ResultQueue, Workers, serve_beside};
 use confirm_reply::Setup;
-use lane_pool::{Gate, Lane, run_lanes};
+use lane_pool::Gate;
 use ledger_terms::{ParticipantIdList, Submission, SubmissionList};
 use node_core::SubmitResultList;
-use once_cell::race::OnceBool;
+use shared_world::{LEDGER_PARTS, Synchroniser};
 use std::alloc::{AllocError, AllocGlobal};
 use std::marker::Brand;
 use std::random::RandomSource;
 use std::sync::Wait;
 use std::sync::ledger::Blank;
-use std::thread::{Threads, join};
-use sync_shared::{Client, LEDGER_PARTS, Session, Shared, Synchroniser};
+use std::thread::Threads;
+use sync_shared::Session;
 use world_play::World;
-
-/// How many turns each lane takes at most for each submission of a round while clients submit, and how many once they have ended.
-const TURNS_PER_SUBMISSION: u64 = 64;
 
 /// What comes of a round's submissions: the synchroniser then, and the results in the order of the submissions.
 #[derive(Drop)]
@@ -59,85 +50,6 @@ pub struct Answered<'r> {
 struct Gathered<'r> {
     world: World<'r>,
     queues: Vec<ResultQueue>,
-}
-
-// How many turns each lane takes at most beside so many submissions.
-fn turns_beside(submits: usize) -> u64 {
-    TURNS_PER_SUBMISSION.saturating_mul(submits as u64)
-}
-
-// What the lanes do until a flag is set.
-fn work_until<'a, 'r, S: Session + Send + Sync, R: Threads + Wait + Sync, G: Gate + Sync>(
-    workers: &Workers<'a, R, G>,
-    shared: &'a Shared<'r, S>,
-    ended: &'a OnceBool,
-) -> LaneWork<'a, 'r, S, R, G> {
-    LaneWork {
-        rt: workers.rt,
-        gate: workers.gate,
-        shared,
-        lanes: workers.count,
-        ended,
-    }
-}
-
-// The lanes take turns beside the clients, and then some more.
-fn run_beside<R: Threads + Wait + Sync, L: Lane>(
-    rt: &R,
-    lanes: u32,
-    turns: u64,
-    beside: &L,
-    after: &L,
-) -> Result<(), AllocError> {
-    run_lanes(rt, lanes, turns, beside)?;
-    run_lanes(rt, lanes, TURNS_PER_SUBMISSION, after)
-}
-
-// The clients submit beside the lanes, until all have ended.
-fn serve_beside<
-    'r,
-    S: Session + Send + Sync,
-    R: Threads + Wait + Sync + RandomSource + AllocGlobal,
-    G: Gate + Sync,
->(
-    workers: &Workers<'_, R, G>,
-    shared: &Shared<'r, S>,
-    clients: Vec<Client<'r, S>>,
-    submits: &[Submission],
-) -> Result<Vec<Served<'r, S>>, AllocError>
-    requires fresh { All (λ (client : Seen). client.tickets ≡ 0) clients.items }
-    requires named { All (λ (what : Submission). AreKnown (is_hosted S.topology) (parties_in_what what.what)) submits.now }
-    ensures many { IfOk result (λ all. vec_len all ≡ vec_len clients.entry) }
-    ensures each { IfOk result (λ all. (p : ℕ) (client : Seen) (served : _) → slice_get clients.entry.items p ≡ Some client
-        → slice_get all.items p ≡ Some served → IsServed S.machine S.why shared.now.round.time shared.now.round.paused client.list submits.now client.me
-        served.client served.results) }
-{
-    let rt = workers.rt;
-    let alloc = workers.alloc;
-    let lanes = workers.count;
-    let turns = turns_beside(submits.len());
-    let (ended, never) = (OnceBool::new(), OnceBool::new());
-    let beside = work_until(workers, shared, &ended);
-    let after = work_until(workers, shared, &never);
-    let (ran, brought) = join(
-        rt,
-        || run_beside(rt, lanes, turns, &beside, &after),
-        || -> Result<Vec<Result<Served<S>, AllocError>>, AllocError>
-            requires { All (λ (client : Seen). client.tickets ≡ 0) clients.items
-                × All (λ (what : Submission). AreKnown (is_hosted S.topology) (parties_in_what what.what)) submits.now }
-            ensures many { IfOk result (λ all. vec_len all ≡ vec_len clients.entry) }
-            ensures each { IfOk result (λ all. (p : ℕ) (client : Seen) (one : _) → slice_get clients.entry.items p ≡ Some client
-                → slice_get all.items p ≡ Some one
-                → IfOk one (λ served. IsServed S.machine S.why shared.entry.now.round.time shared.entry.now.round.paused client.list submits.entry.now
-                client.me served.client served.results)) }
-        {
-            let all = serve_each(rt, alloc, shared, clients, submits);
-            let _ = ended.set(true);
-            all
-        },
-    );
-    ran?;
-    all_of(alloc, brought?)
 }
 
 // The parts of the synchroniser go behind locks, its clients submit beside the lanes, and the parts come back.

@@ -6,4 +6,4 @@ pub mod Preparing
 pub mod Jobs
 pub mod Mediators
 pub mod Handing
-pub mod Worlds
+pub mod NodeLists

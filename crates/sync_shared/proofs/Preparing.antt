@@ -26,7 +26,7 @@ use Rattle.prepare_request.specs.declared.submit_fault.SubmitFault.TheVariants.{
 use Rattle.node_core.specs.Participant.{Participant as NodeValue, items_of, reading_of}
 use Rattle.node_core.specs.Preparing.{offered_by, prepare_answer}
 use Rattle.node_core.proofs.Alike.{offers_known}
-use Rattle.world_play.specs.Machines.{offered_in, wanted_request, why_of}
+use Rattle.node_core.specs.Machines.{offered_in, wanted_request, why_of}
 use Rattle.sync_shared.specs.Answers.{fault_of}
 use Rattle.sync_shared.specs.Behind.{IsNodeBehind}
 use Rattle.sync_shared.proofs.Nodes.{items_are}

@@ -15,7 +15,7 @@ use Rattle.seq_log.specs.Sequenced.{Sequenced, IsFor}
 use Rattle.mediator.specs.Kept.{Kept, Knows}
 use Rattle.node_core.specs.Participant.{Participant as NodeValue}
 use Rattle.prepare_request.specs.declared.submit_fault.SubmitFault.{SubmitFault}
-use Rattle.world_play.specs.Standing.{IsNodeOf}
+use Rattle.node_core.specs.Machines.{IsNodeOf}
 use Rattle.sync_shared.specs.SetUp.{IsSetUp}
 
 -- behind the sequencer's lock: its history, its machine, and the log with the total of the book that counts what came in

@@ -3,5 +3,4 @@ pub mod SetUp
 pub mod Behind
 pub mod Clients
 pub mod Answers
-pub mod Sharing
 pub mod Lanes

@@ -8,7 +8,7 @@ use Rattle.sealed_form.specs.Within.{is_hosted}
 use Rattle.world_model.specs.Machine.{Machine}
 use Rattle.world_model.specs.Rounds.{Why}
 use Rattle.prepare_request.specs.declared.submit_fault.SubmitFault.{SubmitFault}
-use Rattle.world_play.specs.Machines.{machine_of, why_of}
+use Rattle.node_core.specs.Machines.{machine_of, why_of}
 
 -- The machine is that of the topology and the packages, the topology is valid, and the packages name only parties of it.
 pub record IsSetUp (topology : Topology) (packages : Packages) (m : Machine) (why : Why SubmitFault) : Type 0 where

@@ -33,7 +33,8 @@ impl<'r, S: Session> Model for Client<'r, S> {
 }
 
 impl<'r, S: Session> Client<'r, S> {
-    pub(crate) fn of(share: Share<S>, last: Option<Slip<'r>>, me: ParticipantId) -> Client<'r, S>
+    /// A client that has seen the entries that the slip ties.
+    pub fn of(share: Share<S>, last: Option<Slip<'r>>, me: ParticipantId) -> Client<'r, S>
         requires row { InRow S.history last }
         requires parts { share.parts ≡ 1 }
         requires host { me < length (S.topology).hosts }
@@ -42,7 +43,8 @@ impl<'r, S: Session> Client<'r, S> {
         Client { share, last, me }
     }
 
-    pub(crate) fn into_parts(self) -> (Share<S>, Option<Slip<'r>>)
+    /// Its share, and the slip of the last entry that it has seen.
+    pub fn into_parts(self) -> (Share<S>, Option<Slip<'r>>)
         ensures parts { (result.0.parts ≡ 1) × (result.0.amount ≡ self.entry.tickets) }
         ensures slip { InRow S.history result.1 × (read_to result.1 ≡ self.entry.list) }
     {

@@ -1,5 +1,5 @@
 //! What became of a request.
-ghost use Rattle.std.specs.Prelude.{◌≡◌, true, is_some, length, IfOk, OnOk, OnErr};
+ghost use Rattle.std.specs.Prelude.{◌≡◌, ◌<◌, length, IfOk, OnOk, OnErr};
 ghost use Rattle.canton_model.specs.Log.{decision_time_of};
 ghost use Rattle.canton_model.specs.Timeline.{outcome_of, timeline_of};
 ghost use Rattle.node_core.specs.Completion.{completion_of};
@@ -8,8 +8,9 @@ ghost use mathlib.Core.List.{IsPrefix};
 use crate::client::Client;
 use crate::locked_log::LockedLog;
 use crate::locked_node::LockedNode;
+use crate::locked_nodes::LockedNodes;
+use crate::node_lock::NodeLock;
 use crate::session::Session;
-use crate::shared::Shared;
 use crate::ticket::Ticket;
 use node_core::Completion;
 use std::alloc::AllocError;
@@ -32,15 +33,15 @@ fn read_past<'r, S: Session, const I: u8>(
     node.read_on(log)
 }
 
-/// What became of the ticket's request at its participant.
-pub fn complete_at<'r, S: Session, R: Wait, const I: u8>(
+// What became of the ticket's request at participant I.
+fn complete_at<'r, S: Session, R: Wait, const I: u8>(
     rt: &R,
-    shared: &Shared<'r, S>,
-    lock: &Option<Mutex<LockedNode<'r, S, I>>>,
+    log: &Mutex<LockedLog<'r, S>>,
+    lock: &NodeLock<'r, S, I>,
     client: &mut Client<'r, S>,
     ticket: &mut Ticket<'r>,
 ) -> Result<Completion, AllocError>
-    requires there { is_some lock.now ≡ true }
+    requires there { I < length (S.topology).hosts }
     requires ticket { (ticket.old.row ≡ S.history) × (ticket.old.me ≡ I) }
     ensures same { ticket.new ≡ ticket.old }
     ensures seen { IsPrefix client.old.list client.new.list }
@@ -50,12 +51,42 @@ pub fn complete_at<'r, S: Session, R: Wait, const I: u8>(
         (outcome_of (timeline_of client.new.list) ticket.old.place (decision_time_of S.machine.params client.new.list ticket.old.place))) }
     ensures err { OnErr result (client.new ≡ client.old) }
 {
-    let Some(lock) = lock else {
+    let Some(lock) = &lock.node else {
         unreachable!();
     };
     let mut node = lock.lock(rt);
-    read_past(&mut *shared.log.lock(rt), &mut *node, client, ticket)?;
+    read_past(&mut *log.lock(rt), &mut *node, client, ticket)?;
     let completion = node.completion_of(ticket.place())?;
     client.sees(node.last());
     Ok(completion)
+}
+
+/// What became of the ticket's request at its participant, the client's.
+pub fn complete<'r, S: Session, R: Wait>(
+    rt: &R,
+    log: &Mutex<LockedLog<'r, S>>,
+    nodes: &LockedNodes<'r, S>,
+    client: &mut Client<'r, S>,
+    ticket: &mut Ticket<'r>,
+) -> Result<Completion, AllocError>
+    requires ticket { (ticket.old.row ≡ S.history) × (ticket.old.me ≡ client.old.me) }
+    ensures same { ticket.new ≡ ticket.old }
+    ensures seen { IsPrefix client.old.list client.new.list }
+    ensures client { (client.new.tickets ≡ client.old.tickets) × (client.new.me ≡ client.old.me) }
+    ensures holds { OnOk result (IsPrefix ticket.old.list client.new.list) }
+    ensures answer { IfOk result (λ c. c ≡ completion_of (length client.new.list)
+        (outcome_of (timeline_of client.new.list) ticket.old.place (decision_time_of S.machine.params client.new.list ticket.old.place))) }
+    ensures err { OnErr result (client.new ≡ client.old) }
+{
+    match client.participant().0 {
+        0 => complete_at(rt, log, &nodes.first, client, ticket),
+        1 => complete_at(rt, log, &nodes.second, client, ticket),
+        2 => complete_at(rt, log, &nodes.third, client, ticket),
+        3 => complete_at(rt, log, &nodes.fourth, client, ticket),
+        4 => complete_at(rt, log, &nodes.fifth, client, ticket),
+        5 => complete_at(rt, log, &nodes.sixth, client, ticket),
+        6 => complete_at(rt, log, &nodes.seventh, client, ticket),
+        7 => complete_at(rt, log, &nodes.eighth, client, ticket),
+        _ => unreachable!(),
+    }
 }

@@ -5,31 +5,32 @@ ghost use Rattle.sync_shared.specs.Lanes.{IsClaimed, IsCopied, IsStep};
 ghost use Rattle.sync_shared.specs.Slips.{read_to, InRow};
 
 use crate::locked_log::LockedLog;
+use crate::locked_mediator::LockedMediator;
 use crate::locked_node::LockedNode;
+use crate::locked_nodes::LockedNodes;
+use crate::node_lock::NodeLock;
 use crate::node_step::{ClaimedJob, CopiedResponse, NodeStep};
 use crate::session::Session;
-use crate::shared::Shared;
 use crate::slips::again;
 use crate::watched_job::run_job;
 use canton_model::{Message, Response, Verdict};
 use lane_pool::Gate;
 use log_row::Slip;
-use std::alloc::{AllocError, AllocGlobal, Global};
+use std::alloc::{AllocError, AllocGlobal};
 use std::random::RandomSource;
 use std::sync::{Mutex, Wait};
 
 // A job that is claimed or a response to be sent, where there is nothing to read.
 fn next_work<'r, S: Session, const I: u8>(
-    alloc: Global,
     node: &mut LockedNode<'r, S, I>,
 ) -> Result<NodeStep<'r>, AllocError>
     ensures { IfOk result (IsStep S.history S.machine I) }
 {
-    if let Some(job) = node.claim_job(alloc)? {
+    if let Some(job) = node.claim_job()? {
         let known = node.last();
         return Ok(NodeStep::Check(ClaimedJob { job, known }));
     }
-    match node.outbox(alloc)? {
+    match node.outbox()? {
         Some(response) => {
             let known = node.last();
             Ok(NodeStep::Send(CopiedResponse { response, known }))
@@ -41,19 +42,19 @@ fn next_work<'r, S: Session, const I: u8>(
 // The participant reads an entry where there is one. Otherwise it says what there is to do.
 fn next_step<'r, S: Session, R: Wait, const I: u8>(
     rt: &R,
-    shared: &Shared<'r, S>,
+    log: &Mutex<LockedLog<'r, S>>,
     lock: &Mutex<LockedNode<'r, S, I>>,
 ) -> Result<NodeStep<'r>, AllocError>
     ensures { IfOk result (IsStep S.history S.machine I) }
 {
     let mut node = lock.lock(rt);
-    let slip = shared.log.lock(rt).entry(node.cursor());
+    let slip = log.lock(rt).entry(node.cursor());
     match slip {
         Some(slip) => {
             node.read(slip)?;
             Ok(NodeStep::Done)
         }
-        None => next_work(shared.alloc, &mut *node),
+        None => next_work(&mut *node),
     }
 }
 
@@ -90,7 +91,7 @@ fn hand_in_response<'r, S: Session>(
 // The response is appended under the log's lock, and then taken out of the outbox under the participant's.
 fn send<'r, S: Session, R: Wait, const I: u8>(
     rt: &R,
-    shared: &Shared<'r, S>,
+    log: &Mutex<LockedLog<'r, S>>,
     lock: &Mutex<LockedNode<'r, S, I>>,
     copied: CopiedResponse<'r>,
 ) -> Result<(), AllocError>
@@ -101,25 +102,45 @@ fn send<'r, S: Session, R: Wait, const I: u8>(
         mut known,
     } = copied;
     let request = response.request;
-    hand_in_response(&mut *shared.log.lock(rt), &mut known, response)?;
+    hand_in_response(&mut *log.lock(rt), &mut known, response)?;
     lock.lock(rt).sent(request);
     Ok(())
 }
 
-/// One participant reads an entry, or checks a request, or sends a response: the first of these that it can.
-pub fn take_turn<'r, S: Session, R: Wait + RandomSource + AllocGlobal, G: Gate, const I: u8>(
+// One participant reads an entry, or checks a request, or sends a response: the first of these that it can.
+fn take_turn<'r, S: Session, R: Wait + RandomSource + AllocGlobal, G: Gate, const I: u8>(
     rt: &R,
-    shared: &Shared<'r, S>,
-    lock: &Option<Mutex<LockedNode<'r, S, I>>>,
+    log: &Mutex<LockedLog<'r, S>>,
+    lock: &NodeLock<'r, S, I>,
     gate: &G,
 ) -> Result<(), AllocError> {
-    let Some(lock) = lock else {
+    let Some(lock) = &lock.node else {
         return Ok(());
     };
-    match next_step(rt, shared, lock)? {
+    match next_step(rt, log, lock)? {
         NodeStep::Done => Ok(()),
         NodeStep::Check(claimed) => check(rt, lock, claimed, gate),
-        NodeStep::Send(copied) => send(rt, shared, lock, copied),
+        NodeStep::Send(copied) => send(rt, log, lock, copied),
+    }
+}
+
+/// The turn of the participant of this index, where there is one.
+pub fn serve<'r, S: Session, R: Wait + RandomSource + AllocGlobal, G: Gate>(
+    rt: &R,
+    log: &Mutex<LockedLog<'r, S>>,
+    nodes: &LockedNodes<'r, S>,
+    at: u8,
+    gate: &G,
+) -> Result<(), AllocError> {
+    match at {
+        0 => take_turn(rt, log, &nodes.first, gate),
+        1 => take_turn(rt, log, &nodes.second, gate),
+        2 => take_turn(rt, log, &nodes.third, gate),
+        3 => take_turn(rt, log, &nodes.fourth, gate),
+        4 => take_turn(rt, log, &nodes.fifth, gate),
+        5 => take_turn(rt, log, &nodes.sixth, gate),
+        6 => take_turn(rt, log, &nodes.seventh, gate),
+        _ => take_turn(rt, log, &nodes.eighth, gate),
     }
 }
 
@@ -133,17 +154,19 @@ struct GivenVerdict<'r> {
 // The mediator reads an entry where there is one. Otherwise it gives a verdict, unless verdicts are held.
 fn next_verdict<'r, S: Session, R: Wait>(
     rt: &R,
-    shared: &Shared<'r, S>,
+    log: &Mutex<LockedLog<'r, S>>,
+    mediator: &Mutex<LockedMediator<'r, S>>,
+    hold_verdicts: bool,
 ) -> Result<Option<GivenVerdict<'r>>, AllocError>
     ensures { IfOk result (λ o. IfSome o (λ g. InRow S.history g.known × IsDecision S.machine.params (read_to g.known) g.verdict)) }
 {
-    let mut mediator = shared.mediator.lock(rt);
-    let slip = shared.log.lock(rt).entry(mediator.cursor());
+    let mut mediator = mediator.lock(rt);
+    let slip = log.lock(rt).entry(mediator.cursor());
     if let Some(slip) = slip {
         mediator.read(slip)?;
         return Ok(None);
     }
-    if shared.round.hold_verdicts {
+    if hold_verdicts {
         return Ok(None);
     }
     match mediator.take_verdict()? {
@@ -169,9 +192,14 @@ fn hand_in_verdict<'r, S: Session>(
 }
 
 /// The mediator reads an entry or, where it has read all and verdicts aren't held, sends a verdict.
-pub fn mediate<'r, S: Session, R: Wait>(rt: &R, shared: &Shared<'r, S>) -> Result<(), AllocError> {
-    match next_verdict(rt, shared)? {
-        Some(given) => hand_in_verdict(&mut *shared.log.lock(rt), given),
+pub fn mediate<'r, S: Session, R: Wait>(
+    rt: &R,
+    log: &Mutex<LockedLog<'r, S>>,
+    mediator: &Mutex<LockedMediator<'r, S>>,
+    hold_verdicts: bool,
+) -> Result<(), AllocError> {
+    match next_verdict(rt, log, mediator, hold_verdicts)? {
+        Some(given) => hand_in_verdict(&mut *log.lock(rt), given),
         None => Ok(()),
     }
 }

@@ -1,4 +1,4 @@
-//! A synchroniser that threads share: the sequencer, the mediator and each participant behind a lock of its own, clients that
+//! What threads share of a synchroniser: the sequencer, the mediator and each participant behind a lock of its own, clients that
 //! submit, and lanes that do the participants' work.
 #![tactic(auto)]
 
@@ -9,6 +9,7 @@ mod locked_log;
 mod locked_mediator;
 mod locked_node;
 mod locked_nodes;
+mod node_lock;
 mod node_step;
 mod prepared;
 mod round_rules;
@@ -17,14 +18,16 @@ mod shared;
 mod slips;
 mod submit_refusal;
 mod submitting;
-mod synchroniser;
+mod sync_parts;
 mod ticket;
 mod watched_job;
 
 pub use client::Client;
+pub use locked_log::last_of;
 pub use round_rules::RoundRules;
 pub use session::Session;
 pub use shared::Shared;
+pub use slips::again;
 pub use submit_refusal::SubmitRefusal;
-pub use synchroniser::{LEDGER_PARTS, Synchroniser};
+pub use sync_parts::SyncParts;
 pub use ticket::Ticket;

@@ -34,9 +34,11 @@ use std::alloc::{AllocError, Global};
 use std::marker::{Model, PhantomData};
 use validate_job::{Finished, ValidateJob};
 
-/// The node of participant `I`, with the last slip that it has read. Contracts see the entries that it has read.
+/// The node of participant `I`, with the last slip that it has read and with what its calls allocate from. Contracts see the entries
+/// that it has read.
 #[derive(Drop)]
 pub struct LockedNode<'r, S: Session, const I: u8> {
+    alloc: Global,
     node: Node<'r>,
     last: Option<Slip<'r>>,
     of: PhantomData<S>,
@@ -58,12 +60,13 @@ impl<'r, S: Session, const I: u8> Model for LockedNode<'r, S, I> {
 
 impl<'r, S: Session, const I: u8> LockedNode<'r, S, I> {
     /// A node with the slip of the last entry that it has read.
-    pub fn of(node: Node<'r>, last: Option<Slip<'r>>) -> LockedNode<'r, S, I>
+    pub fn of(alloc: Global, node: Node<'r>, last: Option<Slip<'r>>) -> LockedNode<'r, S, I>
         requires row { InRow S.history last }
         requires behind { IsNodeBehind S.topology S.packages S.machine S.why I (read_to last) node }
         ensures { result ≡ read_to last.entry }
     {
         LockedNode {
+            alloc,
             node,
             last,
             of: PhantomData,
@@ -75,7 +78,12 @@ impl<'r, S: Session, const I: u8> LockedNode<'r, S, I> {
         ensures same { read_to result.1 ≡ self.entry }
         ensures behind { IsNodeBehind S.topology S.packages S.machine S.why I self.entry result.0 }
     {
-        let LockedNode { node, last, of: _ } = self;
+        let LockedNode {
+            alloc: _,
+            node,
+            last,
+            of: _,
+        } = self;
         (node, last)
     }
 
@@ -131,12 +139,7 @@ impl<'r, S: Session, const I: u8> LockedNode<'r, S, I> {
 
     /// The request that a submission wants over what was read. Whether submissions are taken is the round's matter, so the node's own
     /// flag is cleared.
-    pub fn prepare(
-        &mut self,
-        alloc: Global,
-        what: &Submission,
-        now: u64,
-    ) -> Result<Request, SubmitFault>
+    pub fn prepare(&mut self, what: &Submission, now: u64) -> Result<Request, SubmitFault>
         requires mine { what.now.participant ≡ I }
         requires named { AreKnown (is_hosted S.topology) (parties_in_what what.now.what) }
         ensures same { self.new ≡ self.old }
@@ -150,7 +153,7 @@ impl<'r, S: Session, const I: u8> LockedNode<'r, S, I> {
         // the prover learns from this call why submissions are refused
         faults_have_causes();
         self.node.set_paused(false);
-        prepared(alloc, &self.node, what, now)
+        prepared(self.alloc, &self.node, what, now)
     }
 
     /// What became of a request of its own over what was read.
@@ -163,14 +166,14 @@ impl<'r, S: Session, const I: u8> LockedNode<'r, S, I> {
     }
 
     /// Claims the first request that it owes verdicts to, and gives the job of checking it.
-    pub fn claim_job(&mut self, alloc: Global) -> Result<Option<ValidateJob<'r>>, AllocError>
+    pub fn claim_job(&mut self) -> Result<Option<ValidateJob<'r>>, AllocError>
         ensures same { self.new ≡ self.old }
         ensures left { IfOk result (λ o. IfSome o (λ job. 0 < job.left)) }
         ensures claimed { IfOk result (λ o. IfSome o (λ job. Claimed S.machine I self.old job.given.place)) }
         ensures verdicts { IfOk result (λ o. IfSome o (λ job. owed_on_each job.given.input job.given.views
             ≡ owed_at S.machine.reading S.machine.params I (inbox S.machine.reading I self.old) job.given.place)) }
     {
-        self.node.claim_job(alloc)
+        self.node.claim_job(self.alloc)
     }
 
     /// Puts the response of a job into the outbox, where the claim still stands, the request isn't decided and the node has read no
@@ -201,10 +204,10 @@ impl<'r, S: Session, const I: u8> LockedNode<'r, S, I> {
     }
 
     /// A copy of the response that is sent next, which is owed over what was read.
-    pub fn outbox(&self, alloc: Global) -> Result<Option<Response>, AllocError>
+    pub fn outbox(&self) -> Result<Option<Response>, AllocError>
         ensures { IfOk result (λ o. IfSome o (IsOwed S.machine.reading S.machine.params self.now)) }
     {
-        self.node.outbox(alloc)
+        self.node.outbox(self.alloc)
     }
 
     /// The response to a request waits no longer.

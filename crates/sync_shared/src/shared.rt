@@ -1,9 +1,10 @@
 //! What threads share.
-ghost use Rattle.std.specs.Prelude.{◌≡◌, ◌+◌, ◌<◌, ◌≤◌, ◌^◌, true, Err, length, IfOk, IfErr, IfSome, OnOk, OnErr};
+ghost use Rattle.std.specs.Prelude.{◌≡◌, ◌+◌, ◌<◌, ◌≤◌, ◌^◌, [], List, true, false, Err, length, take, IfOk, IfErr, IfSome, OnOk, OnErr};
 ghost use Rattle.lang_eval.specs.Named.{AreKnown};
 ghost use Rattle.canton_model.specs.Log.{decision_time_of};
 ghost use Rattle.canton_model.specs.Timeline.{outcome_of, timeline_of};
 ghost use Rattle.sealed_form.specs.Within.{is_hosted};
+ghost use Rattle.world_model.specs.Messages.{Entry};
 ghost use Rattle.world_model.specs.Places.{has_place};
 ghost use Rattle.threads_model.specs.Inputs.{one_if};
 ghost use Rattle.threads_model.specs.Clients.{ClientStep};
@@ -12,26 +13,27 @@ ghost use Rattle.prepare_request.specs.Within.{parties_in_what};
 ghost use Rattle.prepare_request.specs.declared.submit_fault.SubmitFault.TheVariants.{Paused};
 ghost use Rattle.node_core.specs.Completion.{completion_of};
 ghost use Rattle.sync_shared.specs.Answers.{answer_of, has_ticket};
-ghost use Rattle.sync_shared.specs.Clients.{IsRequestBy};
+ghost use Rattle.sync_shared.specs.Behind.{AreNodesBehind, IsLogBehind, IsMediatorBehind};
 ghost use mathlib.Core.List.{IsPrefix};
 
 use crate::client::Client;
-use crate::completing::complete_at;
-use crate::lane::{mediate, take_turn};
-use crate::locked_log::LockedLog;
+use crate::completing::complete;
+use crate::lane::{mediate, serve};
+use crate::locked_log::{LockedLog, reached, slip_to};
 use crate::locked_mediator::LockedMediator;
 use crate::locked_nodes::LockedNodes;
 use crate::round_rules::RoundRules;
 use crate::session::Session;
 use crate::submit_refusal::SubmitRefusal;
-use crate::submitting::submit_at;
+use crate::submitting::submit_awake;
+use crate::sync_parts::SyncParts;
 use crate::ticket::Ticket;
 use lane_pool::Gate;
-use ledger_terms::{ParticipantId, Submission};
+use ledger_terms::{ParticipantId, ParticipantIdList, Submission};
 use node_core::{Completion, SubmitFault};
 use std::alloc::{AllocError, AllocGlobal, Global};
 use std::random::RandomSource;
-use std::sync::ledger::Share;
+use std::sync::ledger::{Book, Share};
 use std::sync::{Mutex, Wait};
 
 /// What threads share of a synchroniser: the log, the mediator and each participant behind a lock, and beside them what the round
@@ -39,10 +41,9 @@ use std::sync::{Mutex, Wait};
 #[derive(Drop)]
 pub struct Shared<'r, S: Session> {
     pub round: RoundRules,
-    pub(crate) alloc: Global,
-    pub(crate) log: Mutex<LockedLog<'r, S>>,
-    pub(crate) mediator: Mutex<LockedMediator<'r, S>>,
-    pub(crate) nodes: LockedNodes<'r, S>,
+    log: Mutex<LockedLog<'r, S>>,
+    mediator: Mutex<LockedMediator<'r, S>>,
+    nodes: LockedNodes<'r, S>,
     ghost timely: { round.time ≤ 10 ^ 16 },
 }
 
@@ -54,8 +55,68 @@ fn names(participants: &[ParticipantId], p: ParticipantId) -> bool
 }
 
 impl<'r, S: Session> Shared<'r, S> {
+    /// Puts the parts behind locks, without memory. What comes in is counted by the book. In the round nobody is paused and no verdicts
+    /// are held. `alloc` is what calls allocate from.
+    pub fn of(alloc: Global, parts: SyncParts<'r>, count: Book<S>) -> Shared<'r, S>
+        requires most { length (S.topology).hosts ≤ 8 }
+        requires many { length (parts.nodes).items ≡ length (S.topology).hosts }
+        requires log { IsLogBehind S.history S.machine S.start count.total parts.sequencer }
+        requires nodes { AreNodesBehind S.topology S.packages S.machine S.why (parts.sequencer).list (parts.nodes).items }
+        requires within { (parts.mediator).cursor ≤ length (parts.sequencer).list }
+        requires mediator { IsMediatorBehind S.machine (take (parts.mediator).cursor (parts.sequencer).list) parts.mediator }
+        requires time { parts.time ≤ 10 ^ 16 }
+        ensures { result.round ≡ record { time = parts.entry.time; paused = []; hold_verdicts = false } }
+    {
+        let SyncParts {
+            mut sequencer,
+            mediator,
+            nodes,
+            time,
+        } = parts;
+        let read = slip_to(&mut sequencer, mediator.cursor());
+        let nodes = LockedNodes::of(alloc, nodes, &mut sequencer);
+        Shared {
+            round: RoundRules {
+                time,
+                paused: ParticipantIdList::new(alloc),
+                hold_verdicts: false,
+            },
+            log: Mutex::new(LockedLog::of(sequencer, count)),
+            mediator: Mutex::new(LockedMediator::of(mediator, read)),
+            nodes,
+        }
+    }
+
+    /// The parts, without memory. What came in is counted by whoever has all parts of the ledger, and what the mediator and each
+    /// participant have read begins the log.
+    pub fn into_parts(self, home: &mut Share<S>) -> SyncParts<'r>
+        requires { home.old.parts ≡ S.parts }
+        ensures log { IsLogBehind S.history S.machine S.start home.old.amount result.sequencer }
+        ensures many { length (result.nodes).items ≡ length (S.topology).hosts }
+        ensures nodes { AreNodesBehind S.topology S.packages S.machine S.why (result.sequencer).list (result.nodes).items }
+        ensures mediator { (read : List Entry) × IsPrefix read (result.sequencer).list × IsMediatorBehind S.machine read result.mediator }
+        ensures time { result.time ≡ self.entry.round.time }
+    {
+        let Shared {
+            round,
+            log,
+            mediator,
+            nodes,
+        } = self;
+        let mut sequencer = log.into_inner().close(home);
+        let (mediator, mut last) = mediator.into_inner().into_parts();
+        reached(&mut sequencer, &mut last);
+        let nodes = nodes.into_nodes(&mut sequencer);
+        SyncParts {
+            sequencer,
+            mediator,
+            nodes,
+            time: round.time,
+        }
+    }
+
     /// Begins a round. Where time moved on, a Tick tells of it, and is counted with the share. After want of memory all is as before.
-    pub(crate) fn begin(
+    pub fn begin(
         &mut self,
         home: &mut Share<S>,
         round: RoundRules,
@@ -102,24 +163,13 @@ impl<'r, S: Session> Shared<'r, S> {
         ensures me { client.new.me ≡ client.old.me }
         ensures plain { IfErr result (λ refusal. HoldsNoMemory refusal.fault) }
     {
-        let participant = client.participant();
-        if self.is_paused(participant) {
+        if self.is_paused(client.participant()) {
             return Err(SubmitRefusal {
                 fault: SubmitFault::Paused,
                 read_to: client.seen(),
             });
         }
-        match participant.0 {
-            0 => submit_at(rt, self, &self.nodes.first, client, what),
-            1 => submit_at(rt, self, &self.nodes.second, client, what),
-            2 => submit_at(rt, self, &self.nodes.third, client, what),
-            3 => submit_at(rt, self, &self.nodes.fourth, client, what),
-            4 => submit_at(rt, self, &self.nodes.fifth, client, what),
-            5 => submit_at(rt, self, &self.nodes.sixth, client, what),
-            6 => submit_at(rt, self, &self.nodes.seventh, client, what),
-            7 => submit_at(rt, self, &self.nodes.eighth, client, what),
-            _ => unreachable!(),
-        }
+        submit_awake(rt, &self.log, &self.nodes, client, what, self.round.time)
     }
 
     /// What became of a ticket's request. The participant, paused or not, first reads at least what the client has seen and past the
@@ -139,36 +189,7 @@ impl<'r, S: Session> Shared<'r, S> {
             (outcome_of (timeline_of client.new.list) ticket.old.place (decision_time_of S.machine.params client.new.list ticket.old.place))) }
         ensures err { OnErr result (client.new ≡ client.old) }
     {
-        match client.participant().0 {
-            0 => complete_at(rt, self, &self.nodes.first, client, ticket),
-            1 => complete_at(rt, self, &self.nodes.second, client, ticket),
-            2 => complete_at(rt, self, &self.nodes.third, client, ticket),
-            3 => complete_at(rt, self, &self.nodes.fourth, client, ticket),
-            4 => complete_at(rt, self, &self.nodes.fifth, client, ticket),
-            5 => complete_at(rt, self, &self.nodes.sixth, client, ticket),
-            6 => complete_at(rt, self, &self.nodes.seventh, client, ticket),
-            7 => complete_at(rt, self, &self.nodes.eighth, client, ticket),
-            _ => unreachable!(),
-        }
-    }
-
-    // The turn of one participant, where there is one of this index.
-    fn serve<R: Wait + RandomSource + AllocGlobal, G: Gate>(
-        &self,
-        rt: &R,
-        at: u8,
-        gate: &G,
-    ) -> Result<(), AllocError> {
-        match at {
-            0 => take_turn(rt, self, &self.nodes.first, gate),
-            1 => take_turn(rt, self, &self.nodes.second, gate),
-            2 => take_turn(rt, self, &self.nodes.third, gate),
-            3 => take_turn(rt, self, &self.nodes.fourth, gate),
-            4 => take_turn(rt, self, &self.nodes.fifth, gate),
-            5 => take_turn(rt, self, &self.nodes.sixth, gate),
-            6 => take_turn(rt, self, &self.nodes.seventh, gate),
-            _ => take_turn(rt, self, &self.nodes.eighth, gate),
-        }
+        complete(rt, &self.log, &self.nodes, client, ticket)
     }
 
     /// A turn of one of so many lanes. Lane w serves the participants whose index leaves w, and lane 0 the mediator too. Each that
@@ -188,11 +209,11 @@ impl<'r, S: Session> Shared<'r, S> {
     {
         for at in 0..8u8 {
             if at as u32 % lanes == lane && !self.is_paused(ParticipantId(at)) {
-                self.serve(rt, at, gate)?;
+                serve(rt, &self.log, &self.nodes, at, gate)?;
             }
         }
         if lane == 0 {
-            mediate(rt, self)?;
+            mediate(rt, &self.log, &self.mediator, self.round.hold_verdicts)?;
         }
         Ok(())
     }

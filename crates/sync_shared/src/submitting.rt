@@ -1,5 +1,5 @@
 //! A submission in its two halves: the participant prepares the request under its own lock, and hands it in under the log's.
-ghost use Rattle.std.specs.Prelude.{◌≡◌, ◌≢◌, ◌+◌, ◌≤◌, ◌^◌, List, ℕ, Some, None, true, false, is_some, IfOk, IfErr, IfSome, OnOk};
+ghost use Rattle.std.specs.Prelude.{◌≡◌, ◌≢◌, ◌+◌, ◌<◌, ◌≤◌, ◌^◌, List, ℕ, Some, None, true, false, length, IfOk, IfErr, IfSome, OnOk};
 ghost use Rattle.lang_eval.specs.Named.{AreKnown};
 ghost use Rattle.canton_model.specs.Inbox.{inbox};
 ghost use Rattle.sealed_form.specs.Within.{is_hosted};
@@ -17,8 +17,9 @@ ghost use mathlib.Core.List.{IsPrefix};
 use crate::client::Client;
 use crate::locked_log::LockedLog;
 use crate::locked_node::LockedNode;
+use crate::locked_nodes::LockedNodes;
+use crate::node_lock::NodeLock;
 use crate::session::Session;
-use crate::shared::Shared;
 use crate::submit_refusal::SubmitRefusal;
 use crate::ticket::Ticket;
 use canton_model::Request;
@@ -131,45 +132,72 @@ fn refuse<'r, S: Session, const I: u8>(
     }
 }
 
-/// A submission of a participant that isn't paused.
-pub fn submit_at<'r, S: Session, R: Wait, const I: u8>(
+// A submission of participant I, which isn't paused.
+fn submit_at<'r, S: Session, R: Wait, const I: u8>(
     rt: &R,
-    shared: &Shared<'r, S>,
-    lock: &Option<Mutex<LockedNode<'r, S, I>>>,
+    log: &Mutex<LockedLog<'r, S>>,
+    lock: &NodeLock<'r, S, I>,
     client: &mut Client<'r, S>,
     what: &Submission,
+    now: u64,
 ) -> Result<Ticket<'r>, SubmitRefusal>
-    requires there { is_some lock.now ≡ true }
+    requires there { I < length (S.topology).hosts }
+    requires time { now ≤ 10 ^ 16 }
     requires mine { (what.now.participant ≡ I) × (client.old.me ≡ I) }
     requires named { AreKnown (is_hosted S.topology) (parties_in_what what.now.what) }
     ensures step { IfSome (answer_of result) (λ r. (paused : List ℕ) → has_place paused what.now.participant ≡ false
-        → ClientStep S.machine S.why shared.now.round.time paused client.old.list what.now r client.new.list) }
+        → ClientStep S.machine S.why now paused client.old.list what.now r client.new.list) }
     ensures ticket { IfOk result (λ t. (t.row ≡ S.history) × (t.list ≡ client.new.list) × (t.me ≡ client.old.me)) }
     ensures tickets { client.new.tickets ≡ client.old.tickets + one_if (has_ticket result) }
     ensures seen { IsPrefix client.old.list client.new.list }
     ensures me { client.new.me ≡ client.old.me }
     ensures plain { IfErr result (λ refusal. HoldsNoMemory refusal.fault) }
 {
-    let Some(lock) = lock else {
+    let Some(lock) = &lock.node else {
         unreachable!();
     };
-    let now = shared.round.time;
     let mut node = lock.lock(rt);
-    if catch_up(&mut *shared.log.lock(rt), &mut *node, client).is_err() {
+    if catch_up(&mut *log.lock(rt), &mut *node, client).is_err() {
         return Err(SubmitRefusal {
             fault: SubmitFault::Memory,
             read_to: client.seen(),
         });
     }
-    match node.prepare(shared.alloc, what, now) {
-        Ok(request) => hand_in(
-            &mut *shared.log.lock(rt),
-            &mut *node,
-            client,
-            what,
-            request,
-            now,
-        ),
+    match node.prepare(what, now) {
+        Ok(request) => hand_in(&mut *log.lock(rt), &mut *node, client, what, request, now),
         Err(fault) => Err(refuse(&mut *node, client, what, fault, now)),
+    }
+}
+
+/// A submission of the client's participant, which isn't paused.
+pub fn submit_awake<'r, S: Session, R: Wait>(
+    rt: &R,
+    log: &Mutex<LockedLog<'r, S>>,
+    nodes: &LockedNodes<'r, S>,
+    client: &mut Client<'r, S>,
+    what: &Submission,
+    now: u64,
+) -> Result<Ticket<'r>, SubmitRefusal>
+    requires time { now ≤ 10 ^ 16 }
+    requires mine { what.now.participant ≡ client.old.me }
+    requires named { AreKnown (is_hosted S.topology) (parties_in_what what.now.what) }
+    ensures step { IfSome (answer_of result) (λ r. (paused : List ℕ) → has_place paused what.now.participant ≡ false
+        → ClientStep S.machine S.why now paused client.old.list what.now r client.new.list) }
+    ensures ticket { IfOk result (λ t. (t.row ≡ S.history) × (t.list ≡ client.new.list) × (t.me ≡ client.old.me)) }
+    ensures tickets { client.new.tickets ≡ client.old.tickets + one_if (has_ticket result) }
+    ensures seen { IsPrefix client.old.list client.new.list }
+    ensures me { client.new.me ≡ client.old.me }
+    ensures plain { IfErr result (λ refusal. HoldsNoMemory refusal.fault) }
+{
+    match client.participant().0 {
+        0 => submit_at(rt, log, &nodes.first, client, what, now),
+        1 => submit_at(rt, log, &nodes.second, client, what, now),
+        2 => submit_at(rt, log, &nodes.third, client, what, now),
+        3 => submit_at(rt, log, &nodes.fourth, client, what, now),
+        4 => submit_at(rt, log, &nodes.fifth, client, what, now),
+        5 => submit_at(rt, log, &nodes.sixth, client, what, now),
+        6 => submit_at(rt, log, &nodes.seventh, client, what, now),
+        7 => submit_at(rt, log, &nodes.eighth, client, what, now),
+        _ => unreachable!(),
     }
 }

@@ -20,7 +20,7 @@ use Rattle.node_core.specs.declared.submit_result.SubmitResult.{SubmitResult}
 use Rattle.node_core.specs.declared.submit_result.SubmitResult.TheVariants.{Refused}
 use Rattle.node_core.proofs.OfferedNames.{offers_named}
 use Rattle.world_play.specs.Answering.{AnswersAwake, CanAnswer}
-use Rattle.world_play.specs.Machines.{wanted_request, why_of}
+use Rattle.node_core.specs.Machines.{wanted_request, why_of}
 use Rattle.world_play.specs.Reading.{has_read}
 use Rattle.world_play.specs.Results.{result_of}
 use Rattle.world_play.specs.Standing.{GoesOn, IsParticipant}

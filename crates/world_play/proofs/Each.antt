@@ -6,7 +6,7 @@ use Rattle.std.proofs.lemmas.Option.{same_Some, slice_get_within}
 use Rattle.world_model.specs.Machine.{Machine}
 use Rattle.seq_log.specs.Sequenced.{Sequenced}
 use Rattle.node_core.specs.Participant.{Participant as NodeValue, with_state}
-use Rattle.world_play.specs.Standing.{IsNodeOf}
+use Rattle.node_core.specs.Machines.{IsNodeOf}
 use Rattle.ledger_terms.specs.declared.topology.Topology.{Topology}
 use Rattle.lang_eval.specs.Found.{Packages}
 use Rattle.world_play.specs.Submitting.{AreSetUp}

@@ -17,7 +17,7 @@ use Rattle.node_core.specs.Participant.{Participant as NodeValue, reading_of, wi
 use Rattle.world_play.specs.declared.moving.NodeMove.{NodeMove}
 use Rattle.world_play.specs.declared.moving.NodeMove.TheVariants as move
 use Rattle.world_play.specs.Moves.{Happens, event_at, validated_if}
-use Rattle.world_play.specs.Standing.{IsNodeOf}
+use Rattle.node_core.specs.Machines.{IsNodeOf}
 use Rattle.node_core.proofs.LogEnds.{before_last}
 use Rattle.world_model.proofs.Steps.{length_take}
 use Rattle.world_play.proofs.Moved.{to_machine}

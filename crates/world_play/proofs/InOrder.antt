@@ -21,7 +21,7 @@ use Rattle.node_core.specs.declared.submit_result.SubmitResult.{SubmitResult}
 use Rattle.world_play.specs.declared.world.World.{World}
 use Rattle.world_play.specs.Answering.{IsAnswer}
 use Rattle.world_play.specs.Flags.{ArePaused}
-use Rattle.world_play.specs.Machines.{why_of}
+use Rattle.node_core.specs.Machines.{why_of}
 use Rattle.world_play.specs.Results.{IsPlainResult, result_of, results_of}
 use Rattle.world_play.specs.Standing.{GoesOn}
 use Rattle.world_play.specs.Submitting.{AreSetUp}

@@ -21,7 +21,7 @@ use Rattle.validate_job.specs.declared.finished.Finished.{Finished}
 use Rattle.validate_job.specs.Outcome.{IsOutcome}
 use Rattle.validate_job.specs.Job.{Assignment}
 use Rattle.validate_job.specs.Owed.{owed_on_each}
-use Rattle.world_play.specs.Standing.{IsNodeOf}
+use Rattle.node_core.specs.Machines.{IsNodeOf}
 use Rattle.world_play.proofs.Moved.{from_machine}
 
 -- what is claimed next

@@ -9,9 +9,8 @@ use Rattle.world_model.specs.Node.{NodeState, new_node}
 use Rattle.sealed_form.proofs.Sealed.{lawful}
 use Rattle.node_core.specs.Participant.{Participant as NodeValue}
 use Rattle.seq_log.specs.Sequenced.{Sequenced}
-use Rattle.world_play.specs.Machines.{machine_of}
+use Rattle.node_core.specs.Machines.{machine_of, IsNodeOf}
 use Rattle.world_play.specs.Making.{AreNewNodes}
-use Rattle.world_play.specs.Standing.{IsNodeOf}
 use Rattle.world_play.specs.Submitting.{AreSetUp}
 use Rattle.world_play.specs.Worlds.{state_of, AreNodesOf}
 

@@ -5,7 +5,7 @@ use Rattle.canton_model.specs.Log.{Params}
 use Rattle.canton_model.specs.Reading.{Reading}
 use Rattle.world_model.specs.Machine.{Machine}
 use Rattle.node_core.specs.Participant.{Participant as NodeValue, reading_of}
-use Rattle.world_play.specs.Standing.{IsNodeOf}
+use Rattle.node_core.specs.Machines.{IsNodeOf}
 
 module _ (m : Machine) (p : ParticipantId) (node : NodeValue) (is : IsNodeOf m p node) (F : Reading → Params → ParticipantId → Type 0) where
   pub to_machine : F (reading_of node) (node.topology).params node.me → F m.reading m.params p

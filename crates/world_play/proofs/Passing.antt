@@ -19,7 +19,8 @@ use Rattle.world_model.proofs.Steps.{lawful_grown, lawful_with_node}
 use Rattle.world_model.proofs.WorldPasses.{turn, turn_skipped}
 use Rattle.seq_log.specs.Sequenced.{Sequenced}
 use Rattle.node_core.specs.Participant.{Participant as NodeValue, with_state}
-use Rattle.world_play.specs.Standing.{IsNodeOf, IsParticipant, GoesOn}
+use Rattle.node_core.specs.Machines.{IsNodeOf}
+use Rattle.world_play.specs.Standing.{IsParticipant, GoesOn}
 use Rattle.world_play.specs.Worlds.{state_of, world_with, AreNodesOf}
 use Rattle.ledger_terms.specs.declared.topology.Topology.{Topology}
 use Rattle.lang_eval.specs.Found.{Packages}

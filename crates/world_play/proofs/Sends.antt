@@ -23,7 +23,8 @@ use Rattle.world_model.proofs.Loops.{head_waits, none_waits}
 use Rattle.world_model.proofs.Steps.{has_sent, waiting_in, waiting_owed}
 use Rattle.seq_log.specs.Sequenced.{Sequenced, IsFor}
 use Rattle.node_core.specs.Participant.{Participant as NodeValue, with_state}
-use Rattle.world_play.specs.Standing.{IsNodeOf, IsParticipant, GoesOn}
+use Rattle.node_core.specs.Machines.{IsNodeOf}
+use Rattle.world_play.specs.Standing.{IsParticipant, GoesOn}
 
 -- a log that goes on
 pub stays : (s : Sequenced) → GoesOn s s

@@ -28,7 +28,7 @@ use Rattle.world_model.specs.Lawful.{Lawful}
 use Rattle.node_core.specs.Participant.{reading_of}
 use Rattle.node_core.specs.Preparing.{offered_by, prepare_answer}
 use Rattle.node_core.proofs.OfferedNames.{offers_named}
-use Rattle.world_play.specs.Machines.{offered_in, wanted_request}
+use Rattle.node_core.specs.Machines.{offered_in, wanted_request}
 use Rattle.world_play.specs.Submitting.{AreSetUp, CanPrepare, CanSubmit, wanted_of}
 use Rattle.world_play.specs.Worlds.{state_of, world_with, AreNodesOf}
 use Rattle.world_play.proofs.Passing.{in_turn, map_at}

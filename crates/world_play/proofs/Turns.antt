@@ -18,7 +18,8 @@ use Rattle.world_model.proofs.TurnFacts.{caught}
 use Rattle.seq_log.specs.Sequenced.{Sequenced}
 use Rattle.node_core.specs.Participant.{Participant as NodeValue, reading_of, with_state}
 use Rattle.world_play.specs.Reading.{Reads, IsReader, has_read}
-use Rattle.world_play.specs.Standing.{IsNodeOf, IsParticipant, GoesOn}
+use Rattle.node_core.specs.Machines.{IsNodeOf}
+use Rattle.world_play.specs.Standing.{IsParticipant, GoesOn}
 use Rattle.world_play.proofs.Moved.{to_machine, from_machine}
 use Rattle.world_play.proofs.Readers.{take_take}
 

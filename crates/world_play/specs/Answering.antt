@@ -10,7 +10,7 @@ use Rattle.world_model.specs.Plain.{AnswersWanted, IsAwakeAnswer, IsPausedAnswer
 use Rattle.seq_log.specs.Sequenced.{Sequenced}
 use Rattle.node_core.specs.Participant.{Participant as NodeValue}
 use Rattle.node_core.specs.declared.submit_result.SubmitResult.{SubmitResult}
-use Rattle.world_play.specs.Machines.{why_of}
+use Rattle.node_core.specs.Machines.{why_of}
 use Rattle.world_play.specs.Results.{result_of}
 use Rattle.world_play.specs.Standing.{IsParticipant}
 use Rattle.world_play.specs.Submitting.{CanSubmit}

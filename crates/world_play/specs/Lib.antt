@@ -3,7 +3,6 @@ pub mod Standing
 pub mod Worlds
 pub mod WorldOf
 pub mod Scans
-pub mod Machines
 pub mod Making
 pub mod Moves
 pub mod Decides

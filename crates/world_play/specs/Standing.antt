@@ -9,15 +9,8 @@ use Rattle.world_model.specs.Mediator.{MediatorState}
 use Rattle.world_model.specs.Lawful.{NodeHas, MediatorHas}
 use Rattle.mediator.specs.Kept.{Kept, Keeps}
 use Rattle.seq_log.specs.Sequenced.{Sequenced, IsFor}
-use Rattle.node_core.specs.Participant.{Participant as NodeValue, reading_of}
-use Rattle.world_play.specs.Machines.{wanted_request}
-
--- it is participant p of the machine
-pub record IsNodeOf (m : Machine) (p : ParticipantId) (node : NodeValue) : Type 0 where
-  pub reading : reading_of node ≡ m.reading
-  pub params : (node.topology).params ≡ m.params
-  pub me : node.me ≡ p
-  pub prepares : m.prepare ≡ wanted_request node.topology node.packages
+use Rattle.node_core.specs.Participant.{Participant as NodeValue}
+use Rattle.node_core.specs.Machines.{IsNodeOf}
 
 -- participant p has read a beginning of a genuine log
 pub record IsParticipant (m : Machine) (p : ParticipantId) (node : NodeValue) (sequencer : Sequenced) : Type 0 where

@@ -11,7 +11,7 @@ use Rattle.world_model.specs.Messages.{Request}
 use Rattle.prepare_request.specs.Within.{IsWithin, parties_in_what}
 use Rattle.node_core.specs.Participant.{Participant as NodeValue}
 use Rattle.node_core.specs.Preparing.{offered_by}
-use Rattle.world_play.specs.Machines.{wanted_request}
+use Rattle.node_core.specs.Machines.{wanted_request}
 
 -- none where there is no such participant, or it is paused
 abbrev pub wanted_of : Submission → (now : ℕ) → Option NodeValue → Option Request

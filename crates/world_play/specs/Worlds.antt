@@ -9,7 +9,7 @@ use Rattle.world_model.specs.World.{World}
 use Rattle.mediator.specs.Kept.{Kept, Keeps}
 use Rattle.seq_log.specs.Sequenced.{Sequenced, IsFor}
 use Rattle.node_core.specs.Participant.{Participant as NodeValue}
-use Rattle.world_play.specs.Standing.{IsNodeOf}
+use Rattle.node_core.specs.Machines.{IsNodeOf}
 
 abbrev pub state_of : NodeValue → NodeState
 state_of node = node.state

@@ -5,7 +5,7 @@ ghost use Rattle.world_model.specs.Mediator.{MediatorState};
 ghost use Rattle.world_model.specs.World.{new_world, played};
 ghost use Rattle.sealed_form.specs.SealedReading.{sealed_reading};
 ghost use Rattle.world_play.specs.Events.{CanHappen, advance_in, events_of};
-ghost use Rattle.world_play.specs.Machines.{machine_of};
+ghost use Rattle.node_core.specs.Machines.{machine_of};
 ghost use Rattle.world_play.specs.WorldOf.{IsWorldOf, world_of};
 
 use crate::event::EventList;

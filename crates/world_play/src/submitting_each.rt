@@ -12,7 +12,7 @@ ghost use Rattle.world_model.specs.Plain.{Submitted};
 ghost use Rattle.node_core.specs.declared.submit_result.SubmitResult.{SubmitResult};
 ghost use Rattle.world_play.specs.Answering.{IsAnswer};
 ghost use Rattle.world_play.specs.Flags.{ArePaused};
-ghost use Rattle.world_play.specs.Machines.{why_of};
+ghost use Rattle.node_core.specs.Machines.{why_of};
 ghost use Rattle.world_play.specs.Results.{IsPlainResult, results_of};
 ghost use Rattle.world_play.specs.Standing.{GoesOn};
 ghost use Rattle.world_play.specs.Submitting.{AreSetUp, CanSubmit};

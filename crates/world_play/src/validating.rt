@@ -7,7 +7,7 @@ ghost use Rattle.world_model.specs.Lawful.{NodeHas};
 ghost use Rattle.world_model.specs.Turns.{validate_below};
 ghost use Rattle.node_core.specs.Participant.{reading_of, with_state};
 ghost use Rattle.validate_job.specs.Outcome.{IsOutcome};
-ghost use Rattle.world_play.specs.Standing.{IsNodeOf};
+ghost use Rattle.node_core.specs.Machines.{IsNodeOf};
 
 use lang_eval::NativeList;
 use node_core::Node;

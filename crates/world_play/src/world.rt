@@ -3,7 +3,7 @@ ghost use Rattle.std.specs.Prelude.{◌≡◌, ◌≤◌, [], length, map, repli
 ghost use Rattle.world_model.specs.Node.{new_node};
 ghost use Rattle.world_model.specs.Mediator.{new_mediator};
 ghost use Rattle.world_model.specs.World.{new_world};
-ghost use Rattle.world_play.specs.Machines.{machine_of};
+ghost use Rattle.node_core.specs.Machines.{machine_of};
 ghost use Rattle.world_play.specs.Making.{AreNewNodes};
 ghost use Rattle.world_play.specs.Submitting.{AreSetUp};
 ghost use Rattle.world_play.specs.WorldOf.{IsWorldOf, world_of};

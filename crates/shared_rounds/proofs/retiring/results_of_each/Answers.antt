@@ -5,7 +5,7 @@ use mathlib.Core.List.{IsPrefix}
 use Rattle.world_model.specs.Messages.{Entry}
 use Rattle.node_core.specs.declared.submit_result.SubmitResult.{SubmitResult}
 use Rattle.seq_log.specs.Sequenced.{Sequenced}
-use Rattle.shared_rounds.specs.declared.served.Retired.{Retired}
+use Rattle.shared_rounds.specs.declared.retired.Retired.{Retired}
 use Rattle.shared_rounds.specs.Retired.{results_left, list_left, IsLeftIn}
 use Rattle.shared_rounds.proofs.retiring.results_of_each.Goals as goal
 

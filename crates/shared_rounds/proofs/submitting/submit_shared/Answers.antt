@@ -9,7 +9,7 @@ use Rattle.sealed_form.specs.Within.{is_hosted}
 use Rattle.prepare_request.specs.Within.{parties_in_what}
 use Rattle.threads_model.specs.Merging.{Merging}
 use Rattle.world_model.specs.Rounds as r
-use Rattle.world_play.specs.Machines.{why_of}
+use Rattle.node_core.specs.Machines.{why_of}
 use Rattle.world_play.specs.Results.{results_of}
 use Rattle.world_play.specs.Submitting.{CanSubmit}
 use Rattle.shared_rounds.specs.Joined.{AreAnswered}

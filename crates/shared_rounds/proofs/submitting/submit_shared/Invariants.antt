@@ -1,6 +1,6 @@
 use Rattle.shared_rounds.proofs.submitting.submit_shared.Given as goal
 use Rattle.shared_rounds.specs.Machine.{machine_in}
-use Rattle.world_play.specs.Machines.{why_of}
+use Rattle.node_core.specs.Machines.{why_of}
 
 abbrev pub ghosts-gather-S-Row : goal.ghosts-gather-S-Row
 ghosts-gather-S-Row g a = record { history = a.world.sequencer.row }

@@ -10,7 +10,7 @@ use Rattle.node_core.specs.Participant.{Participant as NodeValue}
 use Rattle.node_core.specs.Preparing.{offered_by}
 use Rattle.node_core.specs.declared.submit_result.SubmitResult.TheVariants.{Refused}
 use Rattle.world_play.specs.Answering.{AnswersAwake}
-use Rattle.world_play.specs.Machines.{offered_in}
+use Rattle.node_core.specs.Machines.{offered_in}
 use Rattle.world_play.specs.Results.{result_of}
 use Rattle.world_play.specs.Standing.{GoesOn, IsParticipant}
 use Rattle.world_play.proofs.Awake.{may_prepare, may_stand, refuses, sends, stays_one}

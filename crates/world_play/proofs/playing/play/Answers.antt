@@ -3,7 +3,7 @@ use Rattle.std.specs.Prelude.{slice_get}
 use Rattle.world_model.proofs.HeadlineFacts.{headline}
 use Rattle.world_play.specs.declared.event.Event.{Event}
 use Rattle.world_play.specs.Events.{CanHappen}
-use Rattle.world_play.specs.Machines.{machine_of}
+use Rattle.node_core.specs.Machines.{machine_of}
 use Rattle.world_play.proofs.Passing.{item_at}
 use Rattle.world_play.proofs.Plays.{each_of, played_lawful, played_on, within}
 use Rattle.world_play.proofs.playing.play.Goals as goal

@@ -1,5 +1,5 @@
 use Rattle.world_model.specs.Machine.{IsMachine}
-use Rattle.world_play.specs.Machines.{machine_of}
+use Rattle.node_core.specs.Machines.{machine_of}
 use Rattle.world_play.specs.Submitting.{AreSetUp}
 use Rattle.world_play.proofs.Plays.{IsPlayed}
 use Rattle.world_play.proofs.playing.play.Given as goal

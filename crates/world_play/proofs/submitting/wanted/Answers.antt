@@ -1,7 +1,7 @@
 use Rattle.std.proofs.Common.{◌≡◌, ℕ, Some, refl, sym, ap, ◌∙◌, subst}
 use Rattle.std.specs.Prelude.{slice_get}
 use Rattle.ledger_terms.specs.declared.submission.Submission.{Submission}
-use Rattle.world_play.specs.Machines.{offered_in}
+use Rattle.node_core.specs.Machines.{offered_in}
 use Rattle.world_play.specs.Submitting.{wanted_of}
 use Rattle.world_play.proofs.Passing.{item_at}
 use Rattle.world_play.proofs.Submits.{if_ok, only_wanted, told}

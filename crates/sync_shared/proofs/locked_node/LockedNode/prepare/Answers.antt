@@ -4,7 +4,7 @@ use Rattle.canton_model.specs.Inbox.{inbox}
 use Rattle.world_model.specs.Messages.{Entry}
 use Rattle.world_model.specs.Rounds.{Unwanted}
 use Rattle.prepare_request.specs.declared.submit_fault.SubmitFault.TheVariants.{Memory}
-use Rattle.world_play.specs.Machines.{offered_in}
+use Rattle.node_core.specs.Machines.{offered_in}
 use Rattle.sync_shared.specs.Answers.{fault_of}
 use Rattle.sync_shared.specs.Slips.{read_to}
 use Rattle.sync_shared.proofs.Nodes.{flagged}

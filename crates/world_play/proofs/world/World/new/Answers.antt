@@ -5,7 +5,7 @@ use Rattle.world_model.specs.Mediator.{new_mediator}
 use Rattle.mediator.specs.Kept.{Kept, Keeps}
 use Rattle.seq_log.specs.Sequenced.{Sequenced}
 use Rattle.node_core.specs.Participant.{Participant as NodeValue}
-use Rattle.world_play.specs.Machines.{machine_of}
+use Rattle.node_core.specs.Machines.{machine_of}
 use Rattle.world_play.specs.Submitting.{AreSetUp}
 use Rattle.world_play.specs.Worlds.{state_of, AreNodesOf}
 use Rattle.world_play.proofs.Makes.{new_nodes_are, new_states, set_up_new}

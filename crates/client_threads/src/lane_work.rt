@@ -1,0 +1,31 @@
+//! What lanes do.
+use lane_pool::{Gate, Lane};
+use once_cell::race::OnceBool;
+use std::alloc::{AllocError, AllocGlobal};
+use std::random::RandomSource;
+use std::sync::Wait;
+use sync_shared::{Session, Shared};
+
+/// The work of so many lanes: that of the participants and of the mediator. Once `ended` is set no turn does any more.
+#[derive(Clone, Copy)]
+pub struct LaneWork<'a, 'r, S: Session, R: Wait + Sync, G: Gate + Sync> {
+    pub rt: &'a R,
+    pub gate: &'a G,
+    pub shared: &'a Shared<'r, S>,
+    pub lanes: u32,
+    pub ended: &'a OnceBool,
+}
+
+impl<'r, S: Session + Send + Sync, R: Wait + Sync + RandomSource + AllocGlobal, G: Gate + Sync> Lane
+    for LaneWork<'_, 'r, S, R, G> {
+    ghost may_fail = { λ _ _ _. Unit {0} };
+
+    ghost was_taken = { λ _ _ _. Unit {0} };
+
+    fn turn(&self, lane: u32, _turn: u64) -> Result<(), AllocError> {
+        if self.lanes == 0 || self.ended.get().is_some() {
+            return Ok(());
+        }
+        self.shared.turn(self.rt, lane, self.lanes, self.gate)
+    }
+}

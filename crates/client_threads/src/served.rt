@@ -1,0 +1,10 @@
+//! What comes back of a client.
+use crate::result_queue::ResultQueue;
+use sync_shared::{Client, Session};
+
+/// A client with the results of its submissions.
+#[derive(Drop)]
+pub struct Served<'r, S: Session> {
+    pub client: Client<'r, S>,
+    pub results: ResultQueue,
+}

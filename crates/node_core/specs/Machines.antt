@@ -1,0 +1,41 @@
+-- The machine of a synchroniser, and its participants.
+use Rattle.std.specs.Prelude.{◌≡◌, ℕ, List, [], Option}
+use Rattle.ledger_terms.specs.declared.submission.Submission.{Submission}
+use Rattle.ledger_terms.specs.declared.topology.Topology.{Topology}
+use Rattle.ledger_model.specs.Terms.{ParticipantId}
+use Rattle.lang_eval.specs.Found.{Packages}
+use Rattle.canton_model.specs.Inbox.{Item}
+use Rattle.contract_store.specs.Written.{written}
+use Rattle.inbox_standing.specs.Changes.{changes_in}
+use Rattle.world_model.specs.Messages.{Request}
+use Rattle.world_model.specs.Machine.{Machine}
+use Rattle.sealed_form.specs.SealedReading.{sealed_reading}
+use Rattle.prepare_request.specs.Machine.{Offered, machine_over, prepare_over, why_over}
+use Rattle.prepare_request.specs.declared.submit_fault.SubmitFault.{SubmitFault}
+use Rattle.world_model.specs.Rounds.{Why}
+use Rattle.node_core.specs.Participant.{Participant as NodeValue, reading_of}
+use Rattle.node_core.specs.Preparing.{offered}
+
+-- what a participant with these items offers: the contracts at its cursor
+abbrev pub offered_in : Topology → Packages → Offered
+offered_in topology packages p items =
+    offered (sealed_reading topology packages) p (written (changes_in (sealed_reading topology packages) items) [])
+
+-- the request that a submission wants over its participant's inbox, where it wants one
+abbrev pub wanted_request : Topology → Packages → Submission → List Item → (now : ℕ) → Option Request
+wanted_request topology packages = prepare_over topology packages (offered_in topology packages)
+
+-- sealed requests are read and prepared, and there is a participant for each host
+abbrev pub machine_of : Topology → Packages → (capacity : ℕ) → Machine
+machine_of topology packages capacity = machine_over topology packages capacity (offered_in topology packages)
+
+-- why a submission wants no request, where it wants none
+abbrev pub why_of : Topology → Packages → Why SubmitFault
+why_of topology packages = why_over topology packages (offered_in topology packages)
+
+-- it is participant p of the machine
+pub record IsNodeOf (m : Machine) (p : ParticipantId) (node : NodeValue) : Type 0 where
+  pub reading : reading_of node ≡ m.reading
+  pub params : (node.topology).params ≡ m.params
+  pub me : node.me ≡ p
+  pub prepares : m.prepare ≡ wanted_request node.topology node.packages
