@@ -8,7 +8,7 @@ use Rattle.node_core.specs.declared.submit_result.SubmitResult.{SubmitResult}
 use Rattle.script_read.specs.Kept.{IsRound}
 use Rattle.script_read.specs.declared.round.Round.{Round}
 use Rattle.script_read.specs.declared.script.Script.{Script}
-use Rattle.threads_model.specs.Shared.{SharedPart, SharedRounds}
+use Rattle.run_model.specs.Workers.{PartBy, RoundsBy}
 use Rattle.world_model.specs.Machine.{Machine}
 use Rattle.world_model.specs.Mediator.{MediatorState}
 use Rattle.world_model.specs.Lawful.{Lawful}
@@ -58,11 +58,11 @@ module _ (script : Script) (count : ℕ) (round : Round) (is : IsRoundOf script 
   can_each k d lt = can_submit script is.accepted _ (is_round.submits k d lt)
 
   -- it has begun in the second of these worlds
-  pub can_be_answered : (capacity : ℕ) (world w1 : World) (results : List SubmitResult) (ends : List ℕ)
-      (p : ArePlayed script capacity count world results ends) → w1.now ≡ world.now + round.advance
+  pub can_be_answered : (capacity workers : ℕ) (world w1 : World) (results : List SubmitResult) (ends : List ℕ)
+      (p : ArePlayed script capacity workers count world results ends) → w1.now ≡ world.now + round.advance
       → IsWorldOf (machine_for script capacity) p.state w1 × Lawful (machine_for script capacity) (world_of p.state w1)
       → AreSetUp script.topology script.checked (w1.nodes).items → ArePaused round.paused (w1.nodes).items → CanBeAnswered script capacity round w1
-  can_be_answered capacity world w1 results ends p now1 is1 set_up paused =
+  can_be_answered capacity workers world w1 results ends p now1 is1 set_up paused =
       record {
         machine = p.machine;
         state = p.state;
@@ -78,12 +78,12 @@ module _ (script : Script) (count : ℕ) (round : Round) (is : IsRoundOf script 
       }
 
   -- a round begins in the first of these worlds, is answered in the second and settles in the third
-  module _ (capacity : ℕ) (world w1 w2 w3 : World) (results answers : List SubmitResult) (ends : List ℕ) (end : ℕ)
-      (p : ArePlayed script capacity count world results ends)
+  module _ (capacity workers : ℕ) (world w1 w2 w3 : World) (results answers : List SubmitResult) (ends : List ℕ) (end : ℕ)
+      (p : ArePlayed script capacity workers count world results ends)
       (now1 : w1.now ≡ world.now + round.advance) (now2 : w2.now ≡ w1.now) (now3 : w3.now ≡ w2.now)
       (begins : (w1.sequencer).list ≡ begun (machine_for script capacity) (world.now + round.advance) (round_of round) (world.sequencer).list)
       (many : length answers ≡ length round.submits) (plain : All IsPlainResult answers)
-      (settles_as : SettlesAsPart script capacity round w1 w2 answers)
+      (settles_as : SettlesAsPart script capacity workers round w1 w2 answers)
       (settles : (w3.sequencer).list ≡ passes (machine_for script capacity) w2.now round.paused round.hold_verdicts
       (left (machine_for script capacity).hosts (w2.sequencer).list) (w2.sequencer).list)
       (ends_at : end ≡ length (w3.sequencer).list) where
@@ -93,23 +93,27 @@ module _ (script : Script) (count : ℕ) (round : Round) (is : IsRoundOf script 
     abbrev time : ℕ
     time = world.now + round.advance
 
-    part : SharedPart m (why_for script) time (round_of round) (results_of round.submits answers) (world.sequencer).list (w3.sequencer).list
+    part : PartBy workers m (why_for script) time (round_of round) (results_of round.submits answers) (world.sequencer).list (w3.sequencer).list
     part =
         subst
-        (λ (n : ℕ). SharedPart m (why_for script) n (round_of round) (results_of round.submits answers) (world.sequencer).list (w3.sequencer).list)
+        (λ (n : ℕ).
+        PartBy workers m (why_for script) n (round_of round) (results_of round.submits answers) (world.sequencer).list (w3.sequencer).list)
         now1
         (settles_as (world.sequencer).list (w3.sequencer).list ((p.lawful).genuine, (p.lawful).within_capacity)
         (begins ∙ ap (λ (n : ℕ). begun m n (round_of round) (world.sequencer).list) (sym now1))
         (settles ∙ ap (λ (n : ℕ). passes m n round.paused round.hold_verdicts (left m.hosts (w2.sequencer).list) (w2.sequencer).list) now2))
 
-    played : SharedRounds m (why_for script) 0 [] (answered (take (count + 1) script.rounds) (results ++ answers) (ends ++ end ∷ [])) (w3.sequencer).list
+    abbrev PlayedAs : List Round → Type 0
+    PlayedAs rounds = RoundsBy workers m (why_for script) 0 [] (answered rounds (results ++ answers) (ends ++ end ∷ [])) (w3.sequencer).list
+
+    played : PlayedAs (take (count + 1) script.rounds)
     played =
-        subst (λ (xs : List Round). SharedRounds m (why_for script) 0 [] (answered xs (results ++ answers) (ends ++ end ∷ [])) (w3.sequencer).list) (sym next)
-        (one_more m (why_for script) round answers many end (world.sequencer).list (w3.sequencer).list ends_at world.now part (take count script.rounds)
-        results ends 0 [] p.each_result p.each_end (let at = p.now in omega (arith, at)) p.played)
+        subst PlayedAs (sym next)
+        (one_more workers m (why_for script) round answers many end (world.sequencer).list (w3.sequencer).list ends_at world.now part
+        (take count script.rounds) results ends 0 [] p.each_result p.each_end (let at = p.now in omega (arith, at)) p.played)
 
     pub plays_on : (state : MediatorState) × IsWorldOf m state w3 × Lawful m (world_of state w3) → AreSetUp script.topology script.checked (w3.nodes).items
-        → ArePlayed script capacity (count + 1) w3 (results ++ answers) (ends ++ end ∷ [])
+        → ArePlayed script capacity workers (count + 1) w3 (results ++ answers) (ends ++ end ∷ [])
     plays_on s set_up =
         record {
           machine = p.machine;

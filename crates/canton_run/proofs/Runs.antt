@@ -9,7 +9,8 @@ use Rattle.script_read.specs.declared.round.Round.{Round}
 use Rattle.script_read.specs.declared.script.Script.{Script}
 use Rattle.sealed_form.proofs.Logs.{are_sealed}
 use Rattle.sealed_form.proofs.OneId.{no_collision}
-use Rattle.threads_model.specs.Shared.{SharedRounds}
+use Rattle.run_model.specs.Workers.{RoundsBy}
+use Rattle.run_model.proofs.Workers.{rounds_are_plain, rounds_are_shared}
 use Rattle.threads_model.proofs.RunShared.{run_holds}
 use Rattle.world_model.specs.Machine.{Machine, IsMachine}
 use Rattle.world_model.specs.Mediator.{new_mediator}
@@ -25,13 +26,13 @@ use Rattle.canton_run.specs.Between.{ArePlayed}
 use Rattle.canton_run.specs.Run.{IsRun, machine_for, submissions_in, why_for}
 use Rattle.canton_run.proofs.OneMore.{answers_are_as_many}
 
-module _ (script : Script) (capacity : ℕ) where
+module _ (script : Script) (capacity workers : ℕ) where
   abbrev m : Machine
   m = machine_for script capacity
 
   -- on a new synchroniser no rounds were played
   pub none_played : IsMachine m → (world : World) → IsWorldOf m new_mediator world → world_of new_mediator world ≡ w.new_world m
-      → AreSetUp script.topology script.checked (world.nodes).items → ArePlayed script capacity 0 world [] []
+      → AreSetUp script.topology script.checked (world.nodes).items → ArePlayed script capacity workers 0 world [] []
   none_played machine world is new set_up =
       record {
         machine = machine;
@@ -47,20 +48,27 @@ module _ (script : Script) (capacity : ℕ) where
       }
 
   module _ (machine : IsMachine m) (accepted : IsAccepted script) (room : capacity ≤ 20480) (results : List SubmitResult) (ends : List ℕ) where
-    pub is_run : (world : World) → ArePlayed script capacity (length script.rounds) world results ends → (log : List Entry) → log ≡ (world.sequencer).list
-        → IsRun script capacity log results ends
+    pub is_run : (world : World) → ArePlayed script capacity workers (length script.rounds) world results ends → (log : List Entry)
+        → log ≡ (world.sequencer).list → IsRun script capacity workers log results ends
     is_run world p log same =
         let all : take (length script.rounds) script.rounds ≡ script.rounds = take_all (length script.rounds) script.rounds (omega arith) in
         let played =
-        subst (λ (xs : List Entry). SharedRounds m (why_for script) 0 [] (answered script.rounds results ends) xs) (sym same)
-        (subst (λ (xs : List Round). SharedRounds m (why_for script) 0 [] (answered xs results ends) (world.sequencer).list) all p.played) in
-        let cut = run_holds m (why_for script) machine (answered script.rounds results ends) log played in
+        subst (λ (xs : List Entry). RoundsBy workers m (why_for script) 0 [] (answered script.rounds results ends) xs) (sym same)
+        (subst (λ (xs : List Round). RoundsBy workers m (why_for script) 0 [] (answered xs results ends) (world.sequencer).list) all p.played) in
+        let new = new_lawful m in
+        let shared =
+        rounds_are_shared m (why_for script) workers machine 0 [] (answered script.rounds results ends) log (new.genuine, new.within_capacity)
+        played in
+        let cut = run_holds m (why_for script) machine (answered script.rounds results ends) log shared in
         let holds = headline m.reading m.params log machine.is_reading cut.genuine in
         let few : length script.rounds ≤ 2048 = (accepted.rounds).few in
         let many = answers_are_as_many script.rounds results ends in
         let wait : 100000 ≤ (m.params).response_timeout = ((accepted.topology).response_timeout).least in
         record {
           cut = cut;
+          alone = λ none.
+              rounds_are_plain m (why_for script) 0 [] (answered script.rounds results ends) log
+              (subst (λ (n : ℕ). RoundsBy n m (why_for script) 0 [] (answered script.rounds results ends) log) none played);
           each_result = p.each_result ∙ ap submissions_in all;
           each_end = p.each_end ∙ ap length all;
           plain = p.plain;

@@ -9,7 +9,7 @@ use Rattle.script_read.specs.Kept.{IsAccepted}
 use Rattle.script_read.specs.declared.round.Round.{Round}
 use Rattle.script_read.specs.declared.script.Script.{Script}
 use Rattle.sealed_form.specs.Within.{is_hosted}
-use Rattle.threads_model.specs.Shared.{SharedPart, SharedRounds}
+use Rattle.run_model.specs.Workers.{PartBy, RoundsBy}
 use Rattle.world_model.specs.Lawful.{Lawful}
 use Rattle.world_model.specs.Machine.{GenuineLog, IsMachine}
 use Rattle.world_model.specs.Mediator.{MediatorState}
@@ -53,16 +53,17 @@ pub record CanBeAnswered (script : Script) (capacity : ℕ) (round : Round) (wor
   pub there : All (λ (what : Submission). what.participant < length (script.topology).hosts) round.submits
 
 -- Once the synchroniser has settled, the round with these answers is a part of the run, whatever log it began on.
-abbrev pub SettlesAsPart : Script → (capacity : ℕ) → Round → (before after : World) → List SubmitResult → Type 0
-SettlesAsPart script capacity round before after results =
+abbrev pub SettlesAsPart : Script → (capacity workers : ℕ) → Round → (before after : World) → List SubmitResult → Type 0
+SettlesAsPart script capacity workers round before after results =
     (first settled : List Entry) → GenuineLog (machine_for script capacity) first × (reserved first ≤ (machine_for script capacity).capacity)
     → (before.sequencer).list ≡ begun (machine_for script capacity) before.now (round_of round) first
     → settled ≡ passes (machine_for script capacity) before.now round.paused round.hold_verdicts
     (left (machine_for script capacity).hosts (after.sequencer).list) (after.sequencer).list
-    → SharedPart (machine_for script capacity) (why_for script) before.now (round_of round) (results_of round.submits results) first settled
+    → PartBy workers (machine_for script capacity) (why_for script) before.now (round_of round) (results_of round.submits results) first settled
 
 -- All submissions of the round have these results, in their order, and the synchroniser hasn't settled.
-pub record IsAnsweredRound (script : Script) (capacity : ℕ) (round : Round) (before after : World) (results : List SubmitResult) : Type 0 where
+pub record IsAnsweredRound (script : Script) (capacity workers : ℕ) (round : Round) (before after : World) (results : List SubmitResult)
+    : Type 0 where
   pub state : MediatorState
   pub is : IsWorldOf (machine_for script capacity) state after
   pub lawful : Lawful (machine_for script capacity) (world_of state after)
@@ -70,10 +71,10 @@ pub record IsAnsweredRound (script : Script) (capacity : ℕ) (round : Round) (b
   pub now : after.now ≡ before.now
   pub each_result : length results ≡ length round.submits
   pub plain : All IsPlainResult results
-  pub part : SettlesAsPart script capacity round before after results
+  pub part : SettlesAsPart script capacity workers round before after results
 
--- So many rounds of the script were played on its synchroniser, with whatever numbers of workers, with these results and ends.
-pub record ArePlayed (script : Script) (capacity count : ℕ) (world : World) (results : List SubmitResult) (ends : List ℕ) : Type 0 where
+-- So many rounds of the script were played on its synchroniser by so many workers, with these results and ends.
+pub record ArePlayed (script : Script) (capacity workers count : ℕ) (world : World) (results : List SubmitResult) (ends : List ℕ) : Type 0 where
   pub machine : IsMachine (machine_for script capacity)
   pub state : MediatorState
   pub is : IsWorldOf (machine_for script capacity) state world
@@ -83,4 +84,5 @@ pub record ArePlayed (script : Script) (capacity count : ℕ) (world : World) (r
   pub each_result : length results ≡ submissions_in (take count script.rounds)
   pub each_end : length ends ≡ length (take count script.rounds)
   pub plain : All IsPlainResult results
-  pub played : SharedRounds (machine_for script capacity) (why_for script) 0 [] (answered (take count script.rounds) results ends) (world.sequencer).list
+  pub played : RoundsBy workers (machine_for script capacity) (why_for script) 0 [] (answered (take count script.rounds) results ends)
+      (world.sequencer).list

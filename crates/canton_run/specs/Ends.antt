@@ -11,7 +11,7 @@ use Rattle.script_read.specs.Script.{script_in}
 use Rattle.script_read.specs.declared.script.Script.{Script}
 use Rattle.script_read.specs.declared.script_fault.ScriptFault.{ScriptFault}
 use Rattle.canton_run.specs.declared.finish.Finish.{Finish}
-use Rattle.canton_run.specs.Jobs.{GivesScript, ReadWhole, capacity_of, text_of}
+use Rattle.canton_run.specs.Jobs.{GivesScript, ReadWhole, capacity_of, text_of, workers_of}
 use Rattle.canton_run.specs.Run.{IsRun}
 
 -- one of the statuses
@@ -30,7 +30,7 @@ AsksForRun words = (workers : ℕ) × (log : ℕ) × (job_of words ≡ Some (Run
 abbrev pub Ran : List (List ℕ) → Option (List ℕ) → Option (List ℕ) → Finish → List ℕ → Type 0
 Ran words left left' finish text =
     (job : Job) × (script : Script) × (job_of words ≡ Some job) × GivesScript job left left' script
-    × IsRun script (capacity_of job) finish.log finish.results finish.ends × (text ≡ text_of job script finish)
+    × IsRun script (capacity_of job) (workers_of job) finish.log finish.results finish.ends × (text ≡ text_of job script finish)
 
 -- the source was read to its end within the limit, and the fault kept is that of its bytes
 abbrev pub ReadsFault : Option (List ℕ) → Option (List ℕ) → Finish → Type 0

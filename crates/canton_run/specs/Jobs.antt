@@ -36,6 +36,11 @@ abbrev pub capacity_of : Job → ℕ
 capacity_of (Run workers log) = log
 capacity_of (Gen count seed workers) = MOST_PLACES
 
+-- how many lanes work beside the clients of a round
+abbrev pub workers_of : Job → ℕ
+workers_of (Run workers log) = workers
+workers_of (Gen count seed workers) = workers
+
 -- the report of a run, or its summary
 abbrev pub text_over : Job → Topology → List Round → List Entry → List SubmitResult → List NodeView → List ℕ
 text_over (Run workers log) topology rounds entries results views = report_of topology rounds entries results views

@@ -1,5 +1,5 @@
 -- What a run of a script is.
-use Rattle.std.specs.Prelude.{◌≡◌, ℕ, List, All, length, sum_by}
+use Rattle.std.specs.Prelude.{◌≡◌, ℕ, List, [], All, length, sum_by}
 use Rattle.canton_model.specs.Log.{Params}
 use Rattle.canton_model.specs.Reading.{Reading}
 use Rattle.canton_model.specs.declared.entry.Entry.{Entry}
@@ -13,8 +13,9 @@ use Rattle.sealed_form.specs.Collisions.{Collides}
 use Rattle.sealed_form.specs.SealedReading.{sealed_reading}
 use Rattle.world_model.specs.Headline.{Headline, OneLedger}
 use Rattle.world_model.specs.Machine.{Machine}
+use Rattle.world_model.specs.Plain.{PlainRounds}
 use Rattle.world_model.specs.Rounds.{RunHolds, Why}
-use Rattle.world_play.specs.Machines.{machine_of, why_of}
+use Rattle.node_core.specs.Machines.{machine_of, why_of}
 use Rattle.world_play.specs.Results.{IsPlainResult}
 use Rattle.canton_run.specs.Answered.{answered}
 
@@ -42,10 +43,12 @@ abbrev pub submissions_in : List Round → ℕ
 submissions_in rounds = sum_by (λ (round : Round). length round.submits) rounds
 
 -- The log, the results of the submissions and the ends of the rounds are those of a run of the script.
-pub record IsRun (script : Script) (capacity : ℕ) (log : List Entry) (results : List SubmitResult) (ends : List ℕ) : Type 0 where
+pub record IsRun (script : Script) (capacity workers : ℕ) (log : List Entry) (results : List SubmitResult) (ends : List ℕ) : Type 0 where
   -- what the log has to do with the script: it is genuine, within its capacity and cut at the ends, and each part and each
   -- result is as its round says
   pub cut : RunHolds (machine_for script capacity) (why_for script) log (answered script.rounds results ends)
+  -- without workers each part is its Tick, the submissions in script order, and passes until one appends nothing
+  pub alone : workers ≡ 0 → PlainRounds (machine_for script capacity) (why_for script) 0 [] (answered script.rounds results ends) log
   pub each_result : length results ≡ submissions_in script.rounds
   pub each_end : length ends ≡ length script.rounds
   pub plain : All IsPlainResult results

@@ -42,7 +42,7 @@ fn submit_alone<'r>(
 ) -> Result<Answered<'r>, AllocError>
     requires { (script : Script) × (capacity : ℕ) × CanBeAnswered script capacity round.now world }
     ensures { IfOk result (λ a. (script : Script) (capacity : ℕ) → CanBeAnswered script capacity round.now world.entry
-        → IsAnsweredRound script capacity round.now world.entry a.world a.results) }
+        → IsAnsweredRound script capacity 0 round.now world.entry a.world a.results) }
 {
     let mut world = world;
     let mut results = SubmitResultList::new(alloc);
@@ -60,7 +60,7 @@ fn submit_round<'r, R: Threads + Wait + Sync + RandomSource + AllocGlobal, G: Ga
 ) -> Result<Answered<'r>, AllocError>
     requires answerable { (script : Script) × (capacity : ℕ) × IsSetupOf script setup.now × CanBeAnswered script capacity round.now world }
     ensures { IfOk result (λ a. (script : Script) (capacity : ℕ) → IsSetupOf script setup.now → CanBeAnswered script capacity round.now world.entry
-        → IsAnsweredRound script capacity round.now world.entry a.world a.results) }
+        → IsAnsweredRound script capacity workers.now.count round.now world.entry a.world a.results) }
 {
     if workers.count == 0 {
         return submit_alone(workers.alloc, natives, world, round);
@@ -95,10 +95,10 @@ fn play_round<'r, R: Threads + Wait + Sync + RandomSource + AllocGlobal, G: Gate
     answers: &mut Answers,
 ) -> Result<World<'r>, AllocError>
     requires played { (script : Script) × (capacity : ℕ) × (count : ℕ) × IsSetupOf script setup.now × IsRoundOf script count round.now
-        × ArePlayed script capacity count world answers.old.results answers.old.ends }
+        × ArePlayed script capacity workers.now.count count world answers.old.results answers.old.ends }
     ensures { IfOk result (λ played. (script : Script) (capacity count : ℕ) → IsSetupOf script setup.now → IsRoundOf script count round.now
-        → ArePlayed script capacity count world.entry answers.old.results answers.old.ends
-        → ArePlayed script capacity (count + 1) played answers.new.results answers.new.ends) }
+        → ArePlayed script capacity workers.now.count count world.entry answers.old.results answers.old.ends
+        → ArePlayed script capacity workers.now.count (count + 1) played answers.new.results answers.new.ends) }
 {
     let alloc = workers.alloc;
     let hold_verdicts = round.hold_verdicts;
@@ -121,10 +121,10 @@ pub fn play_rounds<'r, R: Threads + Wait + Sync + RandomSource + AllocGlobal, G:
     rounds: &RoundList,
 ) -> Result<PlayedRounds<'r>, AllocError>
     requires played { (script : Script) × (capacity : ℕ) × IsAccepted script × IsSetupOf script setup.now × (script.rounds ≡ rounds.now)
-        × ArePlayed script capacity 0 world [] [] }
+        × ArePlayed script capacity workers.now.count 0 world [] [] }
     ensures { IfOk result (λ played. (script : Script) (capacity : ℕ) → IsAccepted script → IsSetupOf script setup.now → script.rounds ≡ rounds.now
-        → ArePlayed script capacity 0 world.entry [] []
-        → ArePlayed script capacity (length rounds.now) played.world (played.answers).results (played.answers).ends) }
+        → ArePlayed script capacity workers.now.count 0 world.entry [] []
+        → ArePlayed script capacity workers.now.count (length rounds.now) played.world (played.answers).results (played.answers).ends) }
 {
     let alloc = workers.alloc;
     let mut world = world;

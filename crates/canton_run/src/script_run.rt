@@ -34,7 +34,8 @@ pub fn run_script<'r, R: Threads + Wait + Sync + RandomSource + AllocGlobal, G: 
 ) -> Result<Played<'r>, AllocError>
     requires accepted { IsAccepted (script_with setup.now rounds.now) }
     requires room { capacity ≤ MOST_PLACES }
-    ensures run { IfOk result (λ played. IsRun (script_with setup.now rounds.now) capacity (played.record).log (played.record).results (played.record).ends) }
+    ensures run { IfOk result (λ played. IsRun (script_with setup.now rounds.now) capacity workers.now.count (played.record).log (played.record).results
+        (played.record).ends) }
     ensures views { IfOk result (λ played. map view_of (played.nodes).items
         ≡ views_over (reading_for (script_with setup.now rounds.now)) setup.now.topology.params (played.record).log (length setup.now.topology.hosts)) }
 {

@@ -11,7 +11,7 @@ ghost use Rattle.script_read.specs.Kept.{IsAccepted};
 ghost use Rattle.script_read.specs.Script.{script_in};
 ghost use Rattle.script_read.specs.declared.script.Script.{Script};
 ghost use Rattle.canton_run.specs.Run.{IsRun};
-ghost use Rattle.canton_run.specs.Jobs.{ReadsScript, capacity_of, text_of};
+ghost use Rattle.canton_run.specs.Jobs.{ReadsScript, capacity_of, text_of, workers_of};
 ghost use Rattle.canton_run.specs.Ends.{AsksForRun, HasScript, IsReadWhole, IsRunStatus, IsStatus, KeepsFault, NoReadFault};
 ghost use Rattle.canton_run.specs.Ends.{OffersScript, Ran, RanNothing, ReadsFault, TakesAtMost, TakesUpTo};
 
@@ -46,7 +46,9 @@ fn capacity_of(job: Job) -> u64
 }
 
 // How many lanes work beside the clients of a round.
-fn workers_of(job: Job) -> u32 {
+fn workers_of(job: Job) -> u32
+    ensures { result ≡ workers_of job }
+{
     match job {
         Job::Run { workers, .. } | Job::Gen { workers, .. } => workers,
     }
@@ -65,7 +67,7 @@ fn carry_out<R: Threads + Wait + Sync + RandomSource + AllocGlobal, G: Gate + Sy
     ensures status { (result.status ≡ 0) ⊎ ((result.status ≡ 5) ⊎ (result.status ≡ 70)) }
     ensures fault { result.fault ≡ None }
     ensures memory { result.status ≡ 70 → RanNothing (K.held sink.old) (K.held sink.new) result }
-    ensures ran { result.status ≢ 70 → IsRun script (capacity_of job) result.log result.results result.ends }
+    ensures ran { result.status ≢ 70 → IsRun script (capacity_of job) workers.now.count result.log result.results result.ends }
     ensures done { result.status ≡ 0 → Appends (K.held sink.old) (K.held sink.new) (text_of job script result) }
     ensures cut { result.status ≡ 5 → (n : ℕ) × Appends (K.held sink.old) (K.held sink.new) (take n (text_of job script result)) }
     ensures rose { result.status ≡ 5 → Rose (K.faults sink.old) (K.faults sink.new) }
@@ -122,10 +124,10 @@ fn run_source<
     ensures taken { (bytes : List ℕ) × TakesAtMost (S.left source.old) (S.left source.new) result.status bytes }
     ensures nothing { result.status ≢ 0 → result.status ≢ 5 → RanNothing (K.held sink.old) (K.held sink.new) result }
     ensures done { result.status ≡ 0 → (script : Script) × ReadsScript (S.left source.old) (S.left source.new) script
-        × IsRun script (capacity_of job) result.log result.results result.ends
+        × IsRun script (capacity_of job) workers.now.count result.log result.results result.ends
         × Appends (K.held sink.old) (K.held sink.new) (text_of job script result) }
     ensures cut { result.status ≡ 5 → (script : Script) × ReadsScript (S.left source.old) (S.left source.new) script
-        × IsRun script (capacity_of job) result.log result.results result.ends
+        × IsRun script (capacity_of job) workers.now.count result.log result.results result.ends
         × (K.room sink.old < length (text_of job script result))
         × ((n : ℕ) × Appends (K.held sink.old) (K.held sink.new) (take n (text_of job script result))) }
     ensures count { (S.faults source.old ≤ S.faults source.new) × (K.faults sink.old ≤ K.faults sink.new) }
@@ -161,7 +163,7 @@ fn run_generated<R: Threads + Wait + Sync + RandomSource + AllocGlobal, G: Gate 
     ensures status { (result.status ≡ 0) ⊎ ((result.status ≡ 5) ⊎ (result.status ≡ 70)) }
     ensures fault { result.fault ≡ None }
     ensures memory { result.status ≡ 70 → RanNothing (K.held sink.old) (K.held sink.new) result }
-    ensures ran { result.status ≢ 70 → IsRun (generated seed count) (capacity_of job) result.log result.results result.ends }
+    ensures ran { result.status ≢ 70 → IsRun (generated seed count) (capacity_of job) workers.now.count result.log result.results result.ends }
     ensures done { result.status ≡ 0 → Appends (K.held sink.old) (K.held sink.new) (text_of job (generated seed count) result) }
     ensures cut { result.status ≡ 5 → (n : ℕ) × Appends (K.held sink.old) (K.held sink.new) (take n (text_of job (generated seed count) result)) }
     ensures rose { result.status ≡ 5 → Rose (K.faults sink.old) (K.faults sink.new) }

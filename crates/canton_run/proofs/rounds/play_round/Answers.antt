@@ -21,8 +21,8 @@ submit_round-requires-clause-answerable g c κs within =
       r.0,
       r.1,
       r.3,
-      can_be_answered r.0 r.2 c.args.round.now r.4 r.1 c.args.world c.begin_round.new.world (c.args.answers.now).results (c.args.answers.now).ends p
-          b.now (b.lawful m p.state p.is p.lawful)
+      can_be_answered r.0 r.2 c.args.round.now r.4 r.1 c.args.workers.now.count c.args.world c.begin_round.new.world
+          (c.args.answers.now).results (c.args.answers.now).ends p b.now (b.lawful m p.state p.is p.lawful)
           (b.set_up (r.0).topology (r.0).checked p.set_up) b.paused,
     )
 
@@ -33,9 +33,8 @@ settle-requires g c =
     let p = r.5 in
     let m = machine_for r.0 r.1 in
     let can =
-    can_be_answered r.0 r.2 c.args.round.now r.4 r.1 c.args.world c.begin_round.new.world (c.args.answers.now).results (c.args.answers.now).ends p
-    b.now (b.lawful m p.state p.is p.lawful)
-    (b.set_up (r.0).topology (r.0).checked p.set_up) b.paused in
+    can_be_answered r.0 r.2 c.args.round.now r.4 r.1 c.args.workers.now.count c.args.world c.begin_round.new.world (c.args.answers.now).results
+    (c.args.answers.now).ends p b.now (b.lawful m p.state p.is p.lawful) (b.set_up (r.0).topology (r.0).checked p.set_up) b.paused in
     let a = c.in_ok-answered.ensures r.0 r.1 r.3 can in record { lawful = (m, a.state, a.is, a.lawful) }
 
 pub returns : goal.returns
@@ -46,15 +45,18 @@ returns g c = λ script capacity count setup is p.
     let k = script.checked in
     let begins = b.log m p.state (round_of c.args.round.now) p.is refl in
     let can =
-    can_be_answered script count c.args.round.now is capacity c.args.world c.begin_round.new.world (c.args.answers.now).results
-    (c.args.answers.now).ends p b.now (b.lawful m p.state p.is p.lawful) (b.set_up t k p.set_up) b.paused in
+    can_be_answered script count c.args.round.now is capacity c.args.workers.now.count c.args.world c.begin_round.new.world
+    (c.args.answers.now).results (c.args.answers.now).ends p b.now (b.lawful m p.state p.is p.lawful) (b.set_up t k p.set_up) b.paused in
     let a = c.in_ok-answered.ensures script capacity setup can in
     let s = c.in_ok-settle.ensures in
     let answered = c.in_ok-answered.answered in
     let on =
-    plays_on script count c.args.round.now is capacity c.args.world c.begin_round.new.world answered.world c.settle.new.world
-    (c.args.answers.now).results answered.results (c.args.answers.now).ends c.len.result p b.now a.now s.now begins a.each_result a.plain a.part
-    (s.passes m a.state a.is a.lawful) c.len.ensures (s.lawful m a.state a.is a.lawful) (s.set_up t k a.set_up) in
-    subst (λ (xs : List SubmitResult). ArePlayed script capacity (count + 1) c.settle.new.world xs c.push.new.self) (sym c.in_ok-append.ensures)
-    (subst (λ (xs : List ℕ). ArePlayed script capacity (count + 1) c.settle.new.world ((c.args.answers.now).results ++ answered.results) xs)
+    plays_on script count c.args.round.now is capacity c.args.workers.now.count c.args.world c.begin_round.new.world answered.world
+    c.settle.new.world (c.args.answers.now).results answered.results (c.args.answers.now).ends c.len.result p b.now a.now s.now begins
+    a.each_result a.plain a.part (s.passes m a.state a.is a.lawful) c.len.ensures (s.lawful m a.state a.is a.lawful) (s.set_up t k a.set_up) in
+    subst (λ (xs : List SubmitResult). ArePlayed script capacity c.args.workers.now.count (count + 1) c.settle.new.world xs c.push.new.self)
+    (sym c.in_ok-append.ensures)
+    (subst
+    (λ (xs : List ℕ).
+    ArePlayed script capacity c.args.workers.now.count (count + 1) c.settle.new.world ((c.args.answers.now).results ++ answered.results) xs)
     (sym c.in_ok-push.ensures.ok) on)

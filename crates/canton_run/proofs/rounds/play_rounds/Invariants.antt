@@ -7,5 +7,5 @@ use Rattle.canton_run.proofs.rounds.play_rounds.Given as goal
 abbrev pub invariant-rounds : goal.invariant-rounds
 invariant-rounds g l =
     (script : Script) (capacity : ℕ) → IsAccepted script → IsSetupOf script l.setup → script.rounds ≡ l.rounds
-    → ArePlayed script capacity 0 l.fn.world [] []
-    → ArePlayed script capacity l.round-index l.world (l.answers).results (l.answers).ends
+    → ArePlayed script capacity l.workers.count 0 l.fn.world [] []
+    → ArePlayed script capacity l.workers.count l.round-index l.world (l.answers).results (l.answers).ends

@@ -1,6 +1,7 @@
 use Rattle.std.proofs.Common.{subst}
 use Rattle.script_read.specs.declared.script.Script.{Script}
 use Rattle.canton_run.specs.Between.{CanBeAnswered}
+use Rattle.canton_run.proofs.Alone.{answered_by_none}
 use Rattle.canton_run.proofs.Clients.{answered_by_clients, for_world}
 use Rattle.canton_run.proofs.rounds.submit_round.Goals as goal
 
@@ -13,7 +14,13 @@ submit_shared-requires-clause-world g c κs within =
     for_world c.args.setup.now (r.0).rounds r.1 c.args.round.now c.args.world
     (subst (λ (s : Script). CanBeAnswered s r.1 c.args.round.now c.args.world) r.2 r.3)
 
+pub returns-then-workers-eq0 : goal.returns-then-workers-eq0
+returns-then-workers-eq0 g c =
+    answered_by_none c.args.workers.now.count c.if-workers-eq0.true c.args.setup.now c.args.round.now c.args.world c.submit_alone.result
+    c.submit_alone.ensures
+
 pub returns : goal.returns
 returns g c =
     let e = c.submit_shared.ensures in
-    answered_by_clients c.args.setup.now c.args.round.now c.args.world c.submit_shared.result e.now e.nodes e.world e.many e.plain e.joined
+    answered_by_clients c.args.workers.now.count c.if-workers-eq0.false c.args.setup.now c.args.round.now c.args.world c.submit_shared.result e.now
+    e.nodes e.world e.many e.plain e.joined

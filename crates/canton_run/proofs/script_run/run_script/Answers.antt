@@ -14,7 +14,8 @@ play_rounds-requires-clause-played g c κs within =
       c.requires.accepted,
       refl,
       refl,
-      none_played script c.args.capacity (c.prepared_requests_make_a_machine.ensures _ _ _ _) n.new n.ensures.is n.ensures.new n.ensures.set_up,
+      none_played script c.args.capacity c.args.workers.now.count (c.prepared_requests_make_a_machine.ensures _ _ _ _) n.new n.ensures.is
+          n.ensures.new n.ensures.set_up,
     )
 
 pub catch_up-requires : goal.catch_up-requires
@@ -23,7 +24,8 @@ catch_up-requires g c =
     let n = c.in_ok-new in
     let p =
     c.in_ok-rounds_played.ensures script c.args.capacity c.requires.accepted refl refl
-    (none_played script c.args.capacity (c.prepared_requests_make_a_machine.ensures _ _ _ _) n.new n.ensures.is n.ensures.new n.ensures.set_up) in
+    (none_played script c.args.capacity c.args.workers.now.count (c.prepared_requests_make_a_machine.ensures _ _ _ _) n.new n.ensures.is
+    n.ensures.new n.ensures.set_up) in
     record { lawful = (machine_for script c.args.capacity, p.state, p.is, p.lawful) }
 
 pub returns-clause-run : goal.returns-clause-run
@@ -32,9 +34,11 @@ returns-clause-run g c =
     let n = c.in_ok-new in
     let p =
     c.in_ok-rounds_played.ensures script c.args.capacity c.requires.accepted refl refl
-    (none_played script c.args.capacity (c.prepared_requests_make_a_machine.ensures _ _ _ _) n.new n.ensures.is n.ensures.new n.ensures.set_up) in
-    is_run script c.args.capacity (c.prepared_requests_make_a_machine.ensures _ _ _ _) c.requires.accepted c.requires.room
-    (c.in_ok-rounds_played.rounds_played.answers).results (c.in_ok-rounds_played.rounds_played.answers).ends c.in_ok-rounds_played.rounds_played.world p c.in_ok-log.log
+    (none_played script c.args.capacity c.args.workers.now.count (c.prepared_requests_make_a_machine.ensures _ _ _ _) n.new n.ensures.is
+    n.ensures.new n.ensures.set_up) in
+    is_run script c.args.capacity c.args.workers.now.count (c.prepared_requests_make_a_machine.ensures _ _ _ _) c.requires.accepted
+    c.requires.room (c.in_ok-rounds_played.rounds_played.answers).results (c.in_ok-rounds_played.rounds_played.answers).ends
+    c.in_ok-rounds_played.rounds_played.world p c.in_ok-log.log
     (c.in_ok-log.ensures.log ∙ ap (λ (q : Sequenced). q.list) c.in_ok-catch_up.ensures.log)
 
 pub returns-clause-views : goal.returns-clause-views
@@ -43,7 +47,8 @@ returns-clause-views g c =
     let n = c.in_ok-new in
     let p =
     c.in_ok-rounds_played.ensures script c.args.capacity c.requires.accepted refl refl
-    (none_played script c.args.capacity (c.prepared_requests_make_a_machine.ensures _ _ _ _) n.new n.ensures.is n.ensures.new n.ensures.set_up) in
+    (none_played script c.args.capacity c.args.workers.now.count (c.prepared_requests_make_a_machine.ensures _ _ _ _) n.new n.ensures.is
+    n.ensures.new n.ensures.set_up) in
     let m = machine_for script c.args.capacity in
     views_are script c.args.capacity c.in_ok-rounds_played.rounds_played.world c.catch_up.new.self p.state (c.in_ok-catch_up.ensures.is m p.state p.is) p.lawful
     (c.in_ok-catch_up.ensures.ok m p.state p.is p.lawful) (c.in_ok-catch_up.ensures.set_up script.topology script.checked p.set_up) c.in_ok-log.log

@@ -55,4 +55,5 @@ pub returns-clause-ran : goal.returns-clause-ran
 returns-clause-ran g c at =
     let told = c.in-Ok-run_script.field-0.record in
     rw (c.finished.ensures.log, c.finished.ensures.results, c.finished.ensures.ends)
-    (subst (λ (n : ℕ). IsRun c.args.script n told.log told.results told.ends) c.capacity_of-capacity.ensures c.in-Ok-run_script.ensures.run)
+    (subst (λ (n : ℕ). IsRun c.args.script n c.args.workers.now.count told.log told.results told.ends) c.capacity_of-capacity.ensures
+    c.in-Ok-run_script.ensures.run)
