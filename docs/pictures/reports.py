@@ -1,5 +1,5 @@
 #!/usr/bin/env python3
-"""Reports on which canton_chart is tried: docs/pictures/reports.py FOLDER
+"""Reports on which the chart is tried: docs/pictures/reports.py FOLDER
 
 Writes into the folder NAME.report, NAME.status with the status that is wanted, and NAME.line with the line that is wanted on
 standard error. The reports are those of examples/ with one fault each, and reports that no script of examples/ gives: long ones,

@@ -2,6 +2,7 @@
 ghost use Rattle.script_read.specs.Kept.{IsAccepted};
 
 use crate::end::End;
+use crate::fault::Fault;
 use canton_run::run_script;
 use confirm_reply::Setup;
 use lane_pool::Gate;
@@ -44,24 +45,24 @@ pub(crate) fn script_picture<R: Threads + Wait + Sync + RandomSource + AllocGlob
     let me = match reader {
         Some(name) => match participant_of(&topology, name) {
             Some(me) => Some(me),
-            None => return Err(End::NoParticipant(name)),
+            None => return Err(End::by(2, Fault::Participant(name))),
         },
         None => None,
     };
     let setup = Setup { topology, checked };
     let Ok(mut row) = LogRow::new(alloc) else {
-        return Err(End::of_status(alloc, 70));
+        return Err(End::of(70));
     };
     let natives = NativeList::new(alloc);
     let capacity = MOST_PLACES as u64;
     let Ok(played) = run_script(workers, &natives, &setup, &rounds, capacity, &mut row) else {
-        return Err(End::of_status(alloc, 70));
+        return Err(End::of(70));
     };
     let Ok(picture) = picture_of(alloc, &setup.topology, &played.record.log, me.as_ref()) else {
-        return Err(End::of_status(alloc, 70));
+        return Err(End::of(70));
     };
     match drawn(alloc, &picture) {
         Ok(text) => Ok(text),
-        Err(_) => Err(End::of_status(alloc, 70)),
+        Err(_) => Err(End::of(70)),
     }
 }

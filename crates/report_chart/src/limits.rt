@@ -1,7 +1,4 @@
-//! How much is read, and how much is drawn.
-
-/// Bytes of a report.
-pub const MOST_REPORT_BYTES: usize = 67_108_864;
+//! How much is drawn.
 
 /// Entries that are drawn.
 pub const MOST_ROWS: usize = 500;

@@ -1,0 +1,31 @@
+//! What is drawn.
+
+/// With these names begin the help of each drawing and the lines of its faults.
+pub(crate) const CHART: &str = "canton_chart";
+
+pub(crate) const VIEWS: &str = "canton_views";
+
+/// What the first word says to draw.
+#[derive(Clone, Copy)]
+pub(crate) enum Drawing {
+    Chart,
+    Views,
+}
+
+impl Drawing {
+    /// The drawing that a word names.
+    pub(crate) fn named(word: &[u8]) -> Option<Drawing> {
+        match word {
+            b"chart" => Some(Drawing::Chart),
+            b"views" => Some(Drawing::Views),
+            _ => None,
+        }
+    }
+
+    pub(crate) fn name(self) -> &'static str {
+        match self {
+            Drawing::Chart => CHART,
+            Drawing::Views => VIEWS,
+        }
+    }
+}

@@ -1,0 +1,81 @@
+//! The words of the command line, by `clap`.
+use crate::asked::Asked;
+use crate::drawing::{CHART, Drawing, VIEWS};
+use crate::end::End;
+use clap::error::ErrorKind;
+use clap::{Arg, ArgAction, ArgMatches, Command, Error};
+use ledger_terms::{Name, Text};
+use std::alloc::{AllocError, Global};
+
+const ABOUT_CHART: &str =
+    "Draws the report of a run: a report on standard input, an SVG picture on standard output.";
+
+const ABOUT_VIEWS: &str =
+    "Runs the script of standard input and draws each request of its log as a tree with views, as SVG";
+
+const FOR: &str = "Draws what this participant is shown, with hashes in the place of all else";
+
+fn command<'a>(alloc: Global, drawing: Drawing) -> Result<Command<'a>, AllocError> {
+    match drawing {
+        Drawing::Chart => Ok(
+            Command::new(alloc, CHART)
+                .about(ABOUT_CHART)
+                .no_binary_name(true),
+        ),
+        Drawing::Views => {
+            let reader = Arg::new(alloc, "for")
+                .long("for")
+                .value_name("PARTICIPANT")
+                .help(FOR)
+                .action(ArgAction::Set);
+            Command::new(alloc, VIEWS)
+                .about(ABOUT_VIEWS)
+                .no_binary_name(true)
+                .arg(reader)
+        }
+    }
+}
+
+/// The words behind the program's name and the drawing's.
+fn texts_of(alloc: Global, all: &[String]) -> Result<Vec<&str>, AllocError> {
+    let mut texts = Vec::new(alloc);
+    for word in all.iter().skip(2) {
+        texts.push(word.as_str())?;
+    }
+    Ok(texts)
+}
+
+/// What all the words ask for, of which the first two are the program's name and the drawing's. A name behind `--for` that is no name of
+/// anything isn't accepted.
+pub(crate) fn asked_by(alloc: Global, drawing: Drawing, all: &[String]) -> Result<Asked, End> {
+    let texts = texts_of(alloc, all)?;
+    let command = command(alloc, drawing)?;
+    match command.try_get_matches_from(texts.as_slice()) {
+        Ok(given) => asked_for(drawing, &given),
+        Err(error) => answer_to(alloc, &error),
+    }
+}
+
+fn asked_for(drawing: Drawing, given: &ArgMatches<'_>) -> Result<Asked, End> {
+    match drawing {
+        Drawing::Chart => Ok(Asked::Chart),
+        Drawing::Views => match given.get_str("for") {
+            Some(text) => match Name::read(text) {
+                Some(name) => Ok(Asked::Views { reader: Some(name) }),
+                None => Err(End::of(2)),
+            },
+            None => Ok(Asked::Views { reader: None }),
+        },
+    }
+}
+
+fn answer_to(alloc: Global, error: &Error) -> Result<Asked, End> {
+    match error.kind() {
+        ErrorKind::DisplayHelp => {
+            let help = format!(in alloc; "{error}")?;
+            Ok(Asked::Help(Text::of_string(help)))
+        }
+        ErrorKind::OutOfMemory => Err(End::of(70)),
+        _ => Err(End::of(2)),
+    }
+}
