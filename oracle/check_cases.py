@@ -109,20 +109,21 @@ def is_unordered(on_it, node):
     return any(other['action'].get('consuming') for other in on_it) or (node['action']['kind'] == 'create' and bool(on_it))
 
 
-def view_lines(name, script, me, time, path, facts):
-    yield 'view ' + name
-    yield Check(script, me, time, facts).verdict(path)
-
-
 def job_lines(name, script, me, place, time, paths, facts):
     """A job checks one view at each poll, and wakes itself where views remain."""
     check = Check(script, me, time, facts)
     yield 'job ' + name
-    for left in range(len(paths), 0, -1):
+    yield from poll_lines(place, [(path_text(path), check.verdict(path)) for path in paths], len(paths))
+
+
+def poll_lines(place, verdicts, count):
+    """What so many polls of a job tell, of which each checks one view."""
+    for left in range(len(verdicts), len(verdicts) - count, -1):
         yield 'place %d left %d' % (place, left)
-        yield 'pending, woken yes' if left > 1 else 'ready place %d' % place
-    for path in paths:
-        yield 'verdict %s %s' % (path_text(path), check.verdict(path))
+        yield 'pending, woken yes left %d' % (left - 1) if left > 1 else 'ready place %d' % place
+    if count == len(verdicts):
+        for path, verdict in verdicts:
+            yield 'verdict %s %s' % (path, verdict)
 
 
 # --- stores
@@ -135,9 +136,7 @@ class Tracker:
 
     def call(self, word, *rest):
         place = 0
-        if word == 'new':
-            self.__init__()
-        elif word == 'begin':
+        if word == 'begin':
             self.requests.setdefault(int(rest[0]), [int(rest[1]), 'undecided'])
         elif word == 'advance':
             self.cursor += int(rest[0])
@@ -194,9 +193,7 @@ class Store:
             return front + self.contract(*numbers)
         if word == 'row':
             return front + self.told(*numbers)
-        if word == 'new':
-            self.__init__()
-        elif word == 'release':
+        if word == 'release':
             self.release(*numbers)
         else:
             first, step, count, place = numbers

@@ -1,25 +1,20 @@
-"""What the layer form of crates/layer_cases has to write of bytes and of expressions."""
+"""What the layer form of crates/layer_cases has to write of the bytes of actions and of trees."""
 import terms
 import trees
-from language import Fault, evaluate
-
-
-def spelled(text, reader, data):
-    return '%s next %d length %d spelled %s' % (text, reader.at, len(data), data.hex())
 
 
 def bytes_line(word, data):
     reader = trees.TreeReader(data)
     try:
-        if word == 'tree':
-            return tree_line(reader.tree(), data)
-        read = getattr(reader, word)()
+        return tree_line(reader.tree(), data) if word == 'tree' else action_line(reader)
     except terms.Bad as bad:
         return 'bad at %d' % bad.at
-    text, write = {
-        'value': (terms.value_text, terms.value_bytes), 'parties': (','.join, terms.set_bytes),
-        'instance': (terms.instance_text, terms.instance_bytes), 'action': (terms.action_text, terms.action_bytes)}[word]
-    return spelled(text(read), reader, write(read))
+
+
+def action_line(reader):
+    action = reader.action()
+    data = terms.action_bytes(action)
+    return '%s next %d length %d spelled %s' % (terms.action_text(action), reader.at, len(data), data.hex())
 
 
 def counted(call, tree):
@@ -32,13 +27,3 @@ def counted(call, tree):
 def tree_line(tree, data):
     return 'root %s opened %s told %s spelled %s' % (
         trees.read_tree_hash(tree).hex(), counted(trees.opened_views, tree), counted(trees.told_views, tree), data.hex())
-
-
-def expression_line(names, expression):
-    bound = {}
-    for name, value in names:
-        bound.setdefault(name, evaluate(value, {}))
-    try:
-        return terms.value_text(evaluate(expression, bound))
-    except Fault as fault:
-        return str(fault)

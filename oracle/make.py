@@ -5,16 +5,16 @@ What a table says of a case by hand is compared with what is computed here, wher
 import json
 import os
 
+import bench_cases
 import check_cases
 import form_cases
 import language
 import load_cases
-import request_cases
 import sharing_cases
 import tree_cases
 import world_cases
 from tables import bytes as byte_tables
-from tables import checks, expressions, package_faults, requests, runs, script_faults, transactions, words, worlds
+from tables import benches, checks, edges, expressions, package_faults, requests, runs, script_faults, transactions, words, worlds
 
 CRATES = os.path.join(os.path.dirname(os.path.dirname(os.path.abspath(__file__))), 'crates')
 
@@ -30,27 +30,23 @@ def agreed(text, computed, worked):
     return computed
 
 
+def script_row(name, text, fault=None):
+    """The line of a script and those that answer it: its first fault, or what its submissions show."""
+    lines = list(tree_cases.script_lines(json.loads(text))) if fault is None else ['fault ' + fault]
+    return 'script %s %s' % (name, text), ['script ' + name] + lines
+
+
 def tree_rows():
     """The line of each transaction's case and those that answer it."""
-    for name, script in transactions.NAMED:
-        lines = list(tree_cases.script_lines(script))
-        for worked in transactions.WORKED.get(name, []):
-            if worked not in lines:
-                raise SystemExit('%s has no line %s' % (name, worked))
-        yield 'script %s %s' % (name, compact(script)), ['script ' + name] + lines
+    for table in (transactions, requests):
+        for name, script in table.NAMED:
+            row = script_row(name, compact(script))
+            for worked in table.WORKED.get(name, []):
+                if worked not in row[1]:
+                    raise SystemExit('%s has no line %s' % (name, worked))
+            yield row
     for at, (text, fault) in enumerate(script_faults.cases()):
-        name = 'fault-%d' % at
-        lines = list(tree_cases.script_lines(json.loads(text))) if fault is None else ['fault ' + fault]
-        yield 'script %s %s' % (name, text), ['script ' + name] + lines
-
-
-def request_rows():
-    for name, script in requests.NAMED:
-        lines = list(request_cases.script_lines(script))
-        for worked in requests.WORKED[name]:
-            if worked not in lines:
-                raise SystemExit('%s has no line %s' % (name, worked))
-        yield 'script %s %s' % (name, compact(script)), ['script ' + name] + lines
+        yield script_row('fault-%d' % at, text, fault)
 
 
 def check_line(packages):
@@ -61,18 +57,30 @@ def check_line(packages):
     return 'no fault'
 
 
+def in_script(fault):
+    """A fault of packages as one of the script that has them. That of their check has its place in the list of packages still."""
+    words = fault.split(' ')
+    return fault if words[0] in ('Package', 'NotJson') else ' '.join(words[:-1] + ['/packages' + words[-1]])
+
+
 def package_rows():
-    for text, fault, worked in package_faults.cases():
+    """Scripts of packages alone."""
+    for at, (text, fault, worked) in enumerate(package_faults.cases()):
         if fault is package_faults.READ:
             computed = agreed(text, check_line(json.loads(text)), worked)
             fault = None if computed == 'no fault' else computed
-        yield 'packages ' + text, ['no fault' if fault is None else 'fault ' + fault]
+        script = '{"participants":[{"name":"P1","parties":["Alice","Bank","Bob","Carol"]}],"packages":%s,"rounds":[]}' % text
+        yield script_row('packages-%d' % at, script, None if fault is None else in_script(fault))
 
 
 def expression_rows():
-    for expression, worked in expressions.CASES:
-        computed = form_cases.expression_line(expressions.NAMES, expression)
-        yield 'expression ' + compact([expressions.NAMES, expression]), [agreed(str(expression), computed, worked)]
+    """A script whose choices have the expressions as results."""
+    script, worked = expressions.script()
+    row = script_row('expressions', compact(script))
+    for command, lines in worked.items():
+        at = row[1].index('submission P1 ' + command) + 1
+        agreed(command, row[1][at:at + len(lines)], lines)
+    yield row
 
 
 def byte_rows():
@@ -94,21 +102,30 @@ def path_word(paths):
 
 
 def view_rows():
+    """Jobs of one view each."""
     for name, script, me, time, path, facts, worked in checks.VIEWS:
-        lines = list(check_cases.view_lines(name, script, me, time, path, facts))
-        agreed(name, lines[1], worked)
-        yield 'view %s %s %d %d %s %s' % (name, path_word([path]), me, time, facts_word(facts), compact(script)), lines
+        yield job_row(name, script, me, 3, time, [path], facts, ['place 3 left 1', 'ready place 3', 'verdict %s %s' % (path_word([path]), worked)])
+
+
+def job_row(name, script, me, place, time, paths, facts, worked):
+    lines = list(check_cases.job_lines(name, script, me, place, time, paths, facts))
+    agreed(name, lines[1:], worked)
+    return 'job %s %d %s %d %d %s %s' % (name, place, path_word(paths), me, time, facts_word(facts), compact(script)), lines
 
 
 def job_rows():
-    for name, script, me, place, time, paths, facts, worked in checks.JOBS:
-        lines = list(check_cases.job_lines(name, script, me, place, time, paths, facts))
-        agreed(name, lines[1:], worked)
-        yield 'job %s %d %s %d %d %s %s' % (name, place, path_word(paths), me, time, facts_word(facts), compact(script)), lines
+    for case in checks.JOBS:
+        yield job_row(*case)
 
 
-def call_rows(word, called, calls):
+def call_rows(word, kind, calls):
+    """The calls of a kind, and the word for one that begins anew."""
+    called = kind()
     for words, worked in calls:
+        if words == 'new':
+            called = kind()
+            yield 'new', ['new']
+            continue
         line = called.line(*words.split())
         agreed(words, line.split(' - ')[1], worked)
         yield '%s %s' % (word, words), [line]
@@ -138,6 +155,26 @@ def sure_run_rows():
     for name, source, text in runs.SURE_RUNS:
         lines = ['run ' + name, 'status 0'] + ['|' + written for written in text.splitlines()]
         yield 'surely %s %d run %s' % (name, len(text), source), lines
+    for name, source, line in runs.RUNS_WITHOUT_ROOM:
+        yield 'surely %s 0 run %s' % (name, source), ['run ' + name, 'status 5', line]
+
+
+def count_rows():
+    for name, words, source, patterns in edges.COUNTS:
+        spelled = ';'.join(pattern.replace(' ', '_') for pattern, _ in patterns)
+        lines = ['run ' + name, 'status 0'] + ['%d of %s' % (count, pattern) for pattern, count in patterns]
+        yield 'count %s %s %s %s' % (name, spelled, words, source), lines
+
+
+def gate_rows():
+    for name, words, source, looks, noted in edges.GATES:
+        yield 'gate %s %d %s %s' % (name, looks, words, source), ['run ' + name, 'status 0', noted]
+
+
+def native_rows():
+    for name, text, source, report, said in edges.NATIVES:
+        lines = ['run ' + name, 'status 0'] + ['|' + written for written in report.splitlines()]
+        yield 'native %s %s run %s' % (name, text, source), lines + [said]
 
 
 def world_rows():
@@ -148,16 +185,33 @@ def world_rows():
             agreed('%s has the lines %s' % (name, said), any(lines[at:at + len(said)] == said for at in range(len(lines))), True)
         else:
             agreed(name, lines, worked)
-        yield 'play %s %s %s' % (name, words, compact(script)), ['%s %s' % (name, line) for line in lines]
+        yield 'play %s %s %s' % (name, words, compact(script)), ['play ' + name] + lines
     for name, script, who, words, worked in worlds.LATE:
         lines = agreed(name, world_cases.case_lines(script, words, who), worked)
-        yield 'late %s %s %s %s' % (name, who, words, compact(script)), ['%s %s' % (name, line) for line in lines]
+        yield 'late %s %s %s %s' % (name, who, words, compact(script)), ['late ' + name] + lines
 
 
 def sharing_rows():
-    for word, name, script, worked in worlds.SHARING:
-        lines = agreed(name, sharing_cases.case_lines(word, script), worked)
-        yield '%s %s %s' % (word, name, compact(script)), ['%s %s' % (name, line) for line in lines]
+    for name, script, worked in worlds.SHARING:
+        lines = agreed(name, list(sharing_cases.case_lines(script)), worked)
+        yield 'share %s %s' % (name, compact(script)), ['share ' + name] + lines
+
+
+def bench_rows():
+    """The work of which bench/ takes the time, done a few times."""
+    count, few = benches.COUNT, benches.FEW
+    yield 'hash %d' % count, [bench_cases.last_hash(count, bench_cases.LONG)]
+    yield 'short %d' % count, [bench_cases.last_hash(count, bench_cases.SHORT)]
+    yield 'wire %d %s' % (count, bench_cases.digits(benches.ACTIONS)), [bench_cases.wire_line(count, benches.ACTIONS)]
+    yield 'blind %d' % few, [benches.BLIND]
+    yield 'request %d' % few, [bench_cases.request_line(benches.TRANSFER, few)]
+    yield 'strings %d' % few, [benches.STRINGS]
+    script = compact(benches.TRANSFER)
+    yield 'script %d %s' % (few, script), [bench_cases.script_line(script)]
+    for text, fault in benches.FAULTS:
+        yield 'script 1 ' + text, ['%d bytes, %s' % (len(text), fault)]
+    for text, told in benches.VALUES:
+        yield 'json %d %s' % (few, text), ['%d bytes, %s' % (len(text), told)]
 
 
 def below(line, cases):
@@ -169,17 +223,18 @@ def below(line, cases):
 def layer_rows():
     """The cases of each layer, below the line that says which it is."""
     tables = {
-        'form': {'Terms and trees as bytes': byte_rows(), 'Expressions': expression_rows(), 'Packages': package_rows()},
-        'tree': {'Transactions, and scripts with their first fault': tree_rows()},
-        'request': {'Transactions as requests': request_rows()},
+        'form': {'Actions and trees as bytes': byte_rows()},
+        'tree': {
+            'Transactions, and scripts with their first fault': tree_rows(), 'Expressions': expression_rows(), 'Packages': package_rows()},
         'load': {'Words': word_rows(), 'Generated scripts': generated_rows()},
         'check': {
             'Views': view_rows(), 'Jobs': job_rows(),
-            'Trackers': call_rows('tracker', check_cases.Tracker(), checks.TRACKERS),
-            'Stores': call_rows('store', check_cases.Store(), checks.STORES),
-            'Requests beside plain lists': call_rows('requests', check_cases.Requests(), checks.REQUESTS)},
+            'Trackers': call_rows('tracker', check_cases.Tracker, checks.TRACKERS),
+            'Stores': call_rows('store', check_cases.Store, checks.STORES),
+            'Requests beside plain lists': call_rows('requests', check_cases.Requests, checks.REQUESTS)},
         'world': {'Events': world_rows()},
-        'sharing': {'Clients of a shared synchroniser': sharing_rows()}}
+        'sharing': {'Clients of a shared synchroniser': sharing_rows()},
+        'bench': {'Work of which the time is taken': bench_rows()}}
     for layer, parts in tables.items():
         yield from below('layer ' + layer, headed(parts))
 
@@ -203,7 +258,10 @@ def write(crate, cases):
 
 def main():
     write('layer_cases', layer_rows())
-    write('run_cases', headed({'Whole runs': run_rows(), 'Whole runs within room': sure_run_rows()}))
+    write('run_cases', headed({
+        'Whole runs': run_rows(), 'Whole runs within room': sure_run_rows(), 'Whole runs with workers in any order': count_rows(),
+        'Whole runs that pass a gate': gate_rows(), 'Whole runs with natives': native_rows(),
+        'Logs without room': edges.LOGS, 'Sources that fail': edges.SOURCES, 'Sinks that fail': edges.SINKS}))
 
 
 if __name__ == '__main__':

@@ -1,6 +1,8 @@
 """What the layer sharing of crates/layer_cases has to write: what clients of a shared synchroniser are told of what they submit."""
 from world_cases import World
 
+TURNS = 64
+
 
 def sent(world, submission):
     """Where the request of a submission stands, whose participant has read all."""
@@ -9,37 +11,42 @@ def sent(world, submission):
     return len(world.log) - 1
 
 
-def told_lines(world, place):
-    """What a client is told of a request that has seen all entries."""
-    yield 'told %s over %d' % (world.outcome(place).split(' ')[0], len(world.log))
+def told_line(world, place):
+    """What a client is told of a request whose participant reads all entries then."""
+    world.read[world.log[place]['request'].sender] = len(world.log)
+    return 'told %s over %d' % (world.outcome(place).split(' ')[0], len(world.log))
+
+
+def turn(world):
+    """Each participant, and then the mediator, reads an entry or, where it has read all, does one thing that is due."""
+    for host in world.hosts:
+        name = host['name']
+        if world.read[name] < len(world.log):
+            world.happen('read:' + name)
+        elif set(world.owed(name, world.read[name])) - world.taken[name]:
+            world.happen('validate:' + name)
+        else:
+            world.happen('reply:' + name)
+    world.happen('mediator' if world.told < len(world.log) else 'verdict')
+
+
+def sharing_lines(world, submission, before):
+    """A client asks by the ticket of the last sharing, and another one submits, and asks before and after turns."""
+    if before is not None:
+        yield told_line(world, before)
+    place = sent(world, submission)
+    yield 'ticket of %s at %d' % (submission['participant'], place)
+    yield told_line(world, place)
+    for _ in range(TURNS):
+        turn(world)
+    yield told_line(world, place)
     yield 'seen in the log yes'
 
 
-def ticket_line(world, place):
-    return 'ticket of %s at %d' % (world.log[place]['request'].sender, place)
-
-
-def turns_lines(script):
-    """All that is due comes before the client asks."""
-    world = World(script)
-    place = sent(world, script['rounds'][0]['submits'][0])
-    world.settle()
-    yield ticket_line(world, place)
-    yield from told_lines(world, place)
+def case_lines(script):
+    world, before = World(script), None
+    for round_ in script['rounds'][:2]:
+        yield from sharing_lines(world, round_['submits'][0], before)
+        before = next(place for place, _ in reversed(world.requests(len(world.log))))
     yield from world.log_lines()
     yield 'end'
-
-
-def ticket_lines(script):
-    """Two clients ask at once, and a third when all that is due has come."""
-    world = World(script)
-    for round_ in script['rounds'][:2]:
-        place = sent(world, round_['submits'][0])
-        yield ticket_line(world, place)
-        yield from told_lines(world, place)
-        world.settle()
-    yield from told_lines(world, place)
-
-
-def case_lines(word, script):
-    return list({'turns': turns_lines, 'ticket': ticket_lines}[word](script))

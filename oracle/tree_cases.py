@@ -70,7 +70,21 @@ def opened_lines(script, sender, time, by, views, name, parties):
         yield parties_line('opens', view)
 
 
+def confirming_line(script, views):
+    """Who is asked to confirm: who hosts a confirmer of a view confirms for it here."""
+    parties = {party for view in trees.all_views(views) for party in view['confirmers']}
+    return ' '.join(['confirming'] + [h['name'] for h in script['participants'] if set(h['parties']) & parties])
+
+
+def sent_line(name, sender, parties, views):
+    """The request has the tree for the mediator, its sender, and who sees a view."""
+    informees = {party for view in trees.all_views(views) for party in view['informees']}
+    is_sent = parties is None or name == sender or bool(set(parties) & informees)
+    return ('sent ' if is_sent else 'not sent ') + name
+
+
 def envelope_lines(script, submission, seed, by, views):
+    yield confirming_line(script, views)
     sender, time = submission['participant'], submission.get('ledger_time', 0)
     common, requesters = trees.common_leaf(sender, time, seed), trees.requesters_leaf(by, seed)
     root = trees.tree_hash(common, requesters, views)
@@ -78,6 +92,7 @@ def envelope_lines(script, submission, seed, by, views):
         data = trees.envelope(common, requesters, views, parties, name == sender)
         yield 'envelope %s %s %s' % (name, root.hex(), data.hex())
         yield 'decoded %s yes' % name
+        yield sent_line(name, sender, parties, views)
         yield from opened_lines(script, sender, time, by, views, name, parties)
 
 

@@ -171,7 +171,11 @@ class World:
     def verdicts(self, name, place):
         checked, parties = Checked(self, name, place), set(self.parties(name))
         mine = [v['path'] for v in self.log[place]['request'].views if set(v['confirmers']) & parties]
-        return [(path_text(path), checked.verdict(path).split(' ')[0]) for path in mine]
+        return [(path_text(path), checked.verdict(path)) for path in mine]
+
+    def reasons(self, name, place):
+        """The verdicts without the numbers of actions, as a response has them."""
+        return [(path, verdict.split(' ')[0]) for path, verdict in self.verdicts(name, place)]
 
     def claim(self, name):
         """The request that a participant checks next, where there is one."""
@@ -184,7 +188,7 @@ class World:
     def validate(self, name):
         place = self.claim(name)
         if place is not None:
-            self.outbox[name][place] = self.verdicts(name, place)
+            self.outbox[name][place] = self.reasons(name, place)
 
     def reply(self, name, is_lost):
         for place in sorted(self.outbox[name]):
@@ -248,7 +252,7 @@ class World:
             for host in self.hosts:
                 name = host['name']
                 for place in self.owed(name, len(self.log)):
-                    self.hand_in('response', place, by=name, verdicts=self.verdicts(name, place))
+                    self.hand_in('response', place, by=name, verdicts=self.reasons(name, place))
             end = len(self.log)
             for place, _ in self.requests(end):
                 decision = self.decision(place, end)
@@ -272,8 +276,8 @@ class World:
             yield 'no job'
             return
         verdicts = self.verdicts(name, place)
-        yield from poll_lines(place, verdicts, len(verdicts))
-        yield from poll_lines(place, verdicts, 1)
+        yield from check_cases.poll_lines(place, verdicts, len(verdicts))
+        yield from check_cases.poll_lines(place, verdicts, 1)
         yield self.decided_line(name, place)
         self.read_next(self.read, name)
         decided = self.decided_line(name, place)
@@ -333,17 +337,6 @@ class World:
 
 
 WORDS = {'mediator', 'verdict', 'lose-verdict', 'submit', 'advance', 'read', 'validate', 'reply', 'lose', 'pause', 'wake'}
-
-
-def poll_lines(place, verdicts, count):
-    """What so many polls of a job tell, of which each checks one view."""
-    for left in range(len(verdicts), len(verdicts) - count, -1):
-        yield 'place %d' % place
-        yield 'left %d' % left
-        yield 'pending, left %d' % (left - 1) if left > 1 else 'ready %d' % place
-    if count == len(verdicts):
-        for path, verdict in verdicts:
-            yield 'verdict %s %s' % (path, 'approve' if verdict == 'approve' else 'reject')
 
 
 def case_lines(script, words, late=None):

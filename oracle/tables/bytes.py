@@ -96,11 +96,23 @@ def cores():
     yield tree(vertex(contents=leaf(core(17)))), 'opened bad at %d told 1 views' % (16 * node - 1)
 
 
+def within(front, rows):
+    """Rows of a part of an action, as rows of actions that have it behind other parts. A fault stands as much later."""
+    return [(front + digits, None if fault is None else len(front) // 2 + fault) for digits, fault in rows]
+
+
+def action_rows():
+    """Actions, and those in which a value is a result, parties are actors, and an instance is what is created."""
+    yield from within(EXERCISE + '01', VALUES)
+    yield from within('03' + ID + SALT + EMPTY, PARTIES)
+    yield from within('01' + ID, INSTANCES)
+    yield from ACTIONS
+
+
 def cases():
     """The word of each case, its digits, and what was worked out by hand: the place of a fault, or what a tree opens and tells."""
-    for word, rows in [('value', VALUES), ('parties', PARTIES), ('instance', INSTANCES), ('action', ACTIONS)]:
-        for digits, fault in rows:
-            yield word, digits, fault, None
+    for digits, fault in action_rows():
+        yield 'action', digits, fault, None
     for digits, fault, opened, told in TREES:
         yield 'tree', digits, fault, None if opened is None else 'opened %s told %s' % (opened, told)
     yield ('tree',) + too_deep() + (None,)

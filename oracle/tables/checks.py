@@ -93,7 +93,7 @@ VIEWS = [
     ('stakeholder', STRANGER, P1, 4, [0], [(0, 'consumed', HELD)], 'Locked 0')]
 
 # --- jobs: name, script, who checks, the place, the time, the paths, the facts, and what was worked out of the lines after the first
-TWO_POLLS = ['place 3 left 2', 'pending, woken yes', 'place 3 left 1', 'ready place 3']
+TWO_POLLS = ['place 3 left 2', 'pending, woken yes left 1', 'place 3 left 1', 'ready place 3']
 JOBS = [
     ('transfer', TRANSFER, P1, 3, 4, [[0], [0, 0]], FIRST, TWO_POLLS + ['verdict 0 approve', 'verdict 0.0 approve']),
     ('wrong-child', WRONG_CHILD, P1, 3, 4, [[0], [0, 0]], FIRST, TWO_POLLS + ['verdict 0 NotConformant 0', 'verdict 0.0 approve']),
@@ -101,13 +101,13 @@ JOBS = [
 
 # --- trackers and stores: the words of calls, with what was worked out of what they tell
 TRACKERS = [
-    ('new', 'cursor 0 clean 0 outcome none'),
+    ('new', None),
     ('begin 3 60000004', None),
     ('outcome 3', 'cursor 0 clean 0 outcome undecided'),
     ('advance 3', 'cursor 3 clean 3 outcome none'),
     ('advance 4', 'cursor 7 clean 3 outcome none'),
     ('settle 3 approved', 'cursor 7 clean 7 outcome approved'),
-    ('new', 'cursor 0 clean 0 outcome none'),
+    ('new', None),
     ('begin 5 60000006', None),
     ('advance 9', 'cursor 9 clean 5 outcome none'),
     ('expire 60000005', None),
@@ -129,7 +129,7 @@ TRACKERS = [
 # 1,000 contracts, of which 500 are consumed in another order, and three requests that aren't decided. Contract n is consumed by the
 # call that has it at place (n - 3) * 143 of that order, where that is below 500 (7 * 143 is 1 beyond thousands).
 STORES = (
-    [('new', 'rows 0 kept 0'), ('contract 0', 'unknown held no found no no')]
+    [('new', None), ('contract 0', 'unknown held no found no no')]
     + [('create %d 1 100 %d' % (100 * k, k), 'rows %d kept 0' % (100 * k + 100)) for k in range(10)]
     + [('consume %d 7 100 %d' % (3 + 700 * k, 20 + k), 'rows 1000 kept 0') for k in range(5)]
     + [('hold 0 1 5 30', 'rows 1000 kept 5'), ('hold 3 2 4 31', 'rows 1000 kept 9'), ('hold 999 1 1 32', 'rows 1000 kept 10'),
@@ -141,7 +141,7 @@ STORES = (
        ('release 30', 'rows 1000 kept 1'), ('contract 3', 'consumed held no found no no'), ('contract 999', None),
        ('release 33', 'rows 1000 kept 1'), ('release 32', 'rows 1000 kept 0'), ('contract 999', None),
        # consumed first, and created or consumed again
-       ('new', 'rows 0 kept 0'), ('consume 5 1 1 9', 'rows 1 kept 0'), ('contract 5', 'consumed held no found no no'),
+       ('new', None), ('consume 5 1 1 9', 'rows 1 kept 0'), ('contract 5', 'consumed held no found no no'),
        ('row 0 5', 'yes created never consumed 9'), ('create 5 1 1 4', 'rows 1 kept 0'), ('row 0 5', 'yes created 4 consumed 9'),
        ('create 5 1 1 2', None), ('create 5 1 1 3', None), ('consume 5 1 1 10', None), ('row 0 5', 'yes created 2 consumed 9'),
        ('create 6 1 1 8', 'rows 2 kept 0'), ('contract 6', 'active held no found yes yes'), ('row 1 6', 'yes created 8 consumed never')])
@@ -149,6 +149,7 @@ STORES = (
 # 1,000 requests that create contracts, 500 that consume them in another order, and between these three that aren't decided: what is done,
 # the first contract, what is added for the next, how many requests, what becomes of each. Each request has the next place.
 REQUESTS = [
+    ('new', None),
     ('create 0 1 1000 approved', 'rows 1000 holds 0 clean 1000 as plain lists yes'),
     ('consume 3 7 250 approved', 'rows 1000 holds 0 clean 1250 as plain lists yes'),
     ('consume 503 1 1 undecided', 'rows 1000 holds 1 clean 1250 as plain lists yes'),

@@ -177,6 +177,108 @@ active G4 0 amount 0
 end
 '''
 
+# the same of sixty-four debts
+MANY_DEBTS = '''requests 128
+approved 128
+rejected 0
+timeout 0
+expired 0
+undecided 0
+refused 0
+active G1 32 amount 13544
+active G2 32 amount 16512
+active G3 32 amount 13544
+active G4 32 amount 16512
+end
+'''
+
+# a participant that must answer is paused until the request's time is over
+TIMEOUT = json.dumps(
+    {"participants": HOSTS, "packages": [IOU], "rounds": [
+        {"submits": [asked('P1', 'c1', ['Bank'], iou('Alice', 10))]},
+        {"paused": ["P1"], "submits": [asked('P2', 't1', ['Alice'], transfer(of='c1'))]},
+        {"paused": ["P1"], "advance": 30000005}]},
+    separators=(',', ':'))
+TIMED_OUT = '''entries 7
+0 1 request P1 c1 to P1 P2
+1 2 response P1 for 0 0=approve
+2 3 verdict for 0 approved
+3 4 request P2 t1 to P1 P2 P3
+4 5 response P2 for 3 0=approve
+5 30000005 tick
+6 30000006 verdict for 3 timeout P1
+result 0 P1 c1 sent 0
+result 1 P2 t1 sent 3
+outcome 0 approved
+outcome 3 timeout P1
+participant P1 clean 7 time 30000006
+commit 0
+  create Iou.Iou(Bank,Alice,10)
+active 0 Iou.Iou(Bank,Alice,10)
+participant P2 clean 7 time 30000006
+commit 0
+  create Iou.Iou(Bank,Alice,10)
+active 0 Iou.Iou(Bank,Alice,10)
+participant P3 clean 7 time 30000006
+end
+'''
+
+# a round that holds its verdicts, and time that runs past the decision time
+HELD = NOTE % (json.dumps({"hold_verdicts": True, "submits": [submission('hi')]}, separators=(',', ':')) + ',{"advance":60000001}')
+UNDECIDED = '''entries 3
+0 1 request P1 c1 to P1
+1 2 response P1 for 0 0=approve
+2 60000001 tick
+result 0 P1 c1 sent 0
+outcome 0 undecided
+participant P1 clean 0 time 0
+end
+'''
+
+# two participants submit in turn, and are served by one thread in the order of the script
+IN_TURN = json.dumps(
+    {"participants": [{"name": "P1", "parties": ["Bank"]}, {"name": "P2", "parties": ["Alice"]}], "rounds": [{"submits": [
+        asked('P2', 'b1', ['Alice'], note('Alice', 'Alice', 'hi')), asked('P1', 'a1', ['Bank'], note('Bank', 'Bank', 'hi')),
+        asked('P2', 'b2', ['Alice'], note('Alice', 'Alice', 'hi')), asked('P1', 'a2', ['Bank'], note('Bank', 'Bank', 'hi'))]}]},
+    separators=(',', ':'))
+SERVED_IN_ORDER = '''entries 12
+0 1 request P2 b1 to P2
+1 2 request P1 a1 to P1
+2 3 request P2 b2 to P2
+3 4 request P1 a2 to P1
+4 5 response P1 for 1 0=approve
+5 6 response P1 for 3 0=approve
+6 7 response P2 for 0 0=approve
+7 8 response P2 for 2 0=approve
+8 9 verdict for 0 approved
+9 10 verdict for 1 approved
+10 11 verdict for 2 approved
+11 12 verdict for 3 approved
+result 0 P2 b1 sent 0
+result 0 P1 a1 sent 1
+result 0 P2 b2 sent 2
+result 0 P1 a2 sent 3
+outcome 0 approved
+outcome 1 approved
+outcome 2 approved
+outcome 3 approved
+participant P1 clean 12 time 12
+commit 1
+  create Note.Note(Bank,Bank,"hi")
+commit 3
+  create Note.Note(Bank,Bank,"hi")
+active 1 Note.Note(Bank,Bank,"hi")
+active 3 Note.Note(Bank,Bank,"hi")
+participant P2 clean 12 time 12
+commit 0
+  create Note.Note(Alice,Alice,"hi")
+commit 2
+  create Note.Note(Alice,Alice,"hi")
+active 0 Note.Note(Alice,Alice,"hi")
+active 2 Note.Note(Alice,Alice,"hi")
+end
+'''
+
 # a name, the words, the source, the calls at which taking and putting fail, and then the status, the line and the text
 RUNS = [
     ('empty', 'run', EMPTY, 0, 0, 0, None, NOTHING),
@@ -216,12 +318,22 @@ RUNS = [
     ('second-put-fails', 'run', HI, 0, 2, 5, 'canton_cli: write fault', report('hi')[:MOST_PIECE]),
     ('fourth-put-fails', 'run', HI, 0, 4, 5, 'canton_cli: write fault', report('hi')[:3 * MOST_PIECE]),
     ('put-of-a-fault', 'run', '{', 0, 1, 3, 'canton_cli: script NotJson', ''),
-    ('nothing', 'run', '', 0, 0, 3, 'canton_cli: script NotJson', '')]
+    ('nothing', 'run', '', 0, 0, 3, 'canton_cli: script NotJson', ''),
+    ('served-in-order', 'run', IN_TURN, 0, 0, 0, None, SERVED_IN_ORDER),
+    # what these write is the same in whatever order threads work: the first two have one client a round, and a summary tells no places
+    ('timeout-with-workers', 'run,--workers,4', TIMEOUT, 0, 0, 0, None, TIMED_OUT),
+    ('held-verdicts-with-workers', 'run,--workers,4', HELD, 0, 0, 0, None, UNDECIDED),
+    ('one-debt-with-workers', 'gen,1,7,--workers,4', '', 0, 0, 0, None, ONE_DEBT),
+    ('many-debts-with-workers', 'gen,64,7,--workers,4', '', 0, 0, 0, None, MANY_DEBTS)]
 
 # a name, the source and the text, over a source that never fails and a sink with room for the text
 SURE_RUNS = [
+    ('empty-within-room', EMPTY, NOTHING),
     ('transfer-within-room', TRANSFER, TRANSFERRED),
     ('two-spends-within-room', TWO_SPENDS, SPENT_ONCE)]
+
+# a name, the source and the line, over a source that never fails and a sink without room
+RUNS_WITHOUT_ROOM = [('empty-without-room', EMPTY, 'canton_cli: write fault')]
 
 
 def line_of(fault):

@@ -92,15 +92,16 @@ CASES = [
 # whose Tick is later than 60 seconds past that
 LATE = [
     ('late-transfer', TRANSFER, 'P1', words(OWED, 'submit', *['read:P1'] * 3, answers('P2'), 'read:P1', 'advance:60000005'), [
-        'place 3', 'left 2', 'pending, left 1', 'place 3', 'left 1', 'ready 3', 'verdict 0 approve', 'verdict 0.0 approve',
-        'place 3', 'left 2', 'pending, left 1', 'undecided', 'decided at 5', 'too late for 3', 'decided at 5', 'cancelled 3'])]
+        'place 3 left 2', 'pending, woken yes left 1', 'place 3 left 1', 'ready place 3', 'verdict 0 approve', 'verdict 0.0 approve',
+        'place 3 left 2', 'pending, woken yes left 1', 'undecided', 'decided at 5', 'too late for 3', 'decided at 5', 'cancelled 3'])]
 
-# a word, a name, the script, and all lines: the Bank's request stands at place 0 with its two entries behind it, and Alice's at place 3
-# with two responses and a verdict; who asks at once has seen the entries as far as the own request, and who asks later all
+# A name, the script, and all lines. The Bank's request stands at place 0 with its two entries behind it, and Alice's at place 3 with two
+# responses and a verdict. Who asks at once has seen the entries as far as the own request, and who asks behind the turns all. P2 has read
+# its own request when the second turns begin, so that its response comes first.
 SHARED = {**TRANSFER, "rounds": [{"submits": [submission]} for submission in TRANSFER["rounds"][0]["submits"]]}
 SHARING = [
-    ('turns', 'turns-alone', SHARED, ['ticket of P1 at 0', 'told approved over 3', 'seen in the log yes', 'entries 3'] + OWED_LOG + [
-        'outcome 0 approved', 'end']),
-    ('ticket', 'outliving-ticket', SHARED, [
-        'ticket of P1 at 0', 'told undecided over 1', 'seen in the log yes', 'ticket of P2 at 3', 'told undecided over 4',
-        'seen in the log yes', 'told approved over 7', 'seen in the log yes'])]
+    ('two-sharings', SHARED, [
+        'ticket of P1 at 0', 'told undecided over 1', 'told approved over 3', 'seen in the log yes', 'told approved over 3',
+        'ticket of P2 at 3', 'told undecided over 4', 'told approved over 7', 'seen in the log yes', 'entries 7'] + OWED_LOG + [
+        '3 4 request P2 t1 to P1 P2 P3', '4 5 response P2 for 3 0=approve', '5 6 response P1 for 3 0=approve 0.0=approve',
+        '6 7 verdict for 3 approved', 'outcome 0 approved', 'outcome 3 approved', 'end'])]

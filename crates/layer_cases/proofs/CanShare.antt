@@ -11,12 +11,12 @@ use Rattle.world_model.specs.World.{World as WorldState, new_world}
 use Rattle.world_model.proofs.Steps.{new_lawful}
 use Rattle.confirm_reply.specs.declared.setup.Setup.{Setup}
 use Rattle.script_read.specs.declared.round.Round.{Round}
-use Rattle.world_play.specs.Machines.{machine_of, why_of}
+use Rattle.node_core.specs.Machines.{machine_of, why_of}
 use Rattle.world_play.specs.Submitting.{AreSetUp}
 use Rattle.world_play.specs.WorldOf.{IsWorldOf, world_of}
 use Rattle.world_play.specs.declared.world.World.{World}
 use Rattle.sync_shared.specs.SetUp.{IsSetUp}
-use Rattle.sync_shared.specs.Sharing.{Sharing}
+use Rattle.shared_world.specs.Sharing.{Sharing}
 use Rattle.sync_shared.specs.declared.round_rules.RoundRules.{RoundRules}
 use Rattle.layer_cases.specs.Sharings.{CanBeShared, NameHosted}
 use Rattle.std.specs.Prelude.{List}
@@ -37,29 +37,12 @@ new_can topology packages m world nodes is new =
       now = subst (λ (n : ℕ). n ≤ 10 ^ 16) (sym (ap (λ (w : WorldState). w.now) new)) (search rules);
     }
 
-pub settled_can : (topology : Topology) (packages : Packages) (m : Machine) (world : World) → AreSetUp topology packages (world.nodes).items
+pub left_can : (topology : Topology) (packages : Packages) (m : Machine) (world : World) → AreSetUp topology packages (world.nodes).items
     → (state : MediatorState) × IsWorldOf m state world × Lawful m (world_of state world) → world.now ≤ 10 ^ 16 → CanBeShared topology packages m world
-settled_can topology packages m world nodes w now = record { nodes = nodes; state = w.0; is = w.1; lawful = w.2; now = now }
+left_can topology packages m world nodes w now = record { nodes = nodes; state = w.0; is = w.1; lawful = w.2; now = now }
 
--- nothing added keeps a number in its range
-at_most : (n bound : ℕ) → n ≤ bound → n + 0 ≤ bound
-at_most n bound le = omega (arith, le)
-
--- time stays in its range from a world through a round that doesn't advance
-pub in_time : (start begun asked : Sharing) (paused : List ℕ) (held : Bool) (entry now : ℕ)
-    → start ≡ record { out = 0; counted = 0; round = record { time = entry; paused = []; hold_verdicts = false } }
-    → begun.round ≡ record { time = start.round.time + 0; paused = paused; hold_verdicts = held } → asked.round ≡ begun.round
-    → now ≡ asked.round.time → entry ≤ 10 ^ 16 → now ≤ 10 ^ 16
-in_time start begun asked paused held entry now of begin ask at bound =
-    subst (λ (n : ℕ). n ≤ 10 ^ 16) (sym (at ∙ ap (λ (r : RoundRules). r.time) (ask ∙ begin)))
-    (at_most start.round.time (10 ^ 16) (subst (λ (n : ℕ). n ≤ 10 ^ 16) (sym (ap (λ (s : Sharing). s.round.time) of)) bound))
-
--- what was shared and then settled
-pub kept_can : (topology : Topology) (packages : Packages) (m : Machine) (before world : World)
-    → AreSetUp topology packages (before.nodes).items → (state : MediatorState) × IsWorldOf m state before × Lawful m (world_of state before)
-    → ((t : Topology) (p : Packages) → AreSetUp t p (before.nodes).items → AreSetUp t p (world.nodes).items)
-    → ((m : Machine) (state : MediatorState) → IsWorldOf m state before → Lawful m (world_of state before)
-    → (after : MediatorState) × IsWorldOf m after world × Lawful m (world_of after world))
-    → world.now ≡ before.now → before.now ≤ 10 ^ 16 → CanBeShared topology packages m world
-kept_can topology packages m before world nodes w set_up lawful same bound =
-    settled_can topology packages m world (set_up topology packages nodes) (lawful m w.0 w.1 w.2) (subst (λ (n : ℕ). n ≤ 10 ^ 16) (sym same) bound)
+-- time stays in its range through a sharing in whose round nothing is moved on
+pub in_time : (of asked left : Sharing) (entry now : ℕ) → of ≡ record { out = 0; counted = 0; round = record { time = entry; paused = []; hold_verdicts = false } }
+    → asked.round ≡ of.round → left.round ≡ asked.round → now ≡ left.round.time → entry ≤ 10 ^ 16 → now ≤ 10 ^ 16
+in_time of asked left entry now is ask leave at bound =
+    subst (λ (n : ℕ). n ≤ 10 ^ 16) (sym (at ∙ ap (λ (r : RoundRules). r.time) (leave ∙ (ask ∙ ap (λ (s : Sharing). s.round) is)))) bound

@@ -1,14 +1,8 @@
-//! Cases of spellings and of the language, a word and what is to be read. `value`, `parties`, `instance`, `action` and `tree` read
-//! bytes in hexadecimal digits, and write what was read, the place after it and how it is spelled again, or the place of the fault.
-//! `expression` reads a list of names with their values and an expression, and writes its value or the first fault; `packages` reads
-//! a list of packages, and writes the first fault of the reading or of the check. A line that begins otherwise is written again.
+//! Cases of spellings: `action` or `tree`, and bytes in hexadecimal digits. It writes what was read, the place after it and how it
+//! is spelled again, or the place of the fault; of a tree also its root hash, and how many views it opens and tells.
 
+mod actions;
 mod case;
-mod expressions;
-mod hosting;
-mod packages;
-mod spelled;
-mod terms;
 mod trees;
 
-pub(crate) use case::answer;
+pub(crate) use case::put_answer;

@@ -5,11 +5,11 @@
 pub(crate) enum Layer {
     Form,
     Tree,
-    Request,
     Load,
     Check,
     World,
     Sharing,
+    Bench,
 }
 
 impl Layer {
@@ -18,11 +18,11 @@ impl Layer {
         match line.strip_prefix("layer ")? {
             "form" => Some(Layer::Form),
             "tree" => Some(Layer::Tree),
-            "request" => Some(Layer::Request),
             "load" => Some(Layer::Load),
             "check" => Some(Layer::Check),
             "world" => Some(Layer::World),
             "sharing" => Some(Layer::Sharing),
+            "bench" => Some(Layer::Bench),
             _ => None,
         }
     }

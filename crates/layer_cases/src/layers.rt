@@ -1,8 +1,8 @@
 //! Which layer answers.
+use crate::answer::Answer;
 use crate::check::Cases;
 use crate::layer::Layer;
-use crate::lines::line_again;
-use crate::{form, load, request, sharing, tree, world};
+use crate::{bench, form, load, sharing, tree, world};
 use futures::test::MockTask;
 use std::alloc::{AllocError, AllocGlobal, Global};
 use std::random::RandomSource;
@@ -16,11 +16,11 @@ pub(crate) struct Layers {
 }
 
 impl Layers {
-    pub(crate) fn new(alloc: Global) -> Layers {
-        Layers {
+    pub(crate) fn new(alloc: Global) -> Result<Layers, AllocError> {
+        Ok(Layers {
             answering: None,
-            checks: Cases::new(alloc),
-        }
+            checks: Cases::new(alloc)?,
+        })
     }
 
     /// The text that answers a line.
@@ -30,31 +30,34 @@ impl Layers {
         task: &MockTask,
         line: &str,
     ) -> Result<String, AllocError> {
+        let mut out = Answer::new(rt.alloc());
         match Layer::named_by(line) {
             Some(layer) => {
                 self.answering = Some(layer);
-                line_again(rt.alloc(), line)
+                out.line(&[line]);
             }
-            None => self.answer_case(rt, task, line),
+            None => self.put_answer(rt, task, line, &mut out),
         }
+        out.finish()
     }
 
-    fn answer_case<R: Wait + RandomSource + AllocGlobal>(
+    fn put_answer<R: Wait + RandomSource + AllocGlobal>(
         &mut self,
         rt: &R,
         task: &MockTask,
         line: &str,
-    ) -> Result<String, AllocError> {
+        out: &mut Answer,
+    ) {
         let alloc = rt.alloc();
         match self.answering {
-            Some(Layer::Form) => form::answer(alloc, line),
-            Some(Layer::Tree) => tree::answer(alloc, line),
-            Some(Layer::Request) => request::answer(alloc, line),
-            Some(Layer::Load) => load::answer(alloc, line),
-            Some(Layer::Check) => self.checks.answer(alloc, task, line),
-            Some(Layer::World) => world::answer(alloc, task, line),
-            Some(Layer::Sharing) => sharing::answer(rt, line),
-            None => line_again(alloc, line),
+            Some(Layer::Form) => form::put_answer(alloc, line, out),
+            Some(Layer::Tree) => tree::put_answer(alloc, line, out),
+            Some(Layer::Load) => load::put_answer(alloc, line, out),
+            Some(Layer::Check) => self.checks.put_answer(alloc, task, line, out),
+            Some(Layer::World) => world::put_answer(alloc, task, line, out),
+            Some(Layer::Sharing) => sharing::put_answer(rt, line, out),
+            Some(Layer::Bench) => bench::put_answer(alloc, line, out),
+            None => out.line(&[line]),
         }
     }
 }

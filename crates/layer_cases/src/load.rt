@@ -4,9 +4,8 @@
 
 mod case;
 mod commands;
-mod packages;
+mod jobs;
 mod participants;
 mod rounds;
-mod words;
 
-pub(crate) use case::answer;
+pub(crate) use case::put_answer;

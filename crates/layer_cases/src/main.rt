@@ -2,16 +2,16 @@
 //! layer's name says which layer answers the lines behind it, and is written again. What a layer's lines say stands in its own file.
 #![tactic(auto)]
 
+mod answer;
+mod bench;
 mod check;
 mod form;
 mod layer;
 mod layers;
-mod lines;
 mod load;
-mod request;
-mod scripts;
 mod sharing;
 mod tree;
+mod words;
 mod world;
 
 use futures::test::MockTask;
@@ -23,7 +23,7 @@ use std::sync::Wait;
 
 fn main(rt: HostRuntime) -> io::Result<()> {
     let task = MockTask::new(&rt)?;
-    let mut layers = Layers::new(rt.alloc());
+    let mut layers = Layers::new(rt.alloc())?;
     answer_lines(&rt, &task, &mut layers)
 }
 

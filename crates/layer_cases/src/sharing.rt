@@ -1,21 +1,15 @@
-//! Cases of a synchroniser that is shared, on one thread: a word, a name, and a script as JSON, of which the first submission of a
-//! round is submitted. Each line of an answer stands behind the name.
+//! Cases of a synchroniser that is shared, on one thread: the word `share`, a name, and a script as JSON. The first submission of each
+//! of its first two rounds is submitted in a sharing of its own, the second one of what the first one left.
 //!
-//! After `turns` a client submits that of the first round, so many turns of one lane are taken, and the client asks what became of
-//! it. The answer has the ticket, what the client is told, whether what it had seen stands in the log, and the log with the outcomes.
-//!
-//! After `ticket` a client submits that of the first round and asks at once, and then another client that of the second, each in a
-//! sharing of its own behind which the synchroniser settles. In a third a new client asks by the second one's ticket. The answer has
-//! for each the same, without the log. A line that begins otherwise is written again.
+//! In each a client submits, asks at once what became of it, takes turns as the only lane, and asks again. In the second a client asks
+//! before that by the ticket of the first. Of each the answer has the ticket, what clients are told, and whether what the client had
+//! seen stands in the log; and at the end the log with the outcomes. A line that begins otherwise is written again.
 
 mod answers;
-mod case;
 mod client;
-mod deed;
-mod ended;
+mod kept;
 mod script;
+mod sharings;
 mod telling;
-mod ticket;
-mod turns;
 
-pub(crate) use answers::answer;
+pub(crate) use answers::put_answer;

@@ -1,13 +1,19 @@
 //! Cases of transactions: the word `script`, a name, and a script as JSON. For each submission of the script it writes its
-//! transaction, what the rules say of it, its views and its envelopes, or why there is none, and for a script that is refused its
-//! first fault. A line that begins otherwise is written again.
+//! transaction, what the rules say of it, who is asked to confirm it, the tree of each participant and of the mediator, whether the
+//! request has its bytes, and what is read of it; or why there is none. Of a script that is refused it writes the first fault. A line
+//! that begins otherwise is written again.
 
 mod case;
-mod envelopes;
-mod opened_views;
+mod given;
+mod opened;
+mod requests;
 mod roles_given;
 mod rules;
+mod script;
 mod submissions;
-mod views;
+mod told;
 
-pub(crate) use case::answer;
+pub(crate) use case::put_answer;
+pub(crate) use requests::{recipients, sealed};
+pub(crate) use script::script_in;
+pub(crate) use submissions::transaction_of;

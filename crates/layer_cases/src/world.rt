@@ -1,7 +1,6 @@
 //! Cases of a synchroniser: the word `play`, a name, events with commas between them, and a script as JSON. It plays the events on
 //! the script's participants from an empty log on, settles where `settle` is the last word, and lets all participants read the whole
-//! log. Then it writes the report, without results, and for each participant whether what it has applied is consistent, each line
-//! behind the case's name.
+//! log. Then it writes the report, without results, and for each participant whether what it has applied is consistent.
 //!
 //! After the word `late`, a name and a participant's name it plays the events and then tells of that participant's job: it is polled
 //! to its end, put back, claimed again and polled once, and put back and claimed once more. The participant reads an entry, and
@@ -11,16 +10,13 @@
 //! `reply:`, `lose:`, `pause:` or `wake:` with a participant's name; or `mediator`, `verdict` or `lose-verdict`.
 
 mod answers;
-mod case;
 mod events;
 mod late;
 mod late_jobs;
-mod log_copy;
 mod plan;
 mod playing;
 mod submissions;
 mod telling;
 
-pub(crate) use answers::answer;
-pub(crate) use log_copy::log_of;
-pub(crate) use telling::report_of;
+pub(crate) use answers::put_answer;
+pub(crate) use telling::put_report;

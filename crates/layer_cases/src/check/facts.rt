@@ -70,7 +70,7 @@ pub(crate) fn paths_of(alloc: Global, word: &str) -> Result<PathList, AllocError
 }
 
 /// The path whose steps a word joins by points.
-pub(crate) fn path_of(alloc: Global, word: &str) -> Result<Path, AllocError> {
+fn path_of(alloc: Global, word: &str) -> Result<Path, AllocError> {
     let mut path = Path::new(alloc);
     for step in word.split('.') {
         path.push(step.parse::<u16>().unwrap_or(0))?;

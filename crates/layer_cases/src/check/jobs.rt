@@ -3,61 +3,95 @@ ghost use Rattle.std.specs.Prelude.{◌≡◌, true, IfOk};
 ghost use Rattle.std.specs.List.{AllByRecursion};
 ghost use Rattle.validate_job.specs.Owed.{CanCheck};
 
+use crate::answer::Answer;
 use crate::check::facts::paths_of;
-use crate::check::inputs::{Received, receive};
-use crate::check::lines::verdict_text;
-use crate::check::verdicts::can_check_view;
-use crate::check::words::Words;
-use crate::lines::{digits, yes};
-use canton_model::ViewVerdict;
-use confirm_reply::{CheckInput, SharedTree};
-use fixtures::{path_text, put_line};
-use futures::task::Poll;
+use crate::check::polls::put_poll;
+use crate::check::received::{Received, receive};
+use crate::tree::script_in;
+use crate::words::Words;
+use confirm_reply::{CheckInput, Setup, SharedTree, can_check};
 use futures::test::MockTask;
-use ledger_terms::{Path, PathList};
+use ledger_terms::{ParticipantId, Path, PathList};
+use script_read::Script;
 use std::alloc::{AllocError, Global};
-use validate_job::{Finished, ValidateJob};
+use validate_job::ValidateJob;
 
-/// Puts the polls of a case's job at the end: its name, the place, the paths of the views, and what is received.
-pub(crate) fn put_job(
-    alloc: Global,
-    task: &MockTask,
-    mut words: Words<'_>,
-    out: &mut String,
-) -> Result<(), AllocError> {
-    put_line(out, &["job", words.next()])?;
+/// What a job is about: the place, the participant, the time, and the facts as a word.
+#[derive(Clone, Copy)]
+struct Asked<'a> {
+    place: u64,
+    me: ParticipantId,
+    time: u64,
+    facts: &'a str,
+}
+
+/// Puts the polls of a case's job at the end: its name, the place, the paths of the views, the participant, the time, the facts, and
+/// the script.
+pub(crate) fn put_job(alloc: Global, task: &MockTask, mut words: Words<'_>, out: &mut Answer) {
+    out.line(&["job", words.next()]);
     let place = words.number();
-    let views = paths_of(alloc, words.next())?;
-    match receive(alloc, &mut words)? {
-        Some(received) => put_job_on(alloc, task, received, place, views, out),
-        None => put_line(out, &["not received"]),
+    let paths = words.next();
+    let asked = Asked {
+        place,
+        me: ParticipantId((words.number() % 256) as u8),
+        time: words.number(),
+        facts: words.next(),
+    };
+    let Ok(views) = paths_of(alloc, paths) else {
+        return out.lack();
+    };
+    if let Some(script) = script_in(alloc, words.rest(), out) {
+        put_received(alloc, task, asked, views, script, out);
     }
 }
 
-fn put_job_on(
+fn put_received(
     alloc: Global,
     task: &MockTask,
-    received: Received,
-    place: u64,
+    asked: Asked<'_>,
     views: PathList,
-    out: &mut String,
-) -> Result<(), AllocError> {
-    let Received {
+    script: Box<Script>,
+    out: &mut Answer,
+) {
+    let Asked {
+        place,
+        me,
+        time,
+        facts,
+    } = asked;
+    match receive(alloc, &script, me, facts, out) {
+        Some(received) => {
+            let setup = setup_of(Box::into_inner(script));
+            let input = input_of(&setup, me, time, received);
+            put_checked(alloc, task, input, place, views, out);
+        }
+        None => out.line(&["not received"]),
+    }
+}
+
+fn setup_of(script: Script) -> Setup {
+    let Script {
+        topology,
+        checked,
+        ..
+    } = script;
+    Setup { topology, checked }
+}
+
+fn input_of<'s>(
+    setup: &'s Setup,
+    me: ParticipantId,
+    time: u64,
+    received: Received,
+) -> CheckInput<'s> {
+    let Received { tree, facts } = received;
+    CheckInput {
         setup,
         me,
         time,
         tree,
         facts,
-    } = received;
-    let tree = SharedTree::new(alloc, tree)?;
-    let input = CheckInput {
-        setup: &setup,
-        me,
-        time,
-        tree,
-        facts,
-    };
-    put_checked(alloc, task, input, place, views, out)
+    }
 }
 
 #[tactic(auto, using(crate::proofs::Each::all_of_each))]
@@ -67,21 +101,16 @@ fn put_checked(
     input: CheckInput<'_>,
     place: u64,
     views: PathList,
-    out: &mut String,
-) -> Result<(), AllocError> {
-    if views.is_empty() || !can_check_all(alloc, &input, views.as_slice())? {
-        return put_line(out, &["not checked"]);
+    out: &mut Answer,
+) {
+    if views.is_empty() {
+        return out.line(&["not checked"]);
     }
-    put_all(alloc, task, ValidateJob::new(input, place, views), out)
-}
-
-fn put_all(
-    alloc: Global,
-    task: &MockTask,
-    mut job: ValidateJob<'_>,
-    out: &mut String,
-) -> Result<(), AllocError> {
-    put_polls(alloc, task, &mut job, out)
+    match can_check_all(alloc, &input, views.as_slice()) {
+        Ok(true) => put_polls(task, ValidateJob::new(input, place, views), out),
+        Ok(false) => out.line(&["not checked"]),
+        Err(_) => out.lack(),
+    }
 }
 
 /// Whether each of the views can be checked.
@@ -96,54 +125,17 @@ fn can_check_all(alloc: Global, input: &CheckInput<'_>, views: &[Path]) -> Resul
     Ok(true)
 }
 
-/// Polls a job as often as it has views, and puts what it answers at the end.
-fn put_polls(
-    alloc: Global,
-    task: &MockTask,
-    job: &mut ValidateJob<'_>,
-    out: &mut String,
-) -> Result<(), AllocError> {
+/// Whether a view is opened and can be checked.
+fn can_check_view(alloc: Global, input: &CheckInput<'_>, view: &Path) -> Result<bool, AllocError>
+    ensures { IfOk result (λ can. can ≡ true → CanCheck input.now view.now) }
+{
+    let can = can_check(alloc, &input.setup.checked, input.tree.opened(), view)?;
+    Ok(can)
+}
+
+/// Polls a job as often as it has views.
+fn put_polls(task: &MockTask, mut job: ValidateJob<'_>, out: &mut Answer) {
     for _ in 0..job.left() {
-        put_left(alloc, job, out)?;
-        put_poll(alloc, task, job, out)?;
+        put_poll(task, &mut job, out);
     }
-    Ok(())
-}
-
-/// Puts the place of a job and how many views it has left at the end.
-fn put_left(alloc: Global, job: &ValidateJob<'_>, out: &mut String) -> Result<(), AllocError> {
-    let place = digits(alloc, job.place())?;
-    let left = digits(alloc, job.left() as u64)?;
-    put_line(out, &["place", place.as_str(), "left", left.as_str()])
-}
-
-fn put_poll(
-    alloc: Global,
-    task: &MockTask,
-    job: &mut ValidateJob<'_>,
-    out: &mut String,
-) -> Result<(), AllocError> {
-    if job.left() == 0 {
-        return Ok(());
-    }
-    match task.poll(job) {
-        Poll::Pending => put_line(out, &["pending, woken", yes(task.is_woken())]),
-        Poll::Ready(Ok(finished)) => put_finished(alloc, &finished, out),
-        Poll::Ready(Err(lack)) => Err(lack),
-    }
-}
-
-fn put_finished(alloc: Global, finished: &Finished, out: &mut String) -> Result<(), AllocError> {
-    let place = digits(alloc, finished.place)?;
-    put_line(out, &["ready place", place.as_str()])?;
-    for verdict in finished.verdicts.as_slice() {
-        put_verdict(alloc, verdict, out)?;
-    }
-    Ok(())
-}
-
-fn put_verdict(alloc: Global, verdict: &ViewVerdict, out: &mut String) -> Result<(), AllocError> {
-    let path = path_text(alloc, &verdict.view)?;
-    let text = verdict_text(alloc, &verdict.verdict)?;
-    put_line(out, &["verdict", path.as_str(), text.as_str()])
 }

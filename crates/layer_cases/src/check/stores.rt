@@ -2,11 +2,10 @@
 ghost use Rattle.std.specs.Prelude.{◌≡◌, ◌<◌, true, OnOk};
 ghost use Rattle.contract_store.specs.Stored.{is_ready};
 
+use crate::answer::Answer;
 use crate::check::facts::status_word;
-use crate::check::words::Words;
-use crate::lines::{digits, yes};
+use crate::words::Words;
 use contract_store::{HashList, Store, StoreRow};
-use fixtures::put_line;
 use ledger_terms::{
     Exact, Hash, Instance, Known, KnownContracts, KnownList, Name, TemplateName, ValueList,
 };
@@ -38,25 +37,37 @@ pub(crate) fn salt_of(number: u64) -> Hash {
     hash_of(number, 2)
 }
 
-/// Changes as many contracts as the words say, for the request at one place: the number of the first, what is added for each of
-/// the next, how many they are, and the place.
-pub(crate) fn change_all(
+/// Calls a store, and puts the line and what it tells then at the end.
+pub(crate) fn call_store(
     alloc: Global,
     store: &mut Store,
-    change: Change,
-    words: &mut Words<'_>,
-) -> Result<(), AllocError> {
-    match Name::read("Note") {
-        Some(package) => change_each(alloc, store, change, package, words),
-        None => Ok(()),
+    line: &str,
+    mut words: Words<'_>,
+    out: &mut Answer,
+) {
+    out.put(line);
+    out.put(" - ");
+    match words.next() {
+        "contract" => return put_contract(store, words.number(), out),
+        "row" => return put_row(store, &mut words, out),
+        "create" => out.keep(change_all(alloc, store, Change::Create, &mut words)),
+        "consume" => out.keep(change_all(alloc, store, Change::Consume, &mut words)),
+        "hold" => out.keep(change_all(alloc, store, Change::Hold, &mut words)),
+        _ => store.release(words.number()),
     }
+    out.put("rows ");
+    out.number(store.len() as u64);
+    out.put(" kept ");
+    out.number(store.kept_holds() as u64);
+    out.put("\n");
 }
 
-fn change_each(
+/// Changes as many contracts as the words say, for the request at one place: the number of the first, what is added for each of
+/// the next, how many they are, and the place.
+fn change_all(
     alloc: Global,
     store: &mut Store,
     change: Change,
-    package: Name,
     words: &mut Words<'_>,
 ) -> Result<(), AllocError> {
     let first = words.number();
@@ -65,19 +76,14 @@ fn change_each(
     let place = words.number();
     for i in 0..count {
         let number = first.wrapping_add(i.wrapping_mul(step)) % CONTRACTS;
-        change_one(
-            alloc,
-            store,
-            change,
-            known_of(alloc, package, number)?,
-            place,
-        )?;
+        change_one(alloc, store, change, number, place)?;
     }
     Ok(())
 }
 
 /// A contract of the template that has the package's name.
-pub(crate) fn known_of(alloc: Global, package: Name, number: u64) -> Result<Known, AllocError> {
+fn known_of(alloc: Global, number: u64) -> Result<Known, AllocError> {
+    let package = Name::read("Note").ok_or(AllocError)?;
     let template = TemplateName {
         package,
         name: package,
@@ -89,13 +95,15 @@ pub(crate) fn known_of(alloc: Global, package: Name, number: u64) -> Result<Know
     })
 }
 
+/// Changes a contract for the request at a place.
 pub(crate) fn change_one(
     alloc: Global,
     store: &mut Store,
     change: Change,
-    known: Known,
+    number: u64,
     place: u64,
 ) -> Result<(), AllocError> {
+    let known = known_of(alloc, number)?;
     make_ready(alloc, store, &known)?;
     match change {
         Change::Create => store.create(known, place),
@@ -115,68 +123,45 @@ fn make_ready(alloc: Global, store: &mut Store, known: &Known) -> Result<(), All
     store.reserve(&knowns, &HashList::new(alloc))
 }
 
-/// Puts how many rows and holds a store keeps at the end.
-pub(crate) fn put_store(alloc: Global, store: &Store, out: &mut String) -> Result<(), AllocError> {
-    let rows = digits(alloc, store.len() as u64)?;
-    let kept = digits(alloc, store.kept_holds() as u64)?;
-    put_line(out, &["rows", rows.as_str(), "kept", kept.as_str()])
-}
-
 /// Puts what a store tells of a contract at the end.
-pub(crate) fn put_contract(store: &Store, number: u64, out: &mut String) -> Result<(), AllocError> {
+fn put_contract(store: &Store, number: u64, out: &mut Answer) {
     let id = id_of(number);
-    put_line(
-        out,
-        &[
-            status_word(store.status(&id)),
-            "held",
-            yes(store.locked(&id)),
-            "found",
-            yes(store.find(&id).is_some()),
-            yes(store.find_salt(&salt_of(number)).is_some()),
-        ],
-    )
+    out.put(status_word(store.status(&id)));
+    out.put(" held ");
+    out.put(yes(store.locked(&id)));
+    out.put(" found ");
+    out.put(yes(store.find(&id).is_some()));
+    out.put(" ");
+    out.line(&[yes(store.find_salt(&salt_of(number)).is_some())]);
 }
 
 /// Puts the row at a place at the end: whether it is that of a contract, and who created and consumed it.
-pub(crate) fn put_row(
-    alloc: Global,
-    store: &Store,
-    words: &mut Words<'_>,
-    out: &mut String,
-) -> Result<(), AllocError> {
+fn put_row(store: &Store, words: &mut Words<'_>, out: &mut Answer) {
     let at = words.number();
     let number = words.number();
     match store.row(at as usize) {
-        Some(row) => put_found(alloc, row, number, out),
-        None => put_line(out, &["none"]),
+        Some(row) => put_found(row, number, out),
+        None => out.line(&["none"]),
     }
 }
 
-fn put_found(
-    alloc: Global,
-    row: &StoreRow,
-    number: u64,
-    out: &mut String,
-) -> Result<(), AllocError> {
-    let created = place_text(alloc, row.created_at)?;
-    let consumed = place_text(alloc, row.consumed_at)?;
-    let is_it = yes(row.known.id == id_of(number));
-    put_line(
-        out,
-        &[
-            is_it,
-            "created",
-            created.as_str(),
-            "consumed",
-            consumed.as_str(),
-        ],
-    )
+fn put_found(row: &StoreRow, number: u64, out: &mut Answer) {
+    out.put(yes(row.known.id == id_of(number)));
+    out.put(" created ");
+    put_place(row.created_at, out);
+    out.put(" consumed ");
+    put_place(row.consumed_at, out);
+    out.put("\n");
 }
 
-fn place_text(alloc: Global, place: Option<u64>) -> Result<String, AllocError> {
+fn put_place(place: Option<u64>, out: &mut Answer) {
     match place {
-        Some(place) => digits(alloc, place),
-        None => "never".to_string(alloc),
+        Some(place) => out.number(place),
+        None => out.put("never"),
     }
+}
+
+/// The word for a truth value.
+pub(crate) fn yes(truth: bool) -> &'static str {
+    if truth { "yes" } else { "no" }
 }

@@ -1,22 +1,38 @@
 //! Calls of a tracker.
-use crate::check::words::Words;
-use crate::lines::digits;
+use crate::answer::Answer;
+use crate::words::Words;
 use canton_model::Outcome;
-use fixtures::put_line;
 use request_track::Tracker;
-use std::alloc::{AllocError, Global};
+use std::alloc::AllocError;
 
-/// Tracks one more request, with the place and the decision time that the words say.
-pub(crate) fn begin(tracker: &mut Tracker, words: &mut Words<'_>) -> Result<(), AllocError> {
-    let place = words.number();
-    let decision = words.number();
-    track(tracker, place, decision)
+/// Calls a tracker, and puts the line and what it tells then at the end.
+pub(crate) fn call_tracker(
+    tracker: &mut Tracker,
+    line: &str,
+    mut words: Words<'_>,
+    out: &mut Answer,
+) {
+    let call = words.next();
+    let number = words.number();
+    let mut place = 0;
+    match call {
+        "begin" => out.keep(track(tracker, number, words.number())),
+        "advance" => advance(tracker, number),
+        "expire" => tracker.expire(number),
+        "settle" => {
+            tracker.settle(number, outcome_of(words.next()));
+            place = number;
+        }
+        _ => place = number,
+    }
+    out.put(line);
+    put_tracker(tracker, place, out);
 }
 
 /// Tracks one more request, where none is tracked at its place.
 pub(crate) fn track(tracker: &mut Tracker, place: u64, decision: u64) -> Result<(), AllocError> {
     if tracker.outcome(place).is_none() {
-        tracker.begin(place, decision)?;
+        return tracker.begin(place, decision);
     }
     Ok(())
 }
@@ -53,23 +69,11 @@ fn outcome_word(outcome: Option<Outcome>) -> &'static str {
 }
 
 /// Puts how far a tracker has read at the end, the clean place, and the outcome of the request at a place.
-pub(crate) fn put_tracker(
-    alloc: Global,
-    tracker: &Tracker,
-    place: u64,
-    out: &mut String,
-) -> Result<(), AllocError> {
-    let cursor = digits(alloc, tracker.cursor())?;
-    let clean = digits(alloc, tracker.clean())?;
-    put_line(
-        out,
-        &[
-            "cursor",
-            cursor.as_str(),
-            "clean",
-            clean.as_str(),
-            "outcome",
-            outcome_word(tracker.outcome(place)),
-        ],
-    )
+fn put_tracker(tracker: &Tracker, place: u64, out: &mut Answer) {
+    out.put(" - cursor ");
+    out.number(tracker.cursor());
+    out.put(" clean ");
+    out.number(tracker.clean());
+    out.put(" outcome ");
+    out.line(&[outcome_word(tracker.outcome(place))]);
 }

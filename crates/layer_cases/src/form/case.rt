@@ -1,41 +1,36 @@
 //! Cases.
-use crate::form::expressions::expression_answer;
-use crate::form::packages::packages_answer;
-use crate::form::terms::{action_answer, instance_answer, parties_answer, value_answer};
-use crate::form::trees::tree_answer;
-use crate::lines::line_again;
-use std::alloc::{AllocError, Global};
+use crate::answer::Answer;
+use crate::form::actions::put_action;
+use crate::form::trees::put_tree;
+use crate::words::Words;
+use std::alloc::Global;
+use wire_form::WireFault;
 
-/// The text that answers a line.
-pub(crate) fn answer(alloc: Global, line: &str) -> Result<String, AllocError> {
-    let told = told(alloc, line)?;
-    line_again(alloc, told.as_str())
-}
-
-/// What is told of a line.
-fn told(alloc: Global, line: &str) -> Result<String, AllocError> {
-    let Some((word, rest)) = line.split_once(' ') else {
-        return line.to_string(alloc);
-    };
-    match word {
-        "expression" => expression_answer(alloc, rest),
-        "packages" => packages_answer(alloc, rest),
-        "#" => line.to_string(alloc),
-        _ => match hex::decode(alloc, rest) {
-            Ok(bytes) => bytes_answer(alloc, word, bytes.as_slice()),
-            Err(_) => "no hexadecimal digits".to_string(alloc),
-        },
+/// Puts what answers a line at the end.
+pub(crate) fn put_answer(alloc: Global, line: &str, out: &mut Answer) {
+    let mut words = Words::of(line);
+    let word = words.next();
+    match hex::decode(alloc, words.rest()) {
+        Ok(bytes) => put_read(alloc, word, bytes.as_slice(), out),
+        Err(_) => out.line(&[line]),
     }
 }
 
-/// The text that answers bytes of a kind.
-fn bytes_answer(alloc: Global, word: &str, bytes: &[u8]) -> Result<String, AllocError> {
+fn put_read(alloc: Global, word: &str, bytes: &[u8], out: &mut Answer) {
     match word {
-        "value" => value_answer(alloc, bytes),
-        "parties" => parties_answer(alloc, bytes),
-        "instance" => instance_answer(alloc, bytes),
-        "action" => action_answer(alloc, bytes),
-        "tree" => tree_answer(alloc, bytes),
-        _ => "no such word".to_string(alloc),
+        "action" => put_action(alloc, bytes, out),
+        "tree" => put_tree(alloc, bytes, out),
+        _ => out.line(&["no such word"]),
+    }
+}
+
+/// Puts the place of a fault at the end of a line.
+pub(crate) fn put_fault(fault: &WireFault, out: &mut Answer) {
+    match fault {
+        WireFault::Bad { at } => {
+            out.put("bad at ");
+            out.number(*at as u64);
+        }
+        WireFault::Memory => out.lack(),
     }
 }

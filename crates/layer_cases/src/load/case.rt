@@ -1,47 +1,36 @@
 //! Cases.
-use crate::load::packages::put_packages;
-use crate::load::participants::put_topology;
+use crate::answer::Answer;
+use crate::load::jobs::put_job;
+use crate::load::participants::{put_packages, put_topology};
 use crate::load::rounds::put_round;
-use crate::load::words::put_job;
-use fixtures::put_line;
+use crate::words::Words;
 use load_gen::generate;
 use script_read::Script;
-use std::alloc::{AllocError, Global};
+use std::alloc::Global;
 
-/// A line and the text that answers it.
-pub(crate) fn answer(alloc: Global, line: &str) -> Result<String, AllocError> {
-    let mut out = String::new(alloc);
-    put_line(&mut out, &[line])?;
+/// Puts a line and the text that answers it at the end.
+pub(crate) fn put_answer(alloc: Global, line: &str, out: &mut Answer) {
+    out.line(&[line]);
     if let Some(words) = line.strip_prefix("words") {
-        put_job(alloc, words, &mut out)?;
+        put_job(alloc, words, out);
     } else if let Some(numbers) = line.strip_prefix("gen ") {
-        put_generated(alloc, numbers, &mut out)?;
+        put_generated(alloc, Words::of(numbers), out);
     }
-    Ok(out)
 }
 
 /// Puts the script of a count and a seed at the end.
-fn put_generated(alloc: Global, numbers: &str, out: &mut String) -> Result<(), AllocError> {
-    match numbers_of(numbers) {
-        Some((count, seed)) => {
-            let script = generate(alloc, count, seed)?;
-            put_script(alloc, &script, out)
-        }
-        None => put_line(out, &["no numbers"]),
+fn put_generated(alloc: Global, mut numbers: Words<'_>, out: &mut Answer) {
+    let count = numbers.number() % 4_294_967_296;
+    match generate(alloc, count as u32, numbers.number()) {
+        Ok(script) => put_script(&script, out),
+        Err(_) => out.lack(),
     }
 }
 
-/// The count and the seed.
-fn numbers_of(text: &str) -> Option<(u32, u64)> {
-    let (count, seed) = text.split_once(' ')?;
-    Some((count.parse().ok()?, seed.parse().ok()?))
-}
-
-fn put_script(alloc: Global, script: &Script, out: &mut String) -> Result<(), AllocError> {
-    put_topology(alloc, &script.topology, out)?;
-    put_packages(script.checked.as_slice(), out)?;
+fn put_script(script: &Script, out: &mut Answer) {
+    put_topology(&script.topology, out);
+    put_packages(script.checked.as_slice(), out);
     for round in script.rounds.as_slice() {
-        put_round(alloc, &script.topology, round, out)?;
+        put_round(&script.topology, round, out);
     }
-    Ok(())
 }

@@ -1,41 +1,47 @@
-//! Participants and times.
-use crate::lines::names_text;
-use fixtures::put_line;
-use ledger_terms::{Host, Params, Topology};
-use std::alloc::{AllocError, Global};
+//! Participants, times and packages.
+use crate::answer::Answer;
+use ledger_terms::{Host, Package, Template, Topology};
 
 /// Puts a line for each participant at the end, and one for the times.
-pub(crate) fn put_topology(
-    alloc: Global,
-    topology: &Topology,
-    out: &mut String,
-) -> Result<(), AllocError> {
+pub(crate) fn put_topology(topology: &Topology, out: &mut Answer) {
     for host in topology.hosts.as_slice() {
-        put_participant(alloc, host, out)?;
+        put_participant(host, out);
     }
-    let times = times_text(alloc, &topology.params)?;
-    put_line(out, &["times", times.as_str()])
+    out.put("times ");
+    out.number(topology.params.response_timeout);
+    out.put(" ");
+    out.number(topology.params.reaction_timeout);
+    out.put(" ");
+    out.number(topology.params.skew);
+    out.put("\n");
 }
 
-fn put_participant(alloc: Global, host: &Host, out: &mut String) -> Result<(), AllocError> {
-    let parties = names_text(alloc, host.parties.as_slice())?;
-    let vetted = names_text(alloc, host.vetted.as_slice())?;
-    put_line(
-        out,
-        &[
-            "participant",
-            host.name.as_str(),
-            "hosts",
-            parties.as_str(),
-            "vets",
-            vetted.as_str(),
-        ],
-    )
+fn put_participant(host: &Host, out: &mut Answer) {
+    out.put("participant ");
+    out.put(host.name.as_str());
+    out.put(" hosts ");
+    out.names(host.parties.as_slice());
+    out.put(" vets ");
+    out.names(host.vetted.as_slice());
+    out.put("\n");
 }
 
-fn times_text(alloc: Global, params: &Params) -> Result<String, AllocError> {
-    format!(in alloc;
-        "{} {} {}",
-        params.response_timeout, params.reaction_timeout, params.skew
-    )
+/// Puts a line for each package at the end, and one for each of its templates with its fields.
+pub(crate) fn put_packages(packages: &[Package], out: &mut Answer) {
+    for package in packages {
+        out.line(&["package", package.name.as_str()]);
+        for template in package.templates.as_slice() {
+            put_template(template, out);
+        }
+    }
+}
+
+fn put_template(template: &Template, out: &mut Answer) {
+    out.put("template ");
+    out.put(template.name.as_str());
+    for field in template.fields.as_slice() {
+        out.put(" ");
+        out.put(field.name.as_str());
+    }
+    out.put("\n");
 }

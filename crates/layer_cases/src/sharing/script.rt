@@ -11,9 +11,6 @@ use confirm_reply::Setup;
 use ledger_terms::Submission;
 use script_read::{RoundList, Script};
 
-/// How many entries the requests may need in all.
-pub(crate) const CAPACITY: u64 = 20;
-
 /// What participants are set up with, and the rounds.
 #[tactic(auto, using(crate::proofs::Hosted::names_hosted))]
 pub(crate) fn parts_of(script: Script) -> (Setup, RoundList)

@@ -1,31 +1,36 @@
 //! Cases.
-use crate::scripts::script_of;
+use crate::answer::Answer;
+use crate::tree::script::script_in;
 use crate::tree::submissions::put_submission;
+use crate::words::Words;
 use consist::find_inconsistent;
-use fixtures::{know_created, path_text, put_line};
+use fixtures::know_created;
 use ledger_model::{Commit, CommitList};
 use ledger_terms::{ActionNodeList, KnownList};
 use script_read::Script;
-use std::alloc::{AllocError, Global};
+use std::alloc::Global;
 
-/// The text that answers a line.
-pub(crate) fn answer(alloc: Global, line: &str) -> Result<String, AllocError> {
-    let mut out = String::new(alloc);
-    if let Some(script) = script_of(alloc, line, &mut out)? {
-        put_script(alloc, &script, &mut out)?;
+/// Puts what answers a line at the end.
+pub(crate) fn put_answer(alloc: Global, line: &str, out: &mut Answer) {
+    let mut words = Words::of(line);
+    if words.next() != "script" {
+        return out.line(&[line]);
     }
-    Ok(out)
+    out.line(&["script", words.next()]);
+    if let Some(script) = script_in(alloc, words.rest(), out) {
+        put_script(alloc, &script, out);
+    }
 }
 
 /// Puts the submissions of a script at the end, each over what those before it created, and whether they are one ledger.
-fn put_script(alloc: Global, script: &Script, out: &mut String) -> Result<(), AllocError> {
+fn put_script(alloc: Global, script: &Script, out: &mut Answer) {
     let mut known = KnownList::new(alloc);
     let mut ledger = CommitList::new(alloc);
     for round in script.rounds.as_slice() {
         for submission in round.submits.as_slice() {
-            if let Some(roots) = put_submission(alloc, script, &known, submission, out)? {
-                know_created(&roots, &mut known)?;
-                put_commit(&mut ledger, roots)?;
+            if let Some(roots) = put_submission(alloc, script, &known, submission, out) {
+                out.keep(know_created(&roots, &mut known));
+                put_commit(&mut ledger, roots, out);
             }
         }
     }
@@ -33,23 +38,22 @@ fn put_script(alloc: Global, script: &Script, out: &mut String) -> Result<(), Al
 }
 
 /// Puts a transaction at the end of a ledger.
-fn put_commit(ledger: &mut CommitList, roots: ActionNodeList) -> Result<(), AllocError> {
+fn put_commit(ledger: &mut CommitList, roots: ActionNodeList, out: &mut Answer) {
     let place = ledger.len() as u64;
-    ledger.push(Commit { place, roots })?;
-    Ok(())
+    out.keep(ledger.push(Commit { place, roots }));
 }
 
 /// Puts at the end whether a ledger is consistent, or the first action that breaks it.
-fn put_ledger(alloc: Global, ledger: &CommitList, out: &mut String) -> Result<(), AllocError> {
-    match find_inconsistent(alloc, ledger)? {
-        Some(found) => {
-            let commit = format!(in alloc; "{}", found.commit)?;
-            let path = path_text(alloc, &found.path)?;
-            put_line(
-                out,
-                &["ledger inconsistent", commit.as_str(), path.as_str()],
-            )
+fn put_ledger(alloc: Global, ledger: &CommitList, out: &mut Answer) {
+    match find_inconsistent(alloc, ledger) {
+        Ok(Some(found)) => {
+            out.put("ledger inconsistent ");
+            out.number(found.commit as u64);
+            out.put(" ");
+            out.path(&found.path);
+            out.put("\n");
         }
-        None => put_line(out, &["ledger consistent"]),
+        Ok(None) => out.line(&["ledger consistent"]),
+        Err(_) => out.lack(),
     }
 }

@@ -1,33 +1,32 @@
 //! What the rules of the ledger say of a transaction.
-use crate::lines::yes;
+use crate::answer::Answer;
 use crate::tree::roles_given::{all_have_roles, children_have_roles, has_roles};
 use authorise::{authorised, children_authorised};
 use consist::find_unordered;
-use fixtures::{path_text, put_line};
 use interpret::{encoded_bytes, reexecute};
 use lang_eval::{Checked, NativeList};
-use ledger_terms::{ActionNode, ActionNodeList, Tx};
+use ledger_terms::{ActionNode, ActionNodeList, Host, Tx};
 use project::project;
-use report_text::put_trees;
 use script_read::Script;
 use std::alloc::{AllocError, Global};
 
 /// Puts at the end how many bytes the actions take, whether the trees conform, are in order and are authorised, and the
 /// projection to each participant.
-pub(crate) fn put_rules(
-    alloc: Global,
-    script: &Script,
-    tx: &Tx,
-    out: &mut String,
-) -> Result<(), AllocError> {
-    let bytes = format!(in alloc; "{}", encoded_bytes(&tx.roots))?;
-    put_line(out, &["bytes", bytes.as_str()])?;
-    let conform = conform(alloc, &script.checked, &tx.roots)?;
-    put_line(out, &["conforming", yes(conform)])?;
-    put_order(alloc, &tx.roots, out)?;
-    let authority = has_authority(alloc, &script.checked, tx)?;
-    put_line(out, &["authorised", yes(authority)])?;
-    put_projections(alloc, script, &tx.roots, out)
+pub(crate) fn put_rules(alloc: Global, script: &Script, tx: &Tx, out: &mut Answer) {
+    let checked = &script.checked;
+    out.put("bytes ");
+    out.number(encoded_bytes(&tx.roots));
+    out.put("\n");
+    out.truth("conforming", conform(alloc, checked, &tx.roots));
+    put_order(alloc, &tx.roots, out);
+    out.truth("authorised", has_authority(alloc, checked, tx));
+    put_projections(
+        alloc,
+        checked,
+        script.topology.hosts.as_slice(),
+        &tx.roots,
+        out,
+    );
 }
 
 /// Whether each root is possible in the model.
@@ -42,13 +41,15 @@ fn conform(alloc: Global, checked: &Checked, roots: &ActionNodeList) -> Result<b
 }
 
 /// Puts at the end whether no action follows the end of its contract, or the path of the first that does.
-fn put_order(alloc: Global, roots: &ActionNodeList, out: &mut String) -> Result<(), AllocError> {
-    match find_unordered(alloc, roots)? {
-        Some(path) => {
-            let path = path_text(alloc, &path)?;
-            put_line(out, &["ordered no", path.as_str()])
+fn put_order(alloc: Global, roots: &ActionNodeList, out: &mut Answer) {
+    match find_unordered(alloc, roots) {
+        Ok(Some(path)) => {
+            out.put("ordered no ");
+            out.path(&path);
+            out.put("\n");
         }
-        None => put_line(out, &["ordered yes"]),
+        Ok(None) => out.line(&["ordered yes"]),
+        Err(_) => out.lack(),
     }
 }
 
@@ -98,17 +99,19 @@ fn gives_authority(
 /// Puts the projection to each participant at the end, where all actions have roles.
 fn put_projections(
     alloc: Global,
-    script: &Script,
+    checked: &Checked,
+    hosts: &[Host],
     roots: &ActionNodeList,
-    out: &mut String,
-) -> Result<(), AllocError> {
-    if !all_have_roles(alloc, &script.checked, roots) {
-        return Ok(());
+    out: &mut Answer,
+) {
+    if !all_have_roles(alloc, checked, roots) {
+        return;
     }
-    for host in script.topology.hosts.as_slice() {
-        put_line(out, &["projection", host.name.as_str()])?;
-        let part = project(alloc, &script.checked, roots, &host.parties)?;
-        put_trees(out, 1, &part)?;
+    for host in hosts {
+        out.line(&["projection", host.name.as_str()]);
+        match project(alloc, checked, roots, &host.parties) {
+            Ok(part) => out.trees(&part),
+            Err(_) => out.lack(),
+        }
     }
-    Ok(())
 }

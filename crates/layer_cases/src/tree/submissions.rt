@@ -1,12 +1,13 @@
 //! What becomes of a submission.
-use crate::tree::envelopes::put_envelopes;
+use crate::answer::Answer;
+use crate::tree::requests::put_request;
 use crate::tree::rules::put_rules;
-use fixtures::{path_text, put_line, sender_of, transaction};
+use fixtures::{sender_of, transaction};
 use interpret::CommandFault;
-use ledger_terms::{ActionNodeList, KnownList, Name, Submission, Tx};
-use report_text::{command_fault_name, put_trees};
+use ledger_terms::{ActionNodeList, KnownList, Submission, Tx};
+use report_text::command_fault_name;
 use script_read::Script;
-use std::alloc::{AllocError, Global};
+use std::alloc::Global;
 use view_split::{SplitFault, split};
 
 /// Puts a submission at the end with all that its transaction shows, or why it has none. The root actions where there are
@@ -16,61 +17,70 @@ pub(crate) fn put_submission(
     script: &Script,
     known: &KnownList,
     submission: &Submission,
-    out: &mut String,
-) -> Result<Option<ActionNodeList>, AllocError> {
-    let Some(sender) = sender_of(&script.topology, submission) else {
-        return Ok(None);
-    };
-    put_line(
-        out,
-        &["submission", sender.as_str(), submission.command.as_str()],
-    )?;
+    out: &mut Answer,
+) -> Option<ActionNodeList> {
+    let sender = sender_of(&script.topology, submission)?;
+    out.line(&["submission", sender.as_str(), submission.command.as_str()]);
+    let tx = transaction_of(alloc, script, known, submission, out)?;
+    put_transaction(alloc, script, submission, &tx, out);
+    Some(tx.roots)
+}
+
+/// The transaction of a submission. Where there is none, puts why at the end.
+pub(crate) fn transaction_of(
+    alloc: Global,
+    script: &Script,
+    known: &KnownList,
+    submission: &Submission,
+    out: &mut Answer,
+) -> Option<Tx> {
+    let sender = sender_of(&script.topology, submission)?;
     match transaction(alloc, script, known, sender, submission) {
-        Ok(tx) => {
-            put_transaction(alloc, script, sender, &tx, out)?;
-            Ok(Some(tx.roots))
-        }
+        Ok(tx) => Some(tx),
         Err(fault) => {
-            put_refused(alloc, &fault, out)?;
-            Ok(None)
+            put_refused(&fault, out);
+            None
         }
     }
 }
 
 /// Puts why there is no transaction at the end, with the path where there is one.
-fn put_refused(alloc: Global, fault: &CommandFault, out: &mut String) -> Result<(), AllocError> {
-    let word = command_fault_name(fault);
-    let place = match fault {
-        CommandFault::UnknownTemplate { root } => format!(in alloc; "{root}")?,
-        CommandFault::UnknownChoice { root } => format!(in alloc; "{root}")?,
-        CommandFault::BadArgs { root } => format!(in alloc; "{root}")?,
-        CommandFault::ContractUnknown { path } => path_text(alloc, path)?,
-        CommandFault::Eval { path, .. } => path_text(alloc, path)?,
-        CommandFault::TooDeep { path } => path_text(alloc, path)?,
-        CommandFault::TooMany { path } => path_text(alloc, path)?,
-        CommandFault::Unauthorised { path } => path_text(alloc, path)?,
-        CommandFault::TooBig { bytes } => format!(in alloc; "{bytes}")?,
-        CommandFault::Memory => String::new(alloc),
-    };
-    put_line(out, &["refused", word, place.as_str()])
+fn put_refused(fault: &CommandFault, out: &mut Answer) {
+    out.put("refused ");
+    out.put(command_fault_name(fault));
+    out.put(" ");
+    match fault {
+        CommandFault::UnknownTemplate { root } => out.number(*root as u64),
+        CommandFault::UnknownChoice { root } => out.number(*root as u64),
+        CommandFault::BadArgs { root } => out.number(*root as u64),
+        CommandFault::ContractUnknown { path } => out.path(path),
+        CommandFault::Eval { path, .. } => out.path(path),
+        CommandFault::TooDeep { path } => out.path(path),
+        CommandFault::TooMany { path } => out.path(path),
+        CommandFault::Unauthorised { path } => out.path(path),
+        CommandFault::TooBig { bytes } => out.number(*bytes as u64),
+        CommandFault::Memory => out.lack(),
+    }
+    out.put("\n");
 }
 
-/// Puts a transaction at the end: its actions, what the rules say, its views and its envelopes.
+/// Puts a transaction at the end: its actions, what the rules say, and its request.
 fn put_transaction(
     alloc: Global,
     script: &Script,
-    sender: Name,
+    submission: &Submission,
     tx: &Tx,
-    out: &mut String,
-) -> Result<(), AllocError> {
-    put_trees(out, 1, &tx.roots)?;
-    put_rules(alloc, script, tx, out)?;
+    out: &mut Answer,
+) {
+    out.trees(&tx.roots);
+    put_rules(alloc, script, tx, out);
     match split(alloc, &script.checked, tx) {
-        Ok(views) => put_envelopes(alloc, &script.topology, sender, &views, out),
+        Ok(views) => put_request(alloc, &script.topology, submission, &views, out),
         Err(SplitFault::NoRoles { path }) => {
-            let path = path_text(alloc, &path)?;
-            put_line(out, &["no roles", path.as_str()])
+            out.put("no roles ");
+            out.path(&path);
+            out.put("\n");
         }
-        Err(SplitFault::Memory) => Err(AllocError),
+        Err(SplitFault::Memory) => out.lack(),
     }
 }

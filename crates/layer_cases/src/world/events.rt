@@ -78,12 +78,19 @@ fn event_at(verb: &str, node: ParticipantId) -> Option<Event>
     }
 }
 
-/// The participant with a name.
-pub(crate) fn participant_of(topology: &Topology, name: &str) -> Option<ParticipantId> {
-    for (at, host) in (0..=255u8).zip(topology.hosts.as_slice()) {
+fn participant_of(topology: &Topology, name: &str) -> Option<ParticipantId> {
+    let at = place_of(topology, name)?;
+    Some(ParticipantId((at % 256) as u8))
+}
+
+/// The index of the participant with a name.
+pub(crate) fn place_of(topology: &Topology, name: &str) -> Option<usize> {
+    let mut at = 0usize;
+    for host in topology.hosts.as_slice() {
         if host.name.as_str() == name {
-            return Some(ParticipantId(at));
+            return Some(at);
         }
+        at = at.wrapping_add(1);
     }
     None
 }

@@ -11,62 +11,23 @@ ghost use Rattle.world_play.specs.Standing.{IsParticipant};
 ghost use Rattle.world_play.specs.Worlds.{AreNodesOf, world_with};
 ghost use Rattle.world_play.specs.WorldOf.{IsWorldOf, world_of};
 
-use crate::lines::digits;
-use crate::world::events::participant_of;
+use crate::answer::Answer;
+use crate::check::put_poll;
 use crate::world::late_jobs::{claimed, finished, give_up, read_on};
-use crate::world::plan::Plan;
-use canton_model::{LocalVerdict, ViewVerdict};
-use confirm_reply::Setup;
-use fixtures::{path_text, put_line};
-use futures::task::Poll;
 use futures::test::MockTask;
-use lang_eval::NativeList;
-use ledger_terms::limits::MOST_PLACES;
-use log_row::LogRow;
 use node_core::Node;
-use prepare_request::laws::prepared_requests_make_a_machine;
 use seq_log::Sequencer;
 use std::alloc::{AllocError, Global};
-use validate_job::{Finished, ValidateJob};
-use world_play::{World, play};
+use validate_job::Finished;
+use world_play::World;
 
-/// What is told of the next job of the participant with this name, after a plan was played.
-pub(crate) fn told_late(
-    alloc: Global,
-    task: &MockTask,
-    setup: &Setup,
-    plan: &Plan,
-    who: &str,
-) -> Result<String, AllocError>
-    requires hosts { length setup.now.topology.hosts ≤ 256 }
-    requires time { advance_in plan.now.events ≤ 10 ^ 16 }
-    requires within { All (CanHappen setup.now.topology setup.now.checked) plan.now.events }
-{
-    // the prover learns from this call that there is a machine
-    prepared_requests_make_a_machine();
-    let natives = NativeList::new(alloc);
-    let mut row = LogRow::new(alloc)?;
-    let mut world = play(
-        alloc,
-        setup,
-        &natives,
-        &mut row,
-        MOST_PLACES as u64,
-        &plan.events,
-    )?;
-    let mut out = String::new(alloc);
-    if let Some(node) = participant_of(&setup.topology, who) {
-        put_late_in(alloc, task, &mut world, node.0 as usize, &mut out)?;
-    }
-    Ok(out)
-}
-
-fn put_late_in(
+/// Puts what is told of the next job of the participant at an index at the end.
+pub(crate) fn put_late_in(
     alloc: Global,
     task: &MockTask,
     world: &mut World<'_>,
     at: usize,
-    out: &mut String,
+    out: &mut Answer,
 ) -> Result<(), AllocError>
     requires { (m : Machine) × (state : MediatorState) × IsWorldOf m state world.old × Lawful m (world_of state world.old) }
 {
@@ -86,7 +47,7 @@ fn put_late_among(
     nodes: &mut [Node<'_>],
     sequencer: &mut Sequencer<'_>,
     at: usize,
-    out: &mut String,
+    out: &mut Answer,
 ) -> Result<(), AllocError>
     requires { (m : Machine) × (now : ℕ) × (state : MediatorState) × AreNodesOf m nodes.old sequencer.old
         × Lawful m (world_with now state nodes.old sequencer.old) }
@@ -103,16 +64,17 @@ fn put_first(
     task: &MockTask,
     node: &mut Node<'_>,
     sequencer: &mut Sequencer<'_>,
-    out: &mut String,
+    out: &mut Answer,
 ) -> Result<(), AllocError>
     requires { (m : Machine) × (p : ParticipantId) × IsParticipant m p node.old sequencer.old }
 {
     let Some(mut job) = claimed(alloc, node)? else {
-        return put_line(out, &["no job"]);
+        out.line(&["no job"]);
+        return Ok(());
     };
     let place = job.place();
     for _ in 0..job.left() {
-        put_poll(alloc, task, &mut job, out)?;
+        put_poll(task, &mut job, out);
     }
     put_second(alloc, task, node, sequencer, place, out)
 }
@@ -124,19 +86,21 @@ fn put_second(
     node: &mut Node<'_>,
     sequencer: &mut Sequencer<'_>,
     place: u64,
-    out: &mut String,
+    out: &mut Answer,
 ) -> Result<(), AllocError>
     requires node { (m : Machine) × (p : ParticipantId) × IsParticipant m p node.old sequencer.old }
     requires owes { owes_there node.old place ≡ true }
 {
     give_up(node, place);
     let Some(mut job) = claimed(alloc, node)? else {
-        return put_line(out, &["no second job"]);
+        out.line(&["no second job"]);
+        return Ok(());
     };
     let place = job.place();
-    put_poll(alloc, task, &mut job, out)?;
+    put_poll(task, &mut job, out);
     put_third(alloc, node, sequencer, place, out)?;
-    put_number(alloc, "cancelled", job.cancel(), out)
+    put_numbered("cancelled ", job.cancel(), out);
+    Ok(())
 }
 
 // The third has the verdicts when the participant has read an entry more.
@@ -145,98 +109,52 @@ fn put_third(
     node: &mut Node<'_>,
     sequencer: &mut Sequencer<'_>,
     place: u64,
-    out: &mut String,
+    out: &mut Answer,
 ) -> Result<(), AllocError>
     requires node { (m : Machine) × (p : ParticipantId) × IsParticipant m p node.old sequencer.old }
     requires owes { owes_there node.old place ≡ true }
 {
     give_up(node, place);
     let Some(job) = claimed(alloc, node)? else {
-        return put_line(out, &["no third job"]);
+        out.line(&["no third job"]);
+        return Ok(());
     };
     let done = finished(job)?;
-    put_decided(alloc, node, done.place, out)?;
+    put_decided(node, done.place, out);
     read_on(node, sequencer)?;
-    put_decided(alloc, node, done.place, out)?;
-    put_end(alloc, node, done, out)
+    put_decided(node, done.place, out);
+    put_end(node, done, out);
+    Ok(())
 }
 
 // Since when the request is decided.
-fn put_decided(
-    alloc: Global,
-    node: &Node<'_>,
-    place: u64,
-    out: &mut String,
-) -> Result<(), AllocError>
+fn put_decided(node: &Node<'_>, place: u64, out: &mut Answer)
     requires { is_some (shown_at (items_of node.now) place) ≡ true }
 {
     match node.decided_at(place) {
-        Some(at) => put_number(alloc, "decided at", at, out),
-        None => put_line(out, &["undecided"]),
+        Some(at) => put_numbered("decided at ", at, out),
+        None => out.line(&["undecided"]),
     }
 }
 
 // What the participant answers to a job's verdicts.
-fn put_end(
-    alloc: Global,
-    node: &mut Node<'_>,
-    done: Finished,
-    out: &mut String,
-) -> Result<(), AllocError>
+fn put_end(node: &mut Node<'_>, done: Finished, out: &mut Answer)
     requires { done.verdicts ≡ owed_there node.old done.place }
 {
     if !node.unfinished(done.place) {
-        return put_line(out, &["no claim"]);
+        return out.line(&["no claim"]);
     }
     match node.finish_job(done) {
-        Ok(()) => put_line(out, &["answered"]),
+        Ok(()) => out.line(&["answered"]),
         Err(late) => {
-            put_number(alloc, "too late for", late.place, out)?;
-            put_number(alloc, "decided at", late.decided_at, out)
+            put_numbered("too late for ", late.place, out);
+            put_numbered("decided at ", late.decided_at, out);
         }
     }
 }
 
-// The place of a job and how many views it has left, and what a poll answers.
-fn put_poll(
-    alloc: Global,
-    task: &MockTask,
-    job: &mut ValidateJob<'_>,
-    out: &mut String,
-) -> Result<(), AllocError> {
-    put_number(alloc, "place", job.place(), out)?;
-    put_number(alloc, "left", job.left() as u64, out)?;
-    if job.left() == 0 {
-        return Ok(());
-    }
-    match task.poll(job) {
-        Poll::Pending => put_number(alloc, "pending, left", job.left() as u64, out),
-        Poll::Ready(Ok(done)) => put_done(alloc, &done, out),
-        Poll::Ready(Err(lack)) => Err(lack),
-    }
-}
-
-fn put_done(alloc: Global, done: &Finished, out: &mut String) -> Result<(), AllocError> {
-    put_number(alloc, "ready", done.place, out)?;
-    for verdict in done.verdicts.as_slice() {
-        put_verdict(alloc, verdict, out)?;
-    }
-    Ok(())
-}
-
-fn put_verdict(alloc: Global, verdict: &ViewVerdict, out: &mut String) -> Result<(), AllocError> {
-    let path = path_text(alloc, &verdict.view)?;
-    match verdict.verdict {
-        LocalVerdict::Approve => put_word("approve", &path, out),
-        LocalVerdict::Reject { .. } => put_word("reject", &path, out),
-    }
-}
-
-fn put_word(word: &str, path: &String, out: &mut String) -> Result<(), AllocError> {
-    put_line(out, &["verdict", path.as_str(), word])
-}
-
-fn put_number(alloc: Global, words: &str, number: u64, out: &mut String) -> Result<(), AllocError> {
-    let digits = digits(alloc, number)?;
-    put_line(out, &[words, digits.as_str()])
+fn put_numbered(words: &str, number: u64, out: &mut Answer) {
+    out.put(words);
+    out.number(number);
+    out.put("\n");
 }

@@ -3,7 +3,7 @@ ghost use Rattle.std.specs.Prelude.{◌≤◌, ◌^◌, true, ◌≡◌, All, If
 ghost use Rattle.world_play.specs.Events.{CanHappen, advance_in, advance_of};
 ghost use Rattle.world_play.specs.Submitting.{CanSubmit};
 
-use crate::world::events::event_of;
+use crate::world::events::{event_of, place_of};
 use confirm_reply::Setup;
 use ledger_terms::Submission;
 use std::alloc::{AllocError, Global};
@@ -12,11 +12,19 @@ use world_play::{Event, EventList};
 /// How far events may move the time in all, in microseconds.
 const MOST_TIME: u64 = 10_000_000_000_000_000;
 
-/// The events of a case, and whether it settles after them.
+/// The events of a case, whether it settles after them, and the index of the participant whose job comes too late, where there is one.
 #[derive(Drop)]
 pub(crate) struct Plan {
     pub(crate) events: EventList,
     pub(crate) settles: bool,
+    pub(crate) late: Option<usize>,
+}
+
+/// The name of the participant whose job comes too late, which is empty where there is none, and the words of the events.
+#[derive(Clone, Copy)]
+pub(crate) struct Asked<'a> {
+    pub(crate) late: &'a str,
+    pub(crate) words: &'a str,
 }
 
 /// The plan that words with commas between them say, where each says an event.
@@ -24,17 +32,22 @@ pub(crate) fn plan_of(
     alloc: Global,
     setup: &Setup,
     submissions: Vec<Submission>,
-    words: &str,
+    asked: Asked<'_>,
 ) -> Result<Option<Plan>, AllocError>
     requires { All (CanSubmit setup.now.topology setup.now.checked) submissions.items }
     ensures { IfOk result (λ o. IfSome o (λ plan. All (CanHappen setup.now.topology setup.now.checked) plan.events)) }
 {
-    let (words, settles) = match words.strip_suffix(",settle") {
+    let (words, settles) = match asked.words.strip_suffix(",settle") {
         Some(front) => (front, true),
-        None => (words, false),
+        None => (asked.words, false),
     };
+    let late = place_of(&setup.topology, asked.late);
     match events_of(alloc, setup, submissions, words)? {
-        Some(events) => Ok(Some(Plan { events, settles })),
+        Some(events) => Ok(Some(Plan {
+            events,
+            settles,
+            late,
+        })),
         None => Ok(None),
     }
 }

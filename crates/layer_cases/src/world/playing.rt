@@ -6,10 +6,12 @@ ghost use Rattle.world_model.specs.Mediator.{MediatorState};
 ghost use Rattle.world_play.specs.Events.{CanHappen, advance_in};
 ghost use Rattle.world_play.specs.WorldOf.{IsWorldOf, world_of};
 
-use crate::world::log_copy::log_of;
+use crate::answer::Answer;
+use crate::world::late::put_late_in;
 use crate::world::plan::Plan;
-use crate::world::telling::{put_consistency, report_of, views_of};
+use crate::world::telling::put_told;
 use confirm_reply::Setup;
+use futures::test::MockTask;
 use lang_eval::NativeList;
 use ledger_terms::ParticipantIdList;
 use ledger_terms::limits::MOST_PLACES;
@@ -18,8 +20,14 @@ use prepare_request::laws::prepared_requests_make_a_machine;
 use std::alloc::{AllocError, Global};
 use world_play::{World, play, settle};
 
-/// What is told after a plan was played: the report, and whether each participant has applied what is consistent.
-pub(crate) fn played(alloc: Global, setup: &Setup, plan: &Plan) -> Result<String, AllocError>
+/// Plays a plan, and puts what is told then at the end.
+pub(crate) fn played(
+    alloc: Global,
+    task: &MockTask,
+    setup: &Setup,
+    plan: &Plan,
+    out: &mut Answer,
+) -> Result<(), AllocError>
     requires hosts { length setup.now.topology.hosts ≤ 256 }
     requires time { advance_in plan.now.events ≤ 10 ^ 16 }
     requires within { All (CanHappen setup.now.topology setup.now.checked) plan.now.events }
@@ -36,8 +44,10 @@ pub(crate) fn played(alloc: Global, setup: &Setup, plan: &Plan) -> Result<String
         MOST_PLACES as u64,
         &plan.events,
     )?;
-    end(alloc, &natives, &mut world, plan.settles)?;
-    told(alloc, setup, &mut world)
+    match plan.late {
+        Some(at) => put_late_in(alloc, task, &mut world, at, out),
+        None => put_end(alloc, setup, &natives, &mut world, plan.settles, out),
+    }
 }
 
 // It settles, where it shall.
@@ -57,23 +67,18 @@ fn settle_if<'r>(
     Ok(())
 }
 
-// Then all participants read to the end.
-fn end<'r>(
+// Then all participants read to the end, and what they know is told.
+fn put_end<'r>(
     alloc: Global,
+    setup: &Setup,
     natives: &'r NativeList,
     world: &mut World<'r>,
     settles: bool,
+    out: &mut Answer,
 ) -> Result<(), AllocError>
     requires { (m : Machine) × (state : MediatorState) × IsWorldOf m state world.old × Lawful m (world_of state world.old) }
 {
     settle_if(alloc, natives, world, settles)?;
-    world.catch_up()
-}
-
-fn told(alloc: Global, setup: &Setup, world: &mut World<'_>) -> Result<String, AllocError> {
-    let log = log_of(alloc, &mut world.sequencer)?;
-    let views = views_of(alloc, world.nodes.as_slice())?;
-    let mut out = report_of(alloc, &setup.topology, &log, &views)?;
-    put_consistency(alloc, &setup.topology, &views, &mut out)?;
-    Ok(out)
+    world.catch_up()?;
+    put_told(alloc, &setup.topology, world, out)
 }

@@ -1,0 +1,25 @@
+//! What cases give as text.
+use cli_words::WordList;
+use ledger_terms::{Bytes, Text, U64List};
+use std::alloc::{AllocError, Global};
+
+pub(crate) fn words_of(alloc: Global, words: &str) -> Result<WordList, AllocError> {
+    let mut list = WordList::new(alloc);
+    for word in words.split(',') {
+        list.push(Text::of(alloc, word)?)?;
+    }
+    Ok(list)
+}
+
+pub(crate) fn bytes_of(alloc: Global, text: &str) -> Result<Bytes, AllocError> {
+    let mut bytes = Bytes::new(alloc);
+    bytes.extend(text.as_bytes())?;
+    Ok(bytes)
+}
+
+/// The call that fails.
+pub(crate) fn only(alloc: Global, call: u64) -> Result<U64List, AllocError> {
+    let mut calls = U64List::new(alloc);
+    calls.push(call)?;
+    Ok(calls)
+}

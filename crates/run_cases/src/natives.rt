@@ -1,0 +1,58 @@
+//! Runs with the natives of cases. Each makes its natives where it uses them up, since no function hands out what lies behind a trait object.
+use crate::case::Case;
+use crate::counting_native::CountingNative;
+use crate::surely::{SureRun, sure_run};
+use canton_run::{Finish, run};
+use cli_words::WordList;
+use cn_io::{Sink, Source};
+use lane_pool::FreeGate;
+use lang_eval::{NativeList, flash_choice};
+use ledger_terms::StmtList;
+use native_choice::FlashNative;
+use std::alloc::{AllocError, AllocGlobal, Global};
+use std::random::RandomSource;
+use std::sync::atomic::AtomicU64;
+use std::sync::{Arc, Wait};
+use std::thread::Threads;
+
+/// Runs words with the natives of the program.
+pub(crate) fn run_words<R: Threads + Wait + Sync + RandomSource + AllocGlobal, S: Source, K: Sink>(
+    rt: &R,
+    alloc: Global,
+    words: &WordList,
+    source: &mut S,
+    sink: &mut K,
+) -> Result<Finish, AllocError> {
+    let mut natives = NativeList::new(alloc);
+    natives.push(Box::new(alloc, FlashNative::new(alloc)?)?)?;
+    Ok(run(rt, &FreeGate, words, source, sink, natives))
+}
+
+/// Runs a case with the natives of the program, into a sink with room for so many bytes.
+pub(crate) fn program_run<R: Threads + Wait + Sync + RandomSource + AllocGlobal>(
+    rt: &R,
+    alloc: Global,
+    case: &Case<'_>,
+    room: usize,
+) -> Result<SureRun, AllocError> {
+    let mut natives = NativeList::new(alloc);
+    natives.push(Box::new(alloc, FlashNative::new(alloc)?)?)?;
+    sure_run(rt, &FreeGate, alloc, case, room, natives)
+}
+
+/// Runs a case with a native of Flash, by its own text or by one that does nothing, which counts how often it is asked.
+pub(crate) fn counting_run<R: Threads + Wait + Sync + RandomSource + AllocGlobal>(
+    rt: &R,
+    alloc: Global,
+    case: &Case<'_>,
+    room: usize,
+    asked: Arc<AtomicU64, Global>,
+) -> Result<SureRun, AllocError> {
+    let mut body = flash_choice(alloc)?;
+    if case.given != "own" {
+        body.body = StmtList::new(alloc);
+    }
+    let mut natives = NativeList::new(alloc);
+    natives.push(Box::new(alloc, CountingNative { body, asked })?)?;
+    sure_run(rt, &FreeGate, alloc, case, room, natives)
+}

@@ -1,0 +1,55 @@
+//! A run that nothing but want of memory can stop.
+ghost use Rattle.std.specs.Prelude.{◌≡◌};
+ghost use Rattle.std.proofs.Common.{◌⊎◌};
+ghost use Rattle.run_cases.specs.Surely.{IsReady};
+
+use crate::case::Case;
+use crate::inputs::{bytes_of, words_of};
+use canton_run::{Finish, run};
+use cli_words::WordList;
+use cn_io::{SureSink, SureSource};
+use lane_pool::Gate;
+use lang_eval::NativeList;
+use std::alloc::{AllocError, AllocGlobal, Global};
+use std::random::RandomSource;
+use std::sync::Wait;
+use std::thread::Threads;
+
+/// Runs words over a source that never fails and a sink that has taken its room ahead. Where the source gives the job's script and the room
+/// is enough for the text, nothing but want of memory is in the way.
+pub(crate) fn run_surely<R: Threads + Wait + Sync + RandomSource + AllocGlobal, G: Gate + Sync>(
+    rt: &R,
+    gate: &G,
+    words: &WordList,
+    source: &mut SureSource,
+    sink: &mut SureSink,
+    natives: NativeList,
+) -> Finish
+    ensures ready { IsReady words.now source.old sink.old.room → (result.status ≡ 0) ⊎ (result.status ≡ 70) }
+{
+    run(rt, gate, words, source, sink, natives)
+}
+
+/// How a case ended, and what was written.
+#[derive(Drop)]
+pub(crate) struct SureRun {
+    pub(crate) finish: Finish,
+    pub(crate) sink: SureSink,
+}
+
+/// Runs a case into a sink with room for so many bytes.
+pub(crate) fn sure_run<R: Threads + Wait + Sync + RandomSource + AllocGlobal, G: Gate + Sync>(
+    rt: &R,
+    gate: &G,
+    alloc: Global,
+    case: &Case<'_>,
+    room: usize,
+    natives: NativeList,
+) -> Result<SureRun, AllocError> {
+    let words = words_of(alloc, case.words)?;
+    let mut source = SureSource::new(bytes_of(alloc, case.source)?);
+    let mut sink = SureSink::new(alloc);
+    sink.reserve(room)?;
+    let finish = run_surely(rt, gate, &words, &mut source, &mut sink, natives);
+    Ok(SureRun { finish, sink })
+}

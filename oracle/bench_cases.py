@@ -1,0 +1,59 @@
+"""What the layer bench of crates/layer_cases has to write of hashes, bytes and scripts."""
+import hashlib
+import json
+
+import ledger
+import terms
+import trees
+from language import Packages
+from tree_cases import transaction_of
+
+LONG, SHORT = bytes([90]) * 167, b''
+# the seeds of the transaction and of its two actions, the id of the contract, a salt and a hash for each of six leaves, and two views
+REQUEST_HASHES = 3 + 1 + 6 + 6 + 2
+
+
+def last_hash(count, instance):
+    """Each hash is the id of a contract whose salt is the one before."""
+    last = bytes(32)
+    for _ in range(count):
+        last = hashlib.sha256(b'\1' + last + instance).digest()
+    return last.hex()
+
+
+def digits(actions):
+    """The words that spell actions."""
+    return ' '.join(terms.action_bytes(action).hex() for action in actions)
+
+
+def wire_line(count, actions):
+    size = sum(len(terms.action_bytes(actions[at % 2])) for at in range(count))
+    return '%d bytes, %d actions, the same bytes again' % (size, count)
+
+
+def request_bytes(script):
+    """The bytes of the last request of a script, to its recipients and to the mediator."""
+    packages, known = Packages(script['packages']), []
+    for round_ in script['rounds']:
+        submission = round_['submits'][0]
+        seed, by, roots = transaction_of(packages, known, submission)
+        for _, node in ledger.preorder(roots):
+            if node['action']['kind'] == 'create':
+                known.append({'id': node['action']['id'], 'salt': node['seed'], 'instance': node['action']['instance']})
+    views, sender = trees.split(packages, roots), submission['participant']
+    common, requesters = trees.common_leaf(sender, 0, seed), trees.requesters_leaf(by, seed)
+    informees = {party for view in trees.all_views(views) for party in view['informees']}
+    size = len(trees.envelope(common, requesters, views, None, False))
+    for host in script['participants']:
+        if host['name'] == sender or set(host['parties']) & informees:
+            size += len(trees.envelope(common, requesters, views, host['parties'], host['name'] == sender))
+    return size
+
+
+def request_line(script, count):
+    return '%d bytes, %d hashes' % (count * request_bytes(script), count * REQUEST_HASHES)
+
+
+def script_line(text):
+    script = json.loads(text)
+    return '%d bytes, %d submissions' % (len(text.encode()), sum(len(r.get('submits', [])) for r in script['rounds']))

@@ -1,0 +1,95 @@
+"""What whole runs do at their edges, and calls of sources, sinks and a log there, with what is answered, worked out by hand."""
+import json
+
+from tables.runs import HOSTS, TWO_SPENDS
+from tables.transactions import IOU, asked, exercise, iou, note, prepared
+
+
+def script(*rounds):
+    return json.dumps({"participants": HOSTS, "packages": [IOU], "rounds": list(rounds)}, separators=(',', ':'))
+
+
+# --- what is the same of a run however its threads work: patterns of its lines, and how many lines fit each
+
+COUNTS = [
+    # the second spend is refused where the first was settled before, and else rejected
+    ('two-spends-with-workers', 'run,--workers,4', TWO_SPENDS, [
+        ('3 4 request P2 t1 to P1 P2 P3', 1), ('result 1 P2 t1 sent 3', 1), ('outcome 3 approved', 1),
+        ('result 1 P2 t2 refused ContractUnknown|outcome * Locked|outcome * Inactive', 1),
+        ('commit 3', 3), ('active 3 Iou.Iou(Bank,Carol,10)', 2)])]
+
+
+# --- what comes to a gate: who is held there for how long, and what it noted
+
+# P1 and P3, which confirm one view each, stand on two lanes in a round without submissions
+TWO_LANES = script(
+    {"paused": ["P1", "P3"], "submits": [prepared('P2', 'w1', ['Alice'], iou('Alice', 5), note('Carol', 'Carol', 'c'))]}, {})
+# one lane checks the second request's three views for P1, and then the first request's for P3
+ONE_LANE = script(
+    {"paused": ["P1", "P3"], "submits": [
+        prepared('P2', 'w1', ['Alice'], *(note('Carol', 'Carol', text) for text in 'abc')),
+        prepared('P2', 'w2', ['Alice'], *(iou('Alice', amount) for amount in (5, 6, 7)))]}, {})
+
+GATES = [
+    ('two-lanes', 'run,--workers,3', TWO_LANES, 50_000_000, '2 came, the first to 0 0, the last to 0 0, two met'),
+    ('one-lane', 'run,--workers,1', ONE_LANE, 0, '6 came, the first to 1 0, the last to 0 2, none met')]
+
+
+# --- natives of Flash: one with its own text is asked, one with another text isn't, and neither changes the report
+
+FLASH = script(
+    {"submits": [asked('P2', 'n1', ['Alice'], note('Alice', 'Carol', 'a'))]},
+    {"submits": [asked('P2', 'n2', ['Alice'], exercise('Note.Note', '#P2:n1:0', 'Flash'))]})
+FLASHED = '''entries 6
+0 1 request P2 n1 to P2 P3
+1 2 response P2 for 0 0=approve
+2 3 verdict for 0 approved
+3 4 request P2 n2 to P2 P3
+4 5 response P2 for 3 0=approve 0.0=approve 0.1=approve
+5 6 verdict for 3 approved
+result 0 P2 n1 sent 0
+result 1 P2 n2 sent 3
+outcome 0 approved
+outcome 3 approved
+participant P1 clean 6 time 6
+participant P2 clean 6 time 6
+commit 0
+  create Note.Note(Alice,Carol,"a")
+commit 3
+  exercise Note.Note(Alice,Carol,"a") Flash() by Alice = ()
+    create Note.Note(Alice,Carol,"flash")
+    consume Note.Note(Alice,Carol,"flash") Archive() by Alice = ()
+active 0 Note.Note(Alice,Carol,"a")
+participant P3 clean 6 time 6
+commit 0
+  create Note.Note(Alice,Carol,"a")
+commit 3
+  create Note.Note(Alice,Carol,"flash")
+  consume Note.Note(Alice,Carol,"flash") Archive() by Alice = ()
+active 0 Note.Note(Alice,Carol,"a")
+end
+'''
+
+NATIVES = [('native-of-its-own-text', 'own', FLASH, FLASHED, 'asked'), ('native-of-another-text', 'another', FLASH, FLASHED, 'not asked')]
+
+
+# --- calls: a line, and the lines that answer it
+
+LETTERS = '0123456789abcdefghijklmnopqrstuvwxyz'
+LONG = 'x' * 100
+
+LOGS = [
+    # a request needs two places and one for each participant that confirms it
+    ('append second-has-no-room 4 2,1', ['append second-has-no-room', 'appended', 'LogFull 4 3', '1 entries']),
+    ('append both-have-room 7 2,1', ['append both-have-room', 'appended', 'appended', '2 entries'])]
+SOURCES = [
+    ('mem-source 4 2 10,6 0123456789', ['source within 10,6', 'failed', '|456789']),
+    # one byte past the limit is taken
+    ('sure-source 5,4 0123456789', ['source within 5,4', 'too long', '|6789']),
+    ('reader 100,100', ['source within 100,100', 'failed', '|dD'])]
+SINKS = [
+    ('mem-sink 16 2 ' + LETTERS, ['sink that fails at call 2', 'failed ' + LETTERS, '|' + LETTERS[:16]]),
+    ('mem-sink 16 2 %s,%s' % (LETTERS, LETTERS[16:]),
+     ['sink that fails at call 2', 'failed ' + LETTERS, 'taken ' + LETTERS[16:], '|' + LETTERS]),
+    ('sure-sink 4 a abcd,%s' % LONG, ['sink with room 4', 'failed a', 'taken abcd', 'failed ' + LONG, '|abcd']),
+    ('writer abcd,cd,cd,e', ['sink over a writer', 'failed abcd', 'failed cd', 'taken cd', 'failed e', '|abcd'])]
