@@ -1,13 +1,14 @@
 -- When a topology is one that a synchroniser can be made for.
-use Rattle.std.specs.Prelude.{◌≡◌, ◌≢◌, ℕ, ◌≤◌, false, length, sum_by, All}
-use Rattle.std.specs.List.{AllPairs}
+use Rattle.std.specs.Prelude.{◌≡◌, ◌≢◌, ℕ, ◌≤◌, true, false, List, length, sum_by, All}
+use Rattle.std.specs.List.{AllPairs, list_any}
 use Rattle.ledger_terms.specs.Names.{IsName}
 use Rattle.ledger_terms.specs.Parties.{meets_set, IsRising}
+use Rattle.ledger_terms.specs.Hosting.{lists_party}
 use Rattle.ledger_terms.specs.declared.limits.TheConstants.{MOST_PARTICIPANTS, MOST_PARTIES, LEAST_WAIT, MOST_WAIT}
 use Rattle.ledger_terms.specs.declared.host.Host.{Host}
 use Rattle.ledger_terms.specs.declared.topology.Topology.{Topology}
 
--- two participants have names of their own and share no party
+-- two participants have names of their own and confirm for no party both
 pub record AreApart (a b : Host) : Type 0 where
   pub names : a.name ≢ b.name
   pub parties : meets_set a.parties b.parties ≡ false
@@ -23,13 +24,22 @@ pub record HasNames (host : Host) : Type 0 where
   pub parties : All IsName host.parties
   pub rising : IsRising host.parties
 
--- 1 to 8 participants with names of their own, which host at most 128 parties, each party once; and the times in their ranges
+-- what a host only observes rises, and are parties for which another host confirms
+pub record IsObserving (hosts : List Host) (host : Host) : Type 0 where
+  pub names : All IsName host.observing
+  pub rising : IsRising host.observing
+  pub apart : meets_set host.parties host.observing ≡ false
+  pub confirmed : All (λ (party : List ℕ). list_any (lists_party party) hosts ≡ true) host.observing
+
+-- 1 to 8 participants with names of their own, which confirm for at most 128 parties, each party at one participant, and observe some
+-- of the others; and the times in their ranges
 pub record IsValid (topology : Topology) : Type 0 where
   pub some_host : 1 ≤ length topology.hosts
   pub few_hosts : length topology.hosts ≤ MOST_PARTICIPANTS
   pub few_parties : sum_by (λ (host : Host). length host.parties) topology.hosts ≤ MOST_PARTIES
   pub named : All HasNames topology.hosts
   pub apart : AllPairs AreApart topology.hosts
+  pub observing : All (IsObserving topology.hosts) topology.hosts
   pub response_timeout : IsWait (topology.params).response_timeout
   pub reaction_timeout : IsWait (topology.params).reaction_timeout
   pub skew : IsWait (topology.params).skew

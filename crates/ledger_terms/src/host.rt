@@ -3,11 +3,13 @@ use crate::list::ListOf;
 use crate::name::{Name, NameList};
 use crate::party_set::PartySet;
 
-/// A participant with the parties that it hosts and the packages that it has vetted.
+/// A participant with the parties that it hosts and confirms for, those that it hosts only to observe, and the packages that it has
+/// vetted.
 #[derive(Drop)]
 pub struct Host {
     pub name: Name,
     pub parties: PartySet,
+    pub observing: PartySet,
     pub vetted: NameList,
 }
 

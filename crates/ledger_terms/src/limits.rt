@@ -84,6 +84,12 @@ pub const MOST_LABEL_STEP: u16 = 63;
 /// Bytes of the tree that one recipient is sent.
 pub const MOST_TREE_BYTES: usize = 4_194_304;
 
+/// Raw requests of a round.
+pub const MOST_RAWS: usize = 64;
+
+/// Bytes that a text of a raw request spells.
+pub const MOST_RAW_BYTES: usize = 65_536;
+
 /// Bytes of a script.
 pub const MOST_SCRIPT_BYTES: usize = 4_194_304;
 

@@ -17,7 +17,7 @@ pub struct Topology {
 }
 
 impl Topology {
-    /// The first host that lists the party.
+    /// The participant that confirms for the party: the first one with it among its `parties`.
     pub fn host_of(&self, party: Name) -> Option<ParticipantId>
         requires { length self.now.hosts ≤ 256 }
         ensures { result ≡ host_of self.now.hosts party }
@@ -39,12 +39,12 @@ impl Topology {
         self.hosts.get(at.0 as usize)
     }
 
-    /// Whether a participant hosts the party.
+    /// Whether a participant hosts the party, to confirm for it or only to observe.
     pub fn hosts(&self, at: ParticipantId, party: Name) -> bool
         ensures { result ≡ hosts_at self.now.hosts at party }
     {
         match self.host(at) {
-            Some(host) => host.parties.contains(party),
+            Some(host) => host.parties.contains(party) || host.observing.contains(party),
             None => false,
         }
     }
