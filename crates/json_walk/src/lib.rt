@@ -23,8 +23,8 @@ pub use laws::limits_are_those_of_scripts;
 pub use limit::Limit;
 pub use limits::{
     ACT_AS, ADVANCE, CHOICES, COMMANDS, DRAFT_DEPTH, DRAFTS, EXPRESSION_DEPTH, FIELDS, LABEL_STEPS,
-    LEDGER_TIME, PACKAGES, PARAMETERS, PARTICIPANTS, PARTIES, ROUNDS, STATEMENTS, SUBMISSIONS,
-    TEMPLATES, TEXT_BYTES, TIMEOUT,
+    LEDGER_TIME, PACKAGES, PARAMETERS, PARTICIPANTS, PARTIES, RAW_BYTES, RAWS, ROUNDS, STATEMENTS,
+    SUBMISSIONS, TEMPLATES, TEXT_BYTES, TIMEOUT,
 };
 pub use list::{
     read_counted, read_each, read_few, read_few_items, read_items, read_list, read_two,

@@ -4,8 +4,8 @@ use crate::limit::Limit;
 use ledger_terms::limits::{
     LEAST_WAIT, MOST_ACT_AS, MOST_ADVANCE, MOST_CHOICES, MOST_COMMANDS, MOST_DRAFT_DEPTH,
     MOST_DRAFTS, MOST_EXPRESSION_DEPTH, MOST_FIELDS, MOST_LABEL_STEPS, MOST_LEDGER_TIME,
-    MOST_PACKAGES, MOST_PARAMETERS, MOST_PARTICIPANTS, MOST_PARTIES, MOST_ROUNDS, MOST_STATEMENTS,
-    MOST_SUBMISSIONS, MOST_TEMPLATES, MOST_TEXT_BYTES, MOST_WAIT,
+    MOST_PACKAGES, MOST_PARAMETERS, MOST_PARTICIPANTS, MOST_PARTIES, MOST_RAW_BYTES, MOST_RAWS,
+    MOST_ROUNDS, MOST_STATEMENTS, MOST_SUBMISSIONS, MOST_TEMPLATES, MOST_TEXT_BYTES, MOST_WAIT,
 };
 
 /// Participants of a script.
@@ -146,4 +146,18 @@ pub const LABEL_STEPS: Limit = Limit {
     number: 20,
     least: 0,
     most: MOST_LABEL_STEPS as u64,
+};
+
+/// Raw requests of a round.
+pub const RAWS: Limit = Limit {
+    number: 21,
+    least: 0,
+    most: MOST_RAWS as u64,
+};
+
+/// Bytes that a text of a raw request spells.
+pub const RAW_BYTES: Limit = Limit {
+    number: 22,
+    least: 0,
+    most: MOST_RAW_BYTES as u64,
 };
