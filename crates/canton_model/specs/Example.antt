@@ -58,6 +58,7 @@ reading =
       whole = λ q. Some (record { requesters = alice ∷ []; ledger_time = 0; roots = note_alone });
       shown = λ p q. if nat_eq p 0 then Some (record { ledger_time = 0; requesters = Some (alice ∷ []); roots = note_alone; views = the_view ∷ [] }) else None;
       is_sealed = λ q. is_first_alone q.confirming;
+      is_framed = λ q. is_first_alone q.confirming;
       is_authentic = λ a. true;
       language = language;
       conforms = λ roots. is_listed roots;

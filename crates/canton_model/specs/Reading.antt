@@ -11,6 +11,7 @@ pub record Reading : Type 0 where
   pub whole : Request → Option Transaction  -- what was requested, where it can be read
   pub shown : ParticipantId → Request → Option Shown  -- none to who is no recipient
   pub is_sealed : Request → Bool  -- the request has the form in which a sender that keeps the rules hands it in
+  pub is_framed : Request → Bool  -- the request has the form in which the sequencer takes it, whoever made it
   pub is_authentic : Act → Bool
   pub language : Language
   pub conforms : Forest Act → Bool

@@ -190,6 +190,7 @@ reading =
       whole = λ q. Some (transaction_of (number_of q.command));
       shown = λ p q. shown_of language (hosts p) (nat_eq p q.sender) (transaction_of (number_of q.command));
       is_sealed = is_sealed;
+      is_framed = is_sealed;
       is_authentic = λ a. bytes_eq (id_of a.action) (9 ∷ salt_of a);
       language = language;
       conforms = conforms;

@@ -9,7 +9,7 @@ use Rattle.world_model.specs.Messages.{Entry, RequestMessage, Tick, Request}
 use Rattle.canton_model.specs.Inbox.{inbox}
 use Rattle.world_model.specs.Machine.{Machine, IsMachine}
 use Rattle.world_model.specs.Places.{has_place}
-use Rattle.world_model.specs.Sequencing.{AppendFault, Already, LogFull as Full, TooLate, append_fault}
+use Rattle.world_model.specs.Sequencing.{AppendFault, Already, Unframed, LogFull as Full, TooLate, append_fault}
 use Rattle.world_model.specs.Rounds.{Round, Unwanted, SubmitResult, Refused, Results, Why, RoundAnswers, read_at, wanted_at, begun}
 use Rattle.world_model.specs.Plain.{HandedIn, AnswersWanted, IsPausedAnswer, IsAwakeAnswer, Submitted, PlainPart, PlainRounds}
 use Rattle.world_model.proofs.RoundFacts.{submitted_longer}
@@ -52,6 +52,7 @@ module _ {F : Type 0} (m : Machine) (why : Why F) (now : ℕ) (round : Round) wh
           so result _ next _ h.0 h.1
           (already_step m why now round.paused seen log log p (begins_itself log) what awake q
           (plain_wanted m now log what (Some q) w) place log e (begins_itself log) (begins_itself log) (request_within log place r.0 r.1))
+      step_handed q w (Some Unframed) e result next h = absurd h
       step_handed q w (Some (Full amount need)) e result next h =
           so result _ next _ h.0 h.1
           (full_step m why now round.paused seen log log p (begins_itself log) what awake q (plain_wanted m now log what (Some q) w) amount need e)
@@ -96,6 +97,7 @@ module _ {F : Type 0} (m : Machine) (why : Why F) (now : ℕ) (round : Round) wh
   add_handed q (Some (Already place)) log result next h =
       let same = ap inputs h.1 in
       let is : one_if (is_sent result) ≡ 0 = ap (λ (r : SubmitResult F). one_if (is_sent r)) h.0 in omega arith
+  add_handed q (Some Unframed) log result next h = absurd h
   add_handed q (Some (Full amount need)) log result next h =
       let same = ap inputs h.1 in
       let is : one_if (is_sent result) ≡ 0 = ap (λ (r : SubmitResult F). one_if (is_sent r)) h.0 in omega arith
@@ -131,6 +133,7 @@ module _ {F : Type 0} (m : Machine) (why : Why F) (now : ℕ) (round : Round) wh
         let sealed = (machine.prepares what (take (length log) log) now q (genuine_take m.reading m.params log (length log) g.0) w).is_sealed in
         subst (Good m) (sym h.1) (appended_keeps m now log (RequestMessage q) g.0 sealed e, appended_within m now log (RequestMessage q) g.1 e)
     good_handed log what q w (Some (Already place)) e result next h g = subst (Good m) (sym h.1) g
+    good_handed log what q w (Some Unframed) e result next h g = absurd h
     good_handed log what q w (Some (Full amount need)) e result next h g = subst (Good m) (sym h.1) g
     good_handed log what q w (Some (TooLate decision time)) e result next h g = absurd h
 

@@ -1,18 +1,18 @@
 -- A message that may stand keeps a log genuine, appended or refused.
-use Rattle.std.proofs.Common.{◌≡◌, ℕ, suc, ◌+◌, ◌≤◌, Bool, false, List, [], ◌∷◌, ◌++◌, length, take, Option, Some, None, refl, sym, inl, inr, arith, append-nil, subst, le_refl}
-use Rattle.std.specs.Prelude.{nat_lt}
+use Rattle.std.proofs.Common.{◌≡◌, ℕ, suc, ◌+◌, ◌≤◌, Bool, true, false, List, [], ◌∷◌, ◌++◌, length, take, Option, Some, None, refl, sym, inl, inr, arith, append-nil, subst, le_refl}
+use Rattle.std.specs.Prelude.{nat_lt, if◌then◌else◌}
 use Rattle.std.specs.List.{list_any}
 use Rattle.std.proofs.lemmas.Bool.{cases_Bool, or_from, ltb-false}
 use Rattle.std.proofs.lemmas.Option.{none-some}
 use Rattle.std.proofs.lemmas.List.{take_all}
 use Rattle.canton_model.specs.Log.{Params, FollowsTime, decision_time_of, verdict_of}
-use Rattle.world_model.specs.Messages.{Entry, Message, RequestMessage, ResponseMessage, VerdictMessage, Tick}
+use Rattle.world_model.specs.Messages.{Entry, Message, Request, RequestMessage, ResponseMessage, VerdictMessage, Tick}
 use Rattle.canton_model.specs.Timeline.{timeline_of, decision_on, verdict_on, or_else}
 use Rattle.canton_model.specs.Mediation.{is_response_of}
 use Rattle.canton_model.specs.Ledger.{FitsIfVerdict}
 use Rattle.canton_model.specs.Genuine.{is_request_of, FitsIfRequest, FitsIfResponse}
 use Rattle.world_model.specs.Machine.{Machine, GenuineLog}
-use Rattle.world_model.specs.Sequencing.{last_time, time_after, entry_after, is_verdict_on, is_same, first_from, reserved, AppendFault, if_full, if_late, if_already}
+use Rattle.world_model.specs.Sequencing.{last_time, time_after, entry_after, is_verdict_on, is_same, first_from, reserved, AppendFault, Unframed, LogFull, if_full, if_late, if_already}
 use Rattle.world_model.specs.Sequencing.{append_fault, unless_refused, sequenced}
 use Rattle.world_model.specs.Fits.{MayStand}
 use Rattle.canton_model.proofs.LongerLogs.{genuine_push}
@@ -21,6 +21,24 @@ use Rattle.world_model.proofs.Grown.{request_within, last_is_end, follows_after}
 pub no_fault : (o : Option ℕ) (f : Option AppendFault) → or_else (if_already o) f ≡ None → (o ≡ None) × (f ≡ None)
 no_fault None f e = (refl, e)
 no_fault (Some k) f e = absurd (none-some _ (sym e))
+
+-- a request that was tried and wasn't refused for its form
+pub behind_form : (framed : Bool) (f o : Option AppendFault) → (Some Unframed ≡ o → ⊥) → (if framed then f else Some Unframed) ≡ o → f ≡ o
+behind_form true f o other e = e
+behind_form false f o other e = absurd (other e)
+
+-- a framed one isn't
+pub framed_passes : (m : Machine) (log : List Entry) (q : Request) → (m.reading).is_framed q ≡ true
+    → append_fault m log (RequestMessage q) ≡ Some Unframed → ⊥
+framed_passes m log q framed e = by_first (first_from (is_same (RequestMessage q)) 0 log) (rw framed at e)
+  where
+    by_room : (b : Bool) → (if b then Some (LogFull (reserved log) (2 + length q.confirming)) else None) ≡ Some Unframed → ⊥
+    by_room true h = cc
+    by_room false h = cc
+
+    by_first : (o : Option ℕ) → or_else (if_already o) (if_full m log (2 + length q.confirming)) ≡ Some Unframed → ⊥
+    by_first (Some k) h = cc
+    by_first None h = by_room (nat_lt m.capacity (reserved log + (2 + length q.confirming))) h
 
 pub none_such : (test : Message → Bool) (k : ℕ) (log : List Entry) → first_from test k log ≡ None → list_any (λ (e : Entry). test e.message) log ≡ false
 none_such test k [] h = refl
@@ -133,7 +151,7 @@ pub appended_within : (m : Machine) (now : ℕ) (log : List Entry) (message : Me
     → reserved (log ++ entry_after now log message ∷ []) ≤ m.capacity
 appended_within m now log (RequestMessage q) le none =
     let parts = no_fault (first_from (is_same (RequestMessage q)) 0 log) _ none in
-    let room = not_full m log (2 + length q.confirming) parts.1 in
+    let room = not_full m log (2 + length q.confirming) (behind_form ((m.reading).is_framed q) _ None (λ same. cc) parts.1) in
     let sum = reserved_more log (entry_after now log (RequestMessage q) ∷ []) in
     let one : reserved (entry_after now log (RequestMessage q) ∷ []) ≡ 2 + length q.confirming + 0 = refl in omega arith
 appended_within m now log (ResponseMessage r) le none =

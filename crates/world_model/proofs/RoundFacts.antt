@@ -17,12 +17,12 @@ use Rattle.canton_model.specs.Genuine.{is_request_of}
 use Rattle.ledger_model.proofs.Lists.{In, in_from_Contains, contains_from_In, in_append_cases, in_append_left, in_append_right}
 use Rattle.world_model.specs.Machine.{Machine}
 use Rattle.world_model.specs.Places.{has_place}
-use Rattle.world_model.specs.Sequencing.{AppendFault, Already, LogFull as Full, TooLate, first_from, if_already, if_full, append_fault, entry_after, reserved}
+use Rattle.world_model.specs.Sequencing.{AppendFault, Already, Unframed, LogFull as Full, TooLate, first_from, if_already, other_fault, append_fault, entry_after, reserved}
 use Rattle.world_model.specs.Rounds.{Round, SubmitFault, Paused, Unwanted, Duplicate, LogFull, SubmitResult, Sent, Refused, Results, Why, read_at}
 use Rattle.world_model.specs.Rounds.{wanted_at, ReadHolds, FullHolds, DuplicateHolds, RefusalHolds, ResultHolds, ResultsHold}
 use Rattle.world_model.specs.Plain.{HandedIn, AnswersWanted, IsPausedAnswer, IsAwakeAnswer, Submitted}
 use Rattle.world_model.proofs.Grown.{slice_get_last, request_grown, request_within}
-use Rattle.world_model.proofs.Appended.{none_such}
+use Rattle.world_model.proofs.Appended.{behind_form, none_such}
 
 abbrev Longer : List Entry → List Entry → Type 0
 Longer log all = (more : List Entry) × (all ≡ log ++ more)
@@ -122,10 +122,10 @@ module _ {F : Type 0} (m : Machine) (why : Why F) (now : ℕ) (round : Round) (a
         by_first : (o : Option ℕ) → first_from (is_request_of q.sender q.command) 0 log ≡ o → DuplicateHolds m now all earlier what place (length log)
         by_first None h =
             absurd (by_full (nat_lt m.capacity (reserved log + (2 + length q.confirming)))
-            (sym (ap (λ (o : Option ℕ). or_else (if_already o) (if_full m log (2 + length q.confirming))) h) ∙ e))
+            (behind_form ((m.reading).is_framed q) _ (Some (Already place)) (λ same. cc) (sym (ap (λ (o : Option ℕ). or_else (if_already o) (other_fault m log (RequestMessage q))) h) ∙ e)))
         by_first (Some i) h =
             let same : Some (Already i) ≡ Some (Already place) =
-            sym (ap (λ (o : Option ℕ). or_else (if_already o) (if_full m log (2 + length q.confirming))) h) ∙ e in
+            sym (ap (λ (o : Option ℕ). or_else (if_already o) (other_fault m log (RequestMessage q))) h) ∙ e in
             let is : i ≡ place = cc in
             let at = first_at (is_request_of q.sender q.command) 0 i log h in
             let r = request_test q.sender q.command (at.1).message at.4 in
@@ -155,10 +155,10 @@ module _ {F : Type 0} (m : Machine) (why : Why F) (now : ℕ) (round : Round) (a
         by_first : (o : Option ℕ) → first_from (is_request_of q.sender q.command) 0 log ≡ o → FullHolds m now all (length all) what amount need (length log)
         by_first (Some i) h =
             let same : Some (Already i) ≡ Some (Full amount need) =
-            sym (ap (λ (o : Option ℕ). or_else (if_already o) (if_full m log (2 + length q.confirming))) h) ∙ e in cc
+            sym (ap (λ (o : Option ℕ). or_else (if_already o) (other_fault m log (RequestMessage q))) h) ∙ e in cc
         by_first None h =
             let f = by_full (nat_lt m.capacity (reserved log + (2 + length q.confirming))) refl
-            (sym (ap (λ (o : Option ℕ). or_else (if_already o) (if_full m log (2 + length q.confirming))) h) ∙ e) in
+            (behind_form ((m.reading).is_framed q) _ (Some (Full amount need)) (λ same. cc) (sym (ap (λ (o : Option ℕ). or_else (if_already o) (other_fault m log (RequestMessage q))) h) ∙ e)) in
             let long = length-append log l.0 in
             let total = ap length l.1 in
             record {
@@ -237,6 +237,7 @@ module _ {F : Type 0} (m : Machine) (why : Why F) (now : ℕ) (round : Round) (a
     handed q result next l w None e h = subst (λ (y : SubmitResult F). Handled log earlier what y next) (sym h.0) (appended q next l w h.1)
     handed q result next l w (Some (Already place)) e h =
         stopped (Duplicate place) result next l (duplicate q place (subst (λ (xs : List Entry). Longer xs all) h.1 l) w e) h.0 h.1
+    handed q result next l w (Some Unframed) e h = absurd h
     handed q result next l w (Some (Full amount need)) e h =
         stopped (LogFull amount need) result next l (full q amount need (subst (λ (xs : List Entry). Longer xs all) h.1 l) w e) h.0 h.1
     handed q result next l w (Some (TooLate decision time)) e h = absurd h
@@ -281,6 +282,7 @@ module _ {F : Type 0} (m : Machine) (why : Why F) (now : ℕ) (round : Round) (a
       by_handed : (q : Request) (o : Option AppendFault) (next : List Entry) → HandedIn now log q o x.1 next → Longer log next
       by_handed q None next h = (entry_after now log (RequestMessage q) ∷ [], h.1)
       by_handed q (Some (Already place)) next h = ([], h.1 ∙ sym (append-nil log))
+      by_handed q (Some Unframed) next h = absurd h
       by_handed q (Some (Full amount need)) next h = ([], h.1 ∙ sym (append-nil log))
       by_handed q (Some (TooLate decision time)) next h = absurd h
 

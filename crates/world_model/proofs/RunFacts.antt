@@ -11,7 +11,7 @@ use Rattle.canton_model.specs.Log.{request_at}
 use Rattle.world_model.specs.Messages.{Entry, RequestMessage, Tick, Request}
 use Rattle.ledger_model.proofs.Lists.{In, in_append_cases, in_append_left, in_append_right, in_from_Contains}
 use Rattle.world_model.specs.Machine.{Machine, GenuineLog, IsMachine}
-use Rattle.world_model.specs.Sequencing.{AppendFault, Already, LogFull as Full, TooLate, reserved, append_fault, sequenced}
+use Rattle.world_model.specs.Sequencing.{AppendFault, Already, Unframed, LogFull as Full, TooLate, reserved, append_fault, sequenced}
 use Rattle.world_model.specs.Settled.{left}
 use Rattle.world_model.specs.Rounds.{Round, SubmitResult, Sent, Results, Why, AnswerHolds, SentHolds, ResultsHold, RoundHolds, RoundAnswers}
 use Rattle.world_model.specs.Rounds.{RoundsHold, RunHolds, begun, read_at, wanted_at}
@@ -161,6 +161,7 @@ module _ {F : Type 0} (m : Machine) (why : Why F) where
             let sealed = (machine.prepares what (take (length log) log) now q (genuine_take m.reading m.params log (length log) g.0) w).is_sealed in
             subst (Good m) (sym a.1) (appended_keeps m now log (RequestMessage q) g.0 sealed e, appended_within m now log (RequestMessage q) g.1 e)
         by_fault (Some (Already place)) e a = subst (Good m) (sym a.1) g
+        by_fault (Some Unframed) e a = absurd a
         by_fault (Some (Full amount need)) e a = subst (Good m) (sym a.1) g
         by_fault (Some (TooLate decision time)) e a = absurd a
 

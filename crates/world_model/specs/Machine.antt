@@ -33,6 +33,7 @@ is_asked reading p request = confirms_some_view reading p (reading.shown p reque
 -- what the request of a submission has
 pub record IsRequestFor (reading : Reading) (what : Submission) (request : Request) : Type 0 where
   pub is_sealed : reading.is_sealed request ≡ true
+  pub is_framed : reading.is_framed request ≡ true
   pub sender : request.sender ≡ what.participant
   pub command : request.command ≡ what.command
 

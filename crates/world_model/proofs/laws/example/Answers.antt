@@ -25,7 +25,7 @@ returns-clause-machine c =
         | inl b ↦
             let same : wanted what.command ≡ r = same_Some _ r (rw b at e) in
             subst (IsRequestFor model.reading what) same
-            (record { is_sealed = refl; sender = sym (eqb-true what.participant 0 b); command = refl })
+            (record { is_sealed = refl; is_framed = refl; sender = sym (eqb-true what.participant 0 b); command = refl })
         | inr b ↦ let no : None ≡ Some r = rw b at e in absurd (none-some r no)
       ];
     }
