@@ -1,5 +1,5 @@
 -- The format of cores, composed of those of fields.
-use Rattle.std.proofs.Common.{◌≡◌, ℕ, zero, suc, ◌≤◌, max, List, [], ◌∷◌, ◌++◌, length, Result, Ok, refl, sym, ap, lit<, subst, ◌∙◌, append_assoc, arith}
+use Rattle.std.proofs.Common.{◌≡◌, ℕ, zero, suc, ◌≤◌, List, [], ◌∷◌, ◌++◌, length, Result, Ok, refl, sym, ap, lit<, subst, append_assoc, arith}
 use Rattle.std.specs.Int.{w16, to_be_bytes}
 use Rattle.std.specs.List.{flat_map, AllByRecursion}
 use Rattle.ledger_terms.specs.declared.act.Act.{Act}
@@ -15,7 +15,7 @@ use Rattle.wire_form.proofs.FieldLaws.{count_reads, hash_reads}
 use Rattle.wire_form.proofs.ValueLaws.{action_reads}
 use Rattle.view_split.specs.Holed.{Holed, NoMore, Inner, width}
 use Rattle.view_split.specs.Holed as holed
-use Rattle.view_split.specs.CoreLists.{act_of, children_of}
+use Rattle.view_split.specs.CoreLists.{children_of}
 use Rattle.view_split.specs.declared.core_node.CoreNode.{CoreNode}
 use Rattle.view_split.specs.declared.core_node.CoreChild.{CoreChild}
 use Rattle.view_split.specs.declared.core_node.CoreChild.TheVariants as children

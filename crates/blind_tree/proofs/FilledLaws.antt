@@ -3,7 +3,7 @@ use Rattle.std.proofs.Common.{◌≡◌, ℕ, suc, Bool, true, false, List, [], 
 use Rattle.std.specs.Prelude.{nat_eq, if◌then◌else◌}
 use Rattle.std.proofs.lemmas.Bool.{cases_Bool}
 use Rattle.std.proofs.lemmas.Bool.Decides.{Decides-eqb}
-use Rattle.ledger_terms.specs.Forest.{Forest, NoRoots, Root, join, paths_from}
+use Rattle.ledger_terms.specs.Forest.{Forest, NoRoots, join}
 use Rattle.ledger_terms.specs.Roots.{trees_count}
 use Rattle.wire_form.specs.Reading.{set_at}
 use Rattle.wire_form.specs.declared.wire_fault.WireFault.{WireFault}
@@ -13,13 +13,12 @@ use Rattle.view_split.specs.Filled.{AreFilled}
 use Rattle.view_split.specs.Numbered.{map_forest}
 use Rattle.view_split.specs.Placed.{placed_forest}
 use Rattle.ledger_terms.specs.Grown.{tree_of}
-use Rattle.view_split.specs.declared.core_node.CoreNode.{CoreNode}
 use Rattle.view_split.specs.ViewTrees.{View}
 use Rattle.view_split.specs.declared.placed_view.PlacedView.{PlacedView}
 use Rattle.view_split.specs.declared.opened_tree.OpenedTree.{OpenedTree}
 use Rattle.blind_tree.specs.Vertices.{Vertices, NoVertices, BlindVertex, InnerVertex, count}
 use Rattle.blind_tree.specs.CoreReading.{core_at}
-use Rattle.blind_tree.specs.Opening.{with_read, read_leaf, head_at, roles_at, read_if_plain, is_open, leaf_length, ViewParts, view_of, parts_read, views_read, view_read, placed, views_opened, tree_opened}
+use Rattle.blind_tree.specs.Opening.{with_read, read_leaf, head_at, roles_at, read_if_plain, is_open, ViewParts, view_of, parts_read, views_read, view_read, placed, views_opened, tree_opened}
 use Rattle.blind_tree.specs.declared.leaf.Leaf.{Leaf}
 use Rattle.blind_tree.specs.declared.tree.Tree.{Tree}
 use Rattle.blind_tree.proofs.OpensLaws.{paths_bare}

@@ -10,6 +10,8 @@ pub mod SpelledCut
 pub mod CoreGrow
 pub mod ToldLaws
 pub mod OpenedLaws
+pub mod ListedLaws
+pub mod Rises
 pub mod Blinded
 pub mod CoreLaws
 pub mod OpensLaws

@@ -1,5 +1,5 @@
 -- The views of a transaction within the limits are few, short and not deep.
-use Rattle.std.proofs.Common.{◌≡◌, ℕ, suc, ◌+◌, ◌*◌, ◌^◌, ◌<◌, ◌≤◌, max, Bool, true, false, List, [], ◌∷◌, ◌++◌, length, refl, ap, subst, inl, inr, arith}
+use Rattle.std.proofs.Common.{◌≡◌, ℕ, suc, ◌+◌, ◌*◌, ◌≤◌, max, Bool, true, false, List, [], ◌∷◌, ◌++◌, length, refl, ap, subst, inl, inr, arith}
 use Rattle.std.specs.Prelude.{nat_le, ◌&&◌}
 use Rattle.ledger_terms.specs.Depth.{depth}
 use Rattle.ledger_terms.specs.Names.{is_spelled, IsName}

@@ -1,13 +1,13 @@
 -- What several participants' trees show together is what is shown to who hosts for all of them.
-use Rattle.std.proofs.Common.{◌≡◌, ℕ, suc, Bool, true, false, List, [], ◌∷◌, Ok, refl, sym, ap, ◌∙◌}
-use Rattle.std.specs.Prelude.{◌||◌, nat_eq, if◌then◌else◌}
+use Rattle.std.proofs.Common.{◌≡◌, ℕ, Bool, true, false, List, [], ◌∷◌, refl, sym, ap, ◌∙◌}
+use Rattle.std.specs.Prelude.{◌||◌, if◌then◌else◌}
 use Rattle.std.specs.List.{list_any}
 use Rattle.std.proofs.lemmas.Bool.{or_parts}
 use Rattle.hash_id.specs.Strings.{view_hash_string}
 use Rattle.ledger_terms.specs.Forest.{Forest, NoRoots, Root, preorder}
 use Rattle.view_split.specs.declared.split_view.SplitView.{SplitView}
 use Rattle.view_split.specs.SeenViews.{is_sight}
-use Rattle.blind_tree.specs.Vertices.{Vertices, NoVertices, BlindVertex, InnerVertex}
+use Rattle.blind_tree.specs.Vertices.{Vertices, BlindVertex, InnerVertex}
 use Rattle.blind_tree.specs.TreeHashes.{Hashing}
 use Rattle.blind_tree.specs.LeafBytes.{roles_bytes, core_bytes}
 use Rattle.blind_tree.specs.Blind.{Visibility, Hidden, Passed, Whole, visibility, is_hidden, shows_roles, shows_core, leaf_of, roles_digest, core_digest, hashes_of_views, views_shown, shown_to, has_sight, vertices_shown}

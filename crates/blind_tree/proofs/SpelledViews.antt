@@ -1,18 +1,17 @@
 -- Each view that is opened can be spelled again.
-use Rattle.std.proofs.Common.{◌≡◌, ℕ, zero, suc, ◌≤◌, max, Bool, List, [], ◌∷◌, ◌++◌, length, Result, Ok, Err, refl, sym, ap, subst, ◌∙◌, inl, inr, arith}
-use Rattle.std.specs.Prelude.{All, nat_eq, if◌then◌else◌}
+use Rattle.std.proofs.Common.{◌≡◌, ℕ, zero, suc, ◌≤◌, List, [], ◌∷◌, ◌++◌, length, Result, Ok, Err, refl, ap, subst, inl, inr, arith}
+use Rattle.std.specs.Prelude.{All, nat_eq}
 use Rattle.std.specs.List.{AllByRecursion}
 use Rattle.std.proofs.lemmas.Bool.{cases_Bool}
 use Rattle.std.proofs.lemmas.List.Elements.{All-from_recursion}
 use Rattle.ledger_terms.specs.declared.act.Act.{Act}
 use Rattle.ledger_terms.specs.declared.action.Action.{Action}
-use Rattle.ledger_terms.specs.Forest.{Forest, NoRoots, Root, join}
+use Rattle.ledger_terms.specs.Forest.{Forest, NoRoots, join}
 use Rattle.ledger_terms.specs.Roots.{trees_count}
 use Rattle.wire_form.specs.Formats.{◌>>=◌, Reading, both_at, counted_at, any_item}
 use Rattle.wire_form.specs.Fields.{count_at, hash_at}
 use Rattle.wire_form.specs.Reading.{action_at, set_at}
 use Rattle.wire_form.specs.Spellable.{IsSpellableAction, IsSpellableSet}
-use Rattle.wire_form.specs.declared.wire_fault.WireFault.{WireFault}
 use Rattle.wire_form.proofs.FormatLaws.{ok_is}
 use Rattle.wire_form.proofs.Bounded.{Gives, action_gives, anything, both_give, count_gives, counted_give, seen_gives, set_gives}
 use Rattle.view_split.specs.Holed.{Holed, holes, width}
@@ -27,10 +26,10 @@ use Rattle.view_split.specs.declared.placed_view.PlacedView.{PlacedView}
 use Rattle.view_split.specs.declared.opened_tree.OpenedTree.{OpenedTree}
 use Rattle.blind_tree.specs.Vertices.{Vertices, NoVertices, BlindVertex, InnerVertex, count, AreNarrow, IsNarrow}
 use Rattle.blind_tree.specs.Cores.{AreSpellableChildren, IsSpellableCore, levels}
-use Rattle.blind_tree.specs.LeafBytes.{AreSpellableViews, IsSpellableView}
+use Rattle.blind_tree.specs.LeafBytes.{AreSpellableViews}
 use Rattle.blind_tree.specs.CoreReading.{NodeParts, node_of, children_with, node_with, tagged_child_at, tagged_hole_at, hole_at, child_at, node_at, core_at}
-use Rattle.blind_tree.specs.Reading.{ended, with_place, read_all}
-use Rattle.blind_tree.specs.Opening.{with_read, read_leaf, head_at, roles_at, read_if_plain, is_open, leaf_length, ViewParts, view_of, parts_read, views_read, view_read, placed, views_opened, tree_opened}
+use Rattle.blind_tree.specs.Reading.{ended, with_place}
+use Rattle.blind_tree.specs.Opening.{with_read, read_leaf, head_at, roles_at, read_if_plain, is_open, ViewParts, view_of, parts_read, views_read, view_read, placed, views_opened, tree_opened}
 use Rattle.blind_tree.specs.declared.leaf.Leaf.{Leaf}
 use Rattle.blind_tree.specs.declared.leaf.Leaf.TheVariants.{Blind, Plain}
 use Rattle.blind_tree.specs.declared.tree.Tree.{Tree}

@@ -19,3 +19,5 @@ pub mod Leaves
 pub mod Limits
 pub mod Recipients
 pub mod Overlay
+pub mod OpenedFor
+pub mod ListedAfter

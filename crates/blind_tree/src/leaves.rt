@@ -69,7 +69,7 @@ pub(crate) fn read_requesters(alloc: Global, leaf: &Leaf) -> Result<Option<Party
     }
 }
 
-fn read_set(alloc: Global, bytes: &Bytes) -> Result<PartySet, WireFault>
+pub(crate) fn read_set(alloc: Global, bytes: &Bytes) -> Result<PartySet, WireFault>
     ensures { Follows WireFault.Memory result (read_all set_at bytes.now) }
 {
     let mut reader = Reader::new(bytes.as_slice());

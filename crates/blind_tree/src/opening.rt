@@ -107,7 +107,7 @@ fn open_inner(
     }
 }
 
-fn put_view(path: Path, view: View, out: &mut PlacedViewList) -> Result<(), WireFault>
+pub(crate) fn put_view(path: Path, view: View, out: &mut PlacedViewList) -> Result<(), WireFault>
     ensures { FollowsOn WireFault.Memory out.new result (Ok (out.old ++ placed path view ∷ [])) }
 {
     match out.push(PlacedView { path, view }) {
@@ -137,7 +137,7 @@ fn view_of(informees: PartySet, confirmers: PartySet, core: CoreNode, below: Vie
 
 // The view of a vertex with all below it.
 #[cycle(read)]
-fn read_view(
+pub(crate) fn read_view(
     alloc: Global,
     informees: &Leaf,
     contents: &Leaf,
