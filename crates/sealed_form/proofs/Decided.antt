@@ -4,7 +4,7 @@ use Rattle.std.specs.Bool.{Decides}
 use Rattle.std.specs.List.{list_all}
 use Rattle.std.proofs.lemmas.Slice.Eq.{bytes_eq-Decides}
 use Rattle.ledger_terms.proofs.Deciding.{lists_decide}
-use Rattle.ledger_terms.specs.Hosting.{hosts_at}
+use Rattle.ledger_terms.specs.Hosting.{confirms_at}
 use Rattle.ledger_terms.specs.declared.act.Act.{Act}
 use Rattle.ledger_terms.specs.declared.limits.TheConstants.{MOST_TREE_BYTES}
 use Rattle.ledger_terms.specs.declared.topology.Topology.{Topology}
@@ -79,7 +79,7 @@ module _ (topology : Topology) (packages : Packages) where
         five_decide (itself (is_host_named topology.hosts sender whole.sender))
         (all_decide (λ (a : Act). (the_language packages).has_roles a.action) actions) (informees_decide actions)
         (itself (list_all (is_hosted topology) (parties_in_forest whole.transaction.roots)))
-        (all_decide (hosts_at topology.hosts sender) whole.transaction.requesters) in
+        (all_decide (confirms_at topology.hosts sender) whole.transaction.requesters) in
         let spelled =
         four_decide (hash_decides (whole.salts).common) (hash_decides (whole.salts).requesters) (range_decides whole.sender views)
         (small_decides whole.sender views) in

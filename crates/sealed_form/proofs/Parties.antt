@@ -9,7 +9,7 @@ use Rattle.std.proofs.lemmas.List.Elements.{recursion_from_All, All-from_recursi
 use Rattle.std.proofs.lemmas.List.Folds.{list_any-append}
 use Rattle.ledger_terms.proofs.Deciding.{bytes_decide}
 use Rattle.ledger_terms.specs.Names.{IsName}
-use Rattle.ledger_terms.specs.Hosting.{host_of, hosts_at, lists_party}
+use Rattle.ledger_terms.specs.Hosting.{confirms_at, host_of, lists_party}
 use Rattle.ledger_terms.specs.Parties.{IsRising, has_party, is_subset, same_name}
 use Rattle.ledger_terms.specs.Topologies.{HasNames, IsValid}
 use Rattle.ledger_terms.specs.declared.act.Act.{Act}
@@ -41,7 +41,7 @@ parties_of hosts = flat_map (λ (host : Host). host.parties) hosts
 
 -- ---- parties with a host
 
--- a party that a topology hosts is one of its parties
+-- a party that somebody confirms is one of the topology's
 listed : (hosts : List Host) (party : List ℕ) → is_some (host_of hosts party) ≡ true → has_party (parties_of hosts) party ≡ true
 listed [] party h = absurd cc
 listed (host ∷ hosts) party h =
@@ -62,8 +62,8 @@ first_or_later true o h = refl
 first_or_later false None h = h
 first_or_later false (Some k) h = refl
 
--- who hosts a party is its host, or another is
-hosted_somewhere : (hosts : List Host) (p : ℕ) (party : List ℕ) → hosts_at hosts p party ≡ true → is_some (host_of hosts party) ≡ true
+-- who confirms for a party is its host, or another is
+hosted_somewhere : (hosts : List Host) (p : ℕ) (party : List ℕ) → confirms_at hosts p party ≡ true → is_some (host_of hosts party) ≡ true
 hosted_somewhere [] p party h = absurd cc
 hosted_somewhere (host ∷ hosts) zero party h = rw h refl
 hosted_somewhere (host ∷ hosts) (suc p) party h = first_or_later (lists_party party host) (host_of hosts party) (hosted_somewhere hosts p party h)
@@ -109,7 +109,7 @@ module _ (topology : Topology) where
       (all_decide (has_party all) names).1 (λ party there. listed topology.hosts party ((all_decide (is_hosted topology) names).0 h party there))
 
   pub requesters_among : (sender : ℕ) (names : PartyNames)
-      → ((party : List ℕ) → Contains names party → hosts_at topology.hosts sender party ≡ true) → is_subset names all ≡ true
+      → ((party : List ℕ) → Contains names party → confirms_at topology.hosts sender party ≡ true) → is_subset names all ≡ true
   requesters_among sender names h =
       (all_decide (has_party all) names).1 (λ party there. listed topology.hosts party (hosted_somewhere topology.hosts sender party (h party there)))
 

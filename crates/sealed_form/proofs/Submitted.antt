@@ -69,7 +69,7 @@ module _ (topology : Topology) (valid : IsValid topology) (packages : Packages) 
   requesters_are : IsPartySet tx.act_as
   requesters_are =
       set_fits tx.act_as (parties_of topology.hosts) (are_few topology valid) (subst IsRising act_as_is rising)
-      (subset_within tx.act_as (parties_of topology.hosts) (requesters_among topology sender tx.act_as submits.hosts_requesters))
+      (subset_within tx.act_as (parties_of topology.hosts) (requesters_among topology sender tx.act_as submits.confirms_requesters))
 
   sets : HaveSets (split (roles_by packages) tx.roots)
   sets =
@@ -94,7 +94,7 @@ module _ (topology : Topology) (valid : IsValid topology) (packages : Packages) 
         has_roles = each_has_roles packages tx views is_split;
         informees = informees;
         named = parties;
-        requesters = submits.hosts_requesters;
+        requesters = submits.confirms_requesters;
         common_salt = length-sha256 (leaf_salt_string 1 tx.seed);
         requesters_salt = length-sha256 (leaf_salt_string 2 tx.seed);
         in_range = record {

@@ -1,4 +1,5 @@
 pub mod SealedForm
+pub mod Framed
 pub mod Envelopes
 pub mod RangeTests
 pub mod SealedTest

@@ -146,14 +146,14 @@ whole_of request = whole_by (all_views request) (option_and_then tree_in (envelo
 -- ---- sealed requests
 
 -- What can be sealed: each action has roles, its informees and the parties that it names are those of the topology, the
--- sender hosts the requesters, and all that is in the trees is in the range of the formats and has room in them.
+-- sender confirms for the requesters, and all that is in the trees is in the range of the formats and has room in them.
 pub record CanBeSealed (topology : Topology) (packages : Packages) (sender : ℕ) (whole : Whole) : Type 0 where
   pub sender_is : is_host_named topology.hosts sender whole.sender ≡ true
   pub has_roles : (a : Act) → Contains (acts whole.transaction.roots) a → (the_language packages).has_roles a.action ≡ true
   pub informees : (a : Act) (party : List ℕ) → Contains (acts whole.transaction.roots) a → Contains (roles_by packages a.action).informees party
       → is_hosted topology party ≡ true
   pub named : AreKnown (is_hosted topology) (parties_in_forest (whole.transaction).roots)
-  pub requesters : (party : List ℕ) → Contains whole.transaction.requesters party → hosts_at topology.hosts sender party ≡ true
+  pub requesters : (party : List ℕ) → Contains whole.transaction.requesters party → confirms_at topology.hosts sender party ≡ true
   pub common_salt : IsHash (whole.salts).common
   pub requesters_salt : IsHash (whole.salts).requesters
   pub in_range : AreInRange whole.sender (split_as whole.transaction (views_by packages whole.transaction))

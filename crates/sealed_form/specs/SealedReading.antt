@@ -9,6 +9,7 @@ use Rattle.interpret.specs.Ids.{is_authentic}
 use Rattle.interpret.specs.Language.{the_language}
 pub use Rattle.interpret.specs.Conforming.{conforms}
 use Rattle.view_split.specs.Placed.{shown_by}
+use Rattle.sealed_form.specs.Framed.{is_framed}
 use Rattle.sealed_form.specs.SealedForm.{Whole, opened_to, whole_of}
 use Rattle.sealed_form.specs.SealedTest.{is_sealed_form}
 
@@ -19,6 +20,7 @@ sealed_reading topology packages =
       whole = λ request. option_map (λ (whole : Whole). whole.transaction) (whole_of request);
       shown = λ p request. option_map shown_by (opened_to p request);
       is_sealed = is_sealed_form topology packages;
+      is_framed = is_framed topology;
       is_authentic = is_authentic;
       language = the_language packages;
       conforms = conforms packages;

@@ -3,7 +3,7 @@ use Rattle.std.specs.Prelude.{ℕ, Bool, false, ◌&&◌, List, length, nat_eq, 
 use Rattle.std.specs.List.{list_all}
 use Rattle.std.specs.Str.{bytes_eq}
 use Rattle.std.specs.Cmp.Lexicographic.{pointwise}
-use Rattle.ledger_terms.specs.Hosting.{hosts_at}
+use Rattle.ledger_terms.specs.Hosting.{confirms_at}
 use Rattle.ledger_terms.specs.declared.act.Act.{Act}
 use Rattle.ledger_terms.specs.declared.limits.TheConstants.{MOST_TREE_BYTES}
 use Rattle.ledger_terms.specs.declared.topology.Topology.{Topology}
@@ -37,13 +37,14 @@ have_roles packages actions = list_all (λ (a : Act). (the_language packages).ha
 abbrev pub are_informees_hosted : Topology → Packages → List Act → Bool
 are_informees_hosted topology packages actions = list_all (λ (a : Act). list_all (is_hosted topology) (roles_by packages a.action).informees) actions
 
--- the sender is a host, of the requesters too, and the parties of the actions are those of the topology
+-- the sender is a participant, which confirms for the requesters, and the parties of the actions are those of the topology
 abbrev pub are_parties_hosted : Topology → Packages → (sender : ℕ) → Whole → Bool
 are_parties_hosted topology packages sender whole =
     is_host_named topology.hosts sender whole.sender
     && (have_roles packages (acts whole.transaction.roots)
     && (are_informees_hosted topology packages (acts whole.transaction.roots)
-    && (list_all (is_hosted topology) (parties_in_forest whole.transaction.roots) && list_all (hosts_at topology.hosts sender) whole.transaction.requesters)))
+    && (list_all (is_hosted topology) (parties_in_forest whole.transaction.roots)
+    && list_all (confirms_at topology.hosts sender) whole.transaction.requesters)))
 
 -- what is in its trees is in range and has room
 abbrev pub is_spellable : Packages → Whole → Bool

@@ -1,7 +1,7 @@
 -- What a participant submits within a topology.
 use Rattle.std.specs.Prelude.{◌≡◌, ℕ, true, List, Contains}
 use Rattle.sha2.specs.Sha256.{sha256}
-use Rattle.ledger_terms.specs.Hosting.{hosts_at}
+use Rattle.ledger_terms.specs.Hosting.{confirms_at}
 use Rattle.ledger_terms.specs.declared.known.Known.{Known}
 use Rattle.ledger_terms.specs.declared.topology.Topology.{Topology}
 use Rattle.ledger_terms.specs.declared.tx.Tx.{Tx}
@@ -13,12 +13,12 @@ use Rattle.blind_tree.specs.Blind.{is_host_named, salts_of}
 use Rattle.sealed_form.specs.SealedForm.{Whole}
 use Rattle.sealed_form.specs.Within.{is_hosted}
 
--- The sender has this name and hosts the requesters, and what is handed in, packages and known contracts name only parties of the
--- topology.
+-- The sender has this name and confirms for the requesters, and what is handed in, packages and known contracts name only parties of
+-- the topology.
 pub record IsSubmittedWithin (topology : Topology) (packages : Packages) (known : List Known) (sender : ℕ) (name : List ℕ) (act_as handed_in : PartyNames)
     : Type 0 where
   pub sender_is : is_host_named topology.hosts sender name ≡ true
-  pub hosts_requesters : (party : List ℕ) → Contains act_as party → hosts_at topology.hosts sender party ≡ true
+  pub confirms_requesters : (party : List ℕ) → Contains act_as party → confirms_at topology.hosts sender party ≡ true
   pub named_by_packages : AreKnown (is_hosted topology) (parties_in_packages packages)
   pub named_by_known : AreKnown (is_hosted topology) (parties_in_contracts known)
   pub named_by_input : AreKnown (is_hosted topology) handed_in

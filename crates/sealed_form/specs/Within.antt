@@ -18,7 +18,7 @@ use Rattle.lang_eval.specs.Language.{has_roles, signatories_in, parties_if_typed
 abbrev pub participants_of : Topology → List ParticipantId
 participants_of topology = range_with_len 0 (length topology.hosts)
 
--- some participant hosts the party
+-- it is a party of the topology: some participant confirms for it
 abbrev pub is_hosted : Topology → Name → Bool
 is_hosted topology party = is_some (host_of topology.hosts party)
 
