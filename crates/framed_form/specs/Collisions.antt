@@ -1,0 +1,48 @@
+-- What is hashed of a log of framed requests, and when two strings of it collide.
+use Rattle.std.specs.Prelude.{ℕ, List, [], ◌∷◌, ◌++◌, map, flat_map, Option, Some, None}
+use Rattle.sha2.specs.Sha256.{sha256}
+use Rattle.ledger_terms.specs.declared.act.Act.{Act}
+use Rattle.ledger_terms.specs.declared.topology.Topology.{Topology}
+use Rattle.ledger_model.specs.Forest.{acts}
+use Rattle.canton_model.specs.declared.entry.Entry.{Entry}
+use Rattle.canton_model.specs.declared.envelope.Envelope.{Envelope}
+use Rattle.canton_model.specs.declared.request.Request.{Request}
+use Rattle.canton_model.specs.declared.message.Message.{Message}
+use Rattle.canton_model.specs.declared.message.Message.TheVariants.{Request as RequestMessage, Response as ResponseMessage, Verdict as VerdictMessage, Tick}
+use Rattle.view_split.specs.Placed.{placed_forest}
+use Rattle.view_split.specs.SeenViews.{put_back}
+use Rattle.view_split.specs.declared.opened_tree.OpenedTree.{OpenedTree}
+use Rattle.blind_tree.specs.Agreement.{Clash}
+use Rattle.blind_tree.specs.TreeHashes.{tree_strings}
+use Rattle.sealed_form.specs.Collisions.{id_string}
+use Rattle.framed_form.specs.Agreeing.{request_trees}
+use Rattle.framed_form.specs.FramedForm.{complete_in, offered_by}
+
+abbrev pub acts_opened : Option OpenedTree → List Act
+acts_opened None = []
+acts_opened (Some opened) = acts (put_back (placed_forest opened.views))
+
+-- the actions that complete envelopes open
+abbrev pub acts_in : Topology → Request → List Envelope → List Act
+acts_in topology request [] = []
+acts_in topology request (envelope ∷ envelopes) =
+    acts_opened (complete_in (offered_by topology envelope.to request envelope.bytes)) ++ acts_in topology request envelopes
+
+-- the id of every action that a complete envelope opens, and the leaves, views and roots of its trees
+abbrev pub request_strings : Topology → Request → List (List ℕ)
+request_strings topology request =
+    map id_string (acts_in topology request request.envelopes) ++ flat_map (tree_strings sha256) (request_trees request)
+
+abbrev pub message_strings : Topology → Message → List (List ℕ)
+message_strings topology (RequestMessage request) = request_strings topology request
+message_strings topology (ResponseMessage response) = []
+message_strings topology (VerdictMessage verdict) = []
+message_strings topology Tick = []
+
+-- all strings that are hashed of a log
+abbrev pub hashed : Topology → List Entry → List (List ℕ)
+hashed topology log = flat_map (λ (entry : Entry). message_strings topology entry.message) log
+
+-- two different ones have one hash
+abbrev pub Collides : Topology → List Entry → Type 0
+Collides topology log = Clash sha256 (hashed topology log) (hashed topology log)
