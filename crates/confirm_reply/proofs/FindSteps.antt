@@ -3,6 +3,7 @@ use Rattle.std.specs.Option.{option_or}
 use Rattle.std.proofs.Common.{◌≡◌, ℕ, suc, ◌+◌, ◌<◌, ◌≤◌, List, [], ◌∷◌, Option, Some, None, length, get_or, drop, refl, sym, ◌∙◌, ap, add-one}
 use Rattle.std.proofs.lemmas.List.{drop_more}
 use Rattle.std.proofs.Math.ListN.{drop_of_length-le}
+use Rattle.ledger_terms.specs.declared.act.Act.{Act}
 use Rattle.ledger_terms.specs.Forest.{Forest, NoRoots, Root, number_from}
 use Rattle.view_split.specs.declared.split_view.SplitView.{SplitView}
 use Rattle.view_split.specs.Numbered.{held_in}
@@ -18,6 +19,19 @@ abbrev pub found_of : Option (List ℕ) → View → Numbered → Option (List �
 found_of left v t =
     core_or left v.root (t.number, t.node.now.root) (number_from (suc t.number) t.node.now.below)
     (core_found left 0 v.below (held_in v.root.below (number_from (suc t.number) t.node.now.below)))
+
+-- nothing is found where nothing is left of the path that is wanted
+nothing_aside : (k : ℕ) (views : Forest SplitView) (trees : Forest (ℕ × Act)) → core_found None k views trees ≡ None
+nothing_aside k NoRoots trees = refl
+nothing_aside k (Root view subviews others) NoRoots = refl
+nothing_aside k (Root view subviews others) (Root x children more) =
+    ap (λ (o : Option (List ℕ)). option_or o (core_found None (suc k) others more)) (nothing_aside 0 subviews (held_in view.below children))
+    ∙ nothing_aside (suc k) others more
+
+pub none_aside : (left : Option (List ℕ)) (v : View) (t : Numbered) → left ≡ None → None ≡ found_of left v t
+none_aside left v t is =
+    sym (ap (λ (l : Option (List ℕ)). found_of l v t) is
+    ∙ nothing_aside 0 v.below (held_in v.root.below (number_from (suc t.number) t.node.now.below)))
 
 nothing_over : (left : Option (List ℕ)) (k : ℕ) (views : Forest SplitView) → core_found left k views NoRoots ≡ None
 nothing_over left k NoRoots = refl

@@ -17,6 +17,7 @@ local_reading topology packages =
       whole = λ request. None;
       shown = λ p request. None;
       is_sealed = λ request. false;
+      is_framed = λ request. false;
       is_authentic = is_authentic;
       language = the_language packages;
       conforms = conforms packages;

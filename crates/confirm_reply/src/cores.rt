@@ -94,7 +94,8 @@ fn is_all(left: Option<&[u16]>) -> bool
     }
 }
 
-// The core of a view where its path is the one that is wanted, else of the first view below it with that.
+// The core of a view where its path is the one that is wanted, else of the first view below it with that. Where nothing is left of
+// the wanted path neither is.
 #[cycle(find)]
 fn core_of_view(
     alloc: Global,
@@ -107,6 +108,9 @@ fn core_of_view(
         (number_from (suc tree.now.number) tree.now.node.now.below)
         (core_found (option_copied left.entry) 0 view.now.below (held_in view.now.root.below (number_from (suc tree.now.number) tree.now.node.now.below)))) }
 {
+    let Some(_) = left else {
+        return Ok(None);
+    };
     let below = numbered_below(alloc, tree)?;
     let mut core = Vec::new(alloc);
     let mut held = Vec::new(alloc);

@@ -1,13 +1,15 @@
 //! What a participant hosts and has vetted.
-ghost use Rattle.std.specs.Prelude.{◌≡◌, [], IfOk, slice_get};
+ghost use Rattle.std.specs.Prelude.{◌≡◌, IfOk, slice_get};
 ghost use Rattle.std.specs.List.{list_any};
 ghost use Rattle.ledger_terms.specs.Parties.{has_party};
 ghost use Rattle.ledger_terms.specs.Vetting.{vets};
-ghost use Rattle.confirm_reply.specs.Tried.{is_hosted};
+ghost use Rattle.canton_model.specs.Inbox.{is_stakeholder_hosted};
+ghost use Rattle.confirm_reply.specs.LocalReading.{local_reading};
 
 use crate::check_input::CheckInput;
+use crate::setup::Setup;
 use lang_eval::{EvalFault, has_kinds, parties_of_contract};
-use ledger_terms::{Action, Name};
+use ledger_terms::{Instance, Name, ParticipantId};
 use std::alloc::{AllocError, Global};
 
 fn lists_name(names: &[Name], name: Name) -> bool
@@ -26,24 +28,24 @@ pub(crate) fn has_vetted(input: &CheckInput<'_>, required: Name) -> bool
     }
 }
 
-/// Whether the participant hosts a stakeholder of an action's contract.
+/// Whether a participant hosts a stakeholder of a contract, to confirm for it or only to observe. Where signatories or observers
+/// have no value, nobody is one.
 #[tactic(auto, using(crate::proofs::Stakeholders::any_of_both))]
-pub(crate) fn is_hosted(
+pub fn has_hosted_stakeholder(
     alloc: Global,
-    input: &CheckInput<'_>,
-    action: &Action,
+    setup: &Setup,
+    me: ParticipantId,
+    instance: &Instance,
 ) -> Result<bool, AllocError>
-    ensures { IfOk result (λ b. b ≡ is_hosted input.now (record { seed = []; action = action.now })) }
+    ensures { IfOk result (λ b. b ≡ is_stakeholder_hosted (local_reading setup.now.topology setup.now.checked) me instance.now) }
 {
-    let setup = input.setup;
-    let instance = action.instance();
     if !has_kinds(&setup.checked, instance) {
         return Ok(false);
     }
     match parties_of_contract(alloc, &setup.checked, instance) {
         Ok(parties) => Ok(
-            setup.topology.hosts_any(input.me, &parties.signatories)
-                || setup.topology.hosts_any(input.me, &parties.observers),
+            setup.topology.hosts_any(me, &parties.signatories)
+                || setup.topology.hosts_any(me, &parties.observers),
         ),
         Err(EvalFault::Memory) => Err(AllocError),
         Err(_) => Ok(false),

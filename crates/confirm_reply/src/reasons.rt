@@ -13,7 +13,7 @@ ghost use Rattle.confirm_reply.specs.Opened.{IsCheckable};
 ghost use Rattle.confirm_reply.specs.Tried.{is_hosted, is_requested, shows};
 
 use crate::facts::{is_locked, status_of};
-use crate::hosting::{has_vetted, is_hosted};
+use crate::hosting::{has_hosted_stakeholder, has_vetted};
 use crate::trial::Trial;
 use authorise::{authorised, children_authorised};
 use canton_model::Reason;
@@ -66,7 +66,12 @@ impl Trial<'_, '_, '_> {
         ensures { IfOk result (λ b. b ≡ (shown && is_hosted self.now.input.now (record { seed = []; action = action.now }))) }
     {
         if shown {
-            is_hosted(self.alloc, self.input, action)
+            has_hosted_stakeholder(
+                self.alloc,
+                self.input.setup,
+                self.input.me,
+                action.instance(),
+            )
         } else {
             Ok(false)
         }

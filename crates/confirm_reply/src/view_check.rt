@@ -2,8 +2,7 @@
 ghost use Rattle.std.specs.Prelude.{◌≡◌, ◌≤◌, ℕ, All, List, Some, IfOk, IsSome, length, option_map};
 ghost use Rattle.ledger_model.specs.Opening.{OpenedView};
 ghost use Rattle.canton_model.specs.Inbox.{Item};
-ghost use Rattle.view_split.specs.Placed.{placed_forest, shown_by};
-ghost use Rattle.view_split.specs.SeenViews.{put_back};
+ghost use Rattle.view_split.specs.Placed.{shown_by};
 ghost use Rattle.confirm_reply.specs.Fit.{IsCheckableAt};
 ghost use Rattle.confirm_reply.specs.Located.{core_found_in};
 ghost use Rattle.confirm_reply.specs.Nodes.{trees_in};
@@ -23,6 +22,13 @@ use lang_eval::NativeList;
 use ledger_terms::{ActionNode, ActionNodeList, Path};
 use std::alloc::{AllocError, Global};
 
+/// All that is opened to a participant, put together to the trees of a transaction.
+pub fn put_together(alloc: Global, input: &CheckInput<'_>) -> Result<ActionNodeList, AllocError>
+    ensures { IfOk result (λ roots. roots ≡ (shown_by input.now.tree).roots) }
+{
+    roots_of(alloc, &input.tree.opened().views)
+}
+
 /// A participant's verdict on the view with this path, which is opened to it. Each reason is tried over the whole core before the
 /// next, and the action is the first in pre-order that shows it. A choice that `natives` has is asked of them in place of the language.
 pub fn check_view(
@@ -39,27 +45,40 @@ pub fn check_view(
     ensures at_place { IfOk result (λ verdict. (opened : OpenedView) (items : List Item) (k : ℕ) → view_at view.now input.now.tree ≡ Some opened
         → IsAtPlace input.now items k opened → verdict ≡ verdict_at input.now items k opened) }
 {
-    let roots = roots_in(alloc, input)?;
-    let nodes = nodes_of(alloc, &roots)?;
-    let trees = numbered(alloc, &roots, 0)?;
-    match core_in(alloc, input, trees.as_slice(), view)? {
-        Some(core) => verdict_on(
-            alloc,
-            natives,
-            input,
-            nodes.as_slice(),
-            core.as_slice(),
-            view.len() == 1,
-        ),
-        None => Ok(LocalVerdict::Approve),
-    }
+    let roots = put_together(alloc, input)?;
+    check_view_among(alloc, natives, input, &roots, view)
 }
 
-// The trees of all that is opened.
-fn roots_in(alloc: Global, input: &CheckInput<'_>) -> Result<ActionNodeList, AllocError>
-    ensures { IfOk result (λ roots. roots ≡ put_back (placed_forest input.now.tree.views)) }
+/// The same over the trees of all that is opened, which are put together once for all views of them.
+pub fn check_view_among(
+    alloc: Global,
+    natives: &NativeList,
+    input: &CheckInput<'_>,
+    roots: &ActionNodeList,
+    view: &Path,
+) -> Result<LocalVerdict, AllocError>
+    requires together { roots.now ≡ (shown_by input.now.tree).roots }
+    requires opened { IsSome (view_at view.now input.now.tree) }
+    requires checkable { (opened : OpenedView) → view_at view.now input.now.tree ≡ Some opened
+        → CanBeChecked input.now.setup.now.checked (shown_by input.now.tree) opened }
+    ensures by_facts { IfOk result (λ verdict. (opened : OpenedView) → view_at view.now input.now.tree ≡ Some opened
+        → verdict ≡ verdict_of input.now opened) }
+    ensures at_place { IfOk result (λ verdict. (opened : OpenedView) (items : List Item) (k : ℕ) → view_at view.now input.now.tree ≡ Some opened
+        → IsAtPlace input.now items k opened → verdict ≡ verdict_at input.now items k opened) }
 {
-    roots_of(alloc, &input.tree.opened().views)
+    let nodes = nodes_of(alloc, roots)?;
+    let trees = numbered(alloc, roots, 0)?;
+    let Some(core) = core_in(alloc, input, trees.as_slice(), view)? else {
+        unreachable!()
+    };
+    verdict_on(
+        alloc,
+        natives,
+        input,
+        nodes.as_slice(),
+        core.as_slice(),
+        view.len() == 1,
+    )
 }
 
 // The numbers of the actions in the core of a view.

@@ -17,6 +17,7 @@ without_requests reading =
       whole = λ request. None;
       shown = λ p request. None;
       is_sealed = λ request. false;
+      is_framed = λ request. false;
       is_authentic = reading.is_authentic;
       language = reading.language;
       conforms = reading.conforms;

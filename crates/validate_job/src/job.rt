@@ -1,13 +1,14 @@
 //! The job of checking a request's views.
 ghost use Rattle.std.specs.Prelude.{◌≡◌, ◌+◌, ◌-◌, ◌<◌, ◌^◌, ◌∷◌, [], All, IfNone, IfOk, IfSome, OnErr, OnOk, length, min};
+ghost use Rattle.view_split.specs.Placed.{shown_by};
 ghost use Rattle.validate_job.specs.Owed.{CanCheck, owed_on};
 ghost use Rattle.validate_job.specs.Outcome.{IsOutcome};
 
 use crate::finished::Finished;
 use canton_model::{ViewVerdict, ViewVerdictList};
-use confirm_reply::{CheckInput, check_view};
+use confirm_reply::{CheckInput, check_view_among, put_together};
 use lang_eval::NativeList;
-use ledger_terms::{Exact, Path, PathList};
+use ledger_terms::{ActionNodeList, Exact, Path, PathList};
 use std::alloc::{AllocError, Global};
 use std::marker::Model;
 use std::mem;
@@ -20,6 +21,8 @@ pub struct ValidateJob<'s> {
     views: PathList,
     // How many of the views are checked.
     checked: usize,
+    // All that is opened, put together as the first view is checked.
+    roots: ActionNodeList,
     // The verdicts on those, until the last is handed out with them.
     verdicts: ViewVerdictList,
 }
@@ -39,10 +42,29 @@ impl<'s> Model for ValidateJob<'s> {
 
     ghost view = { λ j. record { given = record { input = j.input; place = j.place; views = j.views }; left = length j.views - j.checked } };
 
+    ghost use Rattle.view_split.specs.Placed.{shown_by};
     ghost use Rattle.validate_job.specs.Owed.{CanCheck, owed_on_each};
 
     ghost invariant = { λ j. All (CanCheck j.input) j.views × (j.checked ≤ length j.views)
+        × (0 < j.checked → j.roots ≡ (shown_by j.input.tree).roots)
         × (j.checked < length j.views → j.verdicts ++ owed_on_each j.input (drop j.checked j.views) ≡ owed_on_each j.input j.views) };
+}
+
+// Puts all that is opened together before the first view is checked.
+fn put_once(
+    alloc: Global,
+    input: &CheckInput<'_>,
+    checked: usize,
+    roots: &mut ActionNodeList,
+) -> Result<(), AllocError>
+    requires { 0 < checked → roots.old ≡ (shown_by input.now.tree).roots }
+    ensures ok { OnOk result (roots.new ≡ (shown_by input.now.tree).roots) }
+    ensures err { OnErr result (roots.new ≡ roots.old) }
+{
+    if checked == 0 {
+        *roots = put_together(alloc, input)?;
+    }
+    Ok(())
 }
 
 // A view's path with the verdict on it.
@@ -50,12 +72,14 @@ fn verdict_on(
     alloc: Global,
     natives: &NativeList,
     input: &CheckInput<'_>,
+    roots: &ActionNodeList,
     path: &Path,
 ) -> Result<ViewVerdict, AllocError>
-    requires { CanCheck input.now path.now }
+    requires together { roots.now ≡ (shown_by input.now.tree).roots }
+    requires checkable { CanCheck input.now path.now }
     ensures { IfOk result (λ verdict. owed_on input.now path.now ≡ verdict ∷ []) }
 {
-    let verdict = check_view(alloc, natives, input, path)?;
+    let verdict = check_view_among(alloc, natives, input, roots, path)?;
     let view = path.copied()?;
     Ok(ViewVerdict { view, verdict })
 }
@@ -67,13 +91,14 @@ impl<'s> ValidateJob<'s> {
         requires each { All (CanCheck input) views }
         ensures { result ≡ record { given = record { input = input.entry; place = place; views = views }; left = length views } }
     {
-        let verdicts = ViewVerdictList::new(*views.allocator());
+        let alloc = *views.allocator();
         ValidateJob {
             input,
             place,
             views,
             checked: 0,
-            verdicts,
+            roots: ActionNodeList::new(alloc),
+            verdicts: ViewVerdictList::new(alloc),
         }
     }
 
@@ -125,8 +150,9 @@ impl<'s> ValidateJob<'s> {
         ensures err { OnErr result (self.new ≡ self.old) }
     {
         let alloc = *self.views.allocator();
+        put_once(alloc, &self.input, self.checked, &mut self.roots)?;
         let path = &self.views.as_slice()[self.checked];
-        let verdict = verdict_on(alloc, natives, &self.input, path)?;
+        let verdict = verdict_on(alloc, natives, &self.input, &self.roots, path)?;
         self.verdicts.push(verdict)?;
         self.checked += 1;
         if self.checked < self.views.len() {

@@ -1,11 +1,15 @@
-use Rattle.std.proofs.Common.{◌+◌, ◌*◌, ◌<◌, arith}
+use Rattle.std.proofs.Common.{◌+◌, ◌*◌, ◌<◌, arith, refl}
+use Rattle.std.specs.Prelude.{option_copied}
 use Rattle.ledger_terms.specs.Grown.{node_count, tree_of}
 use Rattle.ledger_terms.proofs.Grow.{tree_within}
-use Rattle.confirm_reply.proofs.FindSteps.{short}
+use Rattle.confirm_reply.proofs.FindSteps.{none_aside, short}
 use Rattle.confirm_reply.proofs.cores.+find.Goals as goal
 
 pub core_among-returns-then-at-trees : goal.core_among-returns-then-at-trees
 core_among-returns-then-at-trees t c = short _ _ _ _ _ c.loop-at.invariant c.if-at-trees.true
+
+pub core_of_view-returns-in_default : goal.core_of_view-returns-in_default
+core_of_view-returns-in_default t c = none_aside (option_copied c.args.left) c.args.view.now c.args.tree.now (rw c.in_default.is refl)
 
 pub core_among-core_of_view-requires : goal.core_among-core_of_view-requires
 core_among-core_of_view-requires t c =
