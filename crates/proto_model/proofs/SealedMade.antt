@@ -1,24 +1,22 @@
--- The request that is made of a wanted or filled transaction is sealed.
-use Rattle.std.proofs.Common.{◌≡◌, ℕ, List, sym, subst}
-use Rattle.ledger_terms.specs.Drafts.{Drafts}
-use Rattle.ledger_terms.specs.declared.command.Command.{Command}
-use Rattle.ledger_terms.specs.declared.known.Known.{Known}
+-- The request that is made of a transaction that can be sealed is sealed and framed.
+use Rattle.std.proofs.Common.{◌≡◌, ◌≢◌, ℕ, true, List, sym, subst, ◌∙◌}
+use Rattle.std.proofs.lemmas.List.Elements.{All-contains}
+use Rattle.std.proofs.lemmas.Option.{same_Some}
+use Rattle.ledger_terms.specs.Forest.{NoRoots}
 use Rattle.ledger_terms.specs.declared.topology.Topology.{Topology}
 use Rattle.ledger_terms.specs.declared.tx.Tx.{Tx}
 use Rattle.canton_model.specs.declared.request.Request.{Request}
 use Rattle.lang_eval.specs.Found.{Packages}
-use Rattle.interpret.specs.FilledTree.{IsFilled}
-use Rattle.interpret.specs.Wanted.{IsWanted}
-use Rattle.interpret.proofs.Rules.{keeps_rules}
 use Rattle.blind_tree.specs.Limits.{KeepLimits}
-use Rattle.sealed_form.specs.SealedForm.{CanBeSealed}
+use Rattle.sealed_form.specs.Framed.{is_framed}
+use Rattle.sealed_form.specs.SealedForm.{CanBeSealed, Whole}
 use Rattle.sealed_form.specs.Submission.{whole_with_seed}
 use Rattle.sealed_form.proofs.Decided.{form_decides}
-use Rattle.sealed_form.proofs.FromDrafts.{filled_keeps_limits}
-use Rattle.sealed_form.proofs.FromRules.{keeps_limits, wanted_is_seeded}
 use Rattle.sealed_form.proofs.Limited.{limited_is_sealed}
 use Rattle.sealed_form.proofs.Made.{whole_is}
-use Rattle.proto_model.specs.Made.{request_of_tx}
+use Rattle.framed_form.proofs.Decided.{framed_decides}
+use Rattle.framed_form.proofs.SealedFramed.{sealed_framed}
+use Rattle.proto_model.specs.Made.{HasBytes, SendsBytes, request_of_tx}
 use Rattle.proto_model.specs.SealedRequests.{IsSealedOf}
 
 module _ (topology : Topology) (packages : Packages) (sender : ℕ) (name command : List ℕ) (tx : Tx) (request : Request)
@@ -32,11 +30,12 @@ module _ (topology : Topology) (packages : Packages) (sender : ℕ) (name comman
         is_whole = whole_is topology packages sender command (whole_with_seed name tx) can;
       })
 
-  pub wanted_is_sealed : (known : List Known) (commands : List Command) → IsWanted packages known tx.seed tx.act_as commands tx.roots
-      → IsSealedOf topology packages name tx request
-  wanted_is_sealed known commands wanted =
-      sealed_within (keeps_limits packages tx.act_as tx.roots (keeps_rules packages known tx.seed tx.act_as commands tx.roots wanted)
-      (wanted_is_seeded packages known tx.seed tx.act_as commands tx.roots wanted))
-
-  pub filled_is_sealed : (known : List Known) (drafts : Drafts) → IsFilled known tx.seed drafts tx.roots → IsSealedOf topology packages name tx request
-  filled_is_sealed known drafts filled = sealed_within (filled_keeps_limits known tx.seed drafts tx.roots filled)
+  pub framed_within : KeepLimits tx.roots → tx.roots ≢ NoRoots → SendsBytes request → is_framed topology request ≡ true
+  framed_within limits some sends =
+      let told = sealed_within limits in
+      let form = (form_decides topology packages request).0 told.is_sealed in
+      let same : whole_with_seed name tx ≡ form.whole = same_Some (whole_with_seed name tx) form.whole (sym told.is_whole ∙ form.is_whole) in
+      let roots : ((form.whole).transaction).roots ≢ NoRoots = subst (λ (whole : Whole). (whole.transaction).roots ≢ NoRoots) same some in
+      (framed_decides topology request).1
+      (sealed_framed topology packages request form roots sends.mediator
+      (λ envelope there. All-contains HasBytes request.envelopes envelope sends.envelopes there))

@@ -1,5 +1,5 @@
 -- A request as it is made of views, from the participants of the topology.
-use Rattle.std.specs.Prelude.{ℕ, Bool, List, map, filter}
+use Rattle.std.specs.Prelude.{ℕ, Bool, All, List, map, filter}
 use Rattle.std.specs.List.{list_any}
 use Rattle.sha2.specs.Sha256.{sha256}
 use Rattle.ledger_terms.specs.Forest.{Forest, preorder}
@@ -18,6 +18,7 @@ use Rattle.blind_tree.specs.Recipients.{is_recipient}
 use Rattle.blind_tree.specs.Spelling.{spell_tree}
 use Rattle.blind_tree.specs.declared.kept_tree.KeptTree.{KeptTree}
 use Rattle.blind_tree.specs.declared.recipient.Recipient.TheVariants.{Mediator, Participant}
+use Rattle.sealed_form.specs.Framed.{AreBytes}
 use Rattle.sealed_form.specs.SealedForm.{confirming_by, request_of}
 use Rattle.sealed_form.specs.Submission.{whole_with_seed}
 
@@ -47,3 +48,13 @@ request_by topology participants sender name command views =
       mediator = spell_tree (blind_for sha256 views name topology.hosts Mediator);
       envelopes = map (envelope_by topology.hosts name views) (filter (is_recipient topology.hosts views.roots sender) participants);
     }
+
+-- ---- what is sent
+
+abbrev pub HasBytes : Envelope → Type 0
+HasBytes envelope = AreBytes envelope.bytes
+
+-- all that is sent of it are bytes
+pub record SendsBytes (request : Request) : Type 0 where
+  pub mediator : AreBytes request.mediator
+  pub envelopes : All HasBytes request.envelopes

@@ -13,7 +13,8 @@ pub use canton_model::{
     Request, Response, SharedBytes, Verdict, ViewVerdict, ViewVerdictList,
 };
 pub use confirm_reply::Setup;
+pub use framed_form::framed;
 pub use ledger_model::Status;
 pub use mediator_tree::requested_views;
-pub use opening::{envelope_of, opened_for, opened_in};
+pub use opening::{envelope_of, opened_in, opened_of, opened_to, tree_in};
 pub use sealing::seal;

@@ -2,7 +2,8 @@
 ghost use Rattle.std.specs.Prelude.{◌≡◌, IfOk};
 ghost use Rattle.proto_model.specs.RequestedViews.{requested_views};
 
-use blind_tree::{RolesTree, decode_tree, informee_tree};
+use crate::opening::tree_in;
+use blind_tree::{RolesTree, informee_tree};
 use canton_model::Request;
 use std::alloc::{AllocError, Global};
 use wire_form::WireFault;
@@ -12,10 +13,8 @@ use wire_form::WireFault;
 pub fn requested_views(alloc: Global, request: &Request) -> Result<Option<RolesTree>, AllocError>
     ensures { IfOk result (λ views. views ≡ requested_views request.now) }
 {
-    let tree = match decode_tree(alloc, request.mediator.as_slice()) {
-        Ok(tree) => tree,
-        Err(WireFault::Bad { .. }) => return Ok(None),
-        Err(WireFault::Memory) => return Err(AllocError),
+    let Some(tree) = tree_in(alloc, request.mediator.as_slice())? else {
+        return Ok(None);
     };
     match informee_tree(alloc, &tree) {
         Ok(views) => Ok(Some(views)),

@@ -1,29 +1,26 @@
 //! From views to a request.
-ghost use Rattle.std.specs.Prelude.{◌≡◌, ◌≤◌, ◌<◌, ℕ, true, List, Ok, IfOk, length, map};
+ghost use Rattle.std.specs.Prelude.{◌≡◌, ◌≢◌, ◌≤◌, ◌<◌, ℕ, true, All, List, Ok, IfOk, length, map};
+ghost use Rattle.ledger_terms.specs.Forest.{NoRoots};
 ghost use Rattle.ledger_terms.specs.Topologies.{IsValid};
 ghost use Rattle.ledger_terms.specs.declared.tx.Tx.{Tx};
-ghost use Rattle.ledger_terms.specs.Drafts.{Drafts};
-ghost use Rattle.ledger_terms.specs.declared.command.Command.{Command};
-ghost use Rattle.ledger_terms.specs.declared.known.Known.{Known};
 ghost use Rattle.lang_eval.specs.Found.{Packages};
-ghost use Rattle.lang_eval.specs.HandedIn.{parties_in_commands, parties_in_drafts};
-ghost use Rattle.interpret.specs.FilledTree.{IsFilled};
-ghost use Rattle.interpret.specs.Wanted.{IsWanted};
 ghost use Rattle.view_split.specs.Faults.{views_of_tx};
 ghost use Rattle.blind_tree.specs.Blind.{is_host_named};
 ghost use Rattle.blind_tree.specs.Kept.{cut_tree};
 ghost use Rattle.blind_tree.specs.LeafBytes.{AreSpellable};
+ghost use Rattle.blind_tree.specs.Limits.{KeepLimits};
 ghost use Rattle.blind_tree.specs.Spelling.{spell_tree};
-ghost use Rattle.sealed_form.specs.Submission.{IsSubmittedWithin};
+ghost use Rattle.sealed_form.specs.Framed.{AreBytes, is_framed};
+ghost use Rattle.sealed_form.specs.SealedForm.{CanBeSealed};
+ghost use Rattle.sealed_form.specs.Submission.{whole_with_seed};
 ghost use Rattle.sealed_form.specs.Within.{participants_of};
-ghost use Rattle.proto_model.specs.Made.{envelope_cut, request_by, request_of_tx};
+ghost use Rattle.proto_model.specs.Made.{HasBytes, SendsBytes, envelope_cut, request_by, request_of_tx};
 ghost use Rattle.proto_model.specs.SealedRequests.{IsSealedOf};
 
 use crate::participants::{all_participants, confirming, recipients};
 use blind_tree::{KeptTree, Recipient, keep_tree, spelled_for};
 use canton_model::{Envelope, EnvelopeList, Request, SharedBytes};
 use ledger_terms::{Name, ParticipantId, ParticipantIdList, Topology};
-use sealed_form::is_sealable;
 use std::alloc::{AllocError, Global};
 use view_split::Views;
 
@@ -44,21 +41,20 @@ pub fn seal(
         → views_of_tx packages tx ≡ Ok views.now
         → is_host_named topology.now.hosts sender name ≡ true
         → request ≡ request_of_tx topology.now packages sender name command tx) }
-    ensures wanted { IfOk result (λ request. (packages : Packages) (known : List Known) (commands : List Command) (tx : Tx) (name : List ℕ)
+    ensures sealed { IfOk result (λ request. (packages : Packages) (tx : Tx) (name : List ℕ)
         → IsValid topology.now
-        → IsSubmittedWithin topology.now packages known sender name tx.act_as (parties_in_commands commands)
         → views_of_tx packages tx ≡ Ok views.now
-        → IsWanted packages known tx.seed tx.act_as commands tx.roots
+        → CanBeSealed topology.now packages sender (whole_with_seed name tx)
+        → KeepLimits tx.roots
         → IsSealedOf topology.now packages name tx request) }
-    ensures filled { IfOk result (λ request. (packages : Packages) (known : List Known) (drafts : Drafts) (tx : Tx) (name : List ℕ)
+    ensures framed { IfOk result (λ request. (packages : Packages) (tx : Tx) (name : List ℕ)
         → IsValid topology.now
-        → IsSubmittedWithin topology.now packages known sender name tx.act_as (parties_in_drafts drafts)
         → views_of_tx packages tx ≡ Ok views.now
-        → IsFilled known tx.seed drafts tx.roots
-        → IsSealedOf topology.now packages name tx request) }
+        → CanBeSealed topology.now packages sender (whole_with_seed name tx)
+        → KeepLimits tx.roots
+        → tx.roots ≢ NoRoots
+        → is_framed topology.now request ≡ true) }
 {
-    // the prover learns from this call what the types keep of the views
-    let _has_room = is_sealable(views);
     let host = &topology.hosts.as_slice()[sender.0 as usize];
     let request = seal_as(alloc, topology, sender, host.name, command, views)?;
     Ok(request)
@@ -74,8 +70,9 @@ fn seal_as(
     views: &Views,
 ) -> Result<Request, AllocError>
     requires { AreSpellable views.now }
-    ensures { IfOk result (λ request. length topology.now.hosts ≤ 256
+    ensures made { IfOk result (λ request. length topology.now.hosts ≤ 256
         → request ≡ request_by topology.now (participants_of topology.now) sender name command views.now) }
+    ensures bytes { IfOk result (λ request. SendsBytes request) }
 {
     let all = all_participants(alloc, topology)?;
     let confirming = confirming(alloc, topology, &all, &views.roots)?;
@@ -100,7 +97,8 @@ fn envelopes_for(
     kept: &KeptTree,
     participants: &ParticipantIdList,
 ) -> Result<EnvelopeList, AllocError>
-    ensures { IfOk result (λ envelopes. envelopes ≡ map (envelope_cut kept.now name topology.now.hosts) participants.now) }
+    ensures cut { IfOk result (λ envelopes. envelopes ≡ map (envelope_cut kept.now name topology.now.hosts) participants.now) }
+    ensures bytes { IfOk result (λ envelopes. All HasBytes envelopes) }
 {
     let mut envelopes = EnvelopeList::with_room(alloc, participants.len())?;
     for p in participants.as_slice() {
@@ -119,8 +117,15 @@ fn spelled(
     kept: &KeptTree,
     to: Recipient,
 ) -> Result<SharedBytes, AllocError>
-    ensures { IfOk result (λ bytes. bytes ≡ spell_tree (cut_tree kept.now name topology.now.hosts to)) }
+    ensures cut { IfOk result (λ bytes. bytes ≡ spell_tree (cut_tree kept.now name topology.now.hosts to)) }
+    ensures bytes { IfOk result (λ bytes. AreBytes bytes) }
 {
     let bytes = spelled_for(alloc, kept, name, topology, to)?;
+    keep_bytes(bytes.as_slice());
     SharedBytes::new(alloc, bytes)
 }
+
+// The prover learns from this call what the type keeps.
+fn keep_bytes(bytes: &[u8])
+    ensures { AreBytes bytes.now }
+{}
