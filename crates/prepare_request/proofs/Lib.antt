@@ -1,5 +1,6 @@
 mod Offered
 pub mod Offers
+mod Roots
 mod Wants
 mod Sealing
 mod Machines

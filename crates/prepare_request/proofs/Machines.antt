@@ -9,6 +9,7 @@ use Rattle.canton_model.specs.Inbox.{Item, inbox}
 use Rattle.canton_model.specs.declared.request.Request.{Request}
 use Rattle.world_model.specs.Machine.{IsMachine}
 use Rattle.lang_eval.specs.Found.{Packages}
+use Rattle.sealed_form.specs.Framed.{is_framed}
 use Rattle.sealed_form.specs.SealedReading.{sealed_reading}
 use Rattle.sealed_form.specs.SealedTest.{is_sealed_form}
 use Rattle.sealed_form.proofs.Sealed.{lawful}
@@ -22,16 +23,25 @@ module _ (topology : Topology) (packages : Packages) where
   record Kept (answer : Result Request SubmitFault) (request : Request) : Type 0 where
     is : answer ≡ Ok request
     sealed : is_sealed_form topology packages request ≡ true
+    framed : is_framed topology request ≡ true
 
   kept : (answer : Result Request SubmitFault) (request : Request) → if_sealed topology packages answer ≡ Some request → Kept answer request
-  kept (Ok q) request e = by (is_sealed_form topology packages q) refl e
+  kept (Ok q) request e = by (is_sealed_form topology packages q) (is_framed topology q) refl refl e
     where
-      by : (b : Bool) → is_sealed_form topology packages q ≡ b → (if b then Some q else None) ≡ Some request → Kept (Ok q) request
-      by true s h = let same : q ≡ request = cc in record { is = ap ok same; sealed = ap (is_sealed_form topology packages) (sym same) ∙ s }
+      by : (s f : Bool) → is_sealed_form topology packages q ≡ s → is_framed topology q ≡ f → (if s && f then Some q else None) ≡ Some request
+          → Kept (Ok q) request
+      by true true sealed framed h =
+          let same : q ≡ request = cc in
+          record {
+            is = ap ok same;
+            sealed = ap (is_sealed_form topology packages) (sym same) ∙ sealed;
+            framed = ap (is_framed topology) (sym same) ∙ framed;
+          }
         where
           ok : Request → Result Request SubmitFault
           ok r = Ok r
-      by false s h = absurd cc
+      by true false sealed framed h = absurd cc
+      by false f sealed framed h = absurd cc
   kept (Err fault) request e = absurd cc
 
   allowed : (b : Bool) (o : Option Request) (request : Request) → (if b then o else None) ≡ Some request → o ≡ Some request
@@ -49,6 +59,7 @@ module _ (topology : Topology) (packages : Packages) where
             let s = steps topology packages what.participant (offered what.participant items) what now request k.is in
             record {
               is_sealed = k.sealed;
+              is_framed = k.framed;
               sender = ap (λ (r : Request). r.sender) s.request_is;
               command = ap (λ (r : Request). r.command) s.request_is;
             });
@@ -74,9 +85,9 @@ module _ (topology : Topology) (packages : Packages) where
         ∙ ap (λ k. if_sealed topology packages (prepared topology packages me k what now)) offers)
 
     pub gives : (request : Request) → prepared topology packages me known what now ≡ Ok request → is_sealed_form topology packages request ≡ true
-        → prepare_over topology packages offered what items now ≡ Some request
-    gives request e sealed =
-        asked ∙ (ap (if_sealed topology packages) e ∙ ap (λ b. if b then Some request else None) sealed)
+        → is_framed topology request ≡ true → prepare_over topology packages offered what items now ≡ Some request
+    gives request e sealed framed =
+        asked ∙ (ap (if_sealed topology packages) e ∙ (λ i. if sealed i && framed i then Some request else None))
 
     pub says : (fault : SubmitFault) → prepared topology packages me known what now ≡ Err fault
         → why_over topology packages offered what items now ≡ fault

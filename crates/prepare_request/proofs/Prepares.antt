@@ -1,8 +1,9 @@
 -- From the steps of the call to what it gives.
 use Rattle.std.proofs.Common.{◌≡◌, ℕ, Bool, true, List, Option, None, Result, Ok, Err, refl, sym, ap, ◌∙◌, subst}
-use Rattle.std.specs.Prelude.{IsTrue}
+use Rattle.std.specs.Prelude.{◌≢◌, IsTrue}
 use Rattle.ledger_terms.specs.Answers.{◌>>=◌}
 use Rattle.ledger_terms.specs.Drafts.{Drafts}
+use Rattle.ledger_terms.specs.Forest.{NoRoots}
 use Rattle.ledger_terms.specs.Topologies.{IsValid}
 use Rattle.ledger_terms.specs.Trees.{Actions}
 use Rattle.ledger_terms.specs.declared.command.Command.{Command}
@@ -18,15 +19,17 @@ use Rattle.interpret.specs.Wanted.{IsWanted}
 use Rattle.interpret.specs.declared.command_fault.CommandFault.{CommandFault}
 use Rattle.view_split.specs.Faults.{views_of_tx}
 use Rattle.view_split.specs.declared.views.Views.{Views}
+use Rattle.blind_tree.specs.Limits.{KeepLimits}
 use Rattle.sealed_form.specs.SealedForm.{CanBeSealed}
 use Rattle.sealed_form.specs.SealedTest.{is_sealed_form}
 use Rattle.sealed_form.specs.Submission.{IsSubmittedWithin, whole_with_seed}
-use Rattle.prepare_request.specs.Prepared.{actions_for, first_unhosted, name_at, prepared, request_for, seed_for, sealed_if_split}
-use Rattle.prepare_request.specs.Prepared.{tx_for, tx_where_wanted, unless_unhosted, wanted_tx, where_split, whole_for}
+use Rattle.prepare_request.specs.Prepared.{actions_for, first_unconfirmed, name_at, prepared, request_for, seed_for, sealed_if_split}
+use Rattle.prepare_request.specs.Prepared.{tx_for, tx_where_wanted, unless_unconfirmed, views_for, wanted_tx, where_split, whole_for}
 use Rattle.prepare_request.specs.Within.{IsWithin}
 use Rattle.prepare_request.specs.declared.submit_fault.SubmitFault.{SubmitFault}
-use Rattle.prepare_request.proofs.Sealing.{by_what, made_tests_sealed, submitted}
-use Rattle.prepare_request.proofs.Wants.{all_hosted, given_wanted, sent}
+use Rattle.prepare_request.proofs.Roots.{root_of_split}
+use Rattle.prepare_request.proofs.Sealing.{by_what, limits, made_tests_sealed, submitted}
+use Rattle.prepare_request.proofs.Wants.{all_confirmed, given_wanted, sent}
 
 -- what the test of what can be sealed says of views
 abbrev pub SaysWanted : Bool → Views → Type 0
@@ -65,8 +68,24 @@ module _ (topology : Topology) (packages : Packages) (me : ℕ) (known : List Kn
       by (Err fault) a h = absurd cc
 
   module _ (valid : IsValid topology) (within : IsWithin topology packages me known what) (tx : Tx) (views : Views)
-      (unhosted : first_unhosted topology me what.act_as ≡ None) (is_tx : wanted_tx topology packages me known what now ≡ made tx)
-      (is_split : views_of_tx packages tx ≡ Ok views) where
+      (confirms : first_unconfirmed topology me what.act_as ≡ None) (is_tx : wanted_tx topology packages me known what now ≡ made tx)
+      (has_views : views_for packages tx ≡ Ok views) where
+    rooted : (tx.roots ≢ NoRoots) × (views_of_tx packages tx ≡ Ok views)
+    rooted = root_of_split tx.roots (views_of_tx packages tx) views has_views
+
+    pub some_root : tx.roots ≢ NoRoots
+    some_root = rooted.0
+
+    pub is_split : views_of_tx packages tx ≡ Ok views
+    is_split = rooted.1
+
+    pub keeps_limits : KeepLimits tx.roots
+    keeps_limits =
+        let w = wants tx is_tx in
+        subst (λ (t : Tx). KeepLimits t.roots) w.is
+        (limits packages known (seed_for topology me what) what.act_as what.what w.roots
+        (given_wanted packages known (seed_for topology me what) what.act_as what.what w.roots w.actions))
+
     module _ (answer : Bool) (says_wanted : SaysWanted answer views) (says_filled : SaysFilled answer views) where
       abbrev Sealable : Tx → Type 0
       Sealable t = IsTrue answer × CanBeSealed topology packages me (whole_for topology me t)
@@ -81,7 +100,7 @@ module _ (topology : Topology) (packages : Packages) (me : ℕ) (known : List Kn
           says_wanted topology packages known commands (tx_for topology me what now w.roots) me (name_at topology me) valid submits s wanted)
           (λ drafts submits filled.
           says_filled topology packages known drafts (tx_for topology me what now w.roots) me (name_at topology me) valid submits s filled)
-          what.what (submitted topology packages me known what within (all_hosted topology me what unhosted))
+          what.what (submitted topology packages me known what within (all_confirmed topology me what confirms))
           (given_wanted packages known (seed_for topology me what) what.act_as what.what w.roots w.actions))
           is_split
 
@@ -99,7 +118,7 @@ module _ (topology : Topology) (packages : Packages) (me : ℕ) (known : List Kn
     pub exact : (request : Request) → request ≡ request_for topology packages me what.command tx
         → prepared topology packages me known what now ≡ Ok request
     exact request request_is =
-        ap (λ (o : Option (List ℕ)). unless_unhosted o (wanted_tx topology packages me known what now >>= sealed_if_split topology packages me what.command))
-        unhosted
+        ap (λ (o : Option (List ℕ)). unless_unconfirmed o (wanted_tx topology packages me known what now >>= sealed_if_split topology packages me what.command))
+        confirms
         ∙ (ap (λ (r : Result Tx SubmitFault). r >>= sealed_if_split topology packages me what.command) is_tx
-        ∙ (ap (λ v. where_split v (request_for topology packages me what.command tx)) is_split ∙ ap sent (sym request_is)))
+        ∙ (ap (λ v. where_split v (request_for topology packages me what.command tx)) has_views ∙ ap sent (sym request_is)))

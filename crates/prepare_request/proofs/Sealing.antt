@@ -29,7 +29,7 @@ use Rattle.sealed_form.proofs.FromDrafts.{filled_keeps_limits}
 use Rattle.sealed_form.proofs.FromRules.{keeps_limits, wanted_is_seeded}
 use Rattle.sealed_form.proofs.Limited.{limited_is_sealed}
 use Rattle.sealed_form.proofs.Made.{whole_is}
-use Rattle.prepare_request.specs.Causes.{AreWantedBy, HostsRequesters}
+use Rattle.prepare_request.specs.Causes.{AreWantedBy, ConfirmsRequesters}
 use Rattle.prepare_request.specs.Prepared.{name_at, name_of, request_for, seed_for, tx_for, whole_for}
 use Rattle.prepare_request.specs.Within.{IsWithin, parties_in_what}
 
@@ -74,14 +74,14 @@ pub by_what : (P : Type 0) (topology : Topology) (packages : Packages) (me : ℕ
 by_what P topology packages me known seed act_as roots by_commands by_drafts (Commands commands) within wanted = by_commands commands within wanted
 by_what P topology packages me known seed act_as roots by_commands by_drafts (Prepared borrowed drafts) within wanted = by_drafts drafts within wanted
 
--- a submission within the topology whose requesters are hosted
+-- a submission within the topology whose requesters' participant confirms for them
 pub submitted : (topology : Topology) (packages : Packages) (me : ℕ) (known : List Known) (what : Submission) → IsWithin topology packages me known what
-    → HostsRequesters topology me what
+    → ConfirmsRequesters topology me what
     → IsSubmittedWithin topology packages known me (name_at topology me) what.act_as (parties_in_what what.what)
-submitted topology packages me known what within hosts =
+submitted topology packages me known what within confirms =
     record {
       sender_is = is_named topology.hosts me within.is_host;
-      hosts_requesters = hosts;
+      confirms_requesters = confirms;
       named_by_packages = within.named_by_packages;
       named_by_known = within.named_by_known;
       named_by_input = within.named_by_input;

@@ -1,11 +1,11 @@
 -- What is prepared, and why nothing is.
 use Rattle.std.proofs.Common.{◌≡◌, ℕ, Bool, true, not, List, [], ◌∷◌, map, find, Option, Some, None, Result, Ok, Err, Contains, refl, sym, ap, ◌∙◌, subst, inl, inr}
-use Rattle.std.specs.Prelude.{option_map}
+use Rattle.std.specs.Prelude.{◌≢◌, option_map}
 use Rattle.std.proofs.lemmas.Bool.{cases_Bool}
 use Rattle.std.proofs.lemmas.Option.{none-some}
 use Rattle.ledger_terms.specs.Answers.{◌>>=◌}
-use Rattle.ledger_terms.specs.Forest.{Forest, paths_from, preorder}
-use Rattle.ledger_terms.specs.Hosting.{hosts_at}
+use Rattle.ledger_terms.specs.Forest.{Forest, NoRoots, paths_from, preorder}
+use Rattle.ledger_terms.specs.Hosting.{confirms_at}
 use Rattle.ledger_terms.specs.Trees.{Actions}
 use Rattle.ledger_terms.specs.declared.act.Act.{Act}
 use Rattle.ledger_terms.specs.declared.known.Known.{Known}
@@ -32,11 +32,12 @@ use Rattle.view_split.specs.declared.views.Views.{Views}
 use Rattle.view_split.proofs.Fitting.{preorder-map}
 use Rattle.view_split.proofs.Sight.{without_paths}
 use Rattle.sealed_form.proofs.Given.{each_has_roles}
-use Rattle.prepare_request.specs.Causes.{AreWantedBy, HasCause, HostsRequesters, IsRequestOf, StopsBy}
-use Rattle.prepare_request.specs.Prepared.{actions_for, actions_of, first_unhosted, prepared, request_for, seed_for, sealed_if_split, time_or}
-use Rattle.prepare_request.specs.Prepared.{tx_for, tx_where_wanted, unless_unhosted, where_split}
+use Rattle.prepare_request.specs.Causes.{AreWantedBy, ConfirmsRequesters, HasCause, IsRequestOf, StopsBy}
+use Rattle.prepare_request.specs.Prepared.{actions_for, actions_of, first_unconfirmed, prepared, request_for, seed_for, sealed_if_split, time_or}
+use Rattle.prepare_request.specs.Prepared.{tx_for, tx_where_wanted, unless_unconfirmed, views_for, where_split}
 use Rattle.prepare_request.specs.declared.submit_fault.SubmitFault.{SubmitFault}
 use Rattle.prepare_request.specs.declared.submit_fault.SubmitFault.TheVariants.{NotHosted, Command, Split, Paused, Duplicate, LogFull, Memory}
+use Rattle.prepare_request.proofs.Roots.{root_of_split, split_with_root}
 
 -- ---- the actions
 
@@ -75,13 +76,13 @@ module _ {X : Type 0} (p : X → Bool) where
   nothing_found [] h = refl
   nothing_found (y ∷ ys) h = rw (h y (inl refl)) (nothing_found ys (λ x i. h x (inr i)))
 
-pub all_hosted : (topology : Topology) (me : ℕ) (what : Submission) → first_unhosted topology me what.act_as ≡ None → HostsRequesters topology me what
-all_hosted topology me what e party there =
-    none_fails (hosts_at topology.hosts me) what.act_as e party (in_from_Contains what.act_as party there)
+pub all_confirmed : (topology : Topology) (me : ℕ) (what : Submission) → first_unconfirmed topology me what.act_as ≡ None → ConfirmsRequesters topology me what
+all_confirmed topology me what e party there =
+    none_fails (confirms_at topology.hosts me) what.act_as e party (in_from_Contains what.act_as party there)
 
-none_unhosted : (topology : Topology) (me : ℕ) (what : Submission) → HostsRequesters topology me what → first_unhosted topology me what.act_as ≡ None
-none_unhosted topology me what h =
-    nothing_found (hosts_at topology.hosts me) what.act_as (λ party i. h party (contains_from_In what.act_as party i))
+none_unconfirmed : (topology : Topology) (me : ℕ) (what : Submission) → ConfirmsRequesters topology me what → first_unconfirmed topology me what.act_as ≡ None
+none_unconfirmed topology me what h =
+    nothing_found (confirms_at topology.hosts me) what.act_as (λ party i. h party (contains_from_In what.act_as party i))
 
 -- ---- the roles
 
@@ -118,7 +119,7 @@ module _ (topology : Topology) (packages : Packages) (me : ℕ) (known : List Kn
   tx roots = tx_for topology me what now roots
 
   abbrev answer : Option (List ℕ) → Result Actions CommandFault → Result Request SubmitFault
-  answer unhosted actions = unless_unhosted unhosted (tx_where_wanted topology me what now actions >>= sealed_if_split topology packages me what.command)
+  answer first actions = unless_unconfirmed first (tx_where_wanted topology me what now actions >>= sealed_if_split topology packages me what.command)
 
   abbrev views_made : Actions → Views
   views_made roots =
@@ -126,29 +127,32 @@ module _ (topology : Topology) (packages : Packages) (me : ℕ) (known : List Kn
 
   -- what there is before a request
   pub record Steps (request : Request) : Type 0 where
-    pub unhosted : first_unhosted topology me what.act_as ≡ None
+    pub none : first_unconfirmed topology me what.act_as ≡ None
     pub roots : Actions
     pub actions : actions_for topology packages me known what ≡ Ok roots
     pub views : Views
+    pub some_root : roots ≢ NoRoots
     pub is_split : views_of_tx packages (tx roots) ≡ Ok views
     pub request_is : request ≡ request_for topology packages me what.command (tx roots)
 
   pub steps : (request : Request) → prepared topology packages me known what now ≡ Ok request → Steps request
   steps request e =
-      by_host (first_unhosted topology me what.act_as) refl e
+      by_host (first_unconfirmed topology me what.act_as) refl e
     where
-      by_views : (roots : Actions) (v : Result Views SplitFault) → first_unhosted topology me what.act_as ≡ None
-          → actions_for topology packages me known what ≡ Ok roots → views_of_tx packages (tx roots) ≡ v
+      by_views : (roots : Actions) (v : Result Views SplitFault) → first_unconfirmed topology me what.act_as ≡ None
+          → actions_for topology packages me known what ≡ Ok roots → views_for packages (tx roots) ≡ v
           → where_split v (request_for topology packages me what.command (tx roots)) ≡ Ok request → Steps request
-      by_views roots (Ok views) u a s h = record { unhosted = u; roots = roots; actions = a; views = views; is_split = s; request_is = cc }
+      by_views roots (Ok views) u a s h =
+          let both = root_of_split roots (views_of_tx packages (tx roots)) views s in
+          record { none = u; roots = roots; actions = a; views = views; some_root = both.0; is_split = both.1; request_is = cc }
       by_views roots (Err fault) u a s h = absurd cc
 
-      by_actions : (r : Result Actions CommandFault) → first_unhosted topology me what.act_as ≡ None → actions_for topology packages me known what ≡ r
+      by_actions : (r : Result Actions CommandFault) → first_unconfirmed topology me what.act_as ≡ None → actions_for topology packages me known what ≡ r
           → answer None r ≡ Ok request → Steps request
-      by_actions (Ok roots) u a h = by_views roots (views_of_tx packages (tx roots)) u a refl h
+      by_actions (Ok roots) u a h = by_views roots (views_for packages (tx roots)) u a refl h
       by_actions (Err fault) u a h = absurd cc
 
-      by_host : (o : Option (List ℕ)) → first_unhosted topology me what.act_as ≡ o
+      by_host : (o : Option (List ℕ)) → first_unconfirmed topology me what.act_as ≡ o
           → answer o (actions_for topology packages me known what) ≡ Ok request → Steps request
       by_host None u h = by_actions (actions_for topology packages me known what) u refl h
       by_host (Some party) u h = absurd cc
@@ -158,64 +162,67 @@ module _ (topology : Topology) (packages : Packages) (me : ℕ) (known : List Kn
       let s = steps request e in
       record {
         roots = s.roots;
-        hosted = all_hosted topology me what s.unhosted;
+        confirmed = all_confirmed topology me what s.none;
         wanted = given_wanted packages known seed what.act_as what.what s.roots s.actions;
+        some_root = s.some_root;
         has_roles = each_has_roles packages (tx s.roots) s.views s.is_split;
         request_is = s.request_is;
       }
 
   pub wanted : (request : Request) → IsRequestOf topology packages me known what now request → prepared topology packages me known what now ≡ Ok request
   wanted request h =
-      ap (λ o. answer o (actions_for topology packages me known what)) (none_unhosted topology me what h.hosted)
+      ap (λ o. answer o (actions_for topology packages me known what)) (none_unconfirmed topology me what h.confirmed)
       ∙ (ap (answer None) (wanted_given packages known seed what.act_as what.what h.roots h.wanted)
+      ∙ (ap (λ (v : Result Views SplitFault). where_split v (request_for topology packages me what.command (tx h.roots)))
+      (split_with_root h.roots (views_of_tx packages (tx h.roots)) h.some_root)
       ∙ (ap (λ (o : Option (List ℕ)). where_split (unless_fault o (views_made h.roots)) (request_for topology packages me what.command (tx h.roots)))
       (split_given packages (tx h.roots) h.has_roles)
-      ∙ ap sent (sym h.request_is)))
+      ∙ ap sent (sym h.request_is))))
 
   pub caused : (fault : SubmitFault) → prepared topology packages me known what now ≡ Err fault → HasCause topology packages me known what now fault
   caused fault e =
-      by_host (first_unhosted topology me what.act_as) refl e
+      by_host (first_unconfirmed topology me what.act_as) refl e
     where
       Cause : SubmitFault → Type 0
       Cause = HasCause topology packages me known what now
 
-      by_views : (roots : Actions) (v : Result Views SplitFault) → first_unhosted topology me what.act_as ≡ None
-          → actions_for topology packages me known what ≡ Ok roots → views_of_tx packages (tx roots) ≡ v
+      by_views : (roots : Actions) (v : Result Views SplitFault) → first_unconfirmed topology me what.act_as ≡ None
+          → actions_for topology packages me known what ≡ Ok roots → views_for packages (tx roots) ≡ v
           → where_split v (request_for topology packages me what.command (tx roots)) ≡ Err fault → Cause fault
       by_views roots (Ok views) u a s h = absurd cc
       by_views roots (Err f) u a s h =
           let is : Split f ≡ fault = cc in
           subst Cause is (
-            all_hosted topology me what u,
+            all_confirmed topology me what u,
             record { roots = roots; wanted = given_wanted packages known seed what.act_as what.what roots a; no_roles = s },
           )
 
-      by_actions : (r : Result Actions CommandFault) → first_unhosted topology me what.act_as ≡ None → actions_for topology packages me known what ≡ r
+      by_actions : (r : Result Actions CommandFault) → first_unconfirmed topology me what.act_as ≡ None → actions_for topology packages me known what ≡ r
           → answer None r ≡ Err fault → Cause fault
-      by_actions (Ok roots) u a h = by_views roots (views_of_tx packages (tx roots)) u a refl h
+      by_actions (Ok roots) u a h = by_views roots (views_for packages (tx roots)) u a refl h
       by_actions (Err f) u a h =
           let is : Command f ≡ fault = cc in
-          subst Cause is (all_hosted topology me what u, given_stops packages known seed what.act_as what.what f a)
+          subst Cause is (all_confirmed topology me what u, given_stops packages known seed what.act_as what.what f a)
 
-      by_host : (o : Option (List ℕ)) → first_unhosted topology me what.act_as ≡ o
+      by_host : (o : Option (List ℕ)) → first_unconfirmed topology me what.act_as ≡ o
           → answer o (actions_for topology packages me known what) ≡ Err fault → Cause fault
       by_host None u h = by_actions (actions_for topology packages me known what) u refl h
       by_host (Some party) u h = let is : NotHosted party ≡ fault = cc in subst Cause is u
 
-  unhosted_answer : (o : Option (List ℕ)) → first_unhosted topology me what.act_as ≡ o
+  unconfirmed_answer : (o : Option (List ℕ)) → first_unconfirmed topology me what.act_as ≡ o
       → prepared topology packages me known what now ≡ answer o (actions_for topology packages me known what)
-  unhosted_answer o e = ap (λ (o : Option (List ℕ)). answer o (actions_for topology packages me known what)) e
+  unconfirmed_answer o e = ap (λ (o : Option (List ℕ)). answer o (actions_for topology packages me known what)) e
 
-  hosted_answer : (r : Result Actions CommandFault) → HostsRequesters topology me what → actions_for topology packages me known what ≡ r
+  confirmed_answer : (r : Result Actions CommandFault) → ConfirmsRequesters topology me what → actions_for topology packages me known what ≡ r
       → prepared topology packages me known what now ≡ answer None r
-  hosted_answer r hosted e = unhosted_answer None (none_unhosted topology me what hosted) ∙ ap (answer None) e
+  confirmed_answer r confirms e = unconfirmed_answer None (none_unconfirmed topology me what confirms) ∙ ap (answer None) e
 
   pub refused : (fault : SubmitFault) → HasCause topology packages me known what now fault → prepared topology packages me known what now ≡ Err fault
-  refused (NotHosted party) h = unhosted_answer (Some party) h
-  refused (Command f) h = hosted_answer (Err f) h.0 (stops_given packages known seed what.act_as what.what f h.1)
+  refused (NotHosted party) h = unconfirmed_answer (Some party) h
+  refused (Command f) h = confirmed_answer (Err f) h.0 (stops_given packages known seed what.act_as what.what f h.1)
   refused (Split f) h =
       let u = h.1 in
-      hosted_answer (Ok u.roots) h.0 (wanted_given packages known seed what.act_as what.what u.roots u.wanted)
+      confirmed_answer (Ok u.roots) h.0 (wanted_given packages known seed what.act_as what.what u.roots u.wanted)
       ∙ ap (λ (v : Result Views SplitFault). where_split v (request_for topology packages me what.command (tx u.roots))) u.no_roles
   refused Paused h = absurd h
   refused (Duplicate place) h = absurd h

@@ -1,6 +1,7 @@
 -- What a prepared request is of, and why a submission is refused.
-use Rattle.std.specs.Prelude.{◌≡◌, ℕ, true, List, Some, Err, Contains}
-use Rattle.ledger_terms.specs.Hosting.{hosts_at}
+use Rattle.std.specs.Prelude.{◌≡◌, ◌≢◌, ℕ, true, List, Some, Err, Contains}
+use Rattle.ledger_terms.specs.Forest.{NoRoots}
+use Rattle.ledger_terms.specs.Hosting.{confirms_at}
 use Rattle.ledger_terms.specs.Trees.{Actions}
 use Rattle.ledger_terms.specs.declared.act.Act.{Act}
 use Rattle.ledger_terms.specs.declared.known.Known.{Known}
@@ -19,10 +20,9 @@ use Rattle.interpret.specs.Plain.{IsPlain}
 use Rattle.interpret.specs.Stops.{StopsWith}
 use Rattle.interpret.specs.Wanted.{IsWanted}
 use Rattle.interpret.specs.declared.command_fault.CommandFault.{CommandFault}
-use Rattle.view_split.specs.Faults.{views_of_tx}
 use Rattle.view_split.specs.declared.split_fault.SplitFault.{SplitFault}
 use Rattle.view_split.specs.declared.split_fault.SplitFault.TheVariants.{NoRoles, Memory as SplitMemory}
-use Rattle.prepare_request.specs.Prepared.{first_unhosted, request_for, seed_for, tx_for}
+use Rattle.prepare_request.specs.Prepared.{first_unconfirmed, request_for, seed_for, tx_for, views_for}
 use Rattle.prepare_request.specs.declared.submit_fault.SubmitFault.{SubmitFault}
 use Rattle.prepare_request.specs.declared.submit_fault.SubmitFault.TheVariants.{Paused, NotHosted, Command, Split, Duplicate, LogFull, Memory}
 
@@ -39,33 +39,34 @@ StopsBy packages known seed act_as (Prepared borrowed drafts) fault = FillStops 
 abbrev pub AreWanted : Topology → Packages → (me : ℕ) → List Known → Submission → Actions → Type 0
 AreWanted topology packages me known what roots = AreWantedBy packages known (seed_for topology me what) what.act_as what.what roots
 
--- the participant hosts each requester
-abbrev pub HostsRequesters : Topology → (me : ℕ) → Submission → Type 0
-HostsRequesters topology me what = (party : List ℕ) → Contains what.act_as party → hosts_at topology.hosts me party ≡ true
+-- the participant confirms for each requester
+abbrev pub ConfirmsRequesters : Topology → (me : ℕ) → Submission → Type 0
+ConfirmsRequesters topology me what = (party : List ℕ) → Contains what.act_as party → confirms_at topology.hosts me party ≡ true
 
--- The request is the sealed form of the transaction that the submission wants, each action of which has roles.
+-- The request is the sealed form of the transaction that the submission wants, which has an action, and each of which has roles.
 pub record IsRequestOf (topology : Topology) (packages : Packages) (me : ℕ) (known : List Known) (what : Submission) (now : ℕ) (request : Request)
     : Type 0 where
   pub roots : Actions
-  pub hosted : HostsRequesters topology me what
+  pub confirmed : ConfirmsRequesters topology me what
   pub wanted : AreWanted topology packages me known what roots
+  pub some_root : roots ≢ NoRoots
   pub has_roles : (a : Act) → Contains (acts roots) a → has_roles packages a.action ≡ true
   pub request_is : request ≡ request_for topology packages me what.command (tx_for topology me what now roots)
 
--- the wanted actions have one without roles, at the place that the fault says
+-- the wanted actions have one without roles, at the place that the fault says, or there is none
 pub record IsUnsplit (topology : Topology) (packages : Packages) (me : ℕ) (known : List Known) (what : Submission) (now : ℕ) (fault : SplitFault)
     : Type 0 where
   pub roots : Actions
   pub wanted : AreWanted topology packages me known what roots
-  pub no_roles : views_of_tx packages (tx_for topology me what now roots) ≡ Err fault
+  pub no_roles : views_for packages (tx_for topology me what now roots) ≡ Err fault
 
 -- Why a submission wants no request. A pause, a command id that stands in the log and a full log are no matter of what it wants,
 -- and memory never is.
 abbrev pub HasCause : Topology → Packages → (me : ℕ) → List Known → Submission → (now : ℕ) → SubmitFault → Type 0
-HasCause topology packages me known what now (NotHosted party) = first_unhosted topology me what.act_as ≡ Some party
+HasCause topology packages me known what now (NotHosted party) = first_unconfirmed topology me what.act_as ≡ Some party
 HasCause topology packages me known what now (Command fault) =
-    HostsRequesters topology me what × StopsBy packages known (seed_for topology me what) what.act_as what.what fault
-HasCause topology packages me known what now (Split fault) = HostsRequesters topology me what × IsUnsplit topology packages me known what now fault
+    ConfirmsRequesters topology me what × StopsBy packages known (seed_for topology me what) what.act_as what.what fault
+HasCause topology packages me known what now (Split fault) = ConfirmsRequesters topology me what × IsUnsplit topology packages me known what now fault
 HasCause topology packages me known what now Paused = ⊥
 HasCause topology packages me known what now (Duplicate place) = ⊥
 HasCause topology packages me known what now (LogFull reserved need) = ⊥

@@ -10,6 +10,7 @@ use Rattle.canton_model.specs.declared.request.Request.{Request}
 use Rattle.world_model.specs.Machine.{Machine}
 use Rattle.lang_eval.specs.Found.{Packages}
 use Rattle.lang_eval.specs.Named.{parties_in_packages}
+use Rattle.sealed_form.specs.Framed.{is_framed}
 use Rattle.sealed_form.specs.SealedReading.{sealed_reading}
 use Rattle.sealed_form.specs.SealedTest.{is_sealed_form}
 use Rattle.sealed_form.specs.Within.{is_hosted}
@@ -28,13 +29,13 @@ is_within topology packages what =
     nat_lt what.participant (length topology.hosts)
     && (list_all (is_hosted topology) (parties_in_packages packages) && list_all (is_hosted topology) (parties_in_what what.what))
 
--- a request, where it is sealed
+-- a request, where it is sealed and framed
 abbrev pub if_sealed : Topology → Packages → Result Request SubmitFault → Option Request
-if_sealed topology packages (Ok request) = if is_sealed_form topology packages request then Some request else None
+if_sealed topology packages (Ok request) = if is_sealed_form topology packages request && is_framed topology request then Some request else None
 if_sealed topology packages (Err fault) = None
 
--- The request that a submission wants, and none where it isn't within the topology or hands in what can't be sealed: nothing that
--- a client's types can hold is of that kind.
+-- The request that a submission wants, and none where it isn't within the topology or hands in what can't be sealed and framed:
+-- nothing that a client's types can hold is of that kind.
 abbrev pub prepare_over : Topology → Packages → Offered → Submission → List Item → (now : ℕ) → Option Request
 prepare_over topology packages offered what items now =
     if is_within topology packages what

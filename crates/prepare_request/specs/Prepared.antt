@@ -1,7 +1,8 @@
 -- The request that a submission wants, or why it wants none.
 use Rattle.std.specs.Prelude.{ℕ, not, List, [], Option, Some, None, find, slice_get, Result, Ok, Err}
 use Rattle.ledger_terms.specs.Answers.{◌>>=◌}
-use Rattle.ledger_terms.specs.Hosting.{hosts_at}
+use Rattle.ledger_terms.specs.Forest.{NoRoots, Root}
+use Rattle.ledger_terms.specs.Hosting.{confirms_at}
 use Rattle.ledger_terms.specs.Trees.{Actions}
 use Rattle.ledger_terms.specs.declared.host.Host.{Host}
 use Rattle.ledger_terms.specs.declared.known.Known.{Known}
@@ -85,13 +86,13 @@ request_for topology packages me command tx = request_with topology packages me 
 
 -- ---- its faults
 
--- the first requester that the participant doesn't host
-abbrev pub first_unhosted : Topology → (me : ℕ) → PartyNames → Option (List ℕ)
-first_unhosted topology me act_as = find (λ party. not (hosts_at topology.hosts me party)) act_as
+-- the first requester for whom the participant doesn't confirm
+abbrev pub first_unconfirmed : Topology → (me : ℕ) → PartyNames → Option (List ℕ)
+first_unconfirmed topology me act_as = find (λ party. not (confirms_at topology.hosts me party)) act_as
 
-abbrev pub unless_unhosted : Option (List ℕ) → Result Request SubmitFault → Result Request SubmitFault
-unless_unhosted None answer = answer
-unless_unhosted (Some party) answer = Err (NotHosted party)
+abbrev pub unless_unconfirmed : Option (List ℕ) → Result Request SubmitFault → Result Request SubmitFault
+unless_unconfirmed None answer = answer
+unless_unconfirmed (Some party) answer = Err (NotHosted party)
 
 abbrev pub tx_where_wanted : Topology → (me : ℕ) → Submission → (now : ℕ) → Result Actions CommandFault → Result Tx SubmitFault
 tx_where_wanted topology me what now (Ok roots) = Ok (tx_for topology me what now roots)
@@ -101,18 +102,26 @@ tx_where_wanted topology me what now (Err fault) = Err (Command fault)
 abbrev pub wanted_tx : Topology → Packages → (me : ℕ) → List Known → Submission → (now : ℕ) → Result Tx SubmitFault
 wanted_tx topology packages me known what now = tx_where_wanted topology me what now (actions_for topology packages me known what)
 
+-- A transaction has at least one view. Of one without actions no action has roles, and the path is that of none.
+abbrev pub if_some : Actions → Result Views SplitFault → Result Views SplitFault
+if_some NoRoots views = Err (NoRoles [])
+if_some (Root act below others) views = views
+
+abbrev pub views_for : Packages → Tx → Result Views SplitFault
+views_for packages tx = if_some tx.roots (views_of_tx packages tx)
+
 abbrev pub where_split : Result Views SplitFault → Request → Result Request SubmitFault
 where_split (Ok views) request = Ok request
 where_split (Err fault) request = Err (Split fault)
 
 abbrev pub sealed_if_split : Topology → Packages → (me : ℕ) (command : List ℕ) → Tx → Result Request SubmitFault
-sealed_if_split topology packages me command tx = where_split (views_of_tx packages tx) (request_for topology packages me command tx)
+sealed_if_split topology packages me command tx = where_split (views_for packages tx) (request_for topology packages me command tx)
 
--- The requesters are tried first, then the commands or the prepared tree, then the roles of what they give. The contracts that
--- are known are those that the participant offers.
+-- The requesters are tried first, then the commands or the prepared tree, then the roles of what they give, which is some action.
+-- The contracts that are known are those that the participant offers.
 abbrev pub prepared : Topology → Packages → (me : ℕ) → List Known → Submission → (now : ℕ) → Result Request SubmitFault
 prepared topology packages me known what now =
-    unless_unhosted (first_unhosted topology me what.act_as)
+    unless_unconfirmed (first_unconfirmed topology me what.act_as)
     (wanted_tx topology packages me known what now >>= sealed_if_split topology packages me what.command)
 
 -- ---- faults of the calls below

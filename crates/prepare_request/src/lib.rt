@@ -5,11 +5,10 @@ mod hosted_contracts;
 mod hosted_ids;
 pub mod laws;
 mod preparing;
-mod stakeholders;
 mod submit_fault;
 
+pub use confirm_reply::has_hosted_stakeholder;
 pub use hosted_contracts::HostedContracts;
 pub use hosted_ids::HostedIds;
 pub use preparing::prepare;
-pub use stakeholders::has_hosted_stakeholder;
 pub use submit_fault::SubmitFault;

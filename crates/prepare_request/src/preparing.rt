@@ -3,12 +3,13 @@ ghost use Rattle.std.specs.Prelude.{◌≡◌, ◌≢◌, ◌<◌, List, true, N
 ghost use Rattle.ledger_terms.specs.Answers.{Follows};
 ghost use Rattle.ledger_terms.specs.Topologies.{IsValid};
 ghost use Rattle.canton_model.specs.Inbox.{Item};
+ghost use Rattle.sealed_form.specs.Framed.{is_framed};
 ghost use Rattle.sealed_form.specs.SealedTest.{is_sealed_form};
 ghost use Rattle.interpret.specs.Filled.{filling};
 ghost use Rattle.interpret.specs.Plain.{IsPlain};
 ghost use Rattle.prepare_request.specs.Causes.{HoldsNoMemory};
 ghost use Rattle.prepare_request.specs.Machine.{Offered, prepare_over, why_over};
-ghost use Rattle.prepare_request.specs.Prepared.{actions_of, first_unhosted, name_at, prepared, seed_for, time_or, wanted_tx};
+ghost use Rattle.prepare_request.specs.Prepared.{actions_of, first_unconfirmed, name_at, prepared, seed_for, time_or, views_for, wanted_tx};
 ghost use Rattle.prepare_request.specs.Within.{IsWithin};
 
 use crate::submit_fault::SubmitFault;
@@ -16,22 +17,22 @@ use canton_model::Request;
 use confirm_reply::Setup;
 use hash_id::root_seed;
 use interpret::{CommandFault, fill, interpret};
-use lang_eval::NativeList;
+use lang_eval::{Checked, NativeList};
 use ledger_terms::{
-    ActionNodeList, DraftList, Hash, KnownContracts, Name, ParticipantId, PartySet, Submission,
-    Topology, Tx, What,
+    ActionNodeList, DraftList, Hash, KnownContracts, Name, ParticipantId, PartySet, Path,
+    Submission, Topology, Tx, What,
 };
 use proto_model::seal;
 use sealed_form::is_sealable;
 use std::alloc::Global;
-use view_split::split;
+use view_split::{SplitFault, Views, split};
 
-/// The first of the parties that the participant doesn't host.
-fn first_unhosted(topology: &Topology, me: ParticipantId, act_as: &PartySet) -> Option<Name>
-    ensures { result ≡ first_unhosted topology.now me act_as.now }
+/// The first of the parties for which the participant doesn't confirm.
+fn first_unconfirmed(topology: &Topology, me: ParticipantId, act_as: &PartySet) -> Option<Name>
+    ensures { result ≡ first_unconfirmed topology.now me act_as.now }
 {
     for party in act_as.as_slice() {
-        if !topology.hosts(me, *party) {
+        if !topology.confirms(me, *party) {
             return Some(*party);
         }
     }
@@ -130,6 +131,18 @@ fn wanted_tx<K: KnownContracts>(
     })
 }
 
+/// The views of the transaction, of which there is at least one.
+#[tactic(auto, using(crate::proofs::Roots::rootless, crate::proofs::Roots::rooted))]
+fn views_for(alloc: Global, checked: &Checked, tx: &Tx) -> Result<Views, SplitFault>
+    ensures { Follows SplitFault.Memory result (views_for checked.now tx.now) }
+{
+    if tx.roots.as_slice().is_empty() {
+        let path = Path::new(alloc);
+        return Err(SplitFault::NoRoles { path });
+    }
+    split(alloc, checked, tx)
+}
+
 /// The transaction that a submission of the participant `me` asks for, as a request in the sealed form: its commands are
 /// interpreted, or its prepared tree is filled, over the contracts that are known. `now` is the ledger time of a submission
 /// that has none. A choice that `natives` has is asked of them in place of the language. Memory is that of the submission.
@@ -145,6 +158,7 @@ pub fn prepare<K: KnownContracts>(
     requires within { IsWithin setup.now.topology setup.now.checked me (K.rows known.now) what.now }
     ensures exact { Follows SubmitFault.Memory result (prepared setup.now.topology setup.now.checked me (K.rows known.now) what.now now) }
     ensures sealed { IfOk result (λ request. is_sealed_form setup.now.topology setup.now.checked request ≡ true) }
+    ensures framed { IfOk result (λ request. is_framed setup.now.topology request ≡ true) }
     ensures sender { IfOk result (λ request. request.sender ≡ me) }
     ensures command { IfOk result (λ request. request.command ≡ what.now.command) }
     ensures machine { (offered : Offered) (items : List Item) → what.now.participant ≡ me → offered me items ≡ K.rows known.now
@@ -153,12 +167,12 @@ pub fn prepare<K: KnownContracts>(
         × (why_over setup.now.topology setup.now.checked offered what.now items now ≡ fault)) }
     ensures plain { IfErr result HoldsNoMemory }
 {
-    if let Some(party) = first_unhosted(&setup.topology, me, &what.act_as) {
+    if let Some(party) = first_unconfirmed(&setup.topology, me, &what.act_as) {
         return Err(SubmitFault::NotHosted { party });
     }
     let tx = wanted_tx(setup, natives, me, known, what, now)?;
     let alloc = *tx.roots.allocator();
-    let views = split(alloc, &setup.checked, &tx)?;
+    let views = views_for(alloc, &setup.checked, &tx)?;
     // the prover learns from this call that the formats have room
     let _sealable = is_sealable(&views);
     Ok(seal(alloc, &setup.topology, me, what.command, &views)?)

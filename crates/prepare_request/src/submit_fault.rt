@@ -9,11 +9,11 @@ use view_split::SplitFault;
 pub enum SubmitFault {
     /// The participant is paused.
     Paused,
-    /// The participant doesn't host a party that would act.
+    /// The participant doesn't confirm for a party that would act.
     NotHosted { party: Name },
     /// The commands give no transaction.
     Command { fault: CommandFault },
-    /// The transaction has no views.
+    /// The transaction has no views. Where it has no action either, the path is the empty one.
     Split { fault: SplitFault },
     /// The participant's command id stands in the log already, at `place`.
     Duplicate { place: u64 },
