@@ -1,13 +1,15 @@
 //! What the mediator's calls do, in terms of the log.
-ghost use Rattle.std.specs.Prelude.{◌≡◌, ◌<◌, ℕ, List, [], ◌∷◌, ◌++◌, Option, IfNone, IfSome};
+ghost use Rattle.std.specs.Prelude.{◌≡◌, ◌<◌, ℕ, List, [], ◌∷◌, ◌++◌, Option, None, IfNone, IfSome};
 ghost use Rattle.canton_model.specs.Log.{Params};
+ghost use Rattle.canton_model.specs.Mediation.{scan};
+ghost use Rattle.canton_model.specs.Timeline.{timeline_of, verdict_on};
 ghost use Rattle.world_model.specs.Messages.{Entry as EntryValue};
 ghost use Rattle.canton_model.specs.declared.verdict.Verdict.{Verdict as VerdictValue};
 ghost use Rattle.world_model.specs.Machine.{Machine, GenuineLog};
 ghost use Rattle.world_model.specs.Fits.{IsDecision};
 ghost use Rattle.world_model.specs.Mediator.{MediatorState, new_mediator, read_by_mediator, next_verdict, give_back};
 ghost use Rattle.world_model.specs.Places.{without_place};
-ghost use Rattle.mediator.specs.Kept.{Kept, Keeps, Knows, taken};
+ghost use Rattle.mediator.specs.Kept.{Kept, Keeps, Knows, known_decision, taken};
 ghost use Rattle.mediator.specs.Order.{HasGiven, IsFirstDue, NothingIsDue};
 
 /// What a mediator knows of the log that it has read: at first nothing, an entry more after each read, and the same after a
@@ -31,6 +33,11 @@ pub fn mediator_knows()
         → after.params ≡ before.params
         → ((state : MediatorState) → Keeps before state → Keeps after (give_back state k))
         → Knows m log after }
+    ensures decision { (m : Machine) (log : List EntryValue) (kept : Kept) (k : ℕ)
+        → GenuineLog m log
+        → Knows m log kept
+        → verdict_on k (timeline_of log) ≡ None
+        → known_decision k kept.cases ≡ scan m.params log k }
 {}
 
 /// What a mediator takes, by the log that it has read and the places of the requests whose verdicts count as taken: the decision on

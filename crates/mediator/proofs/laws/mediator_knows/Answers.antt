@@ -5,6 +5,7 @@ use Rattle.world_model.specs.Fits.{IsDecision}
 use Rattle.world_model.specs.Mediator.{next_verdict}
 use Rattle.mediator.specs.Kept.{Kept, Keeps, Knows, taken}
 use Rattle.mediator.specs.Order.{HasGiven}
+use Rattle.mediator.proofs.Known.{decision_is}
 use Rattle.mediator.proofs.Knowing.{known_new, known_read, known_first, known_none, known_back}
 use Rattle.mediator.proofs.laws.mediator_knows.Goals as goal
 
@@ -37,3 +38,6 @@ returns-clause-take c =
 pub returns-clause-give_back : goal.returns-clause-give_back
 returns-clause-give_back c = λ m log before after k knows same step.
     (known_back m log (knows.state).given before after (all_given m log before knows) same k step).knows
+
+pub returns-clause-decision : goal.returns-clause-decision
+returns-clause-decision c = decision_is
