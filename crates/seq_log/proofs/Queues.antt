@@ -1,9 +1,9 @@
 -- Rising lists of places.
-use Rattle.std.proofs.Common.{◌≡◌, ℕ, zero, suc, ◌<◌, ◌≤◌, Bool, true, false, not, List, [], ◌∷◌, ◌++◌, take, drop, length, Some, slice_get}
-use Rattle.std.proofs.Common.{refl, sym, ap, ◌∙◌, subst, inl, inr, arith, nat_eq, append-nil}
+use Rattle.std.proofs.Common.{◌≡◌, ◌≢◌, ℕ, zero, suc, ◌<◌, ◌≤◌, Bool, true, false, not, List, [], ◌∷◌, ◌++◌, take, drop, length, Some, slice_get}
+use Rattle.std.proofs.Common.{refl, sym, ap, ◌∙◌, subst, inl, inr, arith, nat_eq, ne_eqb, append-nil, le_refl}
 use Rattle.std.specs.Prelude.{◌&&◌, slice_index_or}
-use Rattle.std.specs.List.{filter, list_any}
-use Rattle.std.proofs.lemmas.Bool.{cases_Bool, eq-eqb, eqb-true, or_parts}
+use Rattle.std.specs.List.{AllWithin, filter}
+use Rattle.std.proofs.lemmas.Bool.{cases_Bool, cases_lt, eq-eqb, eqb-true}
 use Rattle.std.proofs.lemmas.List.Elements.{filter-append}
 use Rattle.std.proofs.lemmas.Option.{none-some, same_Some}
 use Rattle.world_model.specs.Messages.{Message}
@@ -89,6 +89,11 @@ item_at [] at x lt = absurd (omega (arith, lt))
 item_at (y ∷ ys) zero x lt = refl
 item_at (y ∷ ys) (suc at) x lt = item_at ys at x (omega (arith, lt))
 
+pub other_there : (xs : List ℕ) (at x r : ℕ) → at < length xs → x ≡ slice_index_or xs at x → x ≢ r → (d : ℕ) → slice_index_or xs at d ≢ r
+other_there [] at x r lt is other d = absurd (omega (arith, lt))
+other_there (y ∷ ys) zero x r lt is other d = λ same. other (is ∙ same)
+other_there (y ∷ ys) (suc at) x r lt is other d = other_there ys at x r (omega (arith, lt)) is other d
+
 -- one place goes
 others : (r low : ℕ) (xs : List ℕ) (high : ℕ) → RisesBetween low xs high → r < low → filter (λ k. not (nat_eq r k)) xs ≡ xs
 others r low xs high h lt = all_kept (λ k. not (nat_eq r k)) low xs high h (λ k le below. ap not (apart r k (omega (arith, le, lt))))
@@ -96,34 +101,54 @@ others r low xs high h lt = all_kept (λ k. not (nat_eq r k)) low xs high h (λ 
     apart : (a b : ℕ) → a < b → nat_eq a b ≡ false
     apart a b less = elim (cases_Bool (nat_eq a b)) [ inl e ↦ let same = eqb-true a b e in absurd (omega (arith, same, less)) | inr e ↦ e ]
 
-pub one_gone : (r low : ℕ) (xs : List ℕ) (high at : ℕ) → RisesBetween low xs high → list_any (nat_eq r) (take at xs) ≡ false → slice_get xs at ≡ Some r
+at_least : (r low : ℕ) (xs : List ℕ) (high at : ℕ) → RisesBetween low xs high → slice_get xs at ≡ Some r → low ≤ r
+at_least r low [] high at h found = absurd (none-some r found)
+at_least r low (x ∷ xs) high zero h found = let same : x ≡ r = same_Some x r found in let from = h.0 in omega (arith, from, same)
+at_least r low (x ∷ xs) high (suc at) h found =
+    let from = h.0 in let later = at_least r (suc x) xs high at h.1 found in omega (arith, from, later)
+
+pub one_gone : (r low : ℕ) (xs : List ℕ) (high at : ℕ) → RisesBetween low xs high → slice_get xs at ≡ Some r
     → take at xs ++ drop (suc at) xs ≡ filter (λ k. not (nat_eq r k)) xs
-one_gone r low [] high at h none found = absurd (none-some r found)
-one_gone r low (x ∷ xs) high zero h none found =
+one_gone r low [] high at h found = absurd (none-some r found)
+one_gone r low (x ∷ xs) high zero h found =
     let same : x ≡ r = same_Some x r found in
     let e : nat_eq r x ≡ true = eq-eqb r x (sym same) in
     rw e (sym (others r (suc x) xs high h.1 (omega (arith, same))))
-one_gone r low (x ∷ xs) high (suc at) h none found =
-    let apart = or_parts (nat_eq r x) (list_any (nat_eq r) (take at xs)) none in
-    let here = apart.0 in
-    rw here (ap (λ (ys : List ℕ). x ∷ ys) (one_gone r (suc x) xs high at h.1 apart.1 found))
+one_gone r low (x ∷ xs) high (suc at) h found =
+    let later = at_least r (suc x) xs high at h.1 found in
+    let here : nat_eq r x ≡ false = ne_eqb r x (λ e. omega (arith, later, e)) in
+    rw here (ap (λ (ys : List ℕ). x ∷ ys) (one_gone r (suc x) xs high at h.1 found))
 
-pub none_gone : (r : ℕ) (xs : List ℕ) → list_any (nat_eq r) xs ≡ false → xs ≡ filter (λ k. not (nat_eq r k)) xs
-none_gone r [] none = refl
-none_gone r (x ∷ xs) none =
-    let apart = or_parts (nat_eq r x) (list_any (nat_eq r) xs) none in
-    let here = apart.0 in
-    rw here (ap (λ (ys : List ℕ). x ∷ ys) (none_gone r xs apart.1))
+-- none goes, where all before a place are below it, all from there on are not, and it isn't the first of these
+pub none_gone : (r low : ℕ) (xs : List ℕ) (high at : ℕ) → RisesBetween low xs high → AllWithin (λ (k : ℕ). k < r) xs 0 at
+    → AllWithin (λ (k : ℕ). r ≤ k) xs at (length xs) → (at < length xs → (d : ℕ) → slice_index_or xs at d ≢ r)
+    → xs ≡ filter (λ k. not (nat_eq r k)) xs
+none_gone r low [] high at h less more other = refl
+none_gone r low (x ∷ xs) high zero h less more other =
+    elim (cases_lt r x) [
+      | inl lt ↦ sym (others r x (x ∷ xs) high (le_refl x, h.1) lt)
+      | inr le ↦ let from = more 0 0 (omega arith) (omega arith) in absurd (other (omega arith) 0 (omega (arith, le, from)))
+    ]
+none_gone r low (x ∷ xs) high (suc at) h less more other =
+    let below = less 0 0 (omega arith) (omega arith) in
+    let here : nat_eq r x ≡ false = ne_eqb r x (λ e. omega (arith, below, e)) in
+    rw here (ap (λ (ys : List ℕ). x ∷ ys)
+    (none_gone r (suc x) xs high at h.1 (λ i d from to. less (suc i) d (omega (arith, from)) (omega (arith, to)))
+    (λ i d from to. more (suc i) d (omega (arith, from)) (omega (arith, to))) (λ lt. other (omega (arith, lt)))))
 
-pub none_yet : (r : ℕ) (xs : List ℕ) (at k : ℕ) → list_any (nat_eq r) (take at xs) ≡ false → slice_get xs at ≡ Some k → nat_eq r k ≡ false
-    → list_any (nat_eq r) (take (suc at) xs) ≡ false
-none_yet r [] at k none there other = refl
-none_yet r (x ∷ xs) zero k none there other =
-    let here : nat_eq r x ≡ false = ap (nat_eq r) (same_Some x k there) ∙ other in rw here refl
-none_yet r (x ∷ xs) (suc at) k none there other =
-    let apart = or_parts (nat_eq r x) (list_any (nat_eq r) (take at xs)) none in
-    let here = apart.0 in
-    rw here (none_yet r xs at k apart.1 there other)
+above_low : (low high : ℕ) (xs : List ℕ) (j d : ℕ) → RisesBetween low xs high → j < length xs → low ≤ slice_index_or xs j d
+above_low low high [] j d h lt = absurd (omega (arith, lt))
+above_low low high (x ∷ xs) zero d h lt = h.0
+above_low low high (x ∷ xs) (suc j) d h lt =
+    let from = h.0 in let later = above_low (suc x) high xs j d h.1 (omega (arith, lt)) in omega (arith, from, later)
+
+pub in_order : (low high : ℕ) (xs : List ℕ) → RisesBetween low xs high → (i j d : ℕ) → i ≤ j → j < length xs
+    → slice_index_or xs i d ≤ slice_index_or xs j d
+in_order low high [] h i j d le lt = absurd (omega (arith, lt))
+in_order low high (x ∷ xs) h zero zero d le lt = omega arith
+in_order low high (x ∷ xs) h zero (suc j) d le lt = let later = above_low (suc x) high xs j d h.1 (omega (arith, lt)) in omega (arith, later)
+in_order low high (x ∷ xs) h (suc i) zero d le lt = absurd (omega (arith, le))
+in_order low high (x ∷ xs) h (suc i) (suc j) d le lt = in_order (suc x) high xs h.1 i j d (omega (arith, le)) (omega (arith, lt))
 
 -- a message that is no verdict
 pub kept_by : (xs : List ℕ) (message : Message) → ((k : ℕ) → is_verdict_on k message ≡ false) → filter (λ k. not (is_verdict_on k message)) xs ≡ xs

@@ -1,38 +1,53 @@
 -- What a message that isn't refused does to a log and to what is kept.
-use Rattle.std.proofs.Common.{◌≡◌, ℕ, ◌+◌, ◌≤◌, ◌^◌, List, [], ◌∷◌, ◌++◌, length, None, refl, sym, ap, ◌∙◌, subst, inl, inr, arith}
+use Rattle.std.proofs.Common.{◌≡◌, ℕ, ◌+◌, ◌≤◌, ◌^◌, Bool, List, [], ◌∷◌, ◌++◌, length, None, refl, sym, ap, ◌∙◌, subst, inl, inr, arith}
 use Rattle.std.specs.Prelude.{nat_lt}
 use Rattle.std.proofs.lemmas.Bool.{cases_Bool, ltb-false}
 use Rattle.std.proofs.lemmas.Option.{none-some}
 use Rattle.canton_model.specs.Log.{FollowsTime, Params}
-use Rattle.world_model.specs.Messages.{Entry, Message, RequestMessage, ResponseMessage, VerdictMessage, Tick}
+use Rattle.canton_model.specs.Timeline.{or_else}
+use Rattle.world_model.specs.Messages.{Entry, Message, Request, RequestMessage, ResponseMessage, VerdictMessage, Tick}
 use Rattle.world_model.specs.Machine.{Machine}
 use Rattle.world_model.specs.Fits.{MayStand}
 use Rattle.world_model.specs.Locks.{SequencerBehind}
-use Rattle.world_model.specs.Sequencing.{append_fault, entry_after, first_from, is_same, last_time, reserved, need_of}
-use Rattle.world_model.proofs.Appended.{no_fault, appended_keeps, appended_within}
+use Rattle.world_model.specs.Sequencing.{append_fault, entry_after, first_from, if_already, is_same, last_time, reserved, need_of}
+use Rattle.world_model.proofs.Appended.{behind_form, no_fault, appended_keeps, appended_within}
 use Rattle.log_row.specs.LogPrefix.{LogPrefix, extended}
-use Rattle.seq_log.specs.Faults.{fault_in, if_full, next_time}
+use Rattle.sealed_form.specs.Framed.{is_framed}
+use Rattle.seq_log.specs.Faults.{fault_in, if_full, next_time, request_fault}
 use Rattle.seq_log.specs.Sequenced.{Sequenced, IsFor}
 use Rattle.seq_log.specs.Slips.{Holds}
 use Rattle.seq_log.proofs.Sums.{time_is}
 use Rattle.seq_log.proofs.Slips.{holds_more}
 
--- the fault of a machine is told by its times and its capacity
-pub fault_of_machine : (m : Machine) (list : List Entry) (message : Message) → append_fault m list message ≡ fault_in m.capacity m.params list message
+-- the fault of a machine is told by its times, its capacity and what is framed there
+pub fault_of_machine : (m : Machine) (list : List Entry) (message : Message)
+    → append_fault m list message ≡ fault_in (m.reading).is_framed m.capacity m.params list message
 fault_of_machine m list (RequestMessage q) = refl
 fault_of_machine m list (ResponseMessage r) = refl
 fault_of_machine m list (VerdictMessage v) = refl
 fault_of_machine m list Tick = refl
 
-pub fault_is : (m : Machine) (s : Sequenced) (message : Message) → IsFor m s → append_fault m s.list message ≡ fault_in s.capacity s.params s.list message
+framed_alike : (f g : Request → Bool) (capacity : ℕ) (params : Params) (list : List Entry) (message : Message) → ((q : Request) → f q ≡ g q)
+    → fault_in f capacity params list message ≡ fault_in g capacity params list message
+framed_alike f g capacity params list (RequestMessage q) same =
+    ap (λ (b : Bool). or_else (if_already (first_from (is_same (RequestMessage q)) 0 list)) (request_fault b capacity (reserved list) (2 + length q.confirming)))
+    (same q)
+framed_alike f g capacity params list (ResponseMessage r) same = refl
+framed_alike f g capacity params list (VerdictMessage v) same = refl
+framed_alike f g capacity params list Tick same = refl
+
+pub fault_is : (m : Machine) (s : Sequenced) (message : Message) → IsFor m s
+    → append_fault m s.list message ≡ fault_in (is_framed s.topology) s.capacity (s.topology).params s.list message
 fault_is m s message is =
-    fault_of_machine m s.list message ∙ ap (λ (p : Params). fault_in m.capacity p s.list message) is.params
-    ∙ ap (λ (n : ℕ). fault_in n s.params s.list message) is.capacity
+    fault_of_machine m s.list message
+    ∙ (framed_alike (m.reading).is_framed (is_framed s.topology) m.capacity m.params s.list message is.framed
+    ∙ (ap (λ (p : Params). fault_in (is_framed s.topology) m.capacity p s.list message) is.params
+    ∙ ap (λ (n : ℕ). fault_in (is_framed s.topology) n (s.topology).params s.list message) is.capacity))
 
 -- it doesn't stand there
-pub is_new : (capacity : ℕ) (params : Params) (list : List Entry) (message : Message) → fault_in capacity params list message ≡ None
-    → first_from (is_same message) 0 list ≡ None
-is_new capacity params list message none = (no_fault (first_from (is_same message) 0 list) _ none).0
+pub is_new : (framed : Request → Bool) (capacity : ℕ) (params : Params) (list : List Entry) (message : Message)
+    → fault_in framed capacity params list message ≡ None → first_from (is_same message) 0 list ≡ None
+is_new framed capacity params list message none = (no_fault (first_from (is_same message) 0 list) _ none).0
 
 not_full : (capacity before need : ℕ) → if_full capacity before need ≡ None → before + need ≤ capacity
 not_full capacity before need h =
@@ -42,13 +57,14 @@ not_full capacity before need h =
     ]
 
 -- and there is room for it
-pub has_room : (capacity : ℕ) (params : Params) (list : List Entry) (message : Message) → reserved list ≤ capacity
-    → fault_in capacity params list message ≡ None → reserved list + need_of message ≤ capacity
-has_room capacity params list (RequestMessage q) le none =
-    not_full capacity (reserved list) (2 + length q.confirming) (no_fault (first_from (is_same (RequestMessage q)) 0 list) _ none).1
-has_room capacity params list (ResponseMessage r) le none = omega arith
-has_room capacity params list (VerdictMessage v) le none = omega arith
-has_room capacity params list Tick le none = omega arith
+pub has_room : (framed : Request → Bool) (capacity : ℕ) (params : Params) (list : List Entry) (message : Message) → reserved list ≤ capacity
+    → fault_in framed capacity params list message ≡ None → reserved list + need_of message ≤ capacity
+has_room framed capacity params list (RequestMessage q) le none =
+    not_full capacity (reserved list) (2 + length q.confirming)
+    (behind_form (framed q) _ None (λ same. cc) (no_fault (first_from (is_same (RequestMessage q)) 0 list) _ none).1)
+has_room framed capacity params list (ResponseMessage r) le none = omega arith
+has_room framed capacity params list (VerdictMessage v) le none = omega arith
+has_room framed capacity params list Tick le none = omega arith
 
 pub time_within : (now : ℕ) (message : Message) (last long : ℕ) → now ≤ 10 ^ 16 → last ≤ 10 ^ 16 + long → next_time now message last ≤ 10 ^ 16 + (long + 1)
 time_within now (RequestMessage q) last long le h = omega arith
@@ -77,7 +93,7 @@ entry_is now time last list message t l = ap (λ (n : ℕ). entry_at n) (t ∙ a
     entry_at n = record { time = n; message = message }
 
 pub behind_after : (m : Machine) (now : ℕ) (s : Sequenced) (message : Message) (new : List Entry) → IsFor m s → SequencerBehind m s.list
-    → MayStand m s.list message → fault_in s.capacity s.params s.list message ≡ None → new ≡ s.list ++ entry_after now s.list message ∷ []
+    → MayStand m s.list message → fault_in (is_framed s.topology) s.capacity (s.topology).params s.list message ≡ None → new ≡ s.list ++ entry_after now s.list message ∷ []
     → SequencerBehind m new
 behind_after m now s message new is behind may none more =
     let free = fault_is m s message is ∙ none in

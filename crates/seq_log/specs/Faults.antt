@@ -1,8 +1,9 @@
--- Which messages a log of this capacity and these times takes, and when. In words of the world model, without a machine.
-use Rattle.std.specs.Prelude.{◌≡◌, ℕ, ◌+◌, List, Option, Some, None, length, nat_lt, max, if◌then◌else◌}
+-- Which messages a log of this capacity and these times takes, where `framed` tells which requests are framed, and when. In words
+-- of the world model, without a machine.
+use Rattle.std.specs.Prelude.{◌≡◌, ℕ, ◌+◌, Bool, List, Option, Some, None, length, nat_lt, max, if◌then◌else◌}
 use Rattle.canton_model.specs.Log.{Params}
 use Rattle.canton_model.specs.Timeline.{or_else}
-use Rattle.world_model.specs.Messages.{Entry, Message, RequestMessage, ResponseMessage, VerdictMessage, Tick}
+use Rattle.world_model.specs.Messages.{Entry, Message, Request, RequestMessage, ResponseMessage, VerdictMessage, Tick}
 use Rattle.world_model.specs.Sequencing as s
 use Rattle.seq_log.specs.Keys.{is_key}
 use Rattle.seq_log.specs.declared.key.Key.{Key}
@@ -21,11 +22,16 @@ next_time now (VerdictMessage verdict) last = last + 1
 abbrev pub if_full : (capacity reserved need : ℕ) → Option s.AppendFault
 if_full capacity reserved need = if nat_lt capacity (reserved + need) then Some (s.LogFull reserved need) else None
 
-abbrev pub other_fault : (capacity : ℕ) → Params → List Entry → Message → Option s.AppendFault
-other_fault capacity params list (RequestMessage request) = if_full capacity (s.reserved list) (2 + length request.confirming)
-other_fault capacity params list (ResponseMessage response) = s.if_late params list response.request
-other_fault capacity params list (VerdictMessage verdict) = s.if_late params list verdict.request
-other_fault capacity params list Tick = None
+abbrev pub request_fault : (framed : Bool) (capacity reserved need : ℕ) → Option s.AppendFault
+request_fault framed capacity reserved need = if framed then if_full capacity reserved need else Some s.Unframed
 
-abbrev pub fault_in : (capacity : ℕ) → Params → List Entry → Message → Option s.AppendFault
-fault_in capacity params list message = or_else (s.if_already (s.first_from (s.is_same message) 0 list)) (other_fault capacity params list message)
+abbrev pub other_fault : (framed : Request → Bool) (capacity : ℕ) → Params → List Entry → Message → Option s.AppendFault
+other_fault framed capacity params list (RequestMessage request) =
+    request_fault (framed request) capacity (s.reserved list) (2 + length request.confirming)
+other_fault framed capacity params list (ResponseMessage response) = s.if_late params list response.request
+other_fault framed capacity params list (VerdictMessage verdict) = s.if_late params list verdict.request
+other_fault framed capacity params list Tick = None
+
+abbrev pub fault_in : (framed : Request → Bool) (capacity : ℕ) → Params → List Entry → Message → Option s.AppendFault
+fault_in framed capacity params list message =
+    or_else (s.if_already (s.first_from (s.is_same message) 0 list)) (other_fault framed capacity params list message)

@@ -10,4 +10,6 @@ mod place;
 mod sequencer;
 
 pub use fault::{AppendFault, AppendRefusal};
+pub use key::{Key, key_of};
+pub use place::{place_of, put_place, stands};
 pub use sequencer::Sequencer;

@@ -1,5 +1,5 @@
 //! What is kept beside the log.
-ghost use Rattle.std.specs.Prelude.{◌≡◌, ◌+◌, ◌<◌, ◌≤◌, ◌^◌, ◌++◌, ◌∷◌, [], ℕ, List, None, length, OnOk};
+ghost use Rattle.std.specs.Prelude.{◌≡◌, ◌+◌, ◌<◌, ◌≤◌, ◌^◌, ◌++◌, ◌∷◌, [], ℕ, List, None, length, IfOk, OnErr, OnOk};
 ghost use Rattle.std.specs.List.{list_any};
 ghost use Rattle.std.specs.VecDeque.{deque_len, deque_capacity};
 ghost use Rattle.indexmap.specs.IndexMap.{spare};
@@ -9,9 +9,10 @@ ghost use Rattle.log_row.specs.LogPrefix.{LogPrefix};
 ghost use Rattle.world_model.specs.Messages.{Entry};
 ghost use Rattle.world_model.specs.Sequencing as s;
 ghost use Rattle.seq_log.specs.Keys.{key_of};
-ghost use Rattle.seq_log.specs.Faults.{next_time, fault_in, other_fault};
+ghost use Rattle.sealed_form.specs.Framed.{is_framed};
+ghost use Rattle.seq_log.specs.Faults.{next_time, fault_in, other_fault, request_fault};
 ghost use Rattle.seq_log.specs.Indexed.{IsIndexOf};
-ghost use Rattle.seq_log.specs.Sequenced.{fault_if};
+ghost use Rattle.seq_log.specs.Sequenced.{LeftOpen, fault_if};
 ghost use Rattle.seq_log.specs.Slips.{Holds};
 
 use crate::fault::AppendFault;
@@ -19,11 +20,12 @@ use crate::key::Key;
 use crate::late::{if_full, if_late};
 use crate::open_requests::OpenRequests;
 use crate::place::{place_of, put_place, stands};
-use canton_model::Message;
+use canton_model::{Message, Request};
+use framed_form::framed;
 use indexmap::IndexMap;
-use ledger_terms::{Params, ParticipantId};
+use ledger_terms::{Params, ParticipantId, Topology};
 use log_row::Slip;
-use std::alloc::AllocError;
+use std::alloc::{AllocError, Global};
 
 /// The times and the capacity of a log, where its messages stand, its open requests, what was spent, and the time of its last entry.
 #[derive(Drop)]
@@ -52,39 +54,84 @@ pub fn need_of(message: &Message) -> u64
     ensures { result ≡ s.need_of message.now }
 {
     match message {
-        Message::Request(request) => request.confirming.as_slice().len() as u64 + 2,
+        Message::Request(request) => need_of_request(request),
         _ => 0,
     }
 }
 
+// What a request adds to what was spent.
+fn need_of_request(request: &Request) -> u64
+    ensures { result ≡ 2 + length request.now.confirming }
+{
+    request.confirming.as_slice().len() as u64 + 2
+}
+
 impl LogIndex {
+    // Why the request isn't appended, where it doesn't stand in the log.
+    fn request_fault(
+        &self,
+        alloc: Global,
+        topology: &Topology,
+        request: &Request,
+    ) -> Result<Option<AppendFault>, AllocError>
+        requires hosts { length topology.now.hosts ≤ 256 }
+        requires reserved { self.now.reserved ≤ self.now.capacity }
+        ensures { IfOk result (λ fault. request_fault (is_framed topology.now request.now) self.now.capacity self.now.reserved
+            (2 + length request.now.confirming) ≡ fault_if fault) }
+    {
+        let full = if_full(self.capacity, self.reserved, need_of_request(request));
+        if !framed(alloc, topology, request)? {
+            return Ok(Some(AppendFault::Unframed));
+        }
+        Ok(full)
+    }
+
     // Why the message isn't appended, where it doesn't stand in the log.
-    fn other_fault(&self, slips: &Vec<Slip<'_>>, message: &Message) -> Option<AppendFault>
+    fn other_fault(
+        &self,
+        alloc: Global,
+        topology: &Topology,
+        slips: &Vec<Slip<'_>>,
+        message: &Message,
+    ) -> Result<Option<AppendFault>, AllocError>
+        requires hosts { length topology.now.hosts ≤ 256 }
         requires reserved { self.now.reserved ≤ self.now.capacity }
         requires last { self.now.last + 1 < 2 ^ 64 }
-        ensures { (t : LogPrefix) → Holds t slips.now.items → IsIndexOf self.now t.list
-            → other_fault self.now.capacity self.now.params t.list message.now ≡ fault_if result }
+        ensures ok { IfOk result (λ fault. (t : LogPrefix) → Holds t slips.now.items → IsIndexOf self.now t.list
+            → other_fault (is_framed topology.now) self.now.capacity self.now.params t.list message.now ≡ fault_if fault) }
+        ensures err { OnErr result ((t : LogPrefix) → LeftOpen (other_fault (is_framed topology.now) self.now.capacity self.now.params t.list message.now)) }
     {
         match message {
-            Message::Request(_) => if_full(self.capacity, self.reserved, need_of(message)),
+            Message::Request(request) => self.request_fault(alloc, topology, request),
             Message::Response(response) => {
-                if_late(slips, &self.params, self.last, response.request)
+                Ok(if_late(slips, &self.params, self.last, response.request))
             }
-            Message::Verdict(verdict) => if_late(slips, &self.params, self.last, verdict.request),
-            Message::Tick => None,
+            Message::Verdict(verdict) => {
+                Ok(if_late(slips, &self.params, self.last, verdict.request))
+            }
+            Message::Tick => Ok(None),
         }
     }
 
     /// Why the message isn't appended, by the first cause.
-    pub fn fault(&self, slips: &Vec<Slip<'_>>, message: &Message) -> Option<AppendFault>
+    pub fn fault(
+        &self,
+        alloc: Global,
+        topology: &Topology,
+        slips: &Vec<Slip<'_>>,
+        message: &Message,
+    ) -> Result<Option<AppendFault>, AllocError>
+        requires hosts { length topology.now.hosts ≤ 256 }
         requires reserved { self.now.reserved ≤ self.now.capacity }
         requires last { self.now.last + 1 < 2 ^ 64 }
-        ensures { (t : LogPrefix) → Holds t slips.now.items → IsIndexOf self.now t.list
-            → fault_in self.now.capacity self.now.params t.list message.now ≡ fault_if result }
+        ensures ok { IfOk result (λ fault. (t : LogPrefix) → Holds t slips.now.items → IsIndexOf self.now t.list
+            → fault_in (is_framed topology.now) self.now.capacity self.now.params t.list message.now ≡ fault_if fault) }
+        ensures err { OnErr result ((t : LogPrefix) → IsIndexOf self.now t.list
+            → LeftOpen (fault_in (is_framed topology.now) self.now.capacity self.now.params t.list message.now)) }
     {
         match place_of(&self.places, message) {
-            Some(place) => Some(AppendFault::Already { place }),
-            None => self.other_fault(slips, message),
+            Some(place) => Ok(Some(AppendFault::Already { place })),
+            None => self.other_fault(alloc, topology, slips, message),
         }
     }
 

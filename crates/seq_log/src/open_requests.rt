@@ -52,11 +52,9 @@ impl OpenRequests {
         ensures places { (low high : ℕ) → RisesBetween low self.old.places.items high
             → self.new.places.items ≡ filter (λ k. not (nat_eq request k)) self.old.places.items }
     {
-        'places: for at in 0..self.places.len() {
-            if self.places[at] == request {
-                let _ = self.places.remove(at);
-                return;
-            }
+        let at = self.places.partition_point(|place| *place < request);
+        if at < self.places.len() && self.places[at] == request {
+            let _ = self.places.remove(at);
         }
     }
 

@@ -12,7 +12,7 @@ ghost use Rattle.world_model.specs.Fits.{MayStand};
 ghost use Rattle.world_model.specs.Locks.{SequencerBehind};
 ghost use Rattle.seq_log.specs.Indexed.{IsIndexOf};
 ghost use Rattle.seq_log.specs.OpenRequests.{open_requests};
-ghost use Rattle.seq_log.specs.Sequenced.{IsFor, prefix_of, cause_of};
+ghost use Rattle.seq_log.specs.Sequenced.{IsFor, LeftOpen, prefix_of, cause_of};
 ghost use Rattle.seq_log.specs.Slips.{prefix_to};
 ghost use mathlib.Core.List.{IsPrefix};
 
@@ -22,7 +22,7 @@ use crate::log_index::{LogIndex, need_of, next_time};
 use crate::open_requests::OpenRequests;
 use canton_model::{Entry, Message};
 use indexmap::IndexMap;
-use ledger_terms::{Params, ParticipantId};
+use ledger_terms::{Params, ParticipantId, Topology};
 use log_row::{LogRow, Pen, Slip};
 use std::alloc::{AllocError, Global};
 use std::collections::VecDeque;
@@ -31,6 +31,7 @@ use std::marker::Model;
 /// The writer of a log, which hands out a slip for each place.
 #[derive(Drop)]
 pub struct Sequencer<'r> {
+    topology: &'r Topology,
     pen: Pen<'r>,
     slips: Vec<Slip<'r>>,
     index: LogIndex,
@@ -45,10 +46,10 @@ impl<'r> Model for Sequencer<'r> {
     ghost use Rattle.seq_log.specs.Indexed.{IsIndexOf};
     ghost use Rattle.seq_log.specs.Slips.{Holds};
 
-    ghost view = { λ s. record { row = s.pen.row; list = s.pen.list; capacity = s.index.capacity; params = s.index.params } };
+    ghost view = { λ s. record { row = s.pen.row; list = s.pen.list; capacity = s.index.capacity; topology = s.topology.now } };
 
     ghost invariant = { λ s. Holds s.pen s.slips.items × IsIndexOf s.index s.pen.list × (s.index.reserved ≤ s.index.capacity)
-        × (s.index.last ≤ 10 ^ 16 + length s.pen.list) };
+        × (s.index.last ≤ 10 ^ 16 + length s.pen.list) × (s.index.params ≡ s.topology.now.params) × (length s.topology.now.hosts ≤ 256) };
 }
 
 // Room for one more slip, one more place and one more open request.
@@ -66,21 +67,23 @@ fn make_room(slips: &mut Vec<Slip<'_>>, index: &mut LogIndex) -> Result<(), Allo
 
 impl<'r> Sequencer<'r> {
     /// A sequencer of a new and empty log in `row`. `capacity` is how many entries its requests may need in all: two for a request
-    /// and one for each confirming participant.
+    /// and one for each confirming participant. The topology tells the times, and which requests are framed.
     pub fn new(
         alloc: Global,
         row: &'r mut LogRow,
         capacity: u64,
-        params: Params,
+        topology: &'r Topology,
     ) -> Result<Sequencer<'r>, AllocError>
-        ensures { IfOk result (λ q. q ≡ record { row = row.old; list = []; capacity = capacity; params = params }) }
+        requires { length topology.now.hosts ≤ 256 }
+        ensures { IfOk result (λ q. q ≡ record { row = row.old; list = []; capacity = capacity; topology = topology.now }) }
     {
         let pen = row.open()?;
         Ok(Sequencer {
+            topology,
             pen,
             slips: Vec::new(alloc),
             index: LogIndex {
-                params,
+                params: topology.params,
                 capacity,
                 places: IndexMap::new(alloc),
                 open_requests: OpenRequests {
@@ -96,18 +99,30 @@ impl<'r> Sequencer<'r> {
     /// `now`, in microseconds, where it is later. After a refusal all is as before, and the message comes back.
     pub fn append(&mut self, message: Message, now: u64) -> Result<Slip<'r>, AppendRefusal>
         requires { now ≤ 10 ^ 16 }
-        ensures made { (self.new.row ≡ self.old.row) × (self.new.capacity ≡ self.old.capacity) × (self.new.params ≡ self.old.params) }
+        ensures made { (self.new.row ≡ self.old.row) × (self.new.capacity ≡ self.old.capacity) × (self.new.topology ≡ self.old.topology) }
         ensures ok { OnOk result ((m : Machine) → IsFor m self.old → s.append_fault m self.old.list message ≡ None) }
         ensures entry { OnOk result (self.new.list ≡ self.old.list ++ s.entry_after now self.old.list message ∷ []) }
         ensures slip { IfOk result (λ slip. slip ≡ prefix_of self.new) }
         ensures err { OnErr result (self.new ≡ self.old) }
         ensures message { IfErr result (λ refusal. refusal.message ≡ message) }
-        ensures cause { IfErr result (λ refusal. (m : Machine) → IsFor m self.old → s.append_fault m self.old.list message ≡ cause_of refusal.fault) }
+        ensures cause { IfErr result (λ refusal. (m : Machine) → IsFor m self.old
+            → IfSome (cause_of refusal.fault) (λ cause. s.append_fault m self.old.list message ≡ Some cause)) }
+        ensures memory { IfErr result (λ refusal. (m : Machine) → IsFor m self.old
+            → IfNone (cause_of refusal.fault) (LeftOpen (s.append_fault m self.old.list message))) }
         ensures behind { (m : Machine) → IsFor m self.old → SequencerBehind m self.old.list → MayStand m self.old.list message
             → SequencerBehind m self.new.list }
     {
-        if let Some(fault) = self.index.fault(&self.slips, &message) {
-            return Err(AppendRefusal { fault, message });
+        let alloc = *self.slips.allocator();
+        match self
+            .index
+            .fault(alloc, self.topology, &self.slips, &message)
+        {
+            Ok(None) => {}
+            Ok(Some(fault)) => return Err(AppendRefusal { fault, message }),
+            Err(AllocError) => {
+                let fault = AppendFault::Memory;
+                return Err(AppendRefusal { fault, message });
+            }
         }
         if make_room(&mut self.slips, &mut self.index).is_err() {
             let fault = AppendFault::Memory;
@@ -152,7 +167,7 @@ impl<'r> Sequencer<'r> {
 
     /// The places of the requests that are undecided in the whole log, in rising order.
     pub fn open_requests(&self) -> &VecDeque<u64>
-        ensures { result.now.items ≡ open_requests self.now.params self.now.list }
+        ensures { result.now.items ≡ open_requests self.now.topology.params self.now.list }
     {
         &self.index.open_requests.places
     }
@@ -164,11 +179,11 @@ impl<'r> Sequencer<'r> {
         self.index.has_response(request, from)
     }
 
-    /// The times that the log was made with.
+    /// The times of the topology.
     pub fn params(&self) -> &Params
-        ensures { result.now ≡ self.now.params }
+        ensures { result.now ≡ self.now.topology.params }
     {
-        &self.index.params
+        &self.topology.params
     }
 
     /// Tells that the slip's list begins the log.
