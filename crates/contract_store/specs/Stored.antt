@@ -18,14 +18,14 @@ pub record Stored : Type 0 where
   pub rows : List StoreRow
   -- those that were not released, in the order in which they came
   pub holds : List Hold
-  -- the ids and salts for which there is room
+  -- the ids for which there is room
   pub ready : List Hash
   -- how many more changes take no memory
   pub spare : ℕ
   -- how many holds are kept, those that were released too
   pub kept : ℕ
 
--- whether the id or salt is among those made ready
+-- whether the id is among those made ready
 abbrev pub is_ready : List Hash → Hash → Bool
 is_ready ready c = list_any (bytes_eq c) ready
 

@@ -10,26 +10,16 @@ use crate::keys::Behind;
 use crate::lookup::add_key;
 use crate::row::KeptRow;
 use indexmap::IndexMap;
-use ledger_terms::{Hash, Known, KnownList};
+use ledger_terms::{Hash, KnownList};
 use std::alloc::AllocError;
 
-/// Puts the id and the salt of a contract into the map.
-fn add_pair(ids: &mut IndexMap<Hash, Behind>, known: &Known) -> Result<(), AllocError>
-    ensures grows { Grows (λ c. get bytes_eq ids.old c) (λ c. get bytes_eq ids.new c) }
-    ensures added { OnOk result (IsSome (get bytes_eq ids.new known.now.id) × IsSome (get bytes_eq ids.new known.now.salt)) }
-{
-    add_key(ids, known.id)?;
-    add_key(ids, known.salt)?;
-    Ok(())
-}
-
-/// Puts the ids and the salts of contracts into the map.
+/// Puts the ids of contracts into the map.
 fn add_known(ids: &mut IndexMap<Hash, Behind>, known: &KnownList) -> Result<(), AllocError>
     ensures grows { Grows (λ c. get bytes_eq ids.old c) (λ c. get bytes_eq ids.new c) }
-    ensures added { OnOk result (All (λ k. IsSome (get bytes_eq ids.new k.id) × IsSome (get bytes_eq ids.new k.salt)) known.now) }
+    ensures added { OnOk result (All (λ k. IsSome (get bytes_eq ids.new k.id)) known.now) }
 {
     'known: for k in known.as_slice() {
-        add_pair(ids, k)?;
+        add_key(ids, k.id)?;
     }
     Ok(())
 }
@@ -45,14 +35,14 @@ fn add_hashes(ids: &mut IndexMap<Hash, Behind>, hashes: &HashList) -> Result<(),
     Ok(())
 }
 
-/// Puts the ids and the salts of contracts, and ids, into the map.
+/// Puts the ids of contracts, and ids, into the map.
 pub fn add_all(
     ids: &mut IndexMap<Hash, Behind>,
     known: &KnownList,
     hashes: &HashList,
 ) -> Result<(), AllocError>
     ensures grows { Grows (λ c. get bytes_eq ids.old c) (λ c. get bytes_eq ids.new c) }
-    ensures known { OnOk result (All (λ k. IsSome (get bytes_eq ids.new k.id) × IsSome (get bytes_eq ids.new k.salt)) known.now) }
+    ensures known { OnOk result (All (λ k. IsSome (get bytes_eq ids.new k.id)) known.now) }
     ensures hashes { OnOk result (All (λ h. IsSome (get bytes_eq ids.new h)) hashes.now) }
 {
     add_known(ids, known)?;

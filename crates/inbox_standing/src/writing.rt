@@ -1,26 +1,12 @@
 //! Changes and holds are put into a store.
-ghost use Rattle.std.specs.Prelude.{◌≡◌, ◌++◌, ◌+◌, ◌<◌, ◌≤◌, true, All, length, map, IfOk, OnOk};
+ghost use Rattle.std.specs.Prelude.{◌≡◌, ◌++◌, ◌+◌, ◌<◌, ◌≤◌, true, All, length, map, OnOk};
 ghost use Rattle.contract_store.specs.Stored.{is_ready};
 ghost use Rattle.inbox_standing.specs.ChangeLists.{hold_on, write_change, write_changes};
-ghost use Rattle.inbox_standing.specs.Room.{HasRoom, IsPrepared, keys_in};
+ghost use Rattle.inbox_standing.specs.Room.{HasRoom, IsPrepared};
 
 use crate::change::Change;
 use contract_store::{HashList, Store};
-use ledger_terms::KnownList;
-use std::alloc::{AllocError, Global};
-
-// The ids and the salts of the contracts.
-fn keys_of(alloc: Global, changes: &Vec<Change>) -> Result<HashList, AllocError>
-    ensures { IfOk result (λ keys. keys ≡ keys_in changes.now.items) }
-{
-    let count = changes.len();
-    let mut keys = HashList::with_room(alloc, count.saturating_add(count))?;
-    for change in changes.iter() {
-        keys.push(change.known.id)?;
-        keys.push(change.known.salt)?;
-    }
-    Ok(keys)
-}
+use std::alloc::AllocError;
 
 /// Makes room in a store for these changes.
 pub fn make_room(store: &mut Store, changes: &Vec<Change>) -> Result<(), AllocError>
@@ -28,8 +14,11 @@ pub fn make_room(store: &mut Store, changes: &Vec<Change>) -> Result<(), AllocEr
     ensures holds { store.new.holds ≡ store.old.holds }
     ensures room { OnOk result (HasRoom store.new.ready store.new.spare changes.now.items) }
 {
-    let keys = keys_of(*changes.allocator(), changes)?;
-    store.reserve(&KnownList::new(*changes.allocator()), &keys)
+    store.make_room(changes.len())?;
+    for change in changes.iter() {
+        store.make_ready(&change.known.id)?;
+    }
+    Ok(())
 }
 
 // One change by the request at a place.

@@ -1,7 +1,9 @@
 -- Places in rising order.
-use Rattle.std.proofs.Common.{◌≡◌, ℕ, zero, suc, ◌<◌, ◌≤◌, List, [], ◌∷◌, length, get_or, refl, ap, arith}
+use Rattle.std.proofs.Common.{◌≡◌, ℕ, zero, suc, ◌<◌, ◌≤◌, List, [], ◌∷◌, length, get_or, refl, sym, ap, inl, inr, arith}
 use Rattle.std.specs.Prelude.{insert, remove}
-use Rattle.std.proofs.lemmas.Bool.{le-leb, lt-leb, eq-eqb, ne_eqb}
+use Rattle.std.proofs.lemmas.Bool.{cases_lt, le-leb, lt-leb, eq-eqb, ne_eqb}
+use Rattle.std.specs.List.Sorted.{IsNonDecreasing}
+use Rattle.std.proofs.lemmas.List.Sorted.{IsNonDecreasingBy-from_default}
 use Rattle.request_track.specs.Pairs.{in_place, without, NotBelow, Rising}
 
 pub inserted : (p : ℕ) (xs : List ℕ) (i : ℕ) → i ≤ length xs → ((k : ℕ) → k < i → get_or xs k 0 < p) → (i < length xs → p ≤ get_or xs i 0)
@@ -34,3 +36,18 @@ risen (x ∷ xs) zero zero r order within = omega arith
 risen (x ∷ xs) zero (suc i) r order within = at_least x xs i r.0 (omega arith)
 risen (x ∷ xs) (suc k) zero r order within = absurd (omega arith)
 risen (x ∷ xs) (suc k) (suc i) r order within = risen xs k i r.1 (omega arith) (omega arith)
+
+pub non_decreasing : (xs : List ℕ) → Rising xs → IsNonDecreasing xs
+non_decreasing xs r = IsNonDecreasingBy-from_default (λ x. x) xs 0 (λ i j le lt. risen xs i j r le lt)
+
+-- a place that is found behind all smaller ones
+pub removed_at : (p : ℕ) (xs : List ℕ) (i : ℕ) → i < length xs → ((k : ℕ) → k < i → get_or xs k 0 < p) → get_or xs i 0 ≡ p → remove xs i ≡ without p xs
+removed_at p xs i within low here = removed p xs i within (λ k h e. let l = low k h in omega (arith, l, e)) (sym here)
+
+-- and one that isn't there
+pub absent : (p : ℕ) (xs : List ℕ) (i : ℕ) → Rising xs → ((k : ℕ) → k < i → get_or xs k 0 < p) → (i < length xs → p < get_or xs i 0) → without p xs ≡ xs
+absent p xs i r low high =
+    not_there p xs (λ k h e. elim (cases_lt k i) [
+      | inl lt ↦ (let l = low k lt in omega (arith, l, e))
+      | inr ge ↦ (let up = risen xs i k r (omega (arith, ge)) h in let more = high (omega (arith, ge, h)) in omega (arith, up, more, e))
+    ])

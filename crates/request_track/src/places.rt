@@ -10,22 +10,23 @@ fn place_at(places: &Vec<u64>, at: usize) -> u64
     places[at]
 }
 
-// Where a place belongs: in front of the first that isn't smaller. It is looked for from the back, where a new request's place
-// belongs.
+// How many of the places are smaller than one.
+fn count_below(places: &[u64], place: u64) -> usize
+    requires { Rising places.now }
+    ensures within { result ≤ length places.now }
+    ensures below { (k : ℕ) → k < result → get_or places.now k 0 < place }
+    ensures above { (k : ℕ) → result ≤ k → k < length places.now → place ≤ get_or places.now k 0 }
+{
+    places.partition_point(|there| *there < place)
+}
+
+// Where a place belongs: in front of the first that isn't smaller.
 fn place_for(places: &Vec<u64>, place: u64) -> usize
     requires { Rising places.now.items }
     ensures within { result ≤ vec_len places.now }
     ensures parts { insert places.now.items result place ≡ in_place place places.now.items }
 {
-    let mut at = places.len();
-    'back: while at > 0 {
-        let last = place_at(places, at - 1);
-        if last < place {
-            return at;
-        }
-        at -= 1;
-    }
-    0
+    count_below(places.as_slice(), place)
 }
 
 /// One more place, in the room that is there.
@@ -42,19 +43,25 @@ pub fn insert_place(places: &mut Vec<u64>, place: u64)
 
 // Where a place stands.
 fn place_of(places: &Vec<u64>, place: u64) -> Option<usize>
+    requires { Rising places.now.items }
     ensures { MatchOption result (without place places.now.items ≡ places.now.items)
         (λ at. (at < vec_len places.now) × (remove places.now.items at ≡ without place places.now.items)) }
 {
-    'forth: for (at, there) in places.iter().enumerate() {
-        if place == *there {
-            return Some(at);
-        }
+    let count = places.len();
+    let at = count_below(places.as_slice(), place);
+    if at == count {
+        return None;
+    }
+    let there = place_at(places, at);
+    if there == place {
+        return Some(at);
     }
     None
 }
 
 /// Without a place.
 pub fn remove_place(places: &mut Vec<u64>, place: u64)
+    requires { Rising places.old.items }
     ensures places { places.new.items ≡ without place places.old.items }
     ensures len { vec_len places.new ≤ vec_len places.old }
     ensures capacity { vec_capacity places.new ≡ vec_capacity places.old }
@@ -88,6 +95,7 @@ pub fn insert_if(places: &mut Vec<u64>, wanted: bool, place: u64)
 
 /// Without a place, if it is to go.
 pub fn remove_if(places: &mut Vec<u64>, wanted: bool, place: u64)
+    requires { Rising places.old.items }
     ensures places { places.new.items ≡ drop_if wanted place places.old.items }
     ensures len { vec_len places.new ≤ vec_len places.old }
     ensures capacity { vec_capacity places.new ≡ vec_capacity places.old }

@@ -11,17 +11,14 @@ pub known-preserved : goal.known-preserved
 known-preserved c =
     let within : c.known.k-index < length c.args.known.now = grind (arith, common_steps) in
     record {
-      grows = grows_more (λ q. get bytes_eq c.args.ids.now q) (λ q. get bytes_eq c.known.ids q) (λ q. get bytes_eq c.add_pair.new.ids q)
-          c.known.invariant.grows c.in_ok-add_pair.ensures.grows;
-      added = all_more (λ (k : Known). IsSome (get bytes_eq c.known.ids k.id) × IsSome (get bytes_eq c.known.ids k.salt))
-          (λ (k : Known). IsSome (get bytes_eq c.add_pair.new.ids k.id) × IsSome (get bytes_eq c.add_pair.new.ids k.salt))
-          c.args.known.now c.known.k-index c.k-item.result
-          (λ k h. (c.in_ok-add_pair.ensures.grows.kept k.id h.0, c.in_ok-add_pair.ensures.grows.kept k.salt h.1)) within
-          (rw c.as_slice-k-items.ensures at c.k-item.is) c.known.invariant.added c.in_ok-add_pair.ensures.added;
+      grows = grows_more (λ q. get bytes_eq c.args.ids.now q) (λ q. get bytes_eq c.known.ids q) (λ q. get bytes_eq c.add_key.new.ids q)
+          c.known.invariant.grows c.in_ok-add_key.ensures.grows;
+      added = all_more (λ (k : Known). IsSome (get bytes_eq c.known.ids k.id)) (λ (k : Known). IsSome (get bytes_eq c.add_key.new.ids k.id))
+          c.args.known.now c.known.k-index c.k-item.result (λ k there. c.in_ok-add_key.ensures.grows.kept k.id there) within
+          (rw c.as_slice-k-items.ensures at c.k-item.is) c.known.invariant.added c.in_ok-add_key.ensures.added;
     }
 
 pub returns-clause-added : goal.returns-clause-added
 returns-clause-added c =
     let past : length c.args.known.now ≤ c.known.k-index = grind (arith, common_steps) in
-    all_done (λ (k : Known). IsSome (get bytes_eq c.known.ids k.id) × IsSome (get bytes_eq c.known.ids k.salt)) c.args.known.now c.known.k-index past
-    c.known.invariant.added
+    all_done (λ (k : Known). IsSome (get bytes_eq c.known.ids k.id)) c.args.known.now c.known.k-index past c.known.invariant.added

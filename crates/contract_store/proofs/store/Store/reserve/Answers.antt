@@ -53,9 +53,8 @@ returns-clause-ready c = λ q h.
 pub returns-clause-known : goal.returns-clause-known
 returns-clause-known c =
     on_ok_weaker c.add_all.result
-    (All-weaker (λ (k : Known). IsSome (get bytes_eq c.add_all.new.ids k.id) × IsSome (get bytes_eq c.add_all.new.ids k.salt))
-    (λ (k : Known). (is_ready (keys c.add_all.new.ids) k.id ≡ true) × (is_ready (keys c.add_all.new.ids) k.salt ≡ true))
-    (λ k h. (there_ready c.add_all.new.ids k.id h.0, there_ready c.add_all.new.ids k.salt h.1)) c.args.known.now)
+    (All-weaker (λ (k : Known). IsSome (get bytes_eq c.add_all.new.ids k.id)) (λ (k : Known). is_ready (keys c.add_all.new.ids) k.id ≡ true)
+    (λ k h. there_ready c.add_all.new.ids k.id h) c.args.known.now)
     c.add_all.ensures.known
 
 pub returns-clause-ids : goal.returns-clause-ids
