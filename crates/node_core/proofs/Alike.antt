@@ -17,16 +17,14 @@ use Rattle.world_model.proofs.NodeFacts.{first_from_is, inbox_length}
 use Rattle.world_model.proofs.Steps.{has_claim, has_finish, has_read}
 use Rattle.lang_eval.specs.Named.{AreKnown}
 use Rattle.interpret.specs.NamedParties.{parties_in_contracts}
-use Rattle.contract_store.specs.Written.{written}
-use Rattle.inbox_standing.specs.Changes.{changes_in}
 use Rattle.sealed_form.specs.Within.{is_hosted}
 use Rattle.node_core.specs.Preparing.{offered, offered_by}
-use Rattle.node_core.proofs.OfferedNames.{offers_named}
 use Rattle.node_core.specs.Answers.{Answers, AreAlike, IsOf, answers_of}
 use Rattle.node_core.specs.Participant.{CanRead, Participant, items_of, next_place, next_response, owed_there, owes_there, params_of, reading_of}
 use Rattle.node_core.specs.Participant.{response_there, with_state}
 use Rattle.node_core.proofs.Growth.{owes_within}
 use Rattle.node_core.proofs.LogEnds.{front_of}
+use Rattle.node_core.proofs.OfferedNames.{offers_named}
 
 -- the answers, by the parts that they rest on
 abbrev answers_by : Topology → Packages → ParticipantId → List Item → (claimed : List ℕ) → Bool → Answers
@@ -100,8 +98,7 @@ offers_known m p read is has genuine =
     let items = has.items ∙ ap (λ (r : Reading). inbox r p.me read) is.reading in
     let own =
     subst (λ (ps : Params). Genuine (reading_of p) ps read) is.params (subst (λ (r : Reading). Genuine r m.params read) is.reading genuine) in
-    subst (λ (xs : List Item). AreKnown (is_hosted p.topology)
-    (parties_in_contracts (offered (reading_of p) p.me (written (changes_in (reading_of p) xs) [])))) (sym items)
+    subst (λ (xs : List Item). AreKnown (is_hosted p.topology) (parties_in_contracts (offered (reading_of p) p.me xs))) (sym items)
     (offers_named p.topology p.packages read p.me own)
 
 pub owed_stays : (p : Participant) (before : List Entry) (entry : Entry) (k : ℕ) → k < length (items_of p)

@@ -1,12 +1,15 @@
 -- What a participant's submission wants, by what its inbox and its setup say.
 use Rattle.std.proofs.Common.{◌≡◌, ◌≢◌, ℕ, List, Some, None, Result, Ok, Err, MatchResult}
-use Rattle.std.proofs.Common.{subst}
+use Rattle.std.proofs.Common.{Bool, false, if◌then◌else◌, subst, sym}
+use Rattle.ledger_terms.specs.Answers.{Follows}
+use Rattle.ledger_terms.specs.declared.known.Known.{Known}
 use Rattle.ledger_terms.specs.declared.submission.Submission.{Submission}
 use Rattle.ledger_terms.specs.declared.topology.Topology.{Topology}
 use Rattle.canton_model.specs.Inbox.{Item}
 use Rattle.canton_model.specs.declared.request.Request.{Request}
 use Rattle.lang_eval.specs.Found.{Packages}
 use Rattle.prepare_request.specs.Machine.{Offered, prepare_over, why_over}
+use Rattle.prepare_request.specs.Prepared.{prepared}
 use Rattle.prepare_request.specs.declared.submit_fault.SubmitFault.{SubmitFault}
 use Rattle.prepare_request.specs.declared.submit_fault.SubmitFault.TheVariants.{Memory, Paused}
 
@@ -32,3 +35,15 @@ unless_paused t u ps qs offered what items now result a b w =
     weaker : (r : Result Request SubmitFault) → Wanted u qs offered what items now r → WantedUnlessPaused u qs offered what items now r
     weaker (Ok request) h = h
     weaker (Err fault) h = λ memory paused. h memory
+
+-- what follows what is prepared follows it over an equal setup and equal contracts, where the participant isn't paused
+pub follows_awake : (topology topology' : Topology) (packages packages' : Packages) (me me' : ℕ) (known known' : List Known) (what : Submission) (now : ℕ)
+    (paused : Bool) (result : Result Request SubmitFault) → topology ≡ topology' → packages ≡ packages' → me ≡ me' → known ≡ known' → paused ≡ false
+    → Follows Memory result (prepared topology packages me known what now)
+    → Follows Memory result (if paused then Err Paused else prepared topology' packages' me' known' what now)
+follows_awake topology topology' packages packages' me me' known known' what now paused result t q m k awake follows =
+    subst (λ (b : Bool). Follows Memory result (if b then Err Paused else prepared topology' packages' me' known' what now)) (sym awake)
+    (subst (λ (x : List Known). Follows Memory result (prepared topology' packages' me' x what now)) k
+    (subst (λ (x : ℕ). Follows Memory result (prepared topology' packages' x known what now)) m
+    (subst (λ (x : Packages). Follows Memory result (prepared topology' x me known what now)) q
+    (subst (λ (x : Topology). Follows Memory result (prepared x packages me known what now)) t follows))))

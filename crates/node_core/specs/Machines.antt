@@ -1,12 +1,10 @@
 -- The machine of a synchroniser, and its participants.
-use Rattle.std.specs.Prelude.{◌≡◌, ℕ, List, [], Option}
+use Rattle.std.specs.Prelude.{◌≡◌, ℕ, List, Option}
 use Rattle.ledger_terms.specs.declared.submission.Submission.{Submission}
 use Rattle.ledger_terms.specs.declared.topology.Topology.{Topology}
 use Rattle.ledger_model.specs.Terms.{ParticipantId}
 use Rattle.lang_eval.specs.Found.{Packages}
 use Rattle.canton_model.specs.Inbox.{Item}
-use Rattle.contract_store.specs.Written.{written}
-use Rattle.inbox_standing.specs.Changes.{changes_in}
 use Rattle.world_model.specs.Messages.{Request}
 use Rattle.world_model.specs.Machine.{Machine}
 use Rattle.sealed_form.specs.SealedReading.{sealed_reading}
@@ -16,10 +14,9 @@ use Rattle.world_model.specs.Rounds.{Why}
 use Rattle.node_core.specs.Participant.{Participant as NodeValue, reading_of}
 use Rattle.node_core.specs.Preparing.{offered}
 
--- what a participant with these items offers: the contracts at its cursor
+-- what a participant with these items offers: its active contracts at its cursor
 abbrev pub offered_in : Topology → Packages → Offered
-offered_in topology packages p items =
-    offered (sealed_reading topology packages) p (written (changes_in (sealed_reading topology packages) items) [])
+offered_in topology packages p items = offered (sealed_reading topology packages) p items
 
 -- the request that a submission wants over its participant's inbox, where it wants one
 abbrev pub wanted_request : Topology → Packages → Submission → List Item → (now : ℕ) → Option Request

@@ -247,6 +247,7 @@ impl<'s> Node<'s> {
             → (prepare_over self.now.topology self.now.packages offered what.now (items_of self.now) now ≡ None)
             × (why_over self.now.topology self.now.packages offered what.now (items_of self.now) now ≡ fault)) }
         ensures sealed { IfOk result (λ request. (reading_of self.now).is_sealed request ≡ true) }
+        ensures framed { IfOk result (λ request. (reading_of self.now).is_framed request ≡ true) }
         ensures sender { IfOk result (λ request. request.sender ≡ self.now.me) }
         ensures command { IfOk result (λ request. request.command ≡ what.now.command) }
         ensures plain { IfErr result HoldsNoMemory }
@@ -254,7 +255,7 @@ impl<'s> Node<'s> {
         if self.is_paused {
             return Err(SubmitFault::Paused);
         }
-        let known = self.inbox.known();
+        let known = self.inbox.known()?;
         prepare_request::prepare(self.setup, natives, self.me, &known, what, now)
     }
 

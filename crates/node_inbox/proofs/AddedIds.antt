@@ -20,7 +20,7 @@ use Rattle.contract_store.proofs.Maps.{equal_bytes, same_bytes, there}
 use Rattle.inbox_standing.specs.ChangeLists.{id_in, write_change, write_changes}
 use Rattle.inbox_standing.specs.declared.change.Change.{Change}
 use Rattle.prepare_request.specs.Hosted.{AreTold, is_among}
-use Rattle.node_inbox.specs.AddedIds.{added_behind, added_by, is_new, is_on, is_unknown}
+use Rattle.node_inbox.specs.AddedIds.{added_behind, added_by, are_new, is_new, is_on, is_unheard, is_unknown}
 
 either : (a b : Hash) → bytes_eq a b ≡ bytes_eq b a
 either a b = elim (cases_Bool (bytes_eq a b)) [
@@ -156,6 +156,43 @@ module _ (reading : Reading) (p : ParticipantId) (rows : List StoreRow) where
   pub added_end : (changes : List Change) (i : ℕ) (old all s : List Hash) → length changes ≤ i → old ++ added_behind reading p rows s (drop i changes) ≡ all
       → old ≡ all
   added_end changes i old all s past before = sym (append-nil old) ∙ (rw (drop_of_length-le changes past) at before)
+
+-- whether all that these create is new
+module _ (rows : List StoreRow) where
+  new_alike : (s t : List Hash) → ((c : Hash) → is_among s c ≡ is_among t c) → (changes : List Change)
+      → are_new rows s changes ≡ are_new rows t changes
+  new_alike s t same [] = refl
+  new_alike s t same (change ∷ rest) =
+      ap (λ (b : Bool). (not change.is_create || (is_unknown (status_in rows change.known.id) && not b)) && are_new rows (change.known.id ∷ s) rest)
+      (same change.known.id)
+      ∙ ap (λ (b : Bool). (not change.is_create || is_unheard rows t change.known.id) && b)
+      (new_alike (change.known.id ∷ s) (change.known.id ∷ t) (λ c. ap (λ (b : Bool). bytes_eq c change.known.id || b) (same c)) rest)
+
+  pub new_step : (changes : List Change) (i : ℕ) (x : Change) (old new all : Bool) (s t : List Hash) → i < length changes → x ≡ get_or changes i x
+      → new ≡ (old && (is_new rows s x || not x.is_create)) → ((c : Hash) → is_among t c ≡ (bytes_eq x.known.id c || is_among s c))
+      → (old && are_new rows s (drop i changes)) ≡ all → (new && are_new rows t (drop (i + 1) changes)) ≡ all
+  new_step changes i x old new all s t lt at grown among before =
+      let rest = drop (i + 1) changes in
+      let next : drop i changes ≡ x ∷ rest = drop_more changes i x lt ∙ ap (λ (y : Change). y ∷ rest) (sym at) in
+      ap (λ (b : Bool). b && are_new rows t rest) grown
+      ∙ (ap (λ (b : Bool). (old && (is_new rows s x || not x.is_create)) && b)
+      (new_alike t (x.known.id ∷ s) (λ c. among c ∙ ap (λ (b : Bool). b || is_among s c) (either x.known.id c)) rest)
+      ∙ (by old x.is_create (is_unheard rows s x.known.id) (are_new rows (x.known.id ∷ s) rest)
+      ∙ (ap (λ (cs : List Change). old && are_new rows s cs) (sym next) ∙ before)))
+    where
+      by : (o cr u r : Bool) → ((o && ((cr && u) || not cr)) && r) ≡ (o && ((not cr || u) && r))
+      by true true true r = refl
+      by true true false r = refl
+      by true false u r = refl
+      by false cr u r = refl
+
+  pub new_end : (changes : List Change) (i : ℕ) (old all : Bool) (s : List Hash) → length changes ≤ i → (old && are_new rows s (drop i changes)) ≡ all
+      → old ≡ all
+  new_end changes i old all s past before = by old ∙ (rw (drop_of_length-le changes past) at before)
+    where
+      by : (b : Bool) → b ≡ (b && true)
+      by true = refl
+      by false = refl
 
 -- ---- rows that say something of their contracts
 

@@ -19,6 +19,7 @@ pub mod LiveRows
 pub mod HostedRows
 pub mod PlacedInOrder
 pub mod AddedIds
+pub mod NewContracts
 pub mod Told
 pub mod Taken
 mod FirstVerdict

@@ -1,6 +1,7 @@
 -- The ids of an inbox tell of its contracts, one item more.
 use Rattle.std.proofs.Common.{◌≡◌, ℕ, Bool, true, false, cond, if◌then◌else◌, List, [], ◌∷◌, filter, Option, Some, None, is_some, inl, inr, refl, sym, ap, ◌∙◌, subst}
-use Rattle.std.specs.Prelude.{◌||◌, nat_le, Result, Ok, Err, OnOk, OnErr}
+use Rattle.std.specs.Prelude.{◌||◌, ◌&&◌, nat_le, Result, Ok, Err, OnOk, OnErr}
+use Rattle.std.proofs.lemmas.Bool.{and_parts}
 use Rattle.ledger_terms.specs.declared.active_row.ActiveRow.{ActiveRow}
 use Rattle.ledger_terms.specs.declared.known.Known.{Known}
 use Rattle.ledger_terms.specs.declared.topology.Topology.{Topology}
@@ -14,22 +15,24 @@ use Rattle.contract_store.specs.Rows.{row_of}
 use Rattle.contract_store.specs.Written.{written}
 use Rattle.contract_store.specs.declared.row.StoreRow.{StoreRow}
 use Rattle.sealed_form.specs.SealedReading.{sealed_reading}
-use Rattle.inbox_standing.specs.ChangeLists.{write_changes}
-use Rattle.inbox_standing.specs.Changes.{changes_in}
+use Rattle.inbox_standing.specs.ChangeLists.{changes_of, write_changes}
+use Rattle.inbox_standing.specs.Changes.{acts_of_verdict, changes_in}
+use Rattle.inbox_standing.specs.Offered.{CreatedOnce}
 use Rattle.inbox_standing.specs.Standing.{Stands}
 use Rattle.inbox_standing.specs.declared.change.Change.{Change}
 use Rattle.inbox_standing.proofs.Grown.{rows_same, rows_written}
 use Rattle.prepare_request.specs.Hosted.{AreTold, TellHosted, has_hosted_id, hosted_rows, is_among}
-use Rattle.node_inbox.specs.AddedIds.{added_behind}
+use Rattle.node_inbox.specs.AddedIds.{added_behind, are_new}
 use Rattle.node_inbox.specs.Coming.{IsTelling}
 use Rattle.node_inbox.specs.Items.{model_items}
 use Rattle.node_inbox.specs.Kept.{IsInbox}
 use Rattle.node_inbox.specs.Listed.{is_offered}
-use Rattle.node_inbox.specs.Offered.{offered}
+use Rattle.node_inbox.specs.Offered.{AreOnceIf, offered}
 use Rattle.node_inbox.specs.Reads.{HasRead, IsUnread, item_with}
 use Rattle.node_inbox.specs.declared.kept_item.KeptItem.{KeptItem}
 use Rattle.node_inbox.specs.declared.telling.ComingVerdict.{ComingVerdict}
 use Rattle.node_inbox.proofs.AddedIds.{TellsOn, all_say, all_told}
+use Rattle.node_inbox.proofs.NewContracts.{once_same, once_told}
 
 module _ (topology : Topology) (packages : Packages) (me : ParticipantId) (old new : List KeptItem) (stands stands' : Stands)
     (i : IsInbox topology packages me old stands) (ids : List Hash) where
@@ -69,11 +72,34 @@ module _ (topology : Topology) (packages : Packages) (me : ParticipantId) (old n
       or_nothing true = refl
       or_nothing false = refl
 
+  abbrev once_of : Bool → List KeptItem → Type 0
+  once_of once items = AreOnceIf once reading (model_items items)
+
   -- whether an item that is no verdict was read or not
-  pub told_anyway : {X E : Type 0} (r : Result X E) (x : Item) → verdict_in x.content ≡ None → OnOk r (HasRead topology packages me old new stands' x)
-      → OnErr r (IsUnread topology packages me old new stands') → at_rows ids stands → IsInbox topology packages me new stands' × at_rows ids stands'
-  told_anyway (Ok u) x none ok err told = (ok.inbox, told_same x none ok told)
-  told_anyway (Err e) x none ok err told = (err.inbox, told_unread err told)
+  pub kept_anyway : {X E : Type 0} (r : Result X E) (x : Item) → verdict_in x.content ≡ None → OnOk r (HasRead topology packages me old new stands' x)
+      → OnErr r (IsUnread topology packages me old new stands') → (once : Bool) → at_rows ids stands → once_of once old
+      → IsInbox topology packages me new stands' × at_rows ids stands' × once_of once new
+  kept_anyway (Ok u) x none ok err once told are = (
+    ok.inbox,
+    told_same x none ok told,
+    λ is. subst (λ (items : List Item). CreatedOnce (changes_in reading items)) (sym ok.items) (once_same reading (model_items old) x none (are is)),
+  )
+  kept_anyway (Err e) x none ok err once told are = (
+    err.inbox,
+    told_unread err told,
+    λ is. subst (λ (items : List KeptItem). CreatedOnce (changes_in reading (model_items items))) (sym err.items) (are is),
+  )
+
+  -- a verdict
+  pub once_verdict : (coming : ComingVerdict) (time : ℕ) → IsTelling reading (model_items old) coming.verdict coming
+      → HasRead topology packages me old new stands' (item_with time (Told coming.verdict)) → (once new_ones : Bool)
+      → new_ones ≡ are_new (stands.store).rows [] coming.changes.items → once_of once old → once_of (once && new_ones) new
+  once_verdict coming time tells h once new_ones is_new are is =
+      let both = and_parts once new_ones is in
+      subst (λ (items : List Item). CreatedOnce (changes_in reading items)) (sym h.items)
+      (once_told reading (model_items old) (item_with time (Told coming.verdict)) coming.verdict refl (are both.0)
+      (ap (λ (rows : List StoreRow). are_new rows [] (changes_of (acts_of_verdict reading (model_items old) coming.verdict))) (sym i.follows.rows)
+      ∙ (ap (λ (cs : List Change). are_new (stands.store).rows [] cs) (sym tells.changes_are) ∙ (sym is_new ∙ both.1))))
 
 -- ---- what is offered
 

@@ -1,5 +1,5 @@
--- The contracts with a hosted stakeholder that changes bring into a store.
-use Rattle.std.specs.Prelude.{Bool, true, false, List, [], ◌∷◌, ◌++◌, if◌then◌else◌, ◌&&◌, not}
+-- The contracts with a hosted stakeholder that changes bring into a store, and whether they are new to it.
+use Rattle.std.specs.Prelude.{Bool, true, false, List, [], ◌∷◌, ◌++◌, if◌then◌else◌, ◌&&◌, ◌||◌, not}
 use Rattle.std.specs.Str.{bytes_eq}
 use Rattle.ledger_model.specs.Terms.{Hash, ParticipantId}
 use Rattle.ledger_model.specs.declared.status.Status.{Status}
@@ -41,3 +41,9 @@ abbrev pub added_behind : Reading → ParticipantId → List StoreRow → (chang
 added_behind reading p rows changed [] = []
 added_behind reading p rows changed (change ∷ rest) =
     added_by reading p rows changed change ++ added_behind reading p rows (change.known.id ∷ changed) rest
+
+-- each contract that one of these changes creates is one that neither the store knows nor a change before is on
+abbrev pub are_new : List StoreRow → (changed : List Hash) → List Change → Bool
+are_new rows changed [] = true
+are_new rows changed (change ∷ rest) =
+    (not change.is_create || is_unheard rows changed change.known.id) && are_new rows (change.known.id ∷ changed) rest

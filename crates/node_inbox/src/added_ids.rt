@@ -1,5 +1,5 @@
 //! The contracts with a hosted stakeholder that changes bring into a store.
-ghost use Rattle.std.specs.Prelude.{◌≡◌, ◌++◌, ◌&&◌, ◌||◌, ◌≤◌, ℕ, [], List, IfOk, OnOk, length, map, take};
+ghost use Rattle.std.specs.Prelude.{◌≡◌, ◌++◌, ◌&&◌, ◌||◌, ◌≤◌, ℕ, [], List, not, IfOk, OnOk, length, map, take};
 ghost use Rattle.std.specs.List.{list_any};
 ghost use Rattle.std.specs.Str.{bytes_eq};
 ghost use Rattle.indexmap.specs.IndexMap.{keys};
@@ -7,15 +7,15 @@ ghost use Rattle.contract_store.specs.Rows.{status_in};
 ghost use Rattle.prepare_request.specs.Hosted.{is_among};
 ghost use Rattle.sealed_form.specs.SealedReading.{sealed_reading};
 ghost use Rattle.inbox_standing.specs.ChangeLists.{id_in};
-ghost use Rattle.node_inbox.specs.AddedIds.{added_behind, added_if, is_new, is_on, is_unheard, is_unknown};
+ghost use Rattle.node_inbox.specs.AddedIds.{added_behind, added_if, are_new, is_new, is_on, is_unheard, is_unknown};
 
-use confirm_reply::Setup;
+use confirm_reply::{Setup, has_hosted_stakeholder};
 use contract_store::Store;
 use inbox_standing::Change;
 use indexmap::IndexMap;
 use ledger_model::Status;
 use ledger_terms::{Hash, HashList, ParticipantId};
-use prepare_request::{HostedIds, has_hosted_stakeholder};
+use prepare_request::HostedIds;
 use std::alloc::{AllocError, Global};
 
 // So many changes are compared one by one, which costs less than a map; the contracts of later ones stand in a map.
@@ -83,6 +83,13 @@ fn put_if(changed: &mut IndexMap<Hash, ()>, wanted: bool, id: Hash) -> Result<()
     Ok(())
 }
 
+// Whether what was created before is new, and this change's contract, too, if it creates it.
+fn all_new(before: bool, is_new: bool, change: &Change) -> bool
+    ensures { result ≡ (before && (is_new || not change.now.is_create)) }
+{
+    before && (is_new || !change.is_create)
+}
+
 fn front(changes: &[Change], count: usize) -> &[Change]
     ensures { result.now ≡ take count changes.now }
 {
@@ -93,17 +100,20 @@ fn front(changes: &[Change], count: usize) -> &[Change]
     }
 }
 
-/// The ids of those contracts that changes bring into a store and that have a hosted stakeholder.
+/// The ids of those contracts that changes bring into a store and that have a hosted stakeholder; and whether each contract that they
+/// create is new to the store.
 pub fn added_ids(
     alloc: Global,
     setup: &Setup,
     me: ParticipantId,
     store: &Store,
     changes: &[Change],
-) -> Result<HashList, AllocError>
-    ensures { IfOk result (λ ids. ids ≡ added_behind (sealed_reading setup.now.topology setup.now.checked) me store.now.rows [] changes.now) }
+) -> Result<(HashList, bool), AllocError>
+    ensures ids { IfOk result (λ added. added.0 ≡ added_behind (sealed_reading setup.now.topology setup.now.checked) me store.now.rows [] changes.now) }
+    ensures new { IfOk result (λ added. added.1 ≡ are_new store.now.rows [] changes.now) }
 {
     let mut ids = HashList::new(alloc);
+    let mut all_are_new = true;
     let first = front(changes, FEW_CHANGES);
     let mut later = IndexMap::new(alloc);
     for at in 0..changes.len() {
@@ -111,8 +121,9 @@ pub fn added_ids(
         let is_new = is_new(store, front(first, at), &later, change);
         add_if(setup, me, is_new, change, &mut ids)?;
         put_if(&mut later, at >= first.len(), change.known.id)?;
+        all_are_new = all_new(all_are_new, is_new, change);
     }
-    Ok(ids)
+    Ok((ids, all_are_new))
 }
 
 /// Puts ids among those of contracts with a hosted stakeholder, in the room that is there.

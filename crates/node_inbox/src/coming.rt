@@ -14,12 +14,13 @@ use crate::boxed_request::BoxedRequest;
 use crate::change_lists::ids_of;
 use crate::confirmed::confirmed;
 use crate::kept_item::KeptRequest;
-use crate::opening::{envelope_to, hash_of, opened_of, tree_in};
+use crate::opening::hash_of;
 use blind_tree::OpenedTree;
 use canton_model::Request;
 use confirm_reply::{IdFactsList, Setup, SharedTree};
 use inbox_standing::Change;
 use ledger_terms::{HashList, ParticipantId};
+use proto_model::{envelope_of, opened_of, tree_in};
 use std::alloc::{AllocError, Global};
 use view_split::acts_in_views;
 
@@ -53,7 +54,7 @@ pub fn coming(
     ensures some { IfOk result (λ o. IfSome o (λ coming. IsComing setup.now.topology setup.now.checked me coming)) }
     ensures shown { IfOk result (λ o. IfSome o (λ coming. opened_to me request.now ≡ Some (coming.kept).tree)) }
 {
-    let Some(envelope) = envelope_to(me, request.envelopes.as_slice()) else {
+    let Some(envelope) = envelope_of(request, me) else {
         return Ok(None);
     };
     let Some(tree) = tree_in(alloc, envelope.as_slice())? else {

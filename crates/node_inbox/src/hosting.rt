@@ -5,9 +5,9 @@ ghost use Rattle.prepare_request.specs.Hosted.{hosted_rows};
 ghost use Rattle.sealed_form.specs.SealedReading.{sealed_reading};
 ghost use Rattle.node_inbox.specs.Hosts.{AreHosted, host_of, reading_by, says_same};
 
-use confirm_reply::Setup;
+use confirm_reply::{Setup, has_hosted_stakeholder};
 use ledger_terms::{Known, KnownContracts, ParticipantId};
-use prepare_request::{HostedContracts, has_hosted_stakeholder};
+use prepare_request::HostedContracts;
 use std::alloc::{AllocError, Global};
 use std::marker::Model;
 

@@ -1,5 +1,5 @@
 //! An inbox.
-ghost use Rattle.std.specs.Prelude.{◌≡◌, ◌<◌, ◌^◌, ◌&&◌, ℕ, List, [], true, length, is_some, option_copied, IfOk, OnOk, OnErr};
+ghost use Rattle.std.specs.Prelude.{◌≡◌, ◌<◌, ◌^◌, ◌&&◌, ℕ, List, [], true, length, is_some, option_copied, unwrap_or, IfOk, OnOk, OnErr};
 ghost use Rattle.canton_model.specs.declared.request.Request.{Request as RequestValue};
 ghost use Rattle.canton_model.specs.declared.message.Message.TheVariants.{Request as RequestMessage};
 ghost use Rattle.canton_model.specs.Inbox.{Nothing, Told, clean, clean_time, is_decided_in, last_time, moments, node_active, node_log};
@@ -32,6 +32,7 @@ use crate::hosting::Hosting;
 use crate::items::{request_at, time_at};
 use crate::job::job;
 use crate::kept_item::KeptItem;
+use crate::offered_contracts::OfferedContracts;
 use crate::putting::{put_nothing, put_request, put_verdict};
 use crate::remains::InboxRemains;
 use crate::taking::into_applied;
@@ -42,7 +43,7 @@ use confirm_reply::Setup;
 use contract_store::Store;
 use inbox_standing::Standing;
 use ledger_model::CommitList;
-use ledger_terms::{ActiveRowList, ParticipantId};
+use ledger_terms::{ActiveRowList, Exact, KnownList, ParticipantId};
 use prepare_request::laws::ids_tell_after_each_change;
 use prepare_request::{HostedContracts, HostedIds};
 use std::alloc::{AllocError, Global};
@@ -57,6 +58,8 @@ pub struct Inbox<'s> {
     items: Vec<KeptItem>,
     standing: Standing,
     hosted: HostedIds,
+    // no contract was created twice
+    is_once: bool,
 }
 
 impl<'s> Model for Inbox<'s> {
@@ -82,9 +85,11 @@ impl<'s> Model for Inbox<'s> {
     ghost use Rattle.node_inbox.specs.Kept.{IsInbox};
     ghost use Rattle.sealed_form.specs.SealedReading.{sealed_reading};
     ghost use Rattle.prepare_request.specs.Hosted.{AreTold};
+    ghost use Rattle.node_inbox.specs.Offered.{AreOnceIf};
 
     ghost invariant = { λ i. IsInbox i.setup.now.topology i.setup.now.checked i.me i.items.items i.standing
-        × AreTold (sealed_reading i.setup.now.topology i.setup.now.checked) i.me i.hosted.ids i.standing.store.rows };
+        × AreTold (sealed_reading i.setup.now.topology i.setup.now.checked) i.me i.hosted.ids i.standing.store.rows
+        × AreOnceIf i.is_once (sealed_reading i.setup.now.topology i.setup.now.checked) (model_items i.items.items) };
 }
 
 impl<'s> Inbox<'s> {
@@ -98,6 +103,7 @@ impl<'s> Inbox<'s> {
             items: Vec::new(alloc),
             standing: Standing::new(alloc),
             hosted: HostedIds::new(alloc),
+            is_once: true,
         }
     }
 
@@ -171,7 +177,7 @@ impl<'s> Inbox<'s> {
         ensures ok { OnOk result (self.new ≡ with_item self.old (item_with time (Told coming.verdict))) }
         ensures err { OnErr result (self.new ≡ self.old) }
     {
-        let ids = added_ids(
+        let (ids, are_new) = added_ids(
             *self.items.allocator(),
             self.setup,
             self.me,
@@ -189,6 +195,7 @@ impl<'s> Inbox<'s> {
         )?;
         ids_tell_after_each_change();
         put_ids(&mut self.hosted, &ids);
+        self.is_once = both(self.is_once, are_new);
         Ok(())
     }
 
@@ -274,8 +281,8 @@ impl<'s> Inbox<'s> {
         self.standing.store()
     }
 
-    /// The contracts that the participant offers at the cursor: the active ones with a hosted stakeholder.
-    pub fn known(&self) -> HostedContracts<'_>
+    // The active contracts of the store with a hosted stakeholder.
+    fn hosted_contracts(&self) -> HostedContracts<'_>
         ensures { hosted_rows result.hosted.now.ids result.store.now.rows
             ≡ knowns (offered (reading_of self.now) self.now.me (written (changes_in (reading_of self.now) self.now.items) [])) }
     {
@@ -284,6 +291,50 @@ impl<'s> Inbox<'s> {
             store: self.standing.store(),
             hosted: &self.hosted,
         }
+    }
+
+    // The active contracts with a hosted stakeholder at a place, in order of creation. Goes through the approved requests before it.
+    fn active_at(&self, alloc: Global, place: u64) -> Result<ActiveRowList, AllocError>
+        ensures { IfOk result (λ rows. rows ≡ node_active (reading_of self.now) self.now.me self.now.items place) }
+    {
+        let hosting = Hosting::new(self.setup, self.me, self.hosted_contracts());
+        active_rows(
+            alloc,
+            &hosting,
+            self.items.as_slice(),
+            &self.standing,
+            place,
+        )
+    }
+
+    // The active contracts with a hosted stakeholder at the cursor, as a list.
+    fn listed(&self) -> Result<KnownList, AllocError>
+        ensures { IfOk result (λ known. known ≡ knowns (node_active (reading_of self.now) self.now.me self.now.items (length self.now.items))) }
+    {
+        let alloc = *self.items.allocator();
+        let rows = self.active_at(alloc, self.cursor())?;
+        knowns_of(alloc, &rows)
+    }
+
+    /// The contracts that the participant offers: those with a hosted stakeholder that are active at the cursor, in order of creation.
+    /// Where a contract was created twice they are made into a list, since the store has a contract as it was told first, and not as
+    /// it was created first.
+    pub fn known(&self) -> Result<OfferedContracts<'_>, AllocError>
+        ensures { IfOk result (λ o. unwrap_or o.listed (hosted_rows o.stored.hosted.now.ids o.stored.store.now.rows)
+            ≡ knowns (node_active (reading_of self.now) self.now.me self.now.items (length self.now.items))) }
+    {
+        let stored = self.hosted_contracts();
+        if self.is_once {
+            return Ok(OfferedContracts {
+                stored,
+                listed: None,
+            });
+        }
+        let listed = self.listed()?;
+        Ok(OfferedContracts {
+            stored,
+            listed: Some(listed),
+        })
     }
 
     /// The first place at which a request was decided, and the cursor where it isn't. Goes through what was read from the request's
@@ -348,15 +399,25 @@ impl<'s> Inbox<'s> {
     pub fn active(&self, alloc: Global) -> Result<ActiveRowList, AllocError>
         ensures { IfOk result (λ rows. rows ≡ node_active (reading_of self.now) self.now.me self.now.items (clean (params_of self.now) self.now.items)) }
     {
-        let hosting = Hosting::new(self.setup, self.me, self.known());
-        active_rows(
-            alloc,
-            &hosting,
-            self.items.as_slice(),
-            &self.standing,
-            self.clean(),
-        )
+        self.active_at(alloc, self.clean())
     }
+}
+
+fn both(first: bool, second: bool) -> bool
+    ensures { result ≡ (first && second) }
+{
+    first && second
+}
+
+// The contracts of active rows.
+fn knowns_of(alloc: Global, rows: &ActiveRowList) -> Result<KnownList, AllocError>
+    ensures { IfOk result (λ known. known ≡ knowns rows.now) }
+{
+    let mut known = KnownList::with_room(alloc, rows.len())?;
+    for row in rows.as_slice() {
+        known.push(row.known.copied()?)?;
+    }
+    Ok(known)
 }
 
 // Whether an outcome is one of a request that is decided.

@@ -1,9 +1,11 @@
 use Rattle.std.proofs.Common.{◌≡◌, sym, ap, ◌∙◌, subst}
 use Rattle.ledger_model.specs.Terms.{ParticipantId}
+use Rattle.ledger_terms.specs.Answers.{Follows}
 use Rattle.prepare_request.specs.Machine.{Offered}
+use Rattle.prepare_request.specs.declared.submit_fault.SubmitFault.TheVariants.{Memory}
 use Rattle.node_core.specs.Participant.{Participant, items_of}
-use Rattle.node_core.specs.Preparing.{offered_by}
-use Rattle.node_core.proofs.Preparing.{WantedUnlessPaused, unless_paused}
+use Rattle.node_core.specs.Preparing.{offered_by, prepare_answer}
+use Rattle.node_core.proofs.Preparing.{WantedUnlessPaused, follows_awake, unless_paused}
 use Rattle.node_core.proofs.node.Node.prepare.Goals as goal
 
 pub returns-clause-wanted : goal.returns-clause-wanted
@@ -17,4 +19,13 @@ returns-clause-wanted g c =
     unless_paused c.self.inside.setup.now.topology i.topology c.self.inside.setup.now.checked i.packages offered what i.items c.args.now c.prepare.result
     inv.2 inv.3
     (c.prepare.ensures.machine offered i.items (own ∙ sym inv.0)
-    (ap (λ (me : ParticipantId). offered me i.items) inv.0 ∙ (offers ∙ sym c.known-known.ensures))))
+    (ap (λ (me : ParticipantId). offered me i.items) inv.0 ∙ (offers ∙ sym c.in_ok-known.ensures))))
+
+pub returns-clause-exact : goal.returns-clause-exact
+returns-clause-exact g c =
+    let i = c.self.inside in
+    let inv = c.self.invariant in
+    let what = c.args.what.now in
+    subst (λ (p : Participant). Follows Memory c.prepare.result (prepare_answer p what c.args.now)) c.self.view_is
+    (follows_awake i.setup.now.topology i.inbox.topology i.setup.now.checked i.inbox.packages i.me i.inbox.me _ _ what c.args.now i.is_paused c.prepare.result
+    inv.2 inv.3 inv.0 c.in_ok-known.ensures c.if-self.false c.prepare.ensures.exact)

@@ -1,28 +1,4 @@
-use Rattle.std.proofs.Common.{[]}
-use Rattle.contract_store.specs.Written.{written}
-use Rattle.sealed_form.specs.SealedReading.{sealed_reading}
-use Rattle.inbox_standing.specs.Changes.{changes_in}
-use Rattle.node_inbox.specs.Items.{model_items}
-use Rattle.node_inbox.proofs.HostedRows.{offered_are_hosted}
-use Rattle.node_inbox.proofs.Seen.{keep_changes, outcome_at_is}
 use Rattle.node_inbox.proofs.inbox.Inbox.active.Goals as goal
 
-pub new-hosting-requires : goal.new-hosting-requires
-new-hosting-requires c =
-    let i = c.self.inside in
-    let reading = sealed_reading i.setup.now.topology i.setup.now.checked in
-    let known = rw (← c.self.view_is) at c.known.ensures in
-    rw known (offered_are_hosted reading i.me (written (changes_in reading (model_items i.items.items)) []))
-
-pub active_rows-requires-clause-told : goal.active_rows-requires-clause-told
-active_rows-requires-clause-told c =
-    rw (c.new-hosting.ensures, c.as_slice.ensures.value)
-    (outcome_at_is c.self.inside.setup.now.topology c.self.inside.setup.now.checked c.self.inside.me c.self.inside.items.items c.self.inside.standing c.self.invariant.0)
-
-pub active_rows-requires-clause-kept : goal.active_rows-requires-clause-kept
-active_rows-requires-clause-kept c =
-    rw (c.as_slice.ensures.value)
-    (keep_changes c.self.inside.setup.now.topology c.self.inside.setup.now.checked c.self.inside.me c.self.inside.items.items c.self.invariant.0.each)
-
 pub returns : goal.returns
-returns c = rw (← c.self.view_is) (rw (c.new-hosting.ensures, c.as_slice.ensures.value, c.clean.ensures, ← c.self.view_is) at c.active_rows.ensures)
+returns c = rw (c.clean.ensures) at c.active_at.ensures

@@ -1,15 +1,14 @@
 use Rattle.std.proofs.Common.{ap, ◌∙◌}
 use Rattle.contract_store.specs.Active.{knowns}
+use Rattle.inbox_standing.proofs.Offered.{offered_is_node_active}
 use Rattle.sealed_form.specs.SealedReading.{sealed_reading}
-use Rattle.node_inbox.specs.Offered.{offered}
-use Rattle.node_inbox.proofs.Told.{offered_is}
+use Rattle.node_inbox.specs.Items.{model_items}
 use Rattle.node_inbox.proofs.inbox.Inbox.known.Goals as goal
 
-pub returns : goal.returns
-returns c =
+pub returns-then-self : goal.returns-then-self
+returns-then-self c =
     let i = c.self.inside in
     let reading = sealed_reading i.setup.now.topology i.setup.now.checked in
-    rw (c.store.ensures, ← c.self.view_is)
-    (offered_is reading i.me i.hosted.ids i.standing.store.rows
-    (c.ids_tell_after_each_change.ensures.told reading i.me i.hosted.ids i.standing.store.rows c.self.invariant.1)
-    ∙ ap (λ rows. knowns (offered reading i.me rows)) c.self.invariant.0.follows.rows)
+    let items = model_items i.items.items in
+    let active = offered_is_node_active reading i.me items c.self.invariant.0.order (c.self.invariant.2 c.if-self.true) in
+    rw (← c.self.view_is) ((rw (← c.self.view_is) at c.hosted_contracts-stored.ensures) ∙ ap knowns active)
