@@ -1,6 +1,7 @@
 -- What one submission was answered, as its client knows it.
-use Rattle.std.proofs.Common.{◌≡◌, ◌≢◌, ℕ, List, [], ◌∷◌, ◌++◌, Some, refl, sym, subst}
-use Rattle.std.specs.Prelude.{IfSome}
+use Rattle.std.proofs.Common.{◌≡◌, ◌≢◌, ℕ, List, [], ◌∷◌, ◌++◌, Option, Some, Result, Ok, Err, refl, sym, subst}
+use Rattle.std.specs.Prelude.{IfOk, IfSome}
+use Rattle.std.specs.declared.alloc.AllocError.{AllocError}
 use mathlib.Core.List.{IsPrefix}
 use Rattle.ledger_terms.specs.declared.submission.Submission.{Submission}
 use Rattle.ledger_model.specs.Terms.{ParticipantId}
@@ -42,6 +43,14 @@ module _ (m : Machine) (why : r.Why SubmitFault) (now : ℕ) (paused : List Part
       let told : ClientStep m why now paused seen what (result_of answer) next =
       subst (λ (p : _). IfSome p (λ (x : r.SubmitResult SubmitFault). ClientStep m why now paused seen what x next)) is step in
       (next, told, begins_itself next)
+
+  -- the same of what its client tells, where there was memory
+  pub refused_answers : (seen next : List Entry) (o : Option (r.SubmitResult SubmitFault)) (told : Result SubmitResult AllocError)
+      → IfSome o (λ (x : r.SubmitResult SubmitFault). ClientStep m why now paused seen what x next)
+      → IfOk told (λ (answer : SubmitResult). o ≡ Some (result_of answer))
+      → IfOk told (λ (answer : SubmitResult). ClientAnswers m why now paused seen ((what, result_of answer) ∷ []) next)
+  refused_answers seen next o (Ok answer) step is = after_refused seen next o answer step is
+  refused_answers seen next o (Err lack) step is = tt
 
   -- one more answer
   pub answers_on : (seen : List Entry) (own : r.Results SubmitFault) (last next : List Entry) (x : r.SubmitResult SubmitFault)

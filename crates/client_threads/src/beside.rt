@@ -58,15 +58,15 @@ fn work_until<'a, 'r, S: Session + Send + Sync, R: Threads + Wait + Sync, G: Gat
 }
 
 // The lanes take turns beside the clients, and then some more.
-fn run_beside<R: Threads + Wait + Sync, L: Lane>(
+fn run_beside<R: Threads + Wait + Sync, L: Lane<Start = ()>>(
     rt: &R,
     lanes: u32,
     turns: u64,
     beside: &L,
     after: &L,
 ) -> Result<(), AllocError> {
-    run_lanes(rt, lanes, turns, beside)?;
-    run_lanes(rt, lanes, TURNS_PER_SUBMISSION, after)
+    run_lanes(rt, lanes, turns, beside, ())?;
+    run_lanes(rt, lanes, TURNS_PER_SUBMISSION, after, ())
 }
 
 /// The clients submit beside as many lanes as `workers` has, each what is its participant's, until all have ended. A lane takes at most

@@ -1,5 +1,7 @@
 //! What lanes do.
-use lane_pool::{Gate, Lane};
+ghost use Rattle.std.specs.Prelude.{OnErr, OnOk};
+
+use lane_pool::{Gate, Lane, Turn};
 use once_cell::race::OnceBool;
 use std::alloc::{AllocError, AllocGlobal};
 use std::random::RandomSource;
@@ -22,10 +24,16 @@ impl<'r, S: Session + Send + Sync, R: Wait + Sync + RandomSource + AllocGlobal, 
 
     ghost was_taken = { λ _ _ _. Unit {0} };
 
-    fn turn(&self, lane: u32, _turn: u64) -> Result<(), AllocError> {
+    type Start = ();
+
+    fn turn(&self, turn: Turn<()>) -> Result<(), AllocError>
+        ensures failed { OnErr result (Unit {0}) }
+        ensures taken { OnOk result (Unit {0}) }
+    {
         if self.lanes == 0 || self.ended.get().is_some() {
             return Ok(());
         }
-        self.shared.turn(self.rt, lane, self.lanes, self.gate)
+        self.shared
+            .turn(self.rt, turn.lane(), self.lanes, self.gate)
     }
 }

@@ -1,6 +1,7 @@
 //! Work that several lanes share.
 ghost use Rattle.std.specs.Prelude.{ℕ, OnErr, OnOk};
 
+use crate::turns::Turn;
 use std::alloc::AllocError;
 
 /// Work that several lanes share. An implementation may wait, and keeps what it allocates by.
@@ -11,8 +12,11 @@ pub trait Lane: Sync {
     // Holds of a lane and a turn of it that has answered Ok.
     ghost was_taken: { Self → ℕ → ℕ → Type 0 };
 
-    /// The turn with this number of the lane with this number, each from 0. Want of memory ends the turns of all lanes.
-    fn turn(&self, lane: u32, turn: u64) -> Result<(), AllocError>
-        ensures failed { OnErr result (may_fail self.now lane turn) }
-        ensures taken { OnOk result (was_taken self.now lane turn) };
+    /// What a caller gives for the turns of lanes. Who runs lanes makes none, so with one of them each turn is taken at most once.
+    type Start: Drop + Send;
+
+    /// Takes a turn. Want of memory ends the turns of all lanes.
+    fn turn(&self, turn: Turn<Self::Start>) -> Result<(), AllocError>
+        ensures failed { OnErr result (may_fail self.now turn.lane turn.number) }
+        ensures taken { OnOk result (was_taken self.now turn.lane turn.number) };
 }

@@ -1,16 +1,17 @@
 //! Lanes side by side.
-ghost use Rattle.std.specs.Prelude.{◌≡◌, ◌+◌, ◌^◌, ◌<◌, OnErr, OnOk, Ok};
+ghost use Rattle.std.specs.Prelude.{◌≡◌, ◌+◌, ◌<◌, OnErr, OnOk, Ok};
 ghost use Rattle.lane_pool.specs.Turns.{EachTurn, SomeTurn};
 ghost use denote.Param.Send.{IsSync};
 
 use crate::lane::Lane;
 use crate::stop::{Cause, Stop};
+use crate::turns::Turns;
 use std::alloc::AllocError;
 use std::marker::Brand;
 use std::sync::Wait;
 use std::thread::{Threads, join};
 
-/// Gives each of the lanes 0 to `lanes - 1` the turns 0 to `turns - 1`, side by side, and fewer once a turn of any lane has
+/// Gives each of the lanes 0 to `lanes - 1` the turns 0 to `turns - 1`, side by side, each once, and fewer once a turn of any lane has
 /// answered Err. All lanes have ended when it returns. It takes no memory of its own; where a thread can't be started, its lanes
 /// run in the caller's.
 pub fn run_lanes<R: Threads + Wait + Sync, L: Lane>(
@@ -18,12 +19,13 @@ pub fn run_lanes<R: Threads + Wait + Sync, L: Lane>(
     lanes: u32,
     turns: u64,
     work: &L,
+    start: L::Start,
 ) -> Result<(), AllocError>
     ensures failed { OnErr result (SomeTurn 0 lanes turns (L.may_fail work.now)) }
     ensures taken { OnOk result (EachTurn 0 lanes turns (L.was_taken work.now)) }
     ensures none { turns ≡ 0 → result ≡ Ok tt }
 {
-    run_until::<Brand, R, L>(rt, lanes, turns, work)
+    run_until::<Brand, R, L>(rt, lanes, turns, work, start)
 }
 
 // The same, where what may fail is a cause to stop.
@@ -32,6 +34,7 @@ fn run_until<C: Cause, R: Threads + Sync, L: Lane>(
     lanes: u32,
     turns: u64,
     work: &L,
+    start: L::Start,
 ) -> Result<(), AllocError>
     requires cause { SomeTurn 0 lanes turns (L.may_fail work.now) → C.holds }
     ensures failed { OnErr result C.holds }
@@ -41,41 +44,43 @@ fn run_until<C: Cause, R: Threads + Sync, L: Lane>(
         return Ok(());
     }
     let stop = Stop::<C>::new();
-    lanes_from(rt, 0, lanes, turns, work, &stop)
+    lanes_from(rt, lanes, Turns::of(start, lanes, turns), work, &stop)
 }
 
 #[cycle(lanes)]
 // The lanes are halved at each step, and one half goes to a thread of its own.
 fn lanes_from<C: Cause, R: Threads + Sync, L: Lane>(
     rt: &R,
-    from: u32,
     count: u32,
-    turns: u64,
+    left: Turns<L::Start>,
     work: &L,
     stop: &Stop<C>,
 ) -> Result<(), AllocError>
     requires some { 0 < count }
-    requires room { from + count < 2 ^ 32 }
-    requires cause { SomeTurn from (from + count) turns (L.may_fail work.now) → C.holds }
+    requires lanes { left.end ≡ left.from + count }
+    requires first { left.next ≡ 0 }
+    requires cause { SomeTurn left.from left.end left.turns (L.may_fail work.now) → C.holds }
     ensures failed { OnErr result C.holds }
-    ensures taken { OnOk result (EachTurn from (from + count) turns (L.was_taken work.now)) }
+    ensures taken { OnOk result (EachTurn left.from left.end left.turns (L.was_taken work.now)) }
 {
     if count == 1 {
-        return take_turns(from, turns, work, stop);
+        return take_turns(left, work, stop);
     }
     let low = count / 2;
     let high = count - low;
-    let up = from + low;
+    let (below, above) = left.split(low);
     let (a, b) = join(
         rt,
         || -> Result<(), AllocError>
-            requires { IsSync R.row × (0 < low) × (from + low < 2 ^ 32) × (SomeTurn from (from + low) turns (L.may_fail work.now) → C.holds) }
-            ensures { OnErr result C.holds × OnOk result (EachTurn from (from + low) turns (L.was_taken work.entry.now)) }
-        { lanes_from(rt, from, low, turns, work, stop) },
+            requires { IsSync R.row × (0 < low) × (below.end ≡ below.from + low) × (below.next ≡ 0)
+                × (SomeTurn below.from below.end below.turns (L.may_fail work.now) → C.holds) }
+            ensures { OnErr result C.holds × OnOk result (EachTurn below.from below.end below.turns (L.was_taken work.entry.now)) }
+        { lanes_from(rt, low, below, work, stop) },
         || -> Result<(), AllocError>
-            requires { IsSync R.row × (0 < high) × (up + high < 2 ^ 32) × (SomeTurn up (up + high) turns (L.may_fail work.now) → C.holds) }
-            ensures { OnErr result C.holds × OnOk result (EachTurn up (up + high) turns (L.was_taken work.entry.now)) }
-        { lanes_from(rt, up, high, turns, work, stop) },
+            requires { IsSync R.row × (0 < high) × (above.end ≡ above.from + high) × (above.next ≡ 0)
+                × (SomeTurn above.from above.end above.turns (L.may_fail work.now) → C.holds) }
+            ensures { OnErr result C.holds × OnOk result (EachTurn above.from above.end above.turns (L.was_taken work.entry.now)) }
+        { lanes_from(rt, high, above, work, stop) },
     );
     a?;
     b
@@ -83,20 +88,23 @@ fn lanes_from<C: Cause, R: Threads + Sync, L: Lane>(
 
 // The turns of one lane, until one answers Err or the flag is set.
 fn take_turns<C: Cause, L: Lane>(
-    lane: u32,
-    turns: u64,
+    left: Turns<L::Start>,
     work: &L,
     stop: &Stop<C>,
 ) -> Result<(), AllocError>
-    requires cause { SomeTurn lane (lane + 1) turns (L.may_fail work.now) → C.holds }
+    requires lane { left.end ≡ left.from + 1 }
+    requires first { left.next ≡ 0 }
+    requires cause { SomeTurn left.from left.end left.turns (L.may_fail work.now) → C.holds }
     ensures failed { OnErr result C.holds }
-    ensures taken { OnOk result (EachTurn lane (lane + 1) turns (L.was_taken work.now)) }
+    ensures taken { OnOk result (EachTurn left.from left.end left.turns (L.was_taken work.now)) }
 {
-    'turns: for turn in 0..turns {
+    let mut left = left;
+    let turns = left.turns();
+    'turns: for _turn in 0..turns {
         if stop.is_set() {
             return Err(AllocError);
         }
-        if let Err(lack) = work.turn(lane, turn) {
+        if let Err(lack) = work.turn(left.next()) {
             stop.set();
             return Err(lack);
         }

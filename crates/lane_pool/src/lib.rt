@@ -5,7 +5,9 @@ mod gate;
 mod lane;
 mod lanes;
 mod stop;
+mod turns;
 
 pub use gate::{FreeGate, Gate};
 pub use lane::Lane;
 pub use lanes::run_lanes;
+pub use turns::Turn;
