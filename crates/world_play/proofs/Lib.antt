@@ -1,3 +1,4 @@
+mod Refused
 pub mod Answered
 pub mod Moved
 pub mod Readers
@@ -22,3 +23,4 @@ pub mod OwnFaults
 pub mod Awake
 pub mod Asked
 pub mod InOrder
+mod ActiveAt

@@ -6,6 +6,7 @@ use Rattle.std.proofs.lemmas.Option.{none-some, same_Some}
 use Rattle.ledger_terms.specs.declared.topology.Topology.{Topology}
 use Rattle.lang_eval.specs.Found.{Packages}
 use Rattle.world_model.specs.Node.{NodeState, new_node}
+use Rattle.sealed_form.specs.Framed.{is_framed}
 use Rattle.sealed_form.proofs.Sealed.{lawful}
 use Rattle.node_core.specs.Participant.{Participant as NodeValue}
 use Rattle.seq_log.specs.Sequenced.{Sequenced}
@@ -51,11 +52,15 @@ module _ (topology : Topology) (packages : Packages) where
       all_new nodes (λ p x e. ap state_of (a.each p x e)) ∙ ap (λ (n : ℕ). replicate n new_node) a.many
 
   pub new_nodes_are : (count : ℕ) (nodes : List NodeValue) (s : Sequenced) → AreNewNodes topology packages count nodes
-      → s.params ≡ topology.params → AreNodesOf (machine_of topology packages s.capacity) nodes s
-  new_nodes_are count nodes s a params =
+      → s.topology ≡ topology → AreNodesOf (machine_of topology packages s.capacity) nodes s
+  new_nodes_are count nodes s a same =
       record {
         is_reading = lawful topology packages;
-        is_for = record { params = sym params; capacity = refl };
+        is_for = record {
+          params = ap (λ (t : Topology). t.params) (sym same);
+          framed = λ q. ap (λ (t : Topology). is_framed t q) (sym same);
+          capacity = refl;
+        };
         node = λ p x e.
             subst (IsNodeOf (machine_of topology packages s.capacity) p) (sym (a.each p x e)) (record { reading = refl; params = refl; me = refl; prepares = refl });
       }

@@ -75,7 +75,7 @@ closed_returns params log mediator k closed = elim (cases_Bool (is_some (request
 
 -- the open requests of a sequencer
 abbrev pub open_of : Sequenced → List ℕ
-open_of s = open_requests s.params s.list
+open_of s = open_requests (s.topology).params s.list
 
 pub open_at : (s q : Sequenced) → q ≡ s → (places : List ℕ) → places ≡ open_of q → (n k : ℕ) → n < length places
     → k ≡ slice_index_or places n k → slice_get (open_of s) n ≡ Some k
@@ -89,8 +89,8 @@ within_open s q same first now was is n end long lt ends fits =
     let b = ap length is in
     let c = ap (λ (x : Sequenced). length (open_of x)) same in omega (arith, lt, ends, fits, a, b, c)
 
-pub open_passes : (s : Sequenced) (n k : ℕ) → slice_get (open_of s) n ≡ Some k → is_open s.params s.list k ≡ true
-open_passes s n k there = (place_passes (is_open s.params s.list) (length s.list) n k there).0
+pub open_passes : (s : Sequenced) (n k : ℕ) → slice_get (open_of s) n ≡ Some k → is_open (s.topology).params s.list k ≡ true
+open_passes s n k there = (place_passes (is_open (s.topology).params s.list) (length s.list) n k there).0
 
 pub one_more : (s : Sequenced) (n k : ℕ) → slice_get (open_of s) n ≡ Some k → take n (open_of s) ++ k ∷ [] ≡ take (n + 1) (open_of s)
 one_more s n k there =
@@ -101,7 +101,7 @@ pub all_taken : (s : Sequenced) (n : ℕ) → length (open_of s) ≤ n → take 
 all_taken s n le = take_all n (open_of s) le
 
 resumed_open : (m : Machine) (s : Sequenced) → IsFor m s → (p : ParticipantId) (node : NodeState)
-    → fold (resume_at m s.list p) node (open_requests s.params s.list) ≡ resumed m s.list p node
+    → fold (resume_at m s.list p) node (open_requests (s.topology).params s.list) ≡ resumed m s.list p node
 resumed_open m s f p node =
     ap (λ (q : Params). fold (resume_at m s.list p) node (open_requests q s.list)) (sym f.params)
     ∙ (open_only (resume_at m s.list p) (is_open m.params s.list) (closed_rests m s.list p) node (length s.list) ∙ below (length s.list))
@@ -111,7 +111,7 @@ resumed_open m s f p node =
     below (suc k) = ap (λ (x : NodeState). resume_at m s.list p x k) (below k)
 
 returned_open : (m : Machine) (s : Sequenced) → IsFor m s → (mediator : MediatorState)
-    → fold (return_at m.params s.list) mediator (open_requests s.params s.list) ≡ returned m.params s.list mediator
+    → fold (return_at m.params s.list) mediator (open_requests (s.topology).params s.list) ≡ returned m.params s.list mediator
 returned_open m s f mediator =
     ap (λ (q : Params). fold (return_at m.params s.list) mediator (open_requests q s.list)) (sym f.params)
     ∙ (open_only (return_at m.params s.list) (is_open m.params s.list) (closed_returns m.params s.list) mediator (length s.list) ∙ below (length s.list))
@@ -197,7 +197,7 @@ module _ (first : Kept) (s : Sequenced) where
   pub returner_starts : IsReturner first []
   returner_starts = record { returned_to = λ m state n i. i }
 
-  module _ (mediator : Kept) (places : List ℕ) (r : IsReturner mediator places) (k : ℕ) (stays : is_open s.params s.list k ≡ true) where
+  module _ (mediator : Kept) (places : List ℕ) (r : IsReturner mediator places) (k : ℕ) (stays : is_open (s.topology).params s.list k ≡ true) where
     gives : (m : Machine) (state : MediatorState) (n : ℕ) → IsMediator m state n first s → (b : Bool) → nat_lt k mediator.cursor ≡ b
         → (is_some (request_at s.list k)
         && (is_undecided m.params s.list k && nat_lt k (fold (return_at m.params s.list) state places).cursor)) ≡ b

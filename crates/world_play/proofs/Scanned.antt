@@ -94,11 +94,11 @@ module _ (m : Machine) (s : Sequenced) (is : IsReading m.reading) (f : IsFor m s
       not_due (is_asked_in m.reading p (request_at s.list j)) (has_responded j s.list p) (is_undecided m.params s.list j)
       (sym (asked_is m s.list is g p j) ∙ asked_none p (request_at s.list j) e)
 
-  pub due_of_one : is_open s.params s.list j ≡ true → (from : ParticipantId) → asked p (request_at s.list j) ≡ Some from → (responded : Bool)
+  pub due_of_one : is_open (s.topology).params s.list j ≡ true → (from : ParticipantId) → asked p (request_at s.list j) ≡ Some from → (responded : Bool)
       → responded ≡ has_responded j s.list from → not responded ≡ is_due m s.list p j
   due_of_one stays from e responded r =
       let one = asked_one p from (request_at s.list j) e in
-      let both = and_parts (is_some (request_at s.list j)) (is_undecided s.params s.list j) stays in
+      let both = and_parts (is_some (request_at s.list j)) (is_undecided (s.topology).params s.list j) stays in
       due_unless (is_asked_in m.reading p (request_at s.list j)) (has_responded j s.list p) (is_undecided m.params s.list j) responded
       (sym (asked_is m s.list is g p j) ∙ one.1)
       (ap (λ (q : Params). is_undecided q s.list j) f.params ∙ both.1)

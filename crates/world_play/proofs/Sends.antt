@@ -28,7 +28,7 @@ use Rattle.world_play.specs.Standing.{IsParticipant, GoesOn}
 
 -- a log that goes on
 pub stays : (s : Sequenced) → GoesOn s s
-stays s = record { row = refl; capacity = refl; params = refl; more = []; is_more = sym (append-nil s.list) }
+stays s = record { row = refl; capacity = refl; params = refl; framed = λ q. refl; more = []; is_more = sym (append-nil s.list) }
 
 pub goes_further : (a b c : Sequenced) → GoesOn a b → GoesOn b c → GoesOn a c
 goes_further a b c x y =
@@ -36,12 +36,14 @@ goes_further a b c x y =
       row = y.row ∙ x.row;
       capacity = y.capacity ∙ x.capacity;
       params = y.params ∙ x.params;
+      framed = λ q. y.framed q ∙ x.framed q;
       more = x.more ++ y.more;
       is_more = y.is_more ∙ (ap (λ (xs : List Entry). xs ++ y.more) x.is_more ∙ append_assoc a.list x.more y.more);
     }
 
 pub still_for : (m : Machine) (a b : Sequenced) → GoesOn a b → IsFor m a → IsFor m b
-still_for m a b x f = record { params = f.params ∙ sym x.params; capacity = f.capacity ∙ sym x.capacity }
+still_for m a b x f =
+    record { params = f.params ∙ sym x.params; framed = λ q. f.framed q ∙ sym (x.framed q); capacity = f.capacity ∙ sym x.capacity }
 
 -- a participant stays one while the log goes on
 module _ (m : Machine) (p : ParticipantId) where

@@ -12,3 +12,4 @@ pub mod Becoming
 pub mod Results
 pub mod Flags
 pub mod Answering
+pub mod ActiveAt

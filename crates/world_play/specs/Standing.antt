@@ -2,7 +2,8 @@
 use Rattle.std.specs.Prelude.{◌≡◌, ◌≤◌, ◌++◌, ℕ, List, length, take}
 use Rattle.ledger_model.specs.Terms.{ParticipantId}
 use Rattle.canton_model.specs.Genuine.{IsReading}
-use Rattle.world_model.specs.Messages.{Entry}
+use Rattle.sealed_form.specs.Framed.{is_framed}
+use Rattle.world_model.specs.Messages.{Entry, Request}
 use Rattle.world_model.specs.Machine.{Machine}
 use Rattle.world_model.specs.Locks.{SequencerBehind}
 use Rattle.world_model.specs.Mediator.{MediatorState}
@@ -26,7 +27,8 @@ pub record IsParticipant (m : Machine) (p : ParticipantId) (node : NodeValue) (s
 pub record GoesOn (before after : Sequenced) : Type 0 where
   pub row : after.row ≡ before.row
   pub capacity : after.capacity ≡ before.capacity
-  pub params : after.params ≡ before.params
+  pub params : (after.topology).params ≡ (before.topology).params
+  pub framed : (request : Request) → is_framed after.topology request ≡ is_framed before.topology request
   pub more : List Entry
   pub is_more : after.list ≡ before.list ++ more
 

@@ -48,8 +48,10 @@ fn send(sequencer: &mut Sequencer<'_>, request: Request) -> Result<SubmitResult,
                 fault: SubmitFault::LogFull { reserved, need },
                 read_to,
             }),
-            // no request comes too late
-            AppendFault::TooLate { .. } | AppendFault::Memory => Err(AllocError),
+            // no request comes too late, and what a participant prepares is framed
+            AppendFault::Unframed | AppendFault::TooLate { .. } | AppendFault::Memory => {
+                Err(AllocError)
+            }
         },
     }
 }

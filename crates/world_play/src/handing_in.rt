@@ -24,9 +24,7 @@ fn hand_in(sequencer: &mut Sequencer<'_>, message: Message) -> Result<(), AllocE
         Ok(_) => Ok(()),
         Err(AppendRefusal { fault, .. }) => match fault {
             AppendFault::Memory => Err(AllocError),
-            AppendFault::Already { .. }
-            | AppendFault::LogFull { .. }
-            | AppendFault::TooLate { .. } => Ok(()),
+            _ => Ok(()),
         },
     }
 }
@@ -55,7 +53,8 @@ pub fn hand_in_verdict(sequencer: &mut Sequencer<'_>, verdict: Verdict) -> Resul
     hand_in(sequencer, Message::Verdict(verdict))
 }
 
-/// Appends the request. One whose sender and command stand in the log already, or for which there is no room, is dropped.
+/// Appends the request. One whose sender and command stand in the log already, that isn't framed, or for which there is no room, is
+/// dropped.
 pub fn hand_in_request(sequencer: &mut Sequencer<'_>, request: Request) -> Result<(), AllocError>
     ensures on { GoesOn sequencer.old sequencer.new }
     ensures ok { OnOk result ((m : Machine) (now : ℕ) → IsFor m sequencer.old

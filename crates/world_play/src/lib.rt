@@ -9,6 +9,7 @@ mod deciding;
 mod event;
 mod handing_in;
 mod happening;
+pub mod laws;
 mod mediating;
 mod moving;
 mod pass;

@@ -24,7 +24,7 @@ use seq_log::Sequencer;
 
 // The participant with this index has read the open request at a place, and owes a response to it.
 fn must_resume(node: &Node<'_>, sequencer: &mut Sequencer<'_>, place: u64, at: usize) -> bool
-    requires { is_open sequencer.old.params sequencer.old.list place ≡ true }
+    requires { is_open (sequencer.old.topology).params sequencer.old.list place ≡ true }
     ensures same { sequencer.new ≡ sequencer.old }
     ensures test { (m : Machine) → IsReading m.reading → IsFor m sequencer.old → GenuineLog m sequencer.old.list
         → result ≡ (is_due m sequencer.old.list at place && nat_lt place (length (node.now.state).items)) }

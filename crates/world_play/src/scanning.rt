@@ -42,7 +42,7 @@ fn asked_at(sequencer: &mut Sequencer<'_>, place: u64, at: usize) -> Option<Part
 
 /// Whether the participant with this index owes a response to the open request at a place.
 pub fn is_due(sequencer: &mut Sequencer<'_>, place: u64, at: usize) -> bool
-    requires { is_open sequencer.old.params sequencer.old.list place ≡ true }
+    requires { is_open (sequencer.old.topology).params sequencer.old.list place ≡ true }
     ensures same { sequencer.new ≡ sequencer.old }
     ensures due { (m : Machine) → IsReading m.reading → IsFor m sequencer.old → GenuineLog m sequencer.old.list
         → result ≡ is_due m sequencer.old.list at place }

@@ -76,7 +76,7 @@ impl<'r> World<'r> {
     {
         let nodes = new_nodes(alloc, setup)?;
         let mediator = Mediator::new(alloc, &setup.topology);
-        let sequencer = Sequencer::new(alloc, row, capacity, setup.topology.params)?;
+        let sequencer = Sequencer::new(alloc, row, capacity, &setup.topology)?;
         Ok(World::of(sequencer, mediator, nodes, 0))
     }
 }

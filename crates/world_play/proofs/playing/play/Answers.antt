@@ -3,9 +3,11 @@ use Rattle.std.specs.Prelude.{slice_get}
 use Rattle.world_model.proofs.HeadlineFacts.{headline}
 use Rattle.world_play.specs.declared.event.Event.{Event}
 use Rattle.world_play.specs.Events.{CanHappen}
-use Rattle.node_core.specs.Machines.{machine_of}
+use Rattle.world_model.specs.World as w
+use Rattle.world_model.specs.Mediator.{new_mediator}
+use Rattle.node_core.specs.Machines.{machine_of, offered_in}
 use Rattle.world_play.proofs.Passing.{item_at}
-use Rattle.world_play.proofs.Plays.{each_of, played_lawful, played_on, within}
+use Rattle.world_play.proofs.Plays.{each_of, played_lawful, played_on, played_starts, within}
 use Rattle.world_play.proofs.playing.play.Goals as goal
 
 pub happen-requires-clause-now : goal.happen-requires-clause-now
@@ -68,3 +70,14 @@ returns-clause-headline g c =
     let machine = c.events.invariant.0 in
     headline m.reading m.params (c.events.world.sequencer).list machine.is_reading
     (played_lawful m c.args.events.now machine c.events.event-index c.events.world c.events.invariant.1).genuine
+
+pub events-init : goal.events-init
+events-init g c =
+    let t = c.args.setup.now.topology in
+    let p = c.args.setup.now.checked in
+    let m = machine_of t p c.args.capacity in
+    let made = c.in_ok-world.ensures in (
+      c.prepared_requests_make_a_machine.ensures t p c.args.capacity (offered_in t p),
+      played_starts m c.args.events.now new_mediator c.in_ok-world.world (ap (λ (x : w.World). x.now) made.new) made.is made.new,
+      made.set_up,
+    )

@@ -32,7 +32,7 @@ must_resume-requires c =
     let there =
     open_at s c.places.sequencer inv.0 c.open_requests-in-places.result.now.items c.open_requests-in-places.ensures c.places.number place
     within c.index-place.ensures in
-    subst (λ (q : Sequenced). is_open q.params q.list place ≡ true) (sym inv.0) (open_passes s c.places.number place there)
+    subst (λ (q : Sequenced). is_open (q.topology).params q.list place ≡ true) (sym inv.0) (open_passes s c.places.number place there)
 
 pub put_back-requires : goal.put_back-requires
 put_back-requires c =

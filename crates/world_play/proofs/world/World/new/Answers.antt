@@ -22,7 +22,7 @@ returns-clause-is c =
     let nodes = (c.in_ok-nodes.nodes).items in
     let made =
     subst (λ (n : ℕ). AreNodesOf (machine_of t p n) nodes s) (ap (λ (q : Sequenced). q.capacity) e)
-    (new_nodes_are t p (length t.hosts) nodes s c.in_ok-nodes.ensures (ap (λ (q : Sequenced). q.params) e)) in
+    (new_nodes_are t p (length t.hosts) nodes s c.in_ok-nodes.ensures (ap (λ (q : Sequenced). q.topology) e)) in
     record {
       nodes =
           subst (λ (q : Sequenced). AreNodesOf m ((c.of.result).nodes).items q) (sym of.0)

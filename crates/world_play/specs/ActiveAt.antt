@@ -1,0 +1,49 @@
+-- What a submission is answered, by its participant's active contracts at what it had read.
+use Rattle.std.specs.Prelude.{◌≡◌, ◌≢◌, ℕ, ◌+◌, List, Some, length, map, take}
+use Rattle.ledger_terms.specs.declared.active_row.ActiveRow.{ActiveRow}
+use Rattle.ledger_terms.specs.declared.known.Known.{Known}
+use Rattle.ledger_terms.specs.declared.submission.Submission.{Submission}
+use Rattle.ledger_terms.specs.declared.topology.Topology.{Topology}
+use Rattle.ledger_model.specs.Terms.{ParticipantId}
+use Rattle.lang_eval.specs.Found.{Packages}
+use Rattle.canton_model.specs.Inbox.{inbox, node_active}
+use Rattle.canton_model.specs.Log.{request_at}
+use Rattle.sealed_form.specs.SealedReading.{sealed_reading}
+use Rattle.world_model.specs.Messages.{Entry, Request}
+use Rattle.world_model.specs.Rounds.{SubmitResult, Sent, Refused, Paused, Unwanted, Duplicate, LogFull}
+use Rattle.prepare_request.specs.Causes.{HasCause, IsRequestOf}
+use Rattle.prepare_request.specs.declared.submit_fault.SubmitFault.{SubmitFault}
+use Rattle.prepare_request.specs.declared.submit_fault.SubmitFault.TheVariants.{Memory}
+
+-- the active contracts of a participant that has read n entries of the log, at its cursor
+abbrev pub active_at : Topology → Packages → List Entry → ParticipantId → (n : ℕ) → List Known
+active_at topology packages log p n =
+    map (λ (a : ActiveRow). a.known) (node_active (sealed_reading topology packages) p (inbox (sealed_reading topology packages) p (take n log)) n)
+
+module _ (topology : Topology) (packages : Packages) (now : ℕ) (log : List Entry) (what : Submission) where
+  -- the request is of the transaction that the submission wants over what its participant knows
+  abbrev pub Wants : (read_to : ℕ) → Request → Type 0
+  Wants read_to request = IsRequestOf topology packages what.participant (active_at topology packages log what.participant read_to) what now request
+
+  -- this request stands at the place
+  abbrev pub IsSent : (place read_to : ℕ) → Type 0
+  IsSent place read_to = (request : Request) × (request_at log place ≡ Some request) × Wants read_to request
+
+  -- one with its sender and command stands there
+  abbrev pub StandsThere : (place read_to : ℕ) → Type 0
+  StandsThere place read_to =
+      (request : Request) × Wants read_to request × (first : Request) × (request_at log place ≡ Some first) × (first.sender ≡ request.sender)
+      × (first.command ≡ request.command)
+
+  -- its need is this
+  abbrev pub Needs : (need read_to : ℕ) → Type 0
+  Needs need read_to = (request : Request) × Wants read_to request × (need ≡ 2 + length request.confirming)
+
+  -- Nothing is said of want of memory, which no result has.
+  abbrev pub IsAnsweredBy : SubmitResult SubmitFault → Type 0
+  IsAnsweredBy (Sent place read_to) = IsSent place read_to
+  IsAnsweredBy (Refused Paused read_to) = Unit {0}
+  IsAnsweredBy (Refused (Unwanted fault) read_to) =
+      fault ≢ Memory → HasCause topology packages what.participant (active_at topology packages log what.participant read_to) what now fault
+  IsAnsweredBy (Refused (Duplicate place) read_to) = StandsThere place read_to
+  IsAnsweredBy (Refused (LogFull amount need) read_to) = Needs need read_to
