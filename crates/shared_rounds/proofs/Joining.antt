@@ -46,6 +46,7 @@ goes_on m before after is_for is_for' row begins =
       row = row;
       capacity = sym is_for'.capacity ∙ is_for.capacity;
       params = sym is_for'.params ∙ is_for.params;
+      framed = λ q. sym (is_for'.framed q) ∙ is_for.framed q;
       more = begins.0;
       is_more = sym begins.1;
     }

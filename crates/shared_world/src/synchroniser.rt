@@ -10,7 +10,7 @@ ghost use Rattle.node_core.specs.Machines.{machine_of};
 ghost use Rattle.world_play.specs.Submitting.{AreSetUp};
 ghost use Rattle.world_play.specs.WorldOf.{IsWorldOf, world_of};
 ghost use Rattle.sync_shared.specs.SetUp.{IsSetUp};
-ghost use Rattle.sync_shared.specs.Slips.{read_to, InRow};
+ghost use Rattle.sync_shared.specs.Slips.{IsTicked, read_to, InRow};
 
 use confirm_reply::Setup;
 use ledger_terms::{ParticipantId, ParticipantIdList};
@@ -27,12 +27,15 @@ pub const LEDGER_PARTS: u64 = 1025;
 
 /// A synchroniser whose sequencer, mediator and participants lie behind locks, for as long as threads share it. It counts what comes
 /// into the log: a client's requests with the client's share, and Ticks with the share that stays here. Contracts see how many
-/// clients aren't retired, how much those that are and the rounds brought in, and what the round says.
+/// clients aren't retired, how much those that are and the rounds brought in, what the round says, and the entries as far as the last
+/// round's Tick.
 #[derive(Drop)]
 pub struct Synchroniser<'r, S: Session> {
     shared: Shared<'r, S>,
     // The last entry of the log when the sharing began.
     start: Option<Slip<'r>>,
+    // The Tick of the last round that had one, and else the same.
+    known: Option<Slip<'r>>,
     home: Share<S>,
     out: u64,
 }
@@ -47,10 +50,10 @@ impl<'r, S: Session> Model for Synchroniser<'r, S> {
     ghost use Rattle.sync_shared.specs.SetUp.{IsSetUp};
     ghost use Rattle.sync_shared.specs.Slips.{read_to, InRow};
 
-    ghost view = { λ s. record { out = s.out; counted = s.home.amount; round = s.shared.round } };
+    ghost view = { λ s. record { out = s.out; counted = s.home.amount; round = s.shared.round; known = read_to s.known } };
 
     ghost invariant = { λ s. InRow S.history s.start × (read_to s.start ≡ S.start) × (s.home.parts + s.out ≡ 1025) × (s.out ≤ 1024)
-        × IsSetUp S.topology S.packages S.machine S.why × IsReading (S.machine).reading };
+        × IsSetUp S.topology S.packages S.machine S.why × IsReading (S.machine).reading × InRow S.history s.known };
 }
 
 #[tactic(auto, using(std::proofs::lemmas::List::Elements::same_from_all_zip))]
@@ -96,14 +99,16 @@ impl<'r, S: Session> Synchroniser<'r, S> {
         requires start { (world.sequencer).list ≡ S.start }
         requires now { world.now ≤ 10 ^ 16 }
         requires ledger { (blank.name ≡ S.name) × (blank.parts ≡ S.parts) × (S.parts ≡ 1025) }
-        ensures { result ≡ record { out = 0; counted = 0; round = record { time = world.entry.now; paused = []; hold_verdicts = false } } }
+        ensures { result ≡ record { out = 0; counted = 0; round = record { time = world.entry.now; paused = []; hold_verdicts = false }; known = S.start } }
     {
         let mut world = world;
-        let start = last_of(&mut world.sequencer);
+        let mut start = last_of(&mut world.sequencer);
+        let known = again(&mut start);
         let (count, home) = blank.open::<S>();
         Synchroniser {
             shared: shared_of(alloc, world, count),
             start,
+            known,
             home,
             out: 0,
         }
@@ -123,7 +128,7 @@ impl<'r, S: Session> Synchroniser<'r, S> {
         requires set_up { IsSetUp S.topology S.packages S.machine S.why }
         requires log { (row.old ≡ S.history) × (S.start ≡ []) }
         requires ledger { (blank.name ≡ S.name) × (blank.parts ≡ S.parts) × (S.parts ≡ 1025) }
-        ensures { IfOk result (λ s. s ≡ record { out = 0; counted = 0; round = record { time = 0; paused = []; hold_verdicts = false } }) }
+        ensures { IfOk result (λ s. s ≡ record { out = 0; counted = 0; round = record { time = 0; paused = []; hold_verdicts = false }; known = [] }) }
     {
         let world = World::new(alloc, setup, row, capacity)?;
         Ok(Synchroniser::of(alloc, world, blank))
@@ -139,6 +144,8 @@ impl<'r, S: Session> Synchroniser<'r, S> {
         requires { self.old.round.time + advance ≤ 10 ^ 16 }
         ensures round { OnOk result (self.new.round ≡ record { time = self.old.round.time + advance; paused = paused.now; hold_verdicts = hold_verdicts }) }
         ensures counted { OnOk result (self.new.counted ≡ self.old.counted + one_if (not (nat_eq advance 0))) }
+        ensures tick { OnOk result (0 < advance → IsTicked (self.old.round.time + advance) self.old.known self.new.known) }
+        ensures still { OnOk result (advance ≡ 0 → self.new.known ≡ self.old.known) }
         ensures out { self.new.out ≡ self.old.out }
         ensures err { OnErr result (self.new ≡ self.old) }
     {
@@ -149,7 +156,8 @@ impl<'r, S: Session> Synchroniser<'r, S> {
             paused,
             hold_verdicts,
         };
-        self.shared.begin(&mut self.home, round, advance > 0)
+        self.shared
+            .begin(&mut self.home, &mut self.known, round, advance > 0)
     }
 
     /// A client of a participant, which has seen all that stood in the log when the sharing began.
@@ -170,6 +178,7 @@ impl<'r, S: Session> Synchroniser<'r, S> {
         ensures out { self.new.out + 1 ≡ self.old.out }
         ensures counted { self.new.counted ≡ self.old.counted + client.entry.tickets }
         ensures round { self.new.round ≡ self.old.round }
+        ensures known { self.new.known ≡ self.old.known }
         ensures slip { InRow S.history result × (read_to result ≡ client.entry.list) }
     {
         let (share, last) = client.into_parts();
@@ -193,6 +202,7 @@ impl<'r, S: Session> Synchroniser<'r, S> {
         let Synchroniser {
             shared,
             start: _,
+            known: _,
             mut home,
             out: _,
         } = self;

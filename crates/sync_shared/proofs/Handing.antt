@@ -1,5 +1,5 @@
 -- What a client knows after its request was handed in, and what waits or was decided over longer logs.
-use Rattle.std.proofs.Common.{◌≡◌, ◌≢◌, ℕ, ◌+◌, ◌<◌, false, List, [], ◌∷◌, ◌++◌, length, Some, None, refl, sym, ap, ◌∙◌, subst, arith}
+use Rattle.std.proofs.Common.{◌≡◌, ◌≢◌, ℕ, ◌+◌, ◌<◌, true, false, List, [], ◌∷◌, ◌++◌, length, Some, None, refl, sym, ap, ◌∙◌, subst, arith}
 use Rattle.std.specs.Prelude.{slice_get, IfSome}
 use Rattle.std.proofs.lemmas.List.{length-append}
 use mathlib.Core.List.{IsPrefix}
@@ -12,9 +12,11 @@ use Rattle.world_model.specs.Messages.{Entry, RequestMessage, Request, Response,
 use Rattle.world_model.specs.Machine.{Machine}
 use Rattle.world_model.specs.Places.{has_place}
 use Rattle.world_model.specs.Fits.{IsOwed, IsDecision}
+use Rattle.world_model.specs.Locks.{SequencerBehind}
 use Rattle.world_model.specs.Sequencing as s
 use Rattle.world_model.specs.Sequencing.{append_fault, entry_after}
 use Rattle.world_model.specs.Rounds.{Why, SubmitResult, Sent, Refused, Duplicate, LogFull}
+use Rattle.world_model.proofs.Appended.{framed_passes}
 use Rattle.world_model.proofs.Grown.{request_within, slice_get_last, owed_stands}
 use Rattle.prepare_request.specs.declared.submit_fault.SubmitFault.{SubmitFault}
 use Rattle.threads_model.specs.Clients.{ClientStep}
@@ -96,16 +98,35 @@ module _ (m : Machine) (why : Why SubmitFault) (now : ℕ) (seen read log : List
 module _ (m : Machine) (why : Why SubmitFault) (now : ℕ) (seen read log : List Entry) (what : Submission) (p : ParticipantId) (q : Request)
     (mine : what.participant ≡ p) (knows : IsPrefix seen read) (begins : IsPrefix read log)
     (wanted : m.prepare what (inbox m.reading p read) now ≡ Some q) (list : List Entry) (n : ℕ) (reads : n ≡ length read) where
-  pub hand_refused : (fault : AppendFault) → append_fault m log (RequestMessage q) ≡ cause_of fault → list ≡ seen_after fault seen log
+  pub hand_refused : (fault : AppendFault) → IfSome (cause_of fault) (λ cause. append_fault m log (RequestMessage q) ≡ Some cause)
+      → list ≡ seen_after fault seen log
       → IfSome (refused_at n (fault_of (told_of fault)))
       (λ r. (paused : List ParticipantId) → has_place paused what.participant ≡ false → ClientStep m why now paused seen what r list)
   hand_refused (append.Already place) cause is = λ paused awake.
       hand_already m why now seen read log what p q mine knows begins wanted list n reads paused awake place cause is
+  hand_refused append.Unframed cause is = tt
   hand_refused (append.LogFull amount need) cause is = λ paused awake.
       hand_full m why now seen read log what p q mine knows begins wanted list n reads paused awake amount need cause is
   hand_refused (append.TooLate decision time) cause is = tt
   hand_refused append.Memory cause is = tt
 
-pub is_in_time : (m : Machine) (log : List Entry) (q : Request) (fault : AppendFault) → append_fault m log (RequestMessage q) ≡ cause_of fault
-    → (decision time : ℕ) → fault ≢ append.TooLate decision time
-is_in_time m log q fault cause decision time same = request_in_time m log q decision time (cause ∙ ap cause_of same)
+-- What the client has seen then is a genuine log within its capacity, where the log was asked.
+pub refused_genuine : (m : Machine) (fault : AppendFault) (seen log list : List Entry) (n : ℕ) → list ≡ seen_after fault seen log → SequencerBehind m log
+    → IfSome (refused_at n (fault_of (told_of fault))) (λ (r : SubmitResult SubmitFault). SequencerBehind m list)
+refused_genuine m (append.Already place) seen log list n is behind = subst (SequencerBehind m) (sym is) behind
+refused_genuine m append.Unframed seen log list n is behind = tt
+refused_genuine m (append.LogFull amount need) seen log list n is behind = subst (SequencerBehind m) (sym is) behind
+refused_genuine m (append.TooLate decision time) seen log list n is behind = tt
+refused_genuine m append.Memory seen log list n is behind = tt
+
+-- what the log never answers to the request of a participant
+module _ (m : Machine) (log : List Entry) (q : Request) (fault : AppendFault)
+    (cause : IfSome (cause_of fault) (λ cause. append_fault m log (RequestMessage q) ≡ Some cause)) where
+  of_fault : (other : AppendFault) → fault ≡ other → IfSome (cause_of other) (λ cause. append_fault m log (RequestMessage q) ≡ Some cause)
+  of_fault other same = subst (λ (f : AppendFault). IfSome (cause_of f) (λ cause. append_fault m log (RequestMessage q) ≡ Some cause)) same cause
+
+  pub is_in_time : (decision time : ℕ) → fault ≢ append.TooLate decision time
+  is_in_time decision time same = request_in_time m log q decision time (of_fault (append.TooLate decision time) same)
+
+  pub is_of_framed : (m.reading).is_framed q ≡ true → fault ≢ append.Unframed
+  is_of_framed framed same = framed_passes m log q framed (of_fault append.Unframed same)

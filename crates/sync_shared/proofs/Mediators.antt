@@ -1,6 +1,6 @@
 -- The mediator behind its lock: it reads one entry more, and takes a verdict.
 use Rattle.std.proofs.Common.{◌≡◌, ℕ, ◌+◌, List, [], ◌∷◌, ◌++◌, length, Option, Some, None, Result, sym, ap, ◌∙◌, subst}
-use Rattle.std.specs.Prelude.{Ok, Err, IfOk, IfSome, OnErr, slice_get}
+use Rattle.std.specs.Prelude.{Ok, Err, IfOk, IfNone, IfSome, OnErr, slice_get}
 use mathlib.Core.List.{IsPrefix}
 use Rattle.canton_model.specs.Log.{Params}
 use Rattle.world_model.specs.Messages.{Entry, Verdict}
@@ -10,6 +10,8 @@ use Rattle.world_model.specs.Lawful.{MediatorHas}
 use Rattle.world_model.specs.Fits.{IsDecision}
 use Rattle.world_model.proofs.Steps.{mediator_has_read, mediator_has_taken}
 use Rattle.mediator.specs.Kept.{Kept, Keeps, Knows, taken}
+use Rattle.mediator.specs.Order.{HasGiven, IsFirstDue, NothingIsDue}
+use Rattle.mediator.proofs.Knowing.{known_first, known_none}
 use Rattle.sync_shared.specs.Behind.{IsMediatorBehind}
 use Rattle.sync_shared.proofs.Prefixes.{ends_with}
 
@@ -48,6 +50,26 @@ module _ (m : Machine) (list : List Entry) (kept : Kept) (b : IsMediatorBehind m
             knows = record { params = params ∙ (b.knows).params; state = take_verdict (b.knows).state v.request; keeps = keeps; has = t.1 };
           },
         )
+
+    -- the verdict is the first that is due, and none only where nothing is
+    pub first_taken : {E : Type 0} (r : Result (Option Verdict) E) → IfOk r (λ o. (state : MediatorState) → Keeps kept state → o ≡ next_verdict state)
+        → IfOk r (λ o. (state : MediatorState) → Keeps kept state → Keeps after (taken state o))
+        → IfOk r (λ o. IfSome o (λ v. (given : List ℕ) → HasGiven m list given kept
+        → IsFirstDue m.params list given v × HasGiven m list (v.request ∷ given) after))
+    first_taken (Err e) first keeps = tt
+    first_taken (Ok None) first keeps = tt
+    first_taken (Ok (Some v)) first keeps = λ given h.
+        known_first m list given kept after h params b.genuine (Some v) (first (h.knows).state (h.knows).keeps)
+        (keeps (h.knows).state (h.knows).keeps)
+
+    pub none_taken : {E : Type 0} (r : Result (Option Verdict) E) → IfOk r (λ o. (state : MediatorState) → Keeps kept state → o ≡ next_verdict state)
+        → IfOk r (λ o. (state : MediatorState) → Keeps kept state → Keeps after (taken state o))
+        → IfOk r (λ o. IfNone o ((given : List ℕ) → HasGiven m list given kept → NothingIsDue m.params list given × HasGiven m list given after))
+    none_taken (Err e) first keeps = tt
+    none_taken (Ok (Some v)) first keeps = tt
+    none_taken (Ok None) first keeps = λ given h.
+        known_none m list given kept after h params b.genuine None (first (h.knows).state (h.knows).keeps)
+        (keeps (h.knows).state (h.knows).keeps)
 
     pub verdict_decided : {E : Type 0} (r : Result (Option Verdict) E) → IfOk r (λ o. (state : MediatorState) → Keeps kept state → o ≡ next_verdict state)
         → IfOk r (λ o. (state : MediatorState) → Keeps kept state → Keeps after (taken state o)) → IfOk r (λ o. IfSome o (IsDecision m.params list))

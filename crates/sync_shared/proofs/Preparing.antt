@@ -90,6 +90,10 @@ module _ (topology : Topology) (packages : Packages) (m : Machine) (why : Why Su
   is_sealed (Ok q) h = subst (λ (r : Reading). r.is_sealed q ≡ true) (b.is).reading h
   is_sealed (Err fault) h = h
 
+  pub is_framed : {X : Type 0} (answer : Result Request X) → IfOk answer (λ q. (reading_of node).is_framed q ≡ true) → IfOk answer (λ q. m.reading.is_framed q ≡ true)
+  is_framed (Ok q) h = subst (λ (r : Reading). r.is_framed q ≡ true) (b.is).reading h
+  is_framed (Err fault) h = h
+
   pub is_mine : {X : Type 0} (answer : Result Request X) → IfOk answer (λ q. q.sender ≡ node.me) → IfOk answer (λ q. q.sender ≡ p)
   is_mine (Ok q) h = h ∙ (b.is).me
   is_mine (Err fault) h = h

@@ -33,9 +33,10 @@ abbrev pub has_ticket : Result TicketValue SubmitRefusal → Bool
 has_ticket (Ok ticket) = true
 has_ticket (Err refusal) = false
 
--- Why a request isn't appended, as its client is told. No request comes too late.
+-- Why a request isn't appended, as its client is told. No request comes too late, and what a participant prepares is framed.
 abbrev pub told_of : AppendFault → SubmitFault
 told_of (append.Already place) = Duplicate place
+told_of append.Unframed = Memory
 told_of (append.LogFull reserved need) = LogFull reserved need
 told_of (append.TooLate decision time) = Memory
 told_of append.Memory = Memory
@@ -43,6 +44,7 @@ told_of append.Memory = Memory
 -- the entries that the client has seen then, of a log that had these
 abbrev pub seen_after : AppendFault → (seen log : List Entry) → List Entry
 seen_after (append.Already place) seen log = log
+seen_after append.Unframed seen log = seen
 seen_after (append.LogFull reserved need) seen log = log
 seen_after (append.TooLate decision time) seen log = seen
 seen_after append.Memory seen log = seen

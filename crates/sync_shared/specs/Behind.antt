@@ -35,6 +35,11 @@ pub record IsNodeBehind (topology : Topology) (packages : Packages) (m : Machine
   pub is : IsNodeOf m p node
   pub behind : NodeBehind m p list node.state
 
+-- what contracts see of the mediator behind its lock: the entries that it has read, and what it keeps of them
+pub record Mediating : Type 0 where
+  pub list : List Entry
+  pub kept : Kept
+
 -- behind the mediator's lock: a mediator that has read this list
 pub record IsMediatorBehind (m : Machine) (list : List Entry) (mediator : Kept) : Type 0 where
   pub genuine : GenuineLog m list

@@ -1,6 +1,7 @@
 -- The last slip that somebody has read.
-use Rattle.std.specs.Prelude.{◌≡◌, List, [], Option, Some, None, IfSome}
-use Rattle.world_model.specs.Messages.{Entry}
+use Rattle.std.specs.Prelude.{◌≡◌, ℕ, List, [], ◌∷◌, ◌++◌, Option, Some, None, IfSome}
+use Rattle.world_model.specs.Messages.{Entry, Tick}
+use Rattle.world_model.specs.Sequencing.{entry_after}
 use Rattle.log_row.specs.LogPrefix.{LogPrefix, RowName}
 
 -- the entries that it ties
@@ -11,3 +12,8 @@ read_to (Some slip) = slip.list
 -- it is of this history
 abbrev pub InRow : RowName → Option LogPrefix → Type 0
 InRow row last = IfSome last (λ slip. slip.row ≡ row)
+
+-- What was known of a log, then maybe more, and then as the last entry a Tick of this time. So this Tick wasn't known before.
+pub record IsTicked (now : ℕ) (known after : List Entry) : Type 0 where
+  pub more : List Entry
+  pub is : after ≡ (known ++ more) ++ entry_after now (known ++ more) Tick ∷ []

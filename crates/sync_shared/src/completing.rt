@@ -2,6 +2,7 @@
 ghost use Rattle.std.specs.Prelude.{◌≡◌, ◌<◌, length, IfOk, OnOk, OnErr};
 ghost use Rattle.canton_model.specs.Log.{decision_time_of};
 ghost use Rattle.canton_model.specs.Timeline.{outcome_of, timeline_of};
+ghost use Rattle.world_model.specs.Locks.{SequencerBehind};
 ghost use Rattle.node_core.specs.Completion.{completion_of};
 ghost use mathlib.Core.List.{IsPrefix};
 
@@ -27,6 +28,7 @@ fn read_past<'r, S: Session, const I: u8>(
     ensures same { (client.new ≡ client.old) × (ticket.new ≡ ticket.old) }
     ensures seen { OnOk result (IsPrefix client.old.list node.new) }
     ensures ticket { OnOk result (IsPrefix ticket.old.list node.new) }
+    ensures genuine { OnOk result (SequencerBehind S.machine node.new) }
 {
     client.reaches(log);
     ticket.reaches(log);
@@ -47,6 +49,7 @@ fn complete_at<'r, S: Session, R: Wait, const I: u8>(
     ensures seen { IsPrefix client.old.list client.new.list }
     ensures client { (client.new.tickets ≡ client.old.tickets) × (client.new.me ≡ client.old.me) }
     ensures holds { OnOk result (IsPrefix ticket.old.list client.new.list) }
+    ensures genuine { OnOk result (SequencerBehind S.machine client.new.list) }
     ensures answer { IfOk result (λ c. c ≡ completion_of (length client.new.list)
         (outcome_of (timeline_of client.new.list) ticket.old.place (decision_time_of S.machine.params client.new.list ticket.old.place))) }
     ensures err { OnErr result (client.new ≡ client.old) }
@@ -74,6 +77,7 @@ pub fn complete<'r, S: Session, R: Wait>(
     ensures seen { IsPrefix client.old.list client.new.list }
     ensures client { (client.new.tickets ≡ client.old.tickets) × (client.new.me ≡ client.old.me) }
     ensures holds { OnOk result (IsPrefix ticket.old.list client.new.list) }
+    ensures genuine { OnOk result (SequencerBehind S.machine client.new.list) }
     ensures answer { IfOk result (λ c. c ≡ completion_of (length client.new.list)
         (outcome_of (timeline_of client.new.list) ticket.old.place (decision_time_of S.machine.params client.new.list ticket.old.place))) }
     ensures err { OnErr result (client.new ≡ client.old) }

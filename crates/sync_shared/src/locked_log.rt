@@ -1,9 +1,10 @@
 //! The log as it lies behind its lock, with the book of what comes in.
-ghost use Rattle.std.specs.Prelude.{◌≡◌, ◌+◌, ◌<◌, ◌≤◌, ◌^◌, ◌++◌, ◌∷◌, [], None, true, false, length, take, IfOk, IfErr, OnOk, OnErr, IfSome, IfNone};
+ghost use Rattle.std.specs.Prelude.{◌≡◌, ◌+◌, ◌<◌, ◌≤◌, ◌^◌, ◌++◌, ◌∷◌, [], None, Some, true, false, length, take, IfOk, IfErr, OnOk, OnErr, IfSome, IfNone};
 ghost use Rattle.world_model.specs.Messages.{RequestMessage, Tick};
 ghost use Rattle.world_model.specs.Machine.{GenuineLog};
 ghost use Rattle.world_model.specs.Sequencing.{append_fault, entry_after};
 ghost use Rattle.world_model.specs.Fits.{MayStand};
+ghost use Rattle.world_model.specs.Locks.{SequencerBehind};
 ghost use Rattle.seq_log.specs.Sequenced.{cause_of};
 ghost use Rattle.threads_model.specs.Inputs.{is_input};
 ghost use Rattle.sync_shared.specs.Behind.{IsLogBehind};
@@ -75,7 +76,8 @@ impl<'r, S: Session> LockedLog<'r, S> {
         ensures ok { IfOk result (λ slip. (append_fault S.machine self.old message ≡ None) × (self.new ≡ self.old ++ entry_after now self.old message ∷ [])
             × (slip.row ≡ S.history) × (slip.list ≡ self.new)) }
         ensures err { OnErr result (self.new ≡ self.old) }
-        ensures cause { IfErr result (λ fault. append_fault S.machine self.old message ≡ cause_of fault) }
+        ensures cause { IfErr result (λ fault. IfSome (cause_of fault) (λ cause. append_fault S.machine self.old message ≡ Some cause)) }
+        ensures genuine { SequencerBehind S.machine self.new }
         ensures counted { OnOk result (share.new.amount ≡ share.old.amount + 1) }
         ensures uncounted { OnErr result (share.new.amount ≡ share.old.amount) }
         ensures parts { share.new.parts ≡ share.old.parts }
@@ -102,7 +104,8 @@ impl<'r, S: Session> LockedLog<'r, S> {
         ensures ok { IfOk result (λ slip. (append_fault S.machine self.old (RequestMessage request) ≡ None)
             × (self.new ≡ self.old ++ entry_after now self.old (RequestMessage request) ∷ []) × (slip.row ≡ S.history) × (slip.list ≡ self.new)) }
         ensures err { OnErr result (self.new ≡ self.old) }
-        ensures cause { IfErr result (λ fault. append_fault S.machine self.old (RequestMessage request) ≡ cause_of fault) }
+        ensures cause { IfErr result (λ fault. IfSome (cause_of fault) (λ cause. append_fault S.machine self.old (RequestMessage request) ≡ Some cause)) }
+        ensures genuine { SequencerBehind S.machine self.new }
         ensures counted { OnOk result (share.new.amount ≡ share.old.amount + 1) }
         ensures uncounted { OnErr result (share.new.amount ≡ share.old.amount) }
         ensures parts { share.new.parts ≡ share.old.parts }
@@ -111,17 +114,17 @@ impl<'r, S: Session> LockedLog<'r, S> {
     }
 
     /// Appends a Tick, and counts it with the share. After want of memory all is as before.
-    pub fn tick(&mut self, share: &mut Share<S>, now: u64) -> Result<(), AllocError>
+    pub fn tick(&mut self, share: &mut Share<S>, now: u64) -> Result<Slip<'r>, AllocError>
         requires parts { 0 < share.old.parts }
         requires now { now ≤ 10 ^ 16 }
-        ensures ok { OnOk result (self.new ≡ self.old ++ entry_after now self.old Tick ∷ []) }
+        ensures ok { IfOk result (λ slip. (self.new ≡ self.old ++ entry_after now self.old Tick ∷ []) × (slip.row ≡ S.history) × (slip.list ≡ self.new)) }
         ensures err { OnErr result (self.new ≡ self.old) }
         ensures counted { OnOk result (share.new.amount ≡ share.old.amount + 1) }
         ensures uncounted { OnErr result (share.new.amount ≡ share.old.amount) }
         ensures parts { share.new.parts ≡ share.old.parts }
     {
         match self.take_in(share, Message::Tick, now) {
-            Ok(_) => Ok(()),
+            Ok(slip) => Ok(slip),
             Err(_) => Err(AllocError),
         }
     }
@@ -139,6 +142,7 @@ impl<'r, S: Session> LockedLog<'r, S> {
             Err(AppendRefusal { fault, .. }) => match fault {
                 AppendFault::Memory => Err(AllocError),
                 AppendFault::Already { .. }
+                | AppendFault::Unframed
                 | AppendFault::LogFull { .. }
                 | AppendFault::TooLate { .. } => Ok(()),
             },
@@ -173,11 +177,12 @@ impl<'r, S: Session> LockedLog<'r, S> {
         self.sequencer.reaches(slip);
     }
 
-    /// Tells that what somebody has read begins the log.
+    /// Tells that what somebody has read begins the log, which is genuine and within its capacity.
     pub fn reaches(&mut self, last: &mut Option<Slip<'r>>)
         requires { InRow S.history last.old }
         ensures same { (self.new ≡ self.old) × (last.new ≡ last.old) }
         ensures begins { IsPrefix (read_to last.old) self.old }
+        ensures genuine { SequencerBehind S.machine self.old }
     {
         reached(&mut self.sequencer, last);
     }

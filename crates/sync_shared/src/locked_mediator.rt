@@ -1,7 +1,8 @@
 //! The mediator as it lies behind its lock.
-ghost use Rattle.std.specs.Prelude.{◌≡◌, ◌+◌, length, IfOk, IfSome, OnOk, OnErr};
+ghost use Rattle.std.specs.Prelude.{◌≡◌, ◌+◌, ◌∷◌, ℕ, List, length, IfOk, IfNone, IfSome, OnOk, OnErr};
 ghost use Rattle.world_model.specs.Machine.{GenuineLog};
 ghost use Rattle.world_model.specs.Fits.{IsDecision};
+ghost use Rattle.mediator.specs.Order.{HasGiven, IsFirstDue, NothingIsDue};
 ghost use Rattle.sync_shared.specs.Behind.{IsMediatorBehind};
 ghost use Rattle.sync_shared.specs.Slips.{read_to, InRow};
 
@@ -13,7 +14,7 @@ use mediator::Mediator;
 use std::alloc::AllocError;
 use std::marker::{Model, PhantomData};
 
-/// The mediator, with the last slip that it has read. Contracts see the entries that it has read.
+/// The mediator, with the last slip that it has read. Contracts see the entries that it has read, and what it keeps of them.
 #[derive(Drop)]
 pub struct LockedMediator<'r, S: Session> {
     mediator: Mediator,
@@ -22,15 +23,13 @@ pub struct LockedMediator<'r, S: Session> {
 }
 
 impl<'r, S: Session> Model for LockedMediator<'r, S> {
-    ghost use Rattle.std.specs.Prelude.{List};
-    ghost use Rattle.world_model.specs.Messages.{Entry};
+    ghost use Rattle.sync_shared.specs.Behind.{IsMediatorBehind, Mediating};
 
-    ghost Value = { List Entry };
+    ghost Value = { Mediating };
 
-    ghost use Rattle.sync_shared.specs.Behind.{IsMediatorBehind};
     ghost use Rattle.sync_shared.specs.Slips.{read_to, InRow};
 
-    ghost view = { λ m. read_to m.last };
+    ghost view = { λ m. record { list = read_to m.last; kept = m.mediator } };
 
     ghost invariant = { λ m. InRow S.history m.last × IsMediatorBehind S.machine (read_to m.last) m.mediator };
 }
@@ -40,7 +39,7 @@ impl<'r, S: Session> LockedMediator<'r, S> {
     pub fn of(mediator: Mediator, last: Option<Slip<'r>>) -> LockedMediator<'r, S>
         requires row { InRow S.history last }
         requires behind { IsMediatorBehind S.machine (read_to last) mediator }
-        ensures { result ≡ read_to last.entry }
+        ensures { result.list ≡ read_to last.entry }
     {
         LockedMediator {
             mediator,
@@ -51,8 +50,8 @@ impl<'r, S: Session> LockedMediator<'r, S> {
 
     pub fn into_parts(self) -> (Mediator, Option<Slip<'r>>)
         ensures row { InRow S.history result.1 }
-        ensures same { read_to result.1 ≡ self.entry }
-        ensures behind { IsMediatorBehind S.machine self.entry result.0 }
+        ensures same { read_to result.1 ≡ self.entry.list }
+        ensures behind { IsMediatorBehind S.machine self.entry.list result.0 }
     {
         let LockedMediator {
             mediator,
@@ -64,7 +63,7 @@ impl<'r, S: Session> LockedMediator<'r, S> {
 
     /// How many entries it has read.
     pub fn cursor(&self) -> u64
-        ensures { result ≡ length self.now }
+        ensures { result ≡ length self.now.list }
     {
         self.mediator.cursor()
     }
@@ -72,9 +71,9 @@ impl<'r, S: Session> LockedMediator<'r, S> {
     /// Reads the slip of the next place.
     pub fn read(&mut self, mut slip: Slip<'r>) -> Result<(), AllocError>
         requires row { slip.row ≡ S.history }
-        requires next { length slip.list ≡ length self.old + 1 }
+        requires next { length slip.list ≡ length self.old.list + 1 }
         requires genuine { GenuineLog S.machine slip.list }
-        ensures ok { OnOk result (self.new ≡ slip.entry.list) }
+        ensures ok { OnOk result (self.new.list ≡ slip.entry.list) }
         ensures err { OnErr result (self.new ≡ self.old) }
     {
         tie(&mut self.last, &mut slip);
@@ -89,15 +88,21 @@ impl<'r, S: Session> LockedMediator<'r, S> {
     pub fn last(&mut self) -> Option<Slip<'r>>
         ensures same { self.new ≡ self.old }
         ensures row { InRow S.history result }
-        ensures list { read_to result ≡ self.old }
+        ensures list { read_to result ≡ self.old.list }
     {
         again(&mut self.last)
     }
 
-    /// The decision on the first request that is settled over what was read, and whose verdict neither was taken nor read.
+    /// The decision on the first request that is settled over what was read, and whose verdict neither was taken nor read. It
+    /// counts as taken from then on, so over what was read each is taken once. After want of memory all is as before.
     pub fn take_verdict(&mut self) -> Result<Option<Verdict>, AllocError>
-        ensures same { self.new ≡ self.old }
-        ensures decision { IfOk result (λ o. IfSome o (IsDecision S.machine.params self.old)) }
+        ensures same { self.new.list ≡ self.old.list }
+        ensures decision { IfOk result (λ o. IfSome o (IsDecision S.machine.params self.old.list)) }
+        ensures first { IfOk result (λ o. IfSome o (λ v. (given : List ℕ) → HasGiven S.machine self.old.list given self.old.kept
+            → IsFirstDue S.machine.params self.old.list given v × HasGiven S.machine self.old.list (v.request ∷ given) self.new.kept)) }
+        ensures none { IfOk result (λ o. IfNone o ((given : List ℕ) → HasGiven S.machine self.old.list given self.old.kept
+            → NothingIsDue S.machine.params self.old.list given × HasGiven S.machine self.old.list given self.new.kept)) }
+        ensures err { OnErr result (self.new ≡ self.old) }
     {
         self.mediator.take_verdict()
     }

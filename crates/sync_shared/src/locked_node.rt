@@ -6,7 +6,7 @@ ghost use Rattle.canton_model.specs.Log.{decision_time_of};
 ghost use Rattle.canton_model.specs.Timeline.{outcome_of, timeline_of};
 ghost use Rattle.sealed_form.specs.Within.{is_hosted};
 ghost use Rattle.world_model.specs.Machine.{GenuineLog};
-ghost use Rattle.world_model.specs.Locks.{Claimed};
+ghost use Rattle.world_model.specs.Locks.{Claimed, SequencerBehind};
 ghost use Rattle.world_model.specs.Fits.{IsOwed};
 ghost use Rattle.world_model.specs.Node.{owed_at};
 ghost use Rattle.validate_job.specs.Owed.{owed_on_each};
@@ -112,6 +112,7 @@ impl<'r, S: Session, const I: u8> LockedNode<'r, S, I> {
     pub fn read_on(&mut self, log: &mut LockedLog<'r, S>) -> Result<(), AllocError>
         ensures same { log.new ≡ log.old }
         ensures ok { OnOk result (self.new ≡ log.old) }
+        ensures genuine { OnOk result (SequencerBehind S.machine log.old) }
     {
         'entries: while let Some(slip) = log.entry(self.cursor()) {
             self.read(slip)?;
@@ -124,6 +125,7 @@ impl<'r, S: Session, const I: u8> LockedNode<'r, S, I> {
     pub fn reaches(&mut self, log: &mut LockedLog<'r, S>)
         ensures same { (self.new ≡ self.old) × (log.new ≡ log.old) }
         ensures begins { IsPrefix self.old log.old }
+        ensures genuine { SequencerBehind S.machine log.old }
     {
         log.reaches(&mut self.last);
     }
@@ -145,6 +147,7 @@ impl<'r, S: Session, const I: u8> LockedNode<'r, S, I> {
         ensures same { self.new ≡ self.old }
         ensures wanted { IfOk result (λ request. S.machine.prepare what.now (inbox S.machine.reading I self.old) now ≡ Some request) }
         ensures sealed { IfOk result (λ request. (S.machine.reading).is_sealed request ≡ true) }
+        ensures framed { IfOk result (λ request. (S.machine.reading).is_framed request ≡ true) }
         ensures sender { IfOk result (λ request. request.sender ≡ I) }
         ensures unwanted { IfErr result (λ fault. fault ≢ Memory → (S.machine.prepare what.now (inbox S.machine.reading I self.old) now ≡ None)
             × (S.why what.now (inbox S.machine.reading I self.old) now ≡ fault) × (fault_of fault ≡ Some (Unwanted fault))) }

@@ -5,6 +5,7 @@ ghost use Rattle.canton_model.specs.Log.{decision_time_of};
 ghost use Rattle.canton_model.specs.Timeline.{outcome_of, timeline_of};
 ghost use Rattle.sealed_form.specs.Within.{is_hosted};
 ghost use Rattle.world_model.specs.Messages.{Entry};
+ghost use Rattle.world_model.specs.Locks.{SequencerBehind};
 ghost use Rattle.world_model.specs.Places.{has_place};
 ghost use Rattle.threads_model.specs.Inputs.{one_if};
 ghost use Rattle.threads_model.specs.Clients.{ClientStep};
@@ -14,6 +15,7 @@ ghost use Rattle.prepare_request.specs.declared.submit_fault.SubmitFault.TheVari
 ghost use Rattle.node_core.specs.Completion.{completion_of};
 ghost use Rattle.sync_shared.specs.Answers.{answer_of, has_ticket};
 ghost use Rattle.sync_shared.specs.Behind.{AreNodesBehind, IsLogBehind, IsMediatorBehind};
+ghost use Rattle.sync_shared.specs.Slips.{IsTicked, InRow, read_to};
 ghost use mathlib.Core.List.{IsPrefix};
 
 use crate::client::Client;
@@ -30,6 +32,7 @@ use crate::sync_parts::SyncParts;
 use crate::ticket::Ticket;
 use lane_pool::Gate;
 use ledger_terms::{ParticipantId, ParticipantIdList, Submission};
+use log_row::Slip;
 use node_core::{Completion, SubmitFault};
 use std::alloc::{AllocError, AllocGlobal, Global};
 use std::random::RandomSource;
@@ -115,22 +118,30 @@ impl<'r, S: Session> Shared<'r, S> {
         }
     }
 
-    /// Begins a round. Where time moved on, a Tick tells of it, and is counted with the share. After want of memory all is as before.
+    /// Begins a round. Where time moved on, a Tick tells of it, and is counted with the share. `known` is a slip of the log, and the
+    /// Tick's then. After want of memory all is as before.
     pub fn begin(
         &mut self,
         home: &mut Share<S>,
+        known: &mut Option<Slip<'r>>,
         round: RoundRules,
         has_tick: bool,
     ) -> Result<(), AllocError>
         requires time { round.time ≤ 10 ^ 16 }
         requires parts { 0 < home.old.parts }
+        requires row { InRow S.history known.old }
         ensures round { OnOk result (self.new.round ≡ round) }
+        ensures tick { OnOk result (has_tick ≡ true → IsTicked round.time (read_to known.old) (read_to known.new)) }
+        ensures still { OnOk result (has_tick ≡ false → known.new ≡ known.old) }
+        ensures row { InRow S.history known.new }
         ensures counted { OnOk result (home.new.amount ≡ home.old.amount + one_if has_tick) }
-        ensures err { OnErr result ((self.new.round ≡ self.old.round) × (home.new.amount ≡ home.old.amount)) }
+        ensures err { OnErr result ((self.new.round ≡ self.old.round) × (home.new.amount ≡ home.old.amount) × (known.new ≡ known.old)) }
         ensures parts { home.new.parts ≡ home.old.parts }
     {
         if has_tick {
-            self.log.get_mut().tick(home, round.time)?;
+            let log = self.log.get_mut();
+            log.reaches(known);
+            *known = Some(log.tick(home, round.time)?);
         }
         self.round = round;
         Ok(())
@@ -157,6 +168,8 @@ impl<'r, S: Session> Shared<'r, S> {
             what.now r client.new.list) }
         ensures paused { has_place self.now.round.paused what.now.participant ≡ true
             → (result ≡ Err (record { fault = Paused; read_to = length client.old.list })) × (client.new ≡ client.old) }
+        ensures genuine { has_place self.now.round.paused what.now.participant ≡ false
+            → IfSome (answer_of result) (λ r. SequencerBehind S.machine client.new.list) }
         ensures ticket { IfOk result (λ t. (t.row ≡ S.history) × (t.list ≡ client.new.list) × (t.me ≡ client.old.me)) }
         ensures tickets { client.new.tickets ≡ client.old.tickets + one_if (has_ticket result) }
         ensures seen { IsPrefix client.old.list client.new.list }
@@ -185,6 +198,7 @@ impl<'r, S: Session> Shared<'r, S> {
         ensures seen { IsPrefix client.old.list client.new.list }
         ensures client { (client.new.tickets ≡ client.old.tickets) × (client.new.me ≡ client.old.me) }
         ensures holds { OnOk result (IsPrefix ticket.old.list client.new.list) }
+        ensures genuine { OnOk result (SequencerBehind S.machine client.new.list) }
         ensures answer { IfOk result (λ c. c ≡ completion_of (length client.new.list)
             (outcome_of (timeline_of client.new.list) ticket.old.place (decision_time_of S.machine.params client.new.list ticket.old.place))) }
         ensures err { OnErr result (client.new ≡ client.old) }

@@ -3,6 +3,7 @@ ghost use Rattle.std.specs.Prelude.{◌≡◌, ◌≢◌, ◌+◌, ◌<◌, ◌�
 ghost use Rattle.lang_eval.specs.Named.{AreKnown};
 ghost use Rattle.canton_model.specs.Inbox.{inbox};
 ghost use Rattle.sealed_form.specs.Within.{is_hosted};
+ghost use Rattle.world_model.specs.Locks.{SequencerBehind};
 ghost use Rattle.world_model.specs.Places.{has_place};
 ghost use Rattle.world_model.specs.Rounds.{Unwanted};
 ghost use Rattle.threads_model.specs.Inputs.{one_if};
@@ -10,7 +11,7 @@ ghost use Rattle.threads_model.specs.Clients.{ClientStep};
 ghost use Rattle.prepare_request.specs.Causes.{HoldsNoMemory};
 ghost use Rattle.prepare_request.specs.Within.{parties_in_what};
 ghost use Rattle.prepare_request.specs.declared.submit_fault.SubmitFault.TheVariants.{Memory};
-ghost use Rattle.seq_log.specs.declared.fault.AppendFault.TheVariants.{TooLate};
+ghost use Rattle.seq_log.specs.declared.fault.AppendFault.TheVariants.{TooLate, Unframed};
 ghost use Rattle.sync_shared.specs.Answers.{answer_of, fault_of, has_ticket, refused_at, seen_after, told_of};
 ghost use mathlib.Core.List.{IsPrefix};
 
@@ -37,6 +38,7 @@ fn catch_up<'r, S: Session, const I: u8>(
 ) -> Result<(), AllocError>
     ensures same { (log.new ≡ log.old) × (client.new ≡ client.old) }
     ensures ok { OnOk result (IsPrefix client.old.list node.new) }
+    ensures genuine { OnOk result (SequencerBehind S.machine node.new) }
 {
     client.reaches(log);
     node.read_on(log)
@@ -49,6 +51,7 @@ fn told<'r, S: Session>(
     fault: AppendFault,
 ) -> SubmitFault
     requires in_time { (decision time : ℕ) → fault ≢ TooLate decision time }
+    requires framed { fault ≢ Unframed }
     ensures fault { result ≡ told_of fault }
     ensures list { client.new.list ≡ seen_after fault client.old.list log.old }
     ensures seen { IsPrefix client.old.list log.old → IsPrefix client.old.list client.new.list }
@@ -64,7 +67,7 @@ fn told<'r, S: Session>(
             client.sees(log.last());
             SubmitFault::LogFull { reserved, need }
         }
-        AppendFault::TooLate { .. } => unreachable!(),
+        AppendFault::Unframed | AppendFault::TooLate { .. } => unreachable!(),
         AppendFault::Memory => SubmitFault::Memory,
     }
 }
@@ -83,8 +86,10 @@ fn hand_in<'r, S: Session, const I: u8>(
     requires knows { IsPrefix client.old.list node.old }
     requires wanted { S.machine.prepare what.now (inbox S.machine.reading I node.old) now ≡ Some request }
     requires sealed { (S.machine.reading).is_sealed request ≡ true }
+    requires framed { (S.machine.reading).is_framed request ≡ true }
     ensures step { IfSome (answer_of result) (λ r. (paused : List ℕ) → has_place paused what.now.participant ≡ false
         → ClientStep S.machine S.why now paused client.old.list what.now r client.new.list) }
+    ensures genuine { IfSome (answer_of result) (λ r. SequencerBehind S.machine client.new.list) }
     ensures ticket { IfOk result (λ t. (t.row ≡ S.history) × (t.list ≡ client.new.list) × (t.me ≡ client.old.me)) }
     ensures tickets { client.new.tickets ≡ client.old.tickets + one_if (has_ticket result) }
     ensures seen { IsPrefix client.old.list client.new.list }
@@ -118,9 +123,11 @@ fn refuse<'r, S: Session, const I: u8>(
     requires knows { IsPrefix client.old.list node.old }
     requires unwanted { fault ≢ Memory → (S.machine.prepare what.now (inbox S.machine.reading I node.old) now ≡ None)
         × (S.why what.now (inbox S.machine.reading I node.old) now ≡ fault) × (fault_of fault ≡ Some (Unwanted fault)) }
+    requires genuine { SequencerBehind S.machine node.old }
     ensures step { IfSome (refused_at result.read_to (fault_of result.fault)) (λ r. (paused : List ℕ) → has_place paused what.now.participant ≡ false
         → ClientStep S.machine S.why now paused client.old.list what.now r client.new.list) }
     ensures fault { result.fault ≡ fault }
+    ensures genuine { SequencerBehind S.machine client.new.list }
     ensures tickets { client.new.tickets ≡ client.old.tickets }
     ensures seen { IsPrefix client.old.list client.new.list }
     ensures me { client.new.me ≡ client.old.me }
@@ -147,6 +154,7 @@ fn submit_at<'r, S: Session, R: Wait, const I: u8>(
     requires named { AreKnown (is_hosted S.topology) (parties_in_what what.now.what) }
     ensures step { IfSome (answer_of result) (λ r. (paused : List ℕ) → has_place paused what.now.participant ≡ false
         → ClientStep S.machine S.why now paused client.old.list what.now r client.new.list) }
+    ensures genuine { IfSome (answer_of result) (λ r. SequencerBehind S.machine client.new.list) }
     ensures ticket { IfOk result (λ t. (t.row ≡ S.history) × (t.list ≡ client.new.list) × (t.me ≡ client.old.me)) }
     ensures tickets { client.new.tickets ≡ client.old.tickets + one_if (has_ticket result) }
     ensures seen { IsPrefix client.old.list client.new.list }
@@ -183,6 +191,7 @@ pub fn submit_awake<'r, S: Session, R: Wait>(
     requires named { AreKnown (is_hosted S.topology) (parties_in_what what.now.what) }
     ensures step { IfSome (answer_of result) (λ r. (paused : List ℕ) → has_place paused what.now.participant ≡ false
         → ClientStep S.machine S.why now paused client.old.list what.now r client.new.list) }
+    ensures genuine { IfSome (answer_of result) (λ r. SequencerBehind S.machine client.new.list) }
     ensures ticket { IfOk result (λ t. (t.row ≡ S.history) × (t.list ≡ client.new.list) × (t.me ≡ client.old.me)) }
     ensures tickets { client.new.tickets ≡ client.old.tickets + one_if (has_ticket result) }
     ensures seen { IsPrefix client.old.list client.new.list }

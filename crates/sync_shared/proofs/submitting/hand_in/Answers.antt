@@ -4,12 +4,14 @@ use Rattle.world_model.specs.Messages.{Entry, RequestMessage}
 use Rattle.ledger_model.specs.Terms.{ParticipantId}
 use Rattle.prepare_request.specs.declared.submit_fault.SubmitFault.{SubmitFault}
 use Rattle.threads_model.specs.Clients.{ClientStep}
+use Rattle.world_model.specs.Locks.{SequencerBehind}
+use Rattle.world_model.specs.Rounds.{SubmitResult}
 use Rattle.world_model.specs.Places.{has_place}
 use Rattle.world_model.specs.Sequencing.{append_fault, entry_after}
 use Rattle.seq_log.specs.Sequenced.{cause_of}
 use Rattle.sync_shared.specs.Slips.{read_to}
 use Rattle.sync_shared.specs.Answers.{fault_of, refused_at, seen_after, told_of}
-use Rattle.sync_shared.proofs.Handing.{hand_sent, hand_refused, is_appended, is_in_time}
+use Rattle.sync_shared.proofs.Handing.{hand_sent, hand_refused, is_appended, is_in_time, is_of_framed, refused_genuine}
 use Rattle.sync_shared.proofs.submitting.hand_in.Goals as goal
 
 pub of-requires : goal.of-requires
@@ -37,7 +39,12 @@ returns-in-Ok-clause-step g c paused awake =
 
 pub told-requires : goal.told-requires
 told-requires g c =
-    record { in_time = is_in_time g.S.Session.machine c.reaches.new.log c.args.request c.in-Err.fault c.in-Err.ensures.cause }
+    let m = g.S.Session.machine in
+    let cause = c.in-Err.ensures.cause in
+    record {
+      in_time = is_in_time m c.reaches.new.log c.args.request c.in-Err.fault cause;
+      framed = is_of_framed m c.reaches.new.log c.args.request c.in-Err.fault cause c.requires.framed;
+    }
 
 pub returns-in-Err-clause-step : goal.returns-in-Err-clause-step
 returns-in-Err-clause-step g c =
@@ -47,7 +54,8 @@ returns-in-Err-clause-step g c =
     let fault = c.in-Err.fault in
     let seen : read_to c.client.inside.last ≡ c.args.client.now.list = ap (λ s. s.list) c.client.view_is in
     let log : c.append.new.self ≡ c.args.log.now = e.err ∙ r.same.1 in
-    let cause = subst (λ (xs : List Entry). append_fault m xs (RequestMessage c.args.request) ≡ cause_of fault) r.same.1 e.cause in
+    let cause =
+    subst (λ (xs : List Entry). IfSome (cause_of fault) (λ k. append_fault m xs (RequestMessage c.args.request) ≡ Some k)) r.same.1 e.cause in
     let list : c.told.new.client.list ≡ seen_after fault c.args.client.now.list c.args.log.now =
     c.told.ensures.list
     ∙ (ap (λ (xs : List Entry). seen_after fault xs c.append.new.self) seen ∙ ap (seen_after fault c.args.client.now.list) log) in
@@ -57,3 +65,18 @@ returns-in-Err-clause-step g c =
     (hand_refused m g.S.Session.why c.args.now c.args.client.now.list c.args.node.now c.args.log.now c.args.what.now g.row.I c.args.request
     c.requires.mine.0 c.requires.knows r.begins c.requires.wanted c.told.new.client.list c.cursor-read_to.result
     (c.cursor-read_to.ensures ∙ ap length r.same.0) fault cause list)
+
+pub returns-in-Ok-clause-genuine : goal.returns-in-Ok-clause-genuine
+returns-in-Ok-clause-genuine g c =
+    let told : c.again.result.list ≡ c.append.new.self = ap (λ p. p.list) c.again.ensures.again ∙ c.in-Ok.ensures.ok.3 in
+    subst (SequencerBehind g.S.Session.machine) (sym told) c.append.ensures.genuine
+
+pub returns-in-Err-clause-genuine : goal.returns-in-Err-clause-genuine
+returns-in-Err-clause-genuine g c =
+    let m = g.S.Session.machine in
+    let fault = c.in-Err.fault in
+    let list = c.told.new.client.list in
+    subst
+    (λ (f : SubmitFault). IfSome (refused_at c.cursor-read_to.result (fault_of f)) (λ (r : SubmitResult SubmitFault). SequencerBehind m list))
+    (sym c.told.ensures.fault)
+    (refused_genuine m fault (read_to c.client.inside.last) c.append.new.self list c.cursor-read_to.result c.told.ensures.list c.append.ensures.genuine)

@@ -8,7 +8,7 @@ use Rattle.node_core.specs.Machines.{offered_in}
 use Rattle.sync_shared.specs.Answers.{fault_of}
 use Rattle.sync_shared.specs.Slips.{read_to}
 use Rattle.sync_shared.proofs.Nodes.{flagged}
-use Rattle.sync_shared.proofs.Preparing.{own, is_valid, is_within, is_sealed, is_mine, is_wanted, no_request}
+use Rattle.sync_shared.proofs.Preparing.{own, is_valid, is_within, is_sealed, is_mine, is_framed, is_wanted, no_request}
 use Rattle.sync_shared.proofs.locked_node.LockedNode.prepare.Goals as goal
 
 pub invariant_of-self : goal.invariant_of-self
@@ -78,3 +78,12 @@ returns-clause-unwanted g c =
     c.self.view_is
     (no_request g.S.Session.topology g.S.Session.packages g.S.Session.machine g.S.Session.why g.row.I list node b c.args.what.now c.args.now c.requires.mine
     c.faults_have_causes.ensures (ap (λ n. n.state.is_paused) c.set_paused.ensures) c.prepared.result c.prepared.ensures.exact told)
+
+pub returns-clause-framed : goal.returns-clause-framed
+returns-clause-framed g c =
+    let list = read_to c.self.inside.last in
+    let node = c.set_paused.new.self in
+    let b = flagged g.S.Session.topology g.S.Session.packages g.S.Session.machine g.S.Session.why g.row.I list c.self.inside.node c.self.invariant.1
+    node false c.set_paused.ensures in
+    is_framed g.S.Session.topology g.S.Session.packages g.S.Session.machine g.S.Session.why g.row.I list node b c.args.what.now c.args.now c.requires.mine
+    c.prepared.result c.prepared.ensures.framed
