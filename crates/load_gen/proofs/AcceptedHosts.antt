@@ -9,7 +9,7 @@ use Rattle.std.proofs.lemmas.List.Elements.{All-nil}
 use Rattle.std.proofs.lemmas.List.Kept.{AllPairs-cons}
 use Rattle.ledger_terms.specs.Names.{IsName}
 use Rattle.ledger_terms.specs.Parties.{same_name, meets_set}
-use Rattle.ledger_terms.specs.Topologies.{AreApart, HasNames, IsValid}
+use Rattle.ledger_terms.specs.Topologies.{AreApart, HasNames, IsObserving, IsValid}
 use Rattle.ledger_terms.specs.declared.host.Host.{Host}
 use Rattle.lang_read.specs.Parties.{is_hosted}
 use Rattle.script_read.specs.Accepted.{IsParticipant}
@@ -24,7 +24,7 @@ abbrev spelled : List ℕ → ℕ → List ℕ
 spelled letter k = letter ++ (49 + k) ∷ []
 
 abbrev spelled_host : ℕ → Host
-spelled_host k = record { name = spelled (codes "G") k; parties = spelled (codes "A") k ∷ []; vetted = vetted_packages }
+spelled_host k = record { name = spelled (codes "G") k; parties = spelled (codes "A") k ∷ []; observing = []; vetted = vetted_packages }
 
 abbrev spelled_hosts : List Host
 spelled_hosts = spelled_host 0 ∷ spelled_host 1 ∷ spelled_host 2 ∷ spelled_host 3 ∷ []
@@ -36,7 +36,7 @@ numbered_is : (letter : List ℕ) (k : ℕ) → k < 4 → numbered letter (k + 1
 numbered_is letter k below = ap (λ (ds : List ℕ). letter ++ ds) (digit_is k below)
 
 host_is : (k : ℕ) → k < 4 → host_at k ≡ spelled_host k
-host_is k below = ap (λ (ds : List ℕ). record { name = codes "G" ++ ds; parties = (codes "A" ++ ds) ∷ []; vetted = vetted_packages }) (digit_is k below)
+host_is k below = ap (λ (ds : List ℕ). record { name = codes "G" ++ ds; parties = (codes "A" ++ ds) ∷ []; observing = []; vetted = vetted_packages }) (digit_is k below)
 
 hosts_are : hosts ≡ spelled_hosts
 hosts_are =
@@ -91,6 +91,15 @@ are_apart =
 named_at : (k : ℕ) → IsName (spelled (codes "G") k) → IsName (spelled (codes "A") k) → HasNames (spelled_host k)
 named_at k own party = record { own = own; parties = all_of IsName (spelled (codes "A") k ∷ []) (party, tt); rising = (tt, tt) }
 
+observing_at : (k : ℕ) → IsObserving spelled_hosts (spelled_host k)
+observing_at k =
+    record {
+      names = All-nil IsName;
+      rising = tt;
+      apart = refl;
+      confirmed = All-nil (λ (party : List ℕ). is_hosted spelled_hosts party ≡ true);
+    }
+
 spelled_is_valid : IsValid (record { hosts = spelled_hosts; params = params })
 spelled_is_valid =
     record {
@@ -99,6 +108,7 @@ spelled_is_valid =
       few_parties = omega arith;
       named = all_of HasNames spelled_hosts (named_at 0 refl refl, (named_at 1 refl refl, (named_at 2 refl refl, (named_at 3 refl refl, tt))));
       apart = are_apart;
+      observing = all_of (IsObserving spelled_hosts) spelled_hosts (observing_at 0, (observing_at 1, (observing_at 2, (observing_at 3, tt))));
       response_timeout = record { least = omega arith; most = omega arith };
       reaction_timeout = record { least = omega arith; most = omega arith };
       skew = record { least = omega arith; most = omega arith };

@@ -15,7 +15,7 @@ use Rattle.lang_eval.specs.Named.{AreKnown}
 use Rattle.lang_eval.specs.HandedIn.{parties_in_commands}
 use Rattle.lang_read.specs.Parties.{is_hosted}
 use Rattle.script_read.specs.Accepted.{IsTemplate, IsReference, IsArg, IsCommand, AreCommands}
-use Rattle.script_read.specs.Kept.{IsSubmission, IsRound, AreRounds, IsAccepted}
+use Rattle.script_read.specs.Kept.{IsSubmission, IsRaw, IsRound, AreRounds, IsAccepted}
 use Rattle.script_read.proofs.Lists.{all_of}
 use Rattle.load_gen.specs.Generated.{round_of, generated}
 use Rattle.load_gen.specs.Iou.{iou_template_name, transfer_name}
@@ -89,7 +89,14 @@ each_in_range P f most each a zero h = tt
 each_in_range P f most each a (suc n) h = (each a (omega (arith, h)), each_in_range P f most each (a + 1) n (omega (arith, h)))
 
 round_is : (submits : List Submission) → AllByRecursion (IsSubmission hosts) submits → IsRound hosts (round_of submits)
-round_is submits each = record { advance = omega arith; paused = all_of (λ (p : ℕ). p < 4) [] tt; submits = all_of (IsSubmission hosts) submits each }
+round_is submits each =
+    record {
+      advance = omega arith;
+      paused = all_of (λ (p : ℕ). p < 4) [] tt;
+      submits = all_of (IsSubmission hosts) submits each;
+      few_raws = omega arith;
+      raws = all_of (IsRaw hosts) [] tt;
+    }
 
 debts_are : (seed count : ℕ) → 2 * count ≤ 2048 → IsRound hosts (round_of (debts seed count))
 debts_are seed count few =

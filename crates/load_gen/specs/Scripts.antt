@@ -13,9 +13,9 @@ use Rattle.load_gen.specs.declared.topology.TheConstants.{PARTICIPANTS, RESPONSE
 abbrev pub vetted_packages : List (List ℕ)
 vetted_packages = codes "Note" ∷ codes "Iou" ∷ []
 
--- the participant at a place, with its one party
+-- the participant at a place, with its one party, which observes nobody
 abbrev pub host_at : ℕ → Host
-host_at place = record { name = participant_at place; parties = party_at place ∷ []; vetted = vetted_packages }
+host_at place = record { name = participant_at place; parties = party_at place ∷ []; observing = []; vetted = vetted_packages }
 
 abbrev pub hosts : List Host
 hosts = map host_at (range_with_len 0 PARTICIPANTS)

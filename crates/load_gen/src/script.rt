@@ -5,11 +5,11 @@ ghost use Rattle.load_gen.specs.Generated.{round_of, generated};
 use crate::packages::generated_packages;
 use crate::submissions::{generated_debts, generated_transfers};
 use crate::topology::generated_topology;
-use ledger_terms::{ParticipantIdList, SubmissionList};
+use ledger_terms::{ParticipantIdList, RawRequestList, SubmissionList};
 use script_read::{Round, RoundList, Script};
 use std::alloc::{AllocError, Global};
 
-/// A round in which nobody is paused, no verdict is held back, and the time isn't moved.
+/// A round in which nobody is paused, no verdict is held back, the time isn't moved, and no raw request is handed in.
 fn round_of(alloc: Global, submits: SubmissionList) -> Round
     ensures { result ≡ round_of submits }
 {
@@ -18,6 +18,7 @@ fn round_of(alloc: Global, submits: SubmissionList) -> Round
         paused: ParticipantIdList::new(alloc),
         hold_verdicts: false,
         submits,
+        raws: RawRequestList::new(alloc),
     }
 }
 

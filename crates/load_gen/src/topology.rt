@@ -35,6 +35,7 @@ fn host_at(alloc: Global, place: u8) -> Result<Host, AllocError>
     Ok(Host {
         name: participant_at(alloc, place)?,
         parties,
+        observing: PartySet::new(alloc),
         vetted: vetted_packages(alloc)?,
     })
 }

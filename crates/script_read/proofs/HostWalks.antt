@@ -1,5 +1,5 @@
 -- The walk of the participants keeps them apart and few.
-use Rattle.std.proofs.Common.{◌≡◌, ℕ, ◌+◌, ◌≤◌, Bool, true, false, List, [], ◌∷◌, ◌++◌, length, Ok, refl, ap, subst, arith}
+use Rattle.std.proofs.Common.{◌≡◌, ℕ, ◌+◌, ◌≤◌, Bool, true, false, List, [], ◌∷◌, ◌++◌, length, map, Ok, refl, ap, subst, arith}
 use Rattle.std.specs.Prelude.{◌||◌, ◌&&◌, not, All, sum_by, codes}
 use Rattle.std.specs.List.{list_all, AllByRecursion, AllPairs}
 use Rattle.std.proofs.lemmas.List.{length_push}
@@ -17,8 +17,10 @@ use Rattle.ledger_terms.specs.Answers.{check}
 use Rattle.lang_read.specs.Parties.{is_hosted}
 use Rattle.json_walk.specs.declared.walk_fault.WalkFault.TheVariants.{Shape, Repeated}
 use Rattle.script_read.specs.Hosts.{is_participant, new_party_step, party_items_in, new_name_in, has_host_members, host_of, host_step, hosts_of}
+use Rattle.script_read.specs.Observing.{observing_names_in}
 use Rattle.json_walk.proofs.Kept.{after, passed, given, walk_keeps, limit_kept, all_push as push_each}
 use Rattle.ledger_terms.proofs.SetsOf.{all_set_of, IsRising-set_of}
+use Rattle.script_read.proofs.HostKeys.{key, keys_length, keys_apart, keys_names, keys_sum}
 use Rattle.script_read.proofs.Lists.{all_of, tests_each}
 use Rattle.script_read.proofs.References.{name_read}
 use Rattle.script_read.proofs.NewHosts.{either_false, not_false, set_length, new_apart}
@@ -31,7 +33,7 @@ pub record AreNew (hosts : List Host) (i : ℕ) (names : List (List ℕ)) : Type
   pub free : list_all (λ p. not (is_hosted hosts p)) names ≡ true
   pub named : list_all is_name names ≡ true
 
-all_push : (p : List ℕ → Bool) (xs : List (List ℕ)) (x : List ℕ) → list_all p xs ≡ true → p x ≡ true → list_all p (xs ++ x ∷ []) ≡ true
+pub all_push : (p : List ℕ → Bool) (xs : List (List ℕ)) (x : List ℕ) → list_all p xs ≡ true → p x ≡ true → list_all p (xs ++ x ∷ []) ≡ true
 all_push p [] x h k = rw k refl
 all_push p (y ∷ ys) x h k = both (p y) _ (first (p y) _ h) (all_push p ys x (second (p y) _ h) k)
   where
@@ -102,21 +104,35 @@ host_kept at i s t d p h =
     let b = after (new_name_in s.0 (at_item at i) d) _ t a.2 in
     let c = after (party_items_in s.1 (at_item at i) d) _ t b.2 in
     let e = after (walk_items (new_party_step s.0 (at_member (at_item at i) (codes "parties"))) 0 [] c.0) _ t c.2 in
+    let o = after (observing_names_in (at_item at i) d) _ t e.2 in
     let free = name_free s.0 (at_item at i) d b.0 b.1 in
     let few : s.1 + item_count c.0 ≤ 128 = few_items s.1 (at_item at i) d c.0 c.1 in
     let new = walk_keeps (new_party_step s.0 (at_member (at_item at i) (codes "parties"))) (AreNew s.0) (new_step s.0 (at_member (at_item at i) (codes "parties"))) 0 [] e.0 c.0 (record { many = refl; free = refl; named = refl }) e.1 in
-    let host : Host = record { name = b.0; parties = set_of e.0; vetted = [] } in
+    let host : Host = record { name = b.0; parties = set_of e.0; observing = []; vetted = [] } in
     let grown = length_push s.0 host in
     let sum = sum_by-append (λ (host : Host). length host.parties) s.0 (host ∷ []) in
     let shorter = set_length e.0 in
     let names : All IsName (set_of e.0) = all_of IsName (set_of e.0) (tests_each is_name (set_of e.0) (all_set_of is_name e.0 new.named)) in
-    rw (given (s.0 ++ host ∷ [], s.1 + item_count c.0) t e.2) (record {
+    rw (given (s.0 ++ host ∷ [], s.1 + item_count c.0) t o.2) (record {
       many = omega (arith, grown, p.many);
       counted = omega (arith, sum, shorter, p.counted, new.many);
       few = few;
       apart = all_pairs_push AreApart s.0 host p.apart (λ k d w. new_apart s.0 b.0 e.0 [] k d w free new.free);
       named = push_each HasNames s.0 host p.named (record { own = name_named s.0 (at_item at i) d b.0 b.1; parties = names; rising = IsRising-set_of e.0 });
     })
+
+-- participants with the names and parties of others
+pub hosts_same : (i count : ℕ) (a b : List Host) → map key a ≡ map key b → AreHosts i (b, count) → AreHosts i (a, count)
+hosts_same i count a b same are =
+    let many = keys_length a b same in
+    let sum = keys_sum a b same in
+    record {
+      many = omega (arith, many, are.many);
+      counted = omega (arith, sum, are.counted);
+      few = are.few;
+      apart = keys_apart a b same are.apart;
+      named = keys_names a b same are.named;
+    }
 
 -- the participants of a list
 pub hosts_kept : (at : Place) (d : Data) (s : List Host × ℕ) → hosts_of at d ≡ Ok s → (items : Items) × (items_of at d ≡ Ok items) × (1 ≤ item_count items) × (item_count items ≤ 8) × AreHosts (item_count items) s

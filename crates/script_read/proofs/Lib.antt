@@ -5,10 +5,13 @@ pub mod Bodies
 pub mod Cases
 pub mod Exprs
 pub mod FromWalks
+pub mod HostKeys
 pub mod HostWalks
 pub mod Lists
 pub mod NewHosts
+pub mod ObservingHosts
 pub mod PackageLaws
+pub mod RawLaws
 pub mod References
 pub mod RoundLaws
 pub mod RoundWalks

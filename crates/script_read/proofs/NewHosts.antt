@@ -66,10 +66,10 @@ hosted_there (x ∷ xs) a (suc k) d w h = rw (hosted_there xs a k d (omega arith
     any_true true = refl
     any_true false = refl
 
--- a party that is hosted is none of those that are not
-not_among : (hosts : List Host) (names : List (List ℕ)) (a : List ℕ) → is_hosted hosts a ≡ true → list_all (λ p. not (is_hosted hosts p)) names ≡ true → has_party names a ≡ false
-not_among hosts [] a p q = refl
-not_among hosts (n ∷ ns) a p q = both (same_name n a) _ other (not_among hosts ns a p (second (not (is_hosted hosts n)) _ q))
+-- a name of which a test holds is none of those of which it doesn't hold
+not_among : (test : List ℕ → Bool) (names : List (List ℕ)) (a : List ℕ) → test a ≡ true → list_all (λ p. not (test p)) names ≡ true → has_party names a ≡ false
+not_among test [] a p q = refl
+not_among test (n ∷ ns) a p q = both (same_name n a) _ other (not_among test ns a p (second (not (test n)) _ q))
   where
     first : (x y : Bool) → (x && y) ≡ true → x ≡ true
     first true y h = refl
@@ -86,19 +86,19 @@ not_among hosts (n ∷ ns) a p q = both (same_name n a) _ other (not_among hosts
     other : same_name n a ≡ true → ⊥
     other same =
         let one : n ≡ a = same_text n a (sym same) in
-        let free : is_hosted hosts n ≡ false = not_false (is_hosted hosts n) (first (not (is_hosted hosts n)) _ q) in
-        let free_a : is_hosted hosts a ≡ false = rw one at free in
+        let free : test n ≡ false = not_false (test n) (first (not (test n)) _ q) in
+        let free_a : test a ≡ false = rw one at free in
         cc
 
--- none of a list is in a set of parties that are hosted nowhere
-none_meet : (hosts : List Host) (names s : List (List ℕ)) → ((k : ℕ) (d : List ℕ) → k < length s → is_hosted hosts (get_or s k d) ≡ true) → list_all (λ p. not (is_hosted hosts p)) names ≡ true → meets_set s (set_of names) ≡ false
-none_meet hosts names [] h q = refl
-none_meet hosts names (a ∷ s) h q =
-    let here : has_party (set_of names) a ≡ false = has_party-set_of names a ∙ not_among hosts names a (h 0 a (omega arith)) q in
-    rw here (none_meet hosts names s (λ k d w. h (suc k) d (omega arith)) q)
+-- none of a list is in a set of names, where a test tells them apart
+pub none_meet : (test : List ℕ → Bool) (names s : List (List ℕ)) → ((k : ℕ) (d : List ℕ) → k < length s → test (get_or s k d) ≡ true) → list_all (λ p. not (test p)) names ≡ true → meets_set s (set_of names) ≡ false
+none_meet test names [] h q = refl
+none_meet test names (a ∷ s) h q =
+    let here : has_party (set_of names) a ≡ false = has_party-set_of names a ∙ not_among test names a (h 0 a (omega arith)) q in
+    rw here (none_meet test names s (λ k d w. h (suc k) d (omega arith)) q)
 
 -- each of a set is in it
-each_in : (s : List (List ℕ)) (k : ℕ) (d : List ℕ) → k < length s → has_party s (get_or s k d) ≡ true
+pub each_in : (s : List (List ℕ)) (k : ℕ) (d : List ℕ) → k < length s → has_party s (get_or s k d) ≡ true
 each_in [] k d w = absurd (omega arith)
 each_in (a ∷ s) zero d w = rw (nat_list_eq_equiv.refl a) refl
 each_in (a ∷ s) (suc k) d w = rw (each_in s k d (omega arith)) (any_true (same_name a (get_or s k d)))
@@ -108,8 +108,8 @@ each_in (a ∷ s) (suc k) d w = rw (each_in s k d (omega arith)) (any_true (same
     any_true false = refl
 
 -- a participant with a name of its own and parties that are hosted nowhere is apart from each other
-pub new_apart : (hosts : List Host) (name : List ℕ) (names : List (List ℕ)) (vetted : List (List ℕ)) (k : ℕ) (d : Host) → k < length hosts → is_participant hosts name ≡ false → list_all (λ p. not (is_hosted hosts p)) names ≡ true → AreApart (get_or hosts k d) (record { name = name; parties = set_of names; vetted = vetted })
+pub new_apart : (hosts : List Host) (name : List ℕ) (names : List (List ℕ)) (vetted : List (List ℕ)) (k : ℕ) (d : Host) → k < length hosts → is_participant hosts name ≡ false → list_all (λ p. not (is_hosted hosts p)) names ≡ true → AreApart (get_or hosts k d) (record { name = name; parties = set_of names; observing = []; vetted = vetted })
 new_apart hosts name names vetted k d w other free = record {
   names = own_name hosts name k d other w;
-  parties = none_meet hosts names (get_or hosts k d).parties (λ j e v. hosted_there hosts (get_or (get_or hosts k d).parties j e) k d w (each_in (get_or hosts k d).parties j e v)) free;
+  parties = none_meet (is_hosted hosts) names (get_or hosts k d).parties (λ j e v. hosted_there hosts (get_or (get_or hosts k d).parties j e) k d w (each_in (get_or hosts k d).parties j e v)) free;
 }

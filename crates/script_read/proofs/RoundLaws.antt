@@ -15,11 +15,14 @@ use Rattle.json_walk.specs.Lists.{item_step, counted_step, counted_of}
 use Rattle.json_walk.specs.Walk.{Place, within_limit, items_of, few_items_of, walk_items, item_count, member_of}
 use Rattle.json_walk.specs.declared.walk_fault.WalkFault.TheVariants.{Shape}
 use Rattle.json_walk.proofs.Kept.{after, given, walk_keeps, limit_kept, items_kept, list_kept, all_push}
-use Rattle.script_read.specs.Kept.{IsSubmission, IsRound, AreRounds}
-use Rattle.script_read.specs.Rounds.{participant_of, submission_of, submits_of, submits_if, submits_in, advance_if, advance_in, paused_if, paused_in, hold_in, has_round_members, round_of, rounds_in}
+use Rattle.script_read.specs.Kept.{IsSubmission, IsRaw, IsRound, AreRounds}
+use Rattle.script_read.specs.Participants.{participant_of}
+use Rattle.script_read.specs.Raws.{raws_in}
+use Rattle.script_read.specs.Rounds.{submission_of, submits_of, submits_if, submits_in, advance_if, advance_in, paused_if, paused_in, hold_in, has_round_members, round_of, rounds_in}
 use Rattle.script_read.specs.declared.round.Round.{Round}
 use Rattle.script_read.specs.declared.script.Script.{Script}
 use Rattle.script_read.proofs.Lists.{all_of}
+use Rattle.script_read.proofs.RawLaws.{raws_read}
 use Rattle.script_read.proofs.RoundWalks.{few_read}
 use Rattle.script_read.proofs.SameHosts.{AreSame}
 use Rattle.script_read.proofs.Submissions.{participant_within, submission_read}
@@ -66,19 +69,23 @@ record IsRoundRead (hosts : List Host) (before : ℕ) (r : Round × ℕ) : Type 
   few : r.1 ≤ 2048
 
 round_read : (read kept : List Host) (same : AreSame read kept) (before : ℕ) (at : Place) (d : Data) (r : Round × ℕ) → before ≤ 2048 → round_of read before at d ≡ Ok r → IsRoundRead kept before r
-unfolding round_of advance_in paused_in submits_in
+unfolding round_of advance_in paused_in submits_in raws_in
 round_read read kept same before at d r p h =
     let a = after (check (has_round_members d) (Shape at)) _ r h in
     let v = after (advance_in at d) _ r a.2 in
     let w = after (paused_in read at d) _ r v.2 in
     let x = after (hold_in at d) _ r w.2 in
     let s = after (submits_in read before at d) _ r x.2 in
+    let y = after (raws_in read at d) _ r s.2 in
+    let raws = raws_read read kept same (at_member at (codes "raw")) (get (codes "raw") d) y.0 y.1 in
     let given_ = submits_read read kept same before (at_member at (codes "submits")) (get (codes "submits") d) s.0 p s.1 in
-    rw (given (record { advance = v.0; paused = w.0; hold_verdicts = x.0; submits = s.0.0 }, s.0.1) r s.2) (record {
+    rw (given (record { advance = v.0; paused = w.0; hold_verdicts = x.0; submits = s.0.0; raws = y.0 }, s.0.1) r y.2) (record {
       round = record {
         advance = advance_read (at_member at (codes "advance")) (get (codes "advance") d) v.0 v.1;
         paused = all_of (λ p. p < length kept) w.0 (paused_read read kept same (at_member at (codes "paused")) (get (codes "paused") d) w.0 w.1);
         submits = all_of (IsSubmission kept) s.0.0 given_.each;
+        few_raws = raws.few;
+        raws = all_of (IsRaw kept) y.0 raws.each;
       };
       counted = given_.counted;
       few = given_.few;

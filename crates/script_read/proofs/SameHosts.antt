@@ -1,10 +1,11 @@
 -- Participants that host the same parties under the same names.
-use Rattle.std.proofs.Common.{◌≡◌, ℕ, true, List, [], ◌∷◌, length, map, refl, ap, ◌∙◌}
+use Rattle.std.proofs.Common.{◌≡◌, ℕ, true, List, [], ◌∷◌, length, get_or, map, refl, ap, ◌∙◌}
+use Rattle.ledger_terms.specs.Topologies.{IsObserving}
 use Rattle.ledger_terms.specs.declared.host.Host.{Host}
 use Rattle.lang_read.specs.Parties.{is_hosted}
 use Rattle.script_read.specs.Accepted.{IsParticipant}
 use Rattle.script_read.specs.Hosts.{is_participant}
-use Rattle.script_read.proofs.VettedHosts.{key, keys_length}
+use Rattle.script_read.proofs.HostKeys.{key, keys_length}
 
 -- what is there of those that were read is there of those that were kept
 pub record AreSame (read kept : List Host) : Type 0 where
@@ -36,3 +37,13 @@ same_keys read kept h = record {
   named = λ n k. named_keys kept read n h ∙ k;
   many = keys_length kept read h;
 }
+
+-- what is observed is confirmed there too
+pub observing_same : (read kept : List Host) → AreSame read kept → (host : Host) → IsObserving read host → IsObserving kept host
+observing_same read kept same host is =
+    record {
+      names = is.names;
+      rising = is.rising;
+      apart = is.apart;
+      confirmed = λ k d w. same.hosted (get_or host.observing k d) (is.confirmed k d w);
+    }

@@ -27,7 +27,8 @@ use Rattle.script_read.specs.Commands.{command_of}
 use Rattle.script_read.specs.Drafts.{tree_of}
 use Rattle.script_read.specs.Hosts.{is_participant}
 use Rattle.script_read.specs.Kept.{IsSubmission}
-use Rattle.script_read.specs.Rounds.{participant_named, participant_of, participant_member, participant_in, act_as_in, time_of, time_if, time_in, ledger_time_in, commands_in, seed_of_of, some_seed_of, seed_of_if, seed_of_in, trees_in, prepared_in, are_commands, is_prepared, what_in, submission_of}
+use Rattle.script_read.specs.Participants.{participant_named, participant_of, participant_member, participant_in}
+use Rattle.script_read.specs.Rounds.{act_as_in, time_of, time_if, time_in, ledger_time_in, commands_in, seed_of_of, some_seed_of, seed_of_if, seed_of_in, trees_in, prepared_in, are_commands, is_prepared, what_in, submission_of}
 use Rattle.script_read.proofs.Actions.{IsDraftRead}
 use Rattle.script_read.proofs.Arguments.{IsCommandRead, command_read, party_hosted}
 use Rattle.script_read.proofs.Cases.{by_test}

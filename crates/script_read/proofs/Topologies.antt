@@ -1,34 +1,39 @@
 -- The topology of a script is one that a synchroniser can be made for.
-use Rattle.std.proofs.Common.{◌≡◌, ℕ, ◌+◌, ◌≤◌, true, List, [], length, map, Option, Some, None, Ok, ok_or, refl, sym, ap, ◌∙◌, arith, pos, negsuc, ℤ}
-use Rattle.std.specs.Prelude.{codes}
+use Rattle.std.proofs.Common.{◌≡◌, ℕ, ◌+◌, ◌≤◌, true, List, [], length, map, Option, Some, None, Result, Ok, Err, ok_or, refl, sym, ap, ◌∙◌, arith, pos, negsuc, ℤ}
+use Rattle.std.specs.Prelude.{codes, IfOk}
+use Rattle.std.specs.List.{AllByRecursion}
 use Rattle.std.proofs.lemmas.Bool.Decides.{nat_tests}
 use Rattle.std.proofs.lemmas.List.{take_all, length-map}
 use Rattle.serde_json.specs.Data.{Data, Items}
 use Rattle.serde_json.specs.Find.{as_number, as_i64, get}
 use Rattle.ledger_terms.specs.Pointers.{at_member}
 use Rattle.ledger_terms.specs.Packages.{PackageForm}
-use Rattle.ledger_terms.specs.Topologies.{HasNames, IsWait, IsValid}
+use Rattle.ledger_terms.specs.Topologies.{HasNames, IsObserving, IsWait, IsValid}
 use Rattle.ledger_terms.specs.declared.host.Host.{Host}
 use Rattle.ledger_terms.specs.declared.params.Params.{Params}
 use Rattle.ledger_terms.specs.declared.topology.Topology.{Topology}
 use Rattle.json_walk.specs.declared.limits.TheConstants.{TIMEOUT}
 use Rattle.json_walk.specs.Walk.{Place, integer_of, within, count_found, items_of, item_count, json_of}
-use Rattle.ledger_terms.specs.Answers.{check}
-use Rattle.json_walk.specs.declared.walk_fault.WalkFault.TheVariants.{Shape, NotInteger}
+use Rattle.ledger_terms.specs.Answers.{check, Follows}
+use Rattle.json_walk.specs.declared.walk_fault.WalkFault.{WalkFault}
+use Rattle.json_walk.specs.declared.walk_fault.WalkFault.TheVariants.{Shape, NotInteger, Memory}
 use Rattle.json_walk.specs.declared.walk_fault.WalkFault.TheVariants as fault
 use Rattle.script_read.specs.declared.script_fault.ScriptFault.TheVariants as script
 use Rattle.json_walk.specs.declared.limit.Limit.{Limit}
 use Rattle.script_read.specs.Hosts.{participants_at, participants_of, hosts_of, hosts_in, wait_if, wait_in, response_in, reaction_in, skew_in, params_of, vetting_step, vetting_in}
+use Rattle.script_read.specs.Observing.{observing_step, observing_of}
 use Rattle.script_read.specs.Rounds.{rounds_in}
 use Rattle.script_read.specs.Script.{has_script_members, topology_in, checked_in, script_of, script_in}
 use Rattle.script_read.specs.declared.round.Round.{Round}
 use Rattle.script_read.specs.declared.script.Script.{Script}
 use Rattle.json_walk.proofs.Kept.{after, passed, given, walk_keeps}
 use Rattle.script_read.proofs.FromWalks.{after_walk}
-use Rattle.script_read.proofs.Lists.{all_of}
-use Rattle.script_read.proofs.HostWalks.{AreHosts, hosts_kept}
-use Rattle.script_read.proofs.SameHosts.{AreSame, same_keys}
-use Rattle.script_read.proofs.VettedHosts.{key, AreVetted, vetting_kept, keys_length, keys_apart, keys_names, keys_sum}
+use Rattle.script_read.proofs.HostKeys.{key, AreKept}
+use Rattle.script_read.proofs.HostWalks.{AreHosts, hosts_kept, hosts_same}
+use Rattle.script_read.proofs.Lists.{all_of, each_weaker}
+use Rattle.script_read.proofs.ObservingHosts.{observing_kept}
+use Rattle.script_read.proofs.SameHosts.{AreSame, same_keys, observing_same}
+use Rattle.script_read.proofs.VettedHosts.{vetting_kept}
 
 -- ---- times
 
@@ -69,6 +74,17 @@ times_valid d params h =
 
 -- ---- participants
 
+-- as many as were read keep their names and parties, and what they observe is confirmed by one of them
+pub record AreAll (read kept : List Host) : Type 0 where
+  pub keys : map key kept ≡ map key read
+  pub observing : AllByRecursion (IsObserving kept) kept
+
+all_kept : (read kept : List Host) (n : ℕ) → length read ≡ n → AreKept read (0 + n) kept → AreAll read kept
+all_kept read kept n many are =
+    let all : length (map key read) ≤ 0 + n = omega (arith, many, length-map read key) in
+    let keys = are.keys ∙ take_all _ (map key read) all in
+    record { keys = keys; observing = each_weaker (IsObserving read) (IsObserving kept) kept (observing_same read kept (same_keys read kept keys)) are.each }
+
 -- 1 to 8 of them, read from the items of the member
 pub record AreRead (d : Data) (hosts : List Host) : Type 0 where
   member : Data
@@ -79,14 +95,19 @@ pub record AreRead (d : Data) (hosts : List Host) : Type 0 where
   some : 1 ≤ item_count items
   few : item_count items ≤ 8
   kept : AreHosts (item_count items) (hosts, count)
+  observing : AllByRecursion (IsObserving hosts) hosts
 
 pub hosts_read : (d : Data) (hosts : List Host) → hosts_in d ≡ Ok hosts → AreRead d hosts
-unfolding hosts_in
+unfolding hosts_in observing_of
 hosts_read d hosts h =
     let m = after (participants_of d) _ hosts h in
     let s = after (hosts_of participants_at m.0) _ hosts m.2 in
+    let i = after (items_of participants_at m.0) _ hosts s.2 in
     let kept = hosts_kept participants_at m.0 s.0 s.1 in
-    rw (given s.0.0 hosts s.2) (record {
+    let same = given kept.0 i.0 (sym kept.1 ∙ i.1) in
+    let done = walk_keeps (observing_step s.0.0 participants_at) (AreKept s.0.0) (observing_kept s.0.0 participants_at) 0 [] hosts i.0 (record { keys = refl; each = tt }) i.2 in
+    let all = all_kept s.0.0 hosts (item_count i.0) (rw same (kept.4.many)) done in
+    record {
       member = m.0;
       items = kept.0;
       count = s.0.1;
@@ -94,34 +115,43 @@ hosts_read d hosts h =
       listed = kept.1;
       some = kept.2;
       few = kept.3;
-      kept = kept.4;
-    })
+      kept = hosts_same (item_count kept.0) s.0.1 hosts s.0.0 all.keys kept.4;
+      observing = all.observing;
+    }
 
--- names and parties of those with what they have vetted
-pub vetted_keys : (packages : List PackageForm) (d : Data) (known hosts : List Host) → AreRead d known → vetting_in packages known d ≡ Ok hosts → map key hosts ≡ map key known
+pub hosts_few : (d m : Data) (read : List Host × ℕ) (r : Result (List Host) WalkFault) → participants_of d ≡ Ok m → hosts_of participants_at m ≡ Ok read → Follows Memory r (observing_of read.0 participants_at m)
+    → IfOk r (λ hosts. length hosts ≤ 8)
+unfolding hosts_in
+hosts_few d m read (Ok hosts) found listed h =
+    let whole : hosts_in d ≡ Ok hosts = rw (found, listed) h in
+    let r = hosts_read d hosts whole in
+    omega (arith, r.kept.many, r.few)
+hosts_few d m read (Err e) found listed h = tt
+
+-- those with what they have vetted
+pub vetted_all : (packages : List PackageForm) (d : Data) (known hosts : List Host) → AreRead d known → vetting_in packages known d ≡ Ok hosts → AreAll known hosts
 unfolding vetting_in
-vetted_keys packages d known hosts r h =
+vetted_all packages d known hosts r h =
     let m = after (participants_of d) _ hosts h in
     let t = after (items_of participants_at m.0) _ hosts m.2 in
     let one = given r.member m.0 (sym r.found ∙ m.1) in
     let items = given r.items t.0 (sym r.listed ∙ (ap (items_of participants_at) (sym one) ∙ t.1)) in
-    let kept = walk_keeps (vetting_step packages known participants_at) (AreVetted known) (vetting_kept packages known participants_at) 0 [] hosts t.0 (record { keys = refl }) t.2 in
-    let all : length (map key known) ≤ 0 + item_count t.0 = rw items (omega (arith, r.kept.many, length-map known key)) in
-    kept.keys ∙ take_all _ (map key known) all
+    let kept = walk_keeps (vetting_step packages known participants_at) (AreKept known) (vetting_kept packages known r.observing participants_at) 0 [] hosts t.0 (record { keys = refl; each = tt }) t.2 in
+    all_kept known hosts (item_count t.0) (rw items (r.kept.many)) kept
 
 -- ---- the whole
 
 known_valid : (packages : List PackageForm) (d : Data) (known hosts : List Host) (params : Params) → AreRead d known → AreTimes params → vetting_in packages known d ≡ Ok hosts → IsValid (record { hosts = hosts; params = params })
 known_valid packages d known hosts params r t h =
-    let keys = vetted_keys packages d known hosts r h in
-    let many = keys_length hosts known keys in
-    let sum = keys_sum hosts known keys in
+    let all = vetted_all packages d known hosts r h in
+    let are = hosts_same (item_count r.items) r.count hosts known all.keys r.kept in
     record {
-      some_host = omega (arith, many, r.kept.many, r.some);
-      few_hosts = omega (arith, many, r.kept.many, r.few);
-      few_parties = omega (arith, sum, r.kept.counted, r.kept.few);
-      apart = keys_apart hosts known keys r.kept.apart;
-      named = all_of HasNames hosts (keys_names hosts known keys r.kept.named);
+      some_host = omega (arith, are.many, r.some);
+      few_hosts = omega (arith, are.many, r.few);
+      few_parties = omega (arith, are.counted, are.few);
+      apart = are.apart;
+      named = all_of HasNames hosts are.named;
+      observing = all_of (IsObserving hosts) hosts all.observing;
       response_timeout = t.response;
       reaction_timeout = t.reaction;
       skew = t.skew;
@@ -170,7 +200,7 @@ script_parts bytes s h =
     }
 
 pub same_hosts : (s : Script) (r : IsRead s) → AreSame r.known.hosts r.hosts
-same_hosts s r = same_keys r.known.hosts r.hosts (vetted_keys r.checked r.d r.known.hosts r.hosts r.found r.hosts_are)
+same_hosts s r = same_keys r.known.hosts r.hosts (vetted_all r.checked r.d r.known.hosts r.hosts r.found r.hosts_are).keys
 
 pub valid_read : (s : Script) → IsRead s → IsValid s.topology
 valid_read s r = rw r.whole (known_valid r.checked r.d r.known.hosts r.hosts r.known.params r.found r.times r.hosts_are)

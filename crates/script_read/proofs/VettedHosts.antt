@@ -1,84 +1,40 @@
--- What is vetted changes neither names nor parties.
-use Rattle.std.proofs.Common.{◌≡◌, ℕ, zero, suc, ◌+◌, List, [], ◌∷◌, ◌++◌, length, get_or, map, take, Option, Some, None, Ok, refl, sym, ap, ◌∙◌, add-one}
-use Rattle.std.specs.Prelude.{fold, sum_by, slice_get}
-use Rattle.std.specs.List.{AllByRecursion, AllPairs}
+-- What is vetted changes nothing else of a participant.
+use Rattle.std.proofs.Common.{◌≡◌, ℕ, zero, suc, ◌+◌, List, [], ◌∷◌, ◌++◌, map, Option, Some, None, Ok, refl, sym, ap, ◌∙◌, add-one}
+use Rattle.std.specs.Prelude.{slice_get, MatchOption}
+use Rattle.std.specs.List.{AllByRecursion}
 use Rattle.std.proofs.lemmas.List.{map-append, append-nil}
-use Rattle.std.proofs.Math.ListN.{get_or-map}
 use Rattle.serde_json.specs.Data.{Data}
 use Rattle.ledger_terms.specs.Packages.{PackageForm}
 use Rattle.ledger_terms.specs.Pointers.{at_item}
-use Rattle.ledger_terms.specs.Topologies.{AreApart, HasNames}
+use Rattle.ledger_terms.specs.Topologies.{IsObserving}
 use Rattle.ledger_terms.specs.declared.host.Host.{Host}
 use Rattle.json_walk.specs.Walk.{Place}
 use Rattle.script_read.specs.Hosts.{vetted_in, with_vetted, vetting_step}
-use Rattle.json_walk.proofs.Kept.{after, given}
-
--- a participant but for what it has vetted
-abbrev pub key : Host → List ℕ × List (List ℕ)
-key h = (h.name, h.parties)
-
-abbrev found_key : Option Host → List (List ℕ × List (List ℕ))
-found_key None = []
-found_key (Some h) = key h ∷ []
-
-take_next : (hosts : List Host) (i : ℕ) → take (suc i) (map key hosts) ≡ take i (map key hosts) ++ found_key (slice_get hosts i)
-take_next [] zero = refl
-take_next [] (suc i) = refl
-take_next (h ∷ hs) zero = refl
-take_next (h ∷ hs) (suc i) = ap (λ l. key h ∷ l) (take_next hs i)
+use Rattle.json_walk.proofs.Kept.{after, given, all_push}
+use Rattle.script_read.proofs.HostKeys.{key, found_key, take_next, AreKept}
 
 keys_vetted : (done : List Host) (o : Option Host) (vetted : List (List ℕ)) → map key (with_vetted done o vetted) ≡ map key done ++ found_key o
 keys_vetted done None vetted = sym (append-nil (map key done))
-keys_vetted done (Some h) vetted = map-append key done (record { name = h.name; parties = h.parties; vetted = vetted } ∷ [])
+keys_vetted done (Some h) vetted = map-append key done (record { name = h.name; parties = h.parties; observing = h.observing; vetted = vetted } ∷ [])
 
--- the first of the participants, but for what they have vetted
-pub record AreVetted (hosts : List Host) (i : ℕ) (done : List Host) : Type 0 where
-  pub keys : map key done ≡ take i (map key hosts)
+each_vetted : (hosts done : List Host) (o : Option Host) (vetted : List (List ℕ)) → MatchOption o Unit (IsObserving hosts) → AllByRecursion (IsObserving hosts) done
+    → AllByRecursion (IsObserving hosts) (with_vetted done o vetted)
+each_vetted hosts done None vetted is p = p
+each_vetted hosts done (Some h) vetted is p =
+    all_push (IsObserving hosts) done (record { name = h.name; parties = h.parties; observing = h.observing; vetted = vetted }) p
+    (record { names = is.names; rising = is.rising; apart = is.apart; confirmed = is.confirmed })
 
-pub vetting_kept : (packages : List PackageForm) (hosts : List Host) (at : Place) (i : ℕ) (a b : List Host) (d : Data) → AreVetted hosts i a → vetting_step packages hosts at i a d ≡ Ok b → AreVetted hosts (i + 1) b
+each_there : {X : Type 0} (P : X → Type 0) (xs : List X) (i : ℕ) → AllByRecursion P xs → MatchOption (slice_get xs i) Unit P
+each_there P [] i p = tt
+each_there P (x ∷ xs) zero p = p.0
+each_there P (x ∷ xs) (suc i) p = each_there P xs i p.1
+
+pub vetting_kept : (packages : List PackageForm) (hosts : List Host) → AllByRecursion (IsObserving hosts) hosts → (at : Place) (i : ℕ) (a b : List Host) (d : Data) → AreKept hosts i a
+    → vetting_step packages hosts at i a d ≡ Ok b → AreKept hosts (i + 1) b
 unfolding vetting_step
-vetting_kept packages hosts at i a b d p h =
+vetting_kept packages hosts all at i a b d p h =
     let s = after (vetted_in packages (at_item at i) d) _ b h in
     rw (given (with_vetted a (slice_get hosts i) s.0) b s.2, add-one i) (record {
       keys = keys_vetted a (slice_get hosts i) s.0 ∙ (ap (λ l. l ++ found_key (slice_get hosts i)) p.keys ∙ sym (take_next hosts i));
+      each = each_vetted hosts a (slice_get hosts i) s.0 (each_there (IsObserving hosts) hosts i all) p.each;
     })
-
--- ---- what goes by names and parties
-
-key_at : (a b : List Host) (k : ℕ) (d : Host) → map key a ≡ map key b → key (get_or a k d) ≡ key (get_or b k d)
-key_at a b k d h = sym (get_or-map key a k d) ∙ (ap (λ l. get_or l k (key d)) h ∙ get_or-map key b k d)
-
-apart_at : (a b c d : Host) → key a ≡ key c → key b ≡ key d → AreApart c d → AreApart a b
-apart_at a b c d h k p = record {
-  names = λ e. p.names (sym (ap (λ (x : List ℕ × List (List ℕ)). x.0) h) ∙ (e ∙ ap (λ (x : List ℕ × List (List ℕ)). x.0) k));
-  parties = rw (ap (λ (x : List ℕ × List (List ℕ)). x.1) h, ap (λ (x : List ℕ × List (List ℕ)). x.1) k) p.parties;
-}
-
-pub keys_length : (a b : List Host) → map key a ≡ map key b → length a ≡ length b
-keys_length [] [] h = refl
-keys_length [] (y ∷ ys) h = absurd (cc)
-keys_length (x ∷ xs) [] h = absurd (cc)
-keys_length (x ∷ xs) (y ∷ ys) h = ap suc (keys_length xs ys (cc))
-
-pub keys_apart : (a b : List Host) → map key a ≡ map key b → AllPairs AreApart b → AllPairs AreApart a
-keys_apart a b h p = λ i j d below within.
-    apart_at _ _ _ _ (key_at a b i d h) (key_at a b j d h) (p i j d below (rw (keys_length a b h) at within))
-
-pub keys_names : (a b : List Host) → map key a ≡ map key b → AllByRecursion HasNames b → AllByRecursion HasNames a
-keys_names [] b h p = tt
-keys_names (x ∷ xs) [] h p = absurd (cc)
-keys_names (x ∷ xs) (y ∷ ys) h p =
-    let first : key x ≡ key y = cc in
-    let here : x.parties ≡ y.parties = ap (λ (k : List ℕ × List (List ℕ)). k.1) first in
-    let own : x.name ≡ y.name = ap (λ (k : List ℕ × List (List ℕ)). k.0) first in
-    (record { own = rw own p.0.own; parties = rw here p.0.parties; rising = rw here p.0.rising }, keys_names xs ys (cc) p.1)
-
-sums : (n : ℕ) (a : List Host) → fold (λ n (host : Host). n + length host.parties) n a ≡ fold (λ n (x : List ℕ × List (List ℕ)). n + length x.1) n (map key a)
-sums n [] = refl
-sums n (x ∷ xs) = sums (n + length x.parties) xs
-
-sum_keys : (a : List Host) → sum_by (λ (host : Host). length host.parties) a ≡ sum_by (λ (x : List ℕ × List (List ℕ)). length x.1) (map key a)
-sum_keys a = sums 0 a
-
-pub keys_sum : (a b : List Host) → map key a ≡ map key b → sum_by (λ (host : Host). length host.parties) a ≡ sum_by (λ (host : Host). length host.parties) b
-keys_sum a b h = sum_keys a ∙ (ap (λ l. sum_by (λ (x : List ℕ × List (List ℕ)). length x.1) l) h ∙ sym (sum_keys b))

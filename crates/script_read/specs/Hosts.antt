@@ -13,6 +13,7 @@ use Rattle.json_walk.specs.declared.limits.TheConstants.{PARTICIPANTS, PARTIES, 
 use Rattle.json_walk.specs.Lists.{list_of}
 use Rattle.json_walk.specs.Walk.{within_limit, few_items_of, Place, name_of, name_in, integer_of, has_members, items_of, walk_items, item_count, member_of}
 use Rattle.lang_read.specs.Parties.{is_hosted}
+use Rattle.script_read.specs.Observing.{observing_names_in, observing_of}
 use Rattle.json_walk.specs.declared.walk_fault.WalkFault.{WalkFault}
 use Rattle.json_walk.specs.declared.walk_fault.WalkFault.TheVariants.{Shape, Repeated, Unknown}
 
@@ -45,21 +46,23 @@ new_name_in hosts at d = do
   Ok name
 
 unfoldable pub has_host_members : Data → Bool
-has_host_members d = has_members (codes "name" ∷ codes "parties" ∷ []) (codes "vetted" ∷ []) d
+has_host_members d = has_members (codes "name" ∷ codes "parties" ∷ []) (codes "observing" ∷ codes "vetted" ∷ []) d
 
--- One more participant, but for what it has vetted. Beside the participants stands how many parties they host.
+-- One more participant, but for what it observes and has vetted. Beside the participants stands how many parties they host. What is
+-- observed is only spelled here, since a later participant may be the one that confirms.
 unfoldable pub host_of : List Host × ℕ → Place → Data → Result (List Host × ℕ) WalkFault
 host_of before at d = do
   _ ← check (has_host_members d) (Shape at)
   name ← new_name_in before.0 at d
   items ← party_items_in before.1 at d
   parties ← walk_items (new_party_step before.0 (at_member at (codes "parties"))) 0 [] items
-  Ok (before.0 ++ record { name = name; parties = set_of parties; vetted = [] } ∷ [], before.1 + item_count items)
+  _ ← observing_names_in at d
+  Ok (before.0 ++ record { name = name; parties = set_of parties; observing = []; vetted = [] } ∷ [], before.1 + item_count items)
 
 abbrev pub host_step : Place → ℕ → List Host × ℕ → Data → Result (List Host × ℕ) WalkFault
 host_step at i before d = host_of before (at_item at i) d
 
--- the participants of a list
+-- the participants of a list, but for what they observe and have vetted
 unfoldable pub hosts_of : Place → Data → Result (List Host × ℕ) WalkFault
 hosts_of at d = do
   items ← few_items_of at PARTICIPANTS d
@@ -75,11 +78,12 @@ root_member k d = member_of [] k d
 unfoldable pub participants_of : Data → Result Data WalkFault
 participants_of d = root_member (codes "participants") d
 
+-- the participants, but for what they have vetted
 unfoldable pub hosts_in : Data → Result (List Host) WalkFault
 hosts_in d = do
   m ← participants_of d
   hosts ← hosts_of participants_at m
-  Ok hosts.0
+  observing_of hosts.0 participants_at m
 
 -- ---- times, in microseconds
 
@@ -133,7 +137,7 @@ vetted_in packages at d = vetted_if packages (at_member at (codes "vetted")) (ge
 -- behind others, a participant with what it has vetted
 abbrev pub with_vetted : List Host → Option Host → List (List ℕ) → List Host
 with_vetted before None vetted = before
-with_vetted before (Some h) vetted = before ++ record { name = h.name; parties = h.parties; vetted = vetted } ∷ []
+with_vetted before (Some h) vetted = before ++ record { name = h.name; parties = h.parties; observing = h.observing; vetted = vetted } ∷ []
 
 -- the i-th participant with what it has vetted
 unfoldable pub vetting_step : List PackageForm → List Host → Place → ℕ → List Host → Data → Result (List Host) WalkFault
@@ -141,7 +145,7 @@ vetting_step packages hosts at i before d = do
   vetted ← vetted_in packages (at_item at i) d
   Ok (with_vetted before (slice_get hosts i) vetted)
 
--- the participants with what they have vetted, in a second walk
+-- the participants with what they have vetted, in a walk of its own
 unfoldable pub vetting_in : List PackageForm → List Host → Data → Result (List Host) WalkFault
 vetting_in packages hosts d = do
   m ← participants_of d

@@ -5,7 +5,10 @@ pub mod Drafts
 pub mod Faults
 pub mod Hosts
 pub mod Kept
+pub mod Observing
 pub mod PackageLimits
+pub mod Participants
+pub mod Raws
 pub mod Refs
 pub mod Rounds
 pub mod Script

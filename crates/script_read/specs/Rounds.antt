@@ -1,9 +1,9 @@
 -- Rounds and their submissions.
-use Rattle.std.specs.Prelude.{ℕ, suc, ◌+◌, Bool, ◌||◌, List, [], ◌∷◌, Option, Some, None, option_map, if◌then◌else◌, Result, Ok, ok_or, codes}
+use Rattle.std.specs.Prelude.{ℕ, ◌+◌, Bool, ◌||◌, List, [], ◌∷◌, Option, Some, None, if◌then◌else◌, Result, Ok, codes}
 use Rattle.serde_json.specs.Data.{Data}
 use Rattle.serde_json.specs.Find.{get}
 use Rattle.ledger_terms.specs.Drafts.{Drafts}
-use Rattle.ledger_terms.specs.Parties.{set_of, same_name}
+use Rattle.ledger_terms.specs.Parties.{set_of}
 use Rattle.ledger_terms.specs.Pointers.{at_item, at_member}
 use Rattle.ledger_terms.specs.declared.host.Host.{Host}
 use Rattle.ledger_terms.specs.declared.seed_of.SeedOf.{SeedOf}
@@ -21,27 +21,9 @@ use Rattle.json_walk.specs.declared.walk_fault.WalkFault.TheVariants.{Shape, Unk
 use Rattle.script_read.specs.Hosts.{is_participant}
 use Rattle.script_read.specs.Commands.{command_of}
 use Rattle.script_read.specs.Drafts.{tree_of}
+use Rattle.script_read.specs.Participants.{participant_of, participant_in}
+use Rattle.script_read.specs.Raws.{raws_in}
 use Rattle.script_read.specs.declared.round.Round.{Round}
-
--- ---- participants
-
--- the index of the first participant of that name
-abbrev pub participant_named : List Host → List ℕ → Option ℕ
-participant_named [] name = None
-participant_named (h ∷ hs) name = if same_name h.name name then Some 0 else option_map suc (participant_named hs name)
-
-unfoldable pub participant_of : List Host → Place → Data → Result ℕ WalkFault
-participant_of hosts at d = do
-  name ← name_of at d
-  ok_or (participant_named hosts name) (Unknown at name)
-
-unfoldable pub participant_member : List Host → Place → List ℕ → Data → Result ℕ WalkFault
-participant_member hosts at k d = do
-  m ← member_of at k d
-  participant_of hosts (at_member at k) m
-
-unfoldable pub participant_in : List Host → Place → Data → Result ℕ WalkFault
-participant_in hosts at d = participant_member hosts at (codes "participant") d
 
 -- ---- submissions
 
@@ -165,7 +147,7 @@ unfoldable pub hold_in : Place → Data → Result Bool WalkFault
 hold_in at d = truth_or at (codes "hold_verdicts") d
 
 unfoldable pub has_round_members : Data → Bool
-has_round_members d = has_members [] (codes "advance" ∷ codes "paused" ∷ codes "hold_verdicts" ∷ codes "submits" ∷ []) d
+has_round_members d = has_members [] (codes "advance" ∷ codes "paused" ∷ codes "hold_verdicts" ∷ codes "submits" ∷ codes "raw" ∷ []) d
 
 unfoldable pub round_of : List Host → ℕ → Place → Data → Result (Round × ℕ) WalkFault
 round_of hosts before at d = do
@@ -174,7 +156,8 @@ round_of hosts before at d = do
   paused ← paused_in hosts at d
   hold ← hold_in at d
   submits ← submits_in hosts before at d
-  Ok (record { advance = advance; paused = paused; hold_verdicts = hold; submits = submits.0 }, submits.1)
+  raws ← raws_in hosts at d
+  Ok (record { advance = advance; paused = paused; hold_verdicts = hold; submits = submits.0; raws = raws }, submits.1)
 
 unfoldable pub rounds_in : List Host → Data → Result (List Round) WalkFault
 rounds_in hosts d = do

@@ -7,6 +7,7 @@ ghost use Rattle.ledger_terms.specs.Parties.{has_party, set_of};
 ghost use Rattle.script_read.specs.Hosts.{is_participant, new_party_step, party_items_in, new_name_in, has_host_members, host_of};
 ghost use Rattle.script_read.specs.Hosts.{host_step, hosts_of, root_member, participants_at, participants_of, hosts_in};
 
+use crate::observing::{observing_names_in, read_observing};
 use json_walk::{
     PARTICIPANTS, PARTIES, Place, WalkFault, check_limit, fits, member, name_in, read_few_items,
     read_items, read_name, shape,
@@ -23,7 +24,8 @@ pub fn is_participant(hosts: &[Host], name: Name) -> bool
     hosts.iter().any(|host| host.name == name)
 }
 
-fn has_name(names: &[Name], name: Name) -> bool
+/// Whether one of the names is this one.
+pub fn has_name(names: &[Name], name: Name) -> bool
     ensures { result ≡ has_party names.now name }
 {
     names.iter().any(|known| *known == name)
@@ -97,20 +99,22 @@ fn new_name_in(value: &Value, at: &Place, hosts: &[Host]) -> Result<Name, WalkFa
 fn has_host_members(value: &Value) -> bool
     ensures { result ≡ has_host_members (view value.now) }
 {
-    fits(value, &["name", "parties"], &["vetted"])
+    fits(value, &["name", "parties"], &["observing", "vetted"])
 }
 
 fn new_host(alloc: Global, name: Name, parties: &NameList) -> Result<Host, AllocError>
-    ensures { IfOk result (λ h. h ≡ record { name = name; parties = set_of parties.now; vetted = [] }) }
+    ensures { IfOk result (λ h. h ≡ record { name = name; parties = set_of parties.now; observing = []; vetted = [] }) }
 {
     Ok(Host {
         name,
         parties: PartySet::of(alloc, parties)?,
+        observing: PartySet::new(alloc),
         vetted: NameList::new(alloc),
     })
 }
 
-/// Puts a participant behind the others, where `count` is how many parties they host.
+/// Puts a participant behind the others, where `count` is how many parties they host. Of what it observes only the spelling is
+/// tried here, since a later participant may be the one that confirms.
 #[tactic(auto, using(json_walk::proofs::Items::item_count_view), unfolding(crate::specs::Hosts::host_of))]
 fn push_host(
     alloc: Global,
@@ -130,6 +134,7 @@ fn push_host(
     let name = new_name_in(value, at, hosts.as_slice())?;
     let items = party_items_in(value, at, count)?;
     let parties = read_new_parties(alloc, items, &at.member("parties"), hosts.as_slice())?;
+    observing_names_in(alloc, value, at)?;
     hosts.push(new_host(alloc, name, &parties)?)?;
     Ok(count + items.len() as u64)
 }
@@ -184,5 +189,6 @@ pub fn hosts_in(alloc: Global, value: &Value) -> Result<HostList, WalkFault>
 {
     let found = participants_of(alloc, value)?;
     let (hosts, _) = read_hosts(alloc, found)?;
-    Ok(hosts)
+    let root = Place::root(alloc);
+    read_observing(alloc, found, &root.member("participants"), hosts.as_slice())
 }

@@ -7,6 +7,9 @@ mod draft;
 mod host;
 mod input;
 pub mod laws;
+mod observing;
+mod participant;
+mod raws;
 mod read;
 mod reference;
 mod round;
@@ -19,7 +22,7 @@ mod tree;
 mod vetting;
 mod what;
 
-pub use read::read_script;
+pub use read::{read_runnable, read_script};
 pub use round::{Round, RoundList};
 pub use script::Script;
 pub use script_fault::ScriptFault;

@@ -1,14 +1,15 @@
 //! Rounds.
-use ledger_terms::{ListOf, ParticipantIdList, SubmissionList};
+use ledger_terms::{ListOf, ParticipantIdList, RawRequestList, SubmissionList};
 
 /// A round of a script: how far the time is moved first, in microseconds, which participants are paused, whether the
-/// mediator holds its verdicts back, and what is submitted, in order.
+/// mediator holds its verdicts back, what is submitted, in order, and which requests that nobody prepared are handed in.
 #[derive(Drop)]
 pub struct Round {
     pub advance: u64,
     pub paused: ParticipantIdList,
     pub hold_verdicts: bool,
     pub submits: SubmissionList,
+    pub raws: RawRequestList,
 }
 
 /// Rounds in order.

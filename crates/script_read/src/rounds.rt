@@ -5,8 +5,10 @@ ghost use Rattle.ledger_terms.specs.Answers.{Follows};
 ghost use Rattle.json_walk.specs.Lists.{counted_of};
 ghost use Rattle.script_read.specs.Rounds.{advance_in, paused_in, hold_in, has_round_members, round_of, rounds_in};
 
+use crate::participant::read_participant;
+use crate::raws::raws_in;
 use crate::round::{Round, RoundList};
-use crate::submission::{read_participant, submits_in};
+use crate::submission::submits_in;
 use json_walk::{
     ADVANCE, Place, ROUNDS, SUBMISSIONS, WalkFault, fits, member, read_counted, read_integer,
     read_list, shape, truth_or,
@@ -60,7 +62,7 @@ fn has_round_members(value: &Value) -> bool
     fits(
         value,
         &[],
-        &["advance", "paused", "hold_verdicts", "submits"],
+        &["advance", "paused", "hold_verdicts", "submits", "raw"],
     )
 }
 
@@ -85,11 +87,13 @@ fn read_round(
     let paused = paused_in(alloc, value, at, topology)?;
     let hold_verdicts = hold_in(value, at)?;
     let (submits, count) = submits_in(alloc, value, at, before, topology)?;
+    let raws = raws_in(alloc, value, at, topology)?;
     let round = Round {
         advance,
         paused,
         hold_verdicts,
         submits,
+        raws,
     };
     Ok((round, count))
 }

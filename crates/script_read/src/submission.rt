@@ -2,83 +2,18 @@
 ghost use Rattle.std.specs.Prelude.{◌≡◌, ◌≤◌, ◌+◌, [], length, IfOk};
 ghost use Rattle.serde_json.specs.View.{view};
 ghost use Rattle.ledger_terms.specs.Answers.{Follows};
-ghost use Rattle.script_read.specs.Rounds.{participant_named, participant_of, participant_member, participant_in, act_as_in, time_of};
-ghost use Rattle.script_read.specs.Rounds.{time_in, ledger_time_in, is_prepared, submission_of, submits_of, submits_in};
+ghost use Rattle.script_read.specs.Rounds.{act_as_in, time_of, time_in, ledger_time_in, is_prepared, submission_of, submits_of, submits_in};
 
+use crate::participant::participant_in;
 use crate::what::{are_commands, what_in};
 use json_walk::{
     ACT_AS, LEDGER_TIME, Place, SUBMISSIONS, WalkFault, check_limit, fits, member, name_in,
-    read_each, read_few, read_integer, read_items, read_name, shape,
+    read_each, read_few, read_integer, read_items, shape,
 };
 use lang_read::read_party;
-use ledger_terms::{
-    Host, Name, ParticipantId, PartySet, Submission, SubmissionList, Text, Topology,
-};
+use ledger_terms::{PartySet, Submission, SubmissionList, Topology};
 use serde_json::Value;
 use std::alloc::Global;
-
-fn participant_named(hosts: &[Host], name: Name) -> Option<ParticipantId>
-    requires { length hosts.now ≤ 256 }
-    ensures { result ≡ participant_named hosts.now name }
-{
-    let mut at: usize = 0;
-    for host in hosts {
-        if host.name == name {
-            return Some(ParticipantId(at as u8));
-        }
-        at += 1;
-    }
-    None
-}
-
-/// The participant that a value names.
-#[tactic(auto, unfolding(crate::specs::Rounds::participant_of))]
-pub fn read_participant(
-    alloc: Global,
-    value: &Value,
-    at: &Place,
-    topology: &Topology,
-) -> Result<ParticipantId, WalkFault>
-    requires { length topology.now.hosts ≤ 256 }
-    ensures { Follows WalkFault.Memory result (participant_of topology.now.hosts at.now (view value.now)) }
-{
-    let name = read_name(value, at)?;
-    let Some(participant) = participant_named(topology.hosts.as_slice(), name) else {
-        return Err(WalkFault::Unknown {
-            path: at.pointer()?,
-            name: Text::of(alloc, name.as_str())?,
-        });
-    };
-    Ok(participant)
-}
-
-#[tactic(auto, unfolding(crate::specs::Rounds::participant_member))]
-fn participant_member(
-    alloc: Global,
-    value: &Value,
-    at: &Place,
-    name: &str,
-    topology: &Topology,
-) -> Result<ParticipantId, WalkFault>
-    requires { length topology.now.hosts ≤ 256 }
-    ensures { Follows WalkFault.Memory result (participant_member topology.now.hosts at.now name.now (view value.now)) }
-{
-    let found = member(value, at, name)?;
-    read_participant(alloc, found, &at.member(name), topology)
-}
-
-#[tactic(auto, unfolding(crate::specs::Rounds::participant_in))]
-fn participant_in(
-    alloc: Global,
-    value: &Value,
-    at: &Place,
-    topology: &Topology,
-) -> Result<ParticipantId, WalkFault>
-    requires { length topology.now.hosts ≤ 256 }
-    ensures { Follows WalkFault.Memory result (participant_in topology.now.hosts at.now (view value.now)) }
-{
-    participant_member(alloc, value, at, "participant", topology)
-}
 
 #[tactic(auto, unfolding(crate::specs::Rounds::act_as_in))]
 fn act_as_in(

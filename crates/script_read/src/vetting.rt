@@ -79,6 +79,7 @@ fn push_vetted(
         done.push(Host {
             name: host.name,
             parties: host.parties.clone()?,
+            observing: host.observing.clone()?,
             vetted,
         })?;
     }

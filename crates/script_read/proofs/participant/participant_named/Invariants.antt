@@ -1,6 +1,6 @@
 use Rattle.std.proofs.Common.{◌≡◌, ◌+◌, drop, option_map}
-use Rattle.script_read.specs.Rounds.{participant_named}
-use Rattle.script_read.proofs.submission.participant_named.Given as goal
+use Rattle.script_read.specs.Participants.{participant_named}
+use Rattle.script_read.proofs.participant.participant_named.Given as goal
 
 abbrev pub invariant-loop-host : goal.invariant-loop-host
 invariant-loop-host l =

@@ -1,0 +1,82 @@
+-- Raw requests, as a client hands them in.
+use Rattle.std.specs.Prelude.{ℕ, Bool, List, [], ◌∷◌, length, Option, Some, None, Result, Ok, ok_or, codes}
+use Rattle.std.specs.Result.{result_ok}
+use Rattle.hex.specs.Hex.{decode_of}
+use Rattle.serde_json.specs.Data.{Data}
+use Rattle.serde_json.specs.Find.{as_str, get}
+use Rattle.ledger_terms.specs.Pointers.{at_item, at_member}
+use Rattle.ledger_terms.specs.declared.host.Host.{Host}
+use Rattle.ledger_terms.specs.declared.raw_envelope.RawEnvelope.{RawEnvelope}
+use Rattle.ledger_terms.specs.declared.raw_request.RawRequest.{RawRequest}
+use Rattle.ledger_terms.specs.Answers.{◌>>=◌, check}
+use Rattle.json_walk.specs.declared.limits.TheConstants.{RAW_BYTES, RAWS}
+use Rattle.json_walk.specs.Lists.{list_of, few_of}
+use Rattle.json_walk.specs.Walk.{Place, within_limit, name_in, has_members, items_of, two_of, member_of}
+use Rattle.json_walk.specs.declared.walk_fault.WalkFault.{WalkFault}
+use Rattle.json_walk.specs.declared.walk_fault.WalkFault.TheVariants.{Shape}
+use Rattle.script_read.specs.Participants.{participant_of, participant_in}
+
+-- ---- bytes
+
+-- two hexadecimal digits of either case for each byte
+abbrev pub bytes_named : List ℕ → Option (List ℕ)
+bytes_named s = result_ok (decode_of s)
+
+-- so few bytes
+unfoldable pub bytes_of : Place → Data → Result (List ℕ) WalkFault
+bytes_of at d = do
+  s ← ok_or (as_str d) (Shape at)
+  bytes ← ok_or (bytes_named s) (Shape at)
+  _ ← within_limit at RAW_BYTES (length bytes)
+  Ok bytes
+
+-- ---- envelopes
+
+-- a list of a participant's name and the bytes for it
+unfoldable pub envelope_of : List Host → Place → Data → Result RawEnvelope WalkFault
+envelope_of hosts at d = do
+  items ← items_of at d
+  two ← two_of at items
+  to ← participant_of hosts (at_item at 0) two.0
+  bytes ← bytes_of (at_item at 1) two.1
+  Ok (record { to = to; bytes = bytes })
+
+unfoldable pub envelopes_in : List Host → Place → Data → Result (List RawEnvelope) WalkFault
+envelopes_in hosts at d = do
+  m ← member_of at (codes "envelopes") d
+  list_of (envelope_of hosts) (at_member at (codes "envelopes")) m
+
+-- ---- requests
+
+-- names of participants, which may repeat, in any order
+unfoldable pub confirming_in : List Host → Place → Data → Result (List ℕ) WalkFault
+confirming_in hosts at d = do
+  m ← member_of at (codes "confirming") d
+  list_of (participant_of hosts) (at_member at (codes "confirming")) m
+
+unfoldable pub mediator_in : Place → Data → Result (List ℕ) WalkFault
+mediator_in at d = do
+  m ← member_of at (codes "mediator") d
+  bytes_of (at_member at (codes "mediator")) m
+
+unfoldable pub has_raw_members : Data → Bool
+has_raw_members d =
+    has_members (codes "participant" ∷ codes "command" ∷ codes "confirming" ∷ codes "mediator" ∷ codes "envelopes" ∷ []) [] d
+
+unfoldable pub raw_of : List Host → Place → Data → Result RawRequest WalkFault
+raw_of hosts at d = do
+  _ ← check (has_raw_members d) (Shape at)
+  participant ← participant_in hosts at d
+  command ← name_in at (codes "command") d
+  confirming ← confirming_in hosts at d
+  mediator ← mediator_in at d
+  envelopes ← envelopes_in hosts at d
+  Ok (record { participant = participant; command = command; confirming = confirming; mediator = mediator; envelopes = envelopes })
+
+-- none where the member is absent
+abbrev pub raws_if : List Host → Place → Option Data → Result (List RawRequest) WalkFault
+raws_if hosts at None = Ok []
+raws_if hosts at (Some d) = few_of (raw_of hosts) at RAWS d
+
+unfoldable pub raws_in : List Host → Place → Data → Result (List RawRequest) WalkFault
+raws_in hosts at d = raws_if hosts (at_member at (codes "raw")) (get (codes "raw") d)
