@@ -1,4 +1,5 @@
 //! Chips.
+use crate::part::Part;
 use ledger_terms::Name;
 use svg_text::Frame;
 
@@ -6,13 +7,6 @@ use svg_text::Frame;
 #[derive(Drop)]
 pub struct Chip {
     pub name: Name,
-    pub confirms: bool,
+    pub part: Part,
     pub frame: Frame,
-}
-
-impl Chip {
-    /// What it says of the participant beside its name.
-    pub(crate) fn word(confirms: bool) -> &'static str {
-        if confirms { "confirms" } else { "sees" }
-    }
 }

@@ -1,11 +1,29 @@
-//! Who sees a view, and who confirms it.
+//! Who sees a view, who confirms it, and who only observes.
+use crate::part::Part;
 use crate::sheet::Sheet;
 use crate::span::Span;
 use ledger_terms::{ParticipantId, PartySet, Topology};
 use std::alloc::AllocError;
 
-/// Puts a chip for each participant that hosts one of the parties which are told of a view, filled where it confirms for one of
-/// its confirmers.
+/// What a participant does with a view of which these parties are told; nothing where it hosts none of them.
+fn part_of(
+    topology: &Topology,
+    at: ParticipantId,
+    told: &PartySet,
+    confirmers: &PartySet,
+) -> Option<Part> {
+    if !topology.hosts_any(at, told) {
+        None
+    } else if topology.confirms_any(at, confirmers) {
+        Some(Part::Confirms)
+    } else if topology.confirms_any(at, told) {
+        Some(Part::Sees)
+    } else {
+        Some(Part::Observes)
+    }
+}
+
+/// Puts a chip for each participant that hosts one of the parties which are told of a view.
 pub(crate) fn put_chips(
     sheet: &mut Sheet,
     topology: &Topology,
@@ -15,10 +33,8 @@ pub(crate) fn put_chips(
 ) -> Result<(), AllocError> {
     let mut left = span.left;
     for (at, host) in (0..=255u8).zip(topology.hosts.as_slice()) {
-        let at = ParticipantId(at);
-        if topology.hosts_any(at, told) {
-            let confirms = topology.confirms_any(at, confirmers);
-            left = sheet.put_chip(span, left, host.name, confirms)?;
+        if let Some(part) = part_of(topology, ParticipantId(at), told, confirmers) {
+            left = sheet.put_chip(span, left, host.name, part)?;
         }
     }
     sheet.end_chips();

@@ -1,11 +1,10 @@
 //! What a request discloses.
-use blind_tree::{OpenedTree, RolesTree, Tree, decode_tree};
+use blind_tree::{OpenedTree, RolesTree, Tree};
 use canton_model::Request;
 use ledger_terms::{ListOf, ParticipantId, PartySet, Path};
-use proto_model::{envelope_of, opened_for, opened_in, requested_views};
+use proto_model::{envelope_of, opened_in, opened_to, requested_views, tree_in};
 use std::alloc::{AllocError, Global};
 use view_split::View;
-use wire_form::WireFault;
 
 /// What is drawn of a request: a tree that says where its views are, what envelopes open of it, and what the mediator is told of
 /// its views.
@@ -14,14 +13,6 @@ pub(crate) struct Disclosure {
     pub tree: Tree,
     pub opened: ListOf<OpenedTree>,
     pub roles: Option<RolesTree>,
-}
-
-fn tree_in(alloc: Global, bytes: &[u8]) -> Result<Option<Tree>, AllocError> {
-    match decode_tree(alloc, bytes) {
-        Ok(tree) => Ok(Some(tree)),
-        Err(WireFault::Bad { .. }) => Ok(None),
-        Err(WireFault::Memory) => Err(AllocError),
-    }
 }
 
 impl Disclosure {
@@ -56,7 +47,7 @@ impl Disclosure {
         };
         let mut opened = ListOf::new(alloc);
         for envelope in request.envelopes.as_slice() {
-            if let Some(part) = opened_for(alloc, request, envelope.to)? {
+            if let Some(part) = opened_to(alloc, request, envelope.to)? {
                 opened.push(part)?;
             }
         }

@@ -2,6 +2,7 @@
 use crate::chip::Chip;
 use crate::cut::cut;
 use crate::line::{Line, LineKind};
+use crate::part::Part;
 use crate::picture::Picture;
 use crate::piece::Piece;
 use crate::span::letters_in;
@@ -90,21 +91,30 @@ fn draw_text(
     }
 }
 
-/// Draws a chip: the name and what the participant does, in a frame that is filled where it confirms.
+/// Draws the frame of a chip: filled where the participant confirms, and of dashes where it only observes.
+fn draw_chip_frame(svg: &mut Svg, frame: Frame, part: Part) -> Result<(), AllocError> {
+    match part {
+        Part::Confirms => draw_shown_box(svg, frame, Fill::Full),
+        Part::Sees => draw_shown_box(svg, frame, Fill::Page),
+        Part::Observes => {
+            svg.begin_group("dashed")?;
+            draw_shown_box(svg, frame, Fill::Page)?;
+            svg.end_group()
+        }
+    }
+}
+
+fn chip_tone(part: Part) -> Tone {
+    match part {
+        Part::Confirms => Tone::Paper,
+        Part::Sees | Part::Observes => Tone::Accent,
+    }
+}
+
+/// Draws a chip: the name and what the participant does, in a frame that tells that, too.
 fn draw_chip(alloc: Global, svg: &mut Svg, chip: &Chip) -> Result<(), AllocError> {
-    let (fill, tone) = if chip.confirms {
-        (Fill::Full, Tone::Paper)
-    } else {
-        (Fill::Page, Tone::Accent)
-    };
     let frame = chip.frame;
-    svg.rectangle(
-        frame,
-        Paint {
-            tone: Tone::Accent,
-            fill,
-        },
-    )?;
+    draw_chip_frame(svg, frame, chip.part)?;
     let label = Label {
         at: Point {
             x: frame.corner.x.saturating_add(frame.size.width / 2),
@@ -112,11 +122,11 @@ fn draw_chip(alloc: Global, svg: &mut Svg, chip: &Chip) -> Result<(), AllocError
         },
         anchor: Anchor::Middle,
         font: Font::Small,
-        tone,
+        tone: chip_tone(chip.part),
     };
     let mut text = String::from_str(alloc, chip.name.as_str())?;
     text.push_str(" ")?;
-    text.push_str(Chip::word(chip.confirms))?;
+    text.push_str(chip.part.word())?;
     draw_text(
         alloc,
         svg,

@@ -44,7 +44,7 @@ pub fn picture_of(
     sheet.skip(MARGIN);
     let title = title_of(alloc, topology, reader)?;
     sheet.put_line(LineKind::Title, span, title.clone()?)?;
-    put_key(&mut sheet, span, reader.is_some())?;
+    put_key(&mut sheet, span, topology, reader.is_some())?;
     put_requests(&mut sheet, topology, span, log, reader)?;
     if log.len() > MOST_ENTRIES {
         put_end(&mut sheet, span)?;
@@ -83,7 +83,12 @@ fn title_of(
 }
 
 /// Puts what boxes and chips mean.
-fn put_key(sheet: &mut Sheet, span: Span, has_blind: bool) -> Result<(), AllocError> {
+fn put_key(
+    sheet: &mut Sheet,
+    span: Span,
+    topology: &Topology,
+    has_blind: bool,
+) -> Result<(), AllocError> {
     sheet.skip(6);
     let alloc = sheet.alloc;
     let boxes = Text::of(
@@ -91,6 +96,13 @@ fn put_key(sheet: &mut Sheet, span: Span, has_blind: bool) -> Result<(), AllocEr
         "A box is a view. Each participant that sees it has a chip, which is filled where it confirms the view.",
     )?;
     sheet.put_line(LineKind::Detail, span, boxes)?;
+    if has_observers(topology) {
+        let observers = Text::of(
+            alloc,
+            "A chip of dashes is that of a participant which only observes the parties that are told of the view.",
+        )?;
+        sheet.put_line(LineKind::Detail, span, observers)?;
+    }
     if has_blind {
         let blind = Text::of(
             alloc,
@@ -99,6 +111,15 @@ fn put_key(sheet: &mut Sheet, span: Span, has_blind: bool) -> Result<(), AllocEr
         sheet.put_line(LineKind::Detail, span, blind)?;
     }
     Ok(())
+}
+
+/// Whether a participant hosts a party only to observe.
+fn has_observers(topology: &Topology) -> bool {
+    topology
+        .hosts
+        .as_slice()
+        .iter()
+        .any(|host| !host.observing.is_empty())
 }
 
 fn put_end(sheet: &mut Sheet, span: Span) -> Result<(), AllocError> {

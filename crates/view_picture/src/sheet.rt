@@ -1,6 +1,7 @@
 //! A picture in the making.
 use crate::chip::Chip;
 use crate::line::{Line, LineKind};
+use crate::part::Part;
 use crate::piece::{Piece, PieceList};
 use crate::span::{INSIDE, Span, letters_of, width_of};
 use crate::view_box::{BoxKind, ViewBox, ViewBoxList};
@@ -34,8 +35,8 @@ pub(crate) struct Sheet {
 }
 
 /// How wide a chip wants to be.
-fn chip_width(name: Name, confirms: bool) -> u32 {
-    let letters = letters_of(name.as_str()).saturating_add(letters_of(Chip::word(confirms)));
+fn chip_width(name: Name, part: Part) -> u32 {
+    let letters = letters_of(name.as_str()).saturating_add(letters_of(part.word()));
     width_of(letters.saturating_add(CHIP_LETTERS))
 }
 
@@ -77,9 +78,9 @@ impl Sheet {
         span: Span,
         left: u32,
         name: Name,
-        confirms: bool,
+        part: Part,
     ) -> Result<u32, AllocError> {
-        let width = chip_width(name, confirms).min(span.width());
+        let width = chip_width(name, part).min(span.width());
         let mut left = left;
         if left > span.left && left.saturating_add(width) > span.right {
             self.skip(CHIP + CHIP_GAP);
@@ -96,11 +97,7 @@ impl Sheet {
             },
             radius: CHIP / 2,
         };
-        self.pieces.push(Piece::Chip(Chip {
-            name,
-            confirms,
-            frame,
-        }))?;
+        self.pieces.push(Piece::Chip(Chip { name, part, frame }))?;
         Ok(left.saturating_add(width).saturating_add(CHIP_GAP))
     }
 

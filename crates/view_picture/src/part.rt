@@ -1,0 +1,23 @@
+//! What a participant does with a view.
+
+/// What a participant does with a view that it sees.
+#[derive(Clone, Copy)]
+pub enum Part {
+    /// It confirms the view.
+    Confirms,
+    /// It confirms for a party that is told of the view, and for none of its confirmers.
+    Sees,
+    /// It hosts those that are told of the view only to observe.
+    Observes,
+}
+
+impl Part {
+    /// What a chip says of the participant beside its name.
+    pub(crate) fn word(self) -> &'static str {
+        match self {
+            Part::Confirms => "confirms",
+            Part::Sees => "sees",
+            Part::Observes => "observes",
+        }
+    }
+}
