@@ -5,6 +5,7 @@ import json
 import ledger
 import terms
 import trees
+from hosting import hosted
 from language import Packages
 from tree_cases import transaction_of
 
@@ -45,8 +46,8 @@ def request_bytes(script):
     informees = {party for view in trees.all_views(views) for party in view['informees']}
     size = len(trees.envelope(common, requesters, views, None, False))
     for host in script['participants']:
-        if host['name'] == sender or set(host['parties']) & informees:
-            size += len(trees.envelope(common, requesters, views, host['parties'], host['name'] == sender))
+        if host['name'] == sender or set(hosted(host)) & informees:
+            size += len(trees.envelope(common, requesters, views, hosted(host), host['name'] == sender))
     return size
 
 

@@ -3,6 +3,7 @@ of jobs, and what plain lists tell after the calls of a tracker and of a store.
 """
 import ledger
 import trees
+from hosting import hosted
 from language import NOTE, Packages
 from tree_cases import path_text, transaction_of, yes
 
@@ -32,7 +33,7 @@ class Check:
         self.script, self.host, self.time, self.by = script, script['participants'][me], time, by
         self.ledger_time = submission.get('ledger_time', 0)
         self.facts = {known[number]['id']: (status, held) for number, status, held in facts}
-        seen = trees.topmost(trees.split(self.packages, self.roots), self.host['parties'])
+        seen = trees.topmost(trees.split(self.packages, self.roots), hosted(self.host))
         self.views = list(trees.all_views(seen))
         self.acts = [n for v in seen for _, n in ledger.preorder([v['nodes'][0]])]
         shown = self.host['name'] == submission['participant'] or any(len(v['path']) == 1 for v in seen)
@@ -50,7 +51,7 @@ class Check:
         return self.facts.get(node['action']['id'], ('unknown', False))
 
     def hosted(self, node):
-        return bool(set(ledger.union(*self.packages.stakeholders(node['action']['instance']))) & set(self.host['parties']))
+        return bool(set(ledger.union(*self.packages.stakeholders(node['action']['instance']))) & set(hosted(self.host)))
 
     def earlier(self, node):
         at = next(k for k, other in enumerate(self.acts) if other is node)

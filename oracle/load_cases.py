@@ -103,10 +103,10 @@ def package_lines():
 
 def script_lines(count, seed):
     for place in range(1, PARTICIPANTS + 1):
-        yield 'participant G%d hosts A%d vets Note,Iou' % (place, place)
+        yield 'participant G%d hosts A%d observes 0 vets Note,Iou' % (place, place)
     yield 'times 30000000 30000000 60000000'
     yield from package_lines()
     debts = [debt(turn, x) for turn, x in enumerate(islice(numbers_after(seed), count))]
     for submits in debts, [transfer(turn) for turn in range(count)]:
-        yield 'round advance 0 paused 0 verdicts given submits %d' % count
+        yield 'round advance 0 paused 0 verdicts given submits %d raws 0' % count
         yield from submits if count <= FEW else submits[-LAST:]

@@ -8,13 +8,17 @@ import os
 import bench_cases
 import check_cases
 import form_cases
+import framed
 import language
 import load_cases
+import raws
 import sharing_cases
 import tree_cases
+import trees
 import world_cases
 from tables import bytes as byte_tables
-from tables import benches, checks, edges, expressions, package_faults, requests, runs, script_faults, transactions, words, worlds
+from tables import (
+    benches, checks, edges, expressions, frames, openings, package_faults, requests, runs, script_faults, transactions, words, worlds)
 
 CRATES = os.path.join(os.path.dirname(os.path.dirname(os.path.abspath(__file__))), 'crates')
 
@@ -93,6 +97,38 @@ def byte_rows():
         yield '%s %s' % (word, digits), [computed]
 
 
+def opening_row(root, paths, with_requesters, data, worked):
+    lines = agreed(data.hex(), list(form_cases.opened_lines(root, paths, with_requesters, data)), worked)
+    return 'opened-for %s %s %s %s' % (root.hex(), paths, tree_cases.yes(with_requesters), data.hex()), lines
+
+
+def opening_rows():
+    """Envelopes with what they open."""
+    for digits, paths, with_requesters, worked in openings.OF_ITS_ROOT:
+        data = bytes.fromhex(digits)
+        yield opening_row(trees.read_tree_hash(framed.tree_of(data)), paths, with_requesters, data, worked)
+    for digits in openings.OF_ANOTHER_ROOT + openings.NO_TREES:
+        yield opening_row(bytes(32), '0', True, bytes.fromhex(digits), openings.MISMATCH)
+    sent = list(raws.requests_of(json.loads(runs.TRANSFER)))[1]
+    right, data = trees.read_tree_hash(framed.tree_of(sent['mediator'])), dict(sent['envelopes'])
+    for name, paths, with_requesters, is_right, worked in openings.TRANSFER:
+        yield opening_row(right if is_right else bytes(32), paths, with_requesters, data[name], worked)
+
+
+def frame_rows():
+    """A script of raw requests, of which some are framed."""
+    row = script_row('framed', compact(frames.SCRIPT))
+    told = [line for line in row[1] if line.startswith('framed ')]
+    for (raw, worked), line in zip(frames.ROWS, told):
+        agreed(raw['command'], line, 'framed ' + tree_cases.yes(worked))
+    agreed('raws', len(told), len(frames.ROWS))
+    yield row
+    sent = list(raws.requests_of(json.loads(runs.TRANSFER)))
+    row = script_row('framed-transfer', compact(raws.script_of(json.loads(runs.TRANSFER)['participants'], sent + [dict(sent[1], confirming=['P1'])])))
+    agreed('framed transfer', [line for line in row[1] if line.startswith('framed ')], ['framed yes', 'framed yes', 'framed no'])
+    yield row
+
+
 def facts_word(facts):
     return ','.join('%d.%s%s' % (number, status, '!' if held else '') for number, status, held in facts) or '-'
 
@@ -166,6 +202,20 @@ def count_rows():
         yield 'count %s %s %s %s' % (name, spelled, words, source), lines
 
 
+def cut_rows():
+    for name, source in edges.CUTS:
+        yield 'cut %s %s' % (name, source), ['cut ' + name, '%d of %d are canton_cli: script NotJson' % (len(source), len(source))]
+
+
+def log_rows():
+    for name, capacity, script, changes, worked in edges.LOGS:
+        script = json.loads(script)
+        requests_ = list(raws.requests_of(script))
+        handed = raws.script_of(script['participants'], [dict(requests_[at], **change) for at, change in changes])
+        lines = agreed(name, list(raws.appended(handed, capacity)), worked)
+        yield 'append %s %d %s' % (name, capacity, compact(handed)), ['append ' + name] + lines
+
+
 def gate_rows():
     for name, words, source, looks, noted in edges.GATES:
         yield 'gate %s %d %s %s' % (name, looks, words, source), ['run ' + name, 'status 0', noted]
@@ -223,9 +273,9 @@ def below(line, cases):
 def layer_rows():
     """The cases of each layer, below the line that says which it is."""
     tables = {
-        'form': {'Actions and trees as bytes': byte_rows()},
+        'form': {'Actions and trees as bytes': byte_rows(), 'What envelopes open': opening_rows()},
         'tree': {
-            'Transactions, and scripts with their first fault': tree_rows(), 'Expressions': expression_rows(), 'Packages': package_rows()},
+            'Transactions, and scripts with their first fault': tree_rows(), 'Raw requests': frame_rows(), 'Expressions': expression_rows(), 'Packages': package_rows()},
         'load': {'Words': word_rows(), 'Generated scripts': generated_rows()},
         'check': {
             'Views': view_rows(), 'Jobs': job_rows(),
@@ -260,8 +310,8 @@ def main():
     write('layer_cases', layer_rows())
     write('run_cases', headed({
         'Whole runs': run_rows(), 'Whole runs within room': sure_run_rows(), 'Whole runs with workers in any order': count_rows(),
-        'Whole runs that pass a gate': gate_rows(), 'Whole runs with natives': native_rows(),
-        'Logs without room': edges.LOGS, 'Sources that fail': edges.SOURCES, 'Sinks that fail': edges.SINKS}))
+        'Whole runs that pass a gate': gate_rows(), 'Whole runs with natives': native_rows(), 'Beginnings of a script': cut_rows(),
+        'Logs': log_rows(), 'Sources that fail': edges.SOURCES, 'Sinks that fail': edges.SINKS}))
 
 
 if __name__ == '__main__':

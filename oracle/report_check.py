@@ -8,6 +8,7 @@ Each refusal has its cause. All that the report says below its results is then w
 """
 import ledger
 import trees
+from hosting import confirmed
 from world_cases import Request, World
 
 
@@ -103,7 +104,7 @@ class Report(World):
     def wanted(self, result, end):
         """What the submission wants over all that its participant may have read by then: a request, or the word of a refusal."""
         name, submission = result['name'], result['submission']
-        if not set(submission['act_as']) <= set(self.parties(name)):
+        if not set(submission['act_as']) <= set(confirmed(self.host(name))):
             return ['NotHosted']
         start = max([result['after']] + [k + 1 for n, k in self.begun.items() if n <= result['round']])
         found = []
@@ -120,11 +121,11 @@ class Report(World):
     def read_response(self, line, time, rest, results):
         name, place = rest[0], int(rest[2])
         want(place < len(self.log) and self.log[place]['kind'] == 'request', line, 'it answers no request')
-        want(name in self.log[place]['request'].hosts('confirmers'), line, 'its participant is not asked')
+        want(name in self.log[place]['request'].confirming(), line, 'its participant is not asked')
         want(self.response(name, place) is None, line, 'its participant has answered')
         want(any(name not in round_.get('paused', []) for round_ in self.rounds_here()), line, 'its participant is paused')
         want(time <= self.decision_time(place), line, 'it comes too late')
-        verdicts = self.verdicts(name, place)
+        verdicts = self.reasons(name, place)
         want(rest[3:] == ['%s=%s' % v for v in verdicts], line, 'its verdicts are others: %s' % verdicts)
         self.append('response', by=name, of=place, verdicts=verdicts)
 
@@ -158,7 +159,7 @@ class Report(World):
 
     def need(self, request):
         """How many places of the log a request may need."""
-        return 2 + len(request.hosts('confirmers'))
+        return 2 + len(request.confirming())
 
     def reserved(self):
         """How many places the requests needed that stood at some time."""

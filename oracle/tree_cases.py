@@ -1,6 +1,8 @@
 """What the layer tree of crates/layer_cases has to write of a script that has no fault."""
 import ledger
 import trees
+from framed import is_framed, read_raw
+from hosting import hosted, that_confirm, that_host
 from language import Packages
 from terms import action_text
 
@@ -41,18 +43,14 @@ def rule_lines(script, packages, by, roots):
     yield 'authorised ' + yes(all(ledger.is_authorised(packages, root, by) for root in roots))
     for host in script['participants']:
         yield 'projection ' + host['name']
-        yield from tree_lines(ledger.projection(packages, roots, host['parties']))
-
-
-def hosts_text(script, parties):
-    return ','.join(h['name'] for h in script['participants'] if set(h['parties']) & set(parties))
+        yield from tree_lines(ledger.projection(packages, roots, hosted(host)))
 
 
 def view_lines(script, views):
     for view in trees.all_views(views):
         path = path_text(view['path'])
-        yield 'view %s %s on %s' % (path, ','.join(view['informees']), hosts_text(script, view['informees']))
-        yield 'confirmed %s %s on %s' % (path, ','.join(view['confirmers']), hosts_text(script, view['confirmers']))
+        yield 'view %s %s on %s' % (path, ','.join(view['informees']), ','.join(that_host(script, view['informees'])))
+        yield 'confirmed %s %s on %s' % (path, ','.join(view['confirmers']), ','.join(that_confirm(script, view['confirmers'])))
 
 
 def parties_line(word, view):
@@ -71,9 +69,8 @@ def opened_lines(script, sender, time, by, views, name, parties):
 
 
 def confirming_line(script, views):
-    """Who is asked to confirm: who hosts a confirmer of a view confirms for it here."""
-    parties = {party for view in trees.all_views(views) for party in view['confirmers']}
-    return ' '.join(['confirming'] + [h['name'] for h in script['participants'] if set(h['parties']) & parties])
+    """Who is asked to confirm: who confirms for a confirmer of a view."""
+    return ' '.join(['confirming'] + that_confirm(script, {party for view in trees.all_views(views) for party in view['confirmers']}))
 
 
 def sent_line(name, sender, parties, views):
@@ -88,7 +85,7 @@ def envelope_lines(script, submission, seed, by, views):
     sender, time = submission['participant'], submission.get('ledger_time', 0)
     common, requesters = trees.common_leaf(sender, time, seed), trees.requesters_leaf(by, seed)
     root = trees.tree_hash(common, requesters, views)
-    for name, parties in [(h['name'], h['parties']) for h in script['participants']] + [('mediator', None)]:
+    for name, parties in [(h['name'], hosted(h)) for h in script['participants']] + [('mediator', None)]:
         data = trees.envelope(common, requesters, views, parties, name == sender)
         yield 'envelope %s %s %s' % (name, root.hex(), data.hex())
         yield 'decoded %s yes' % name
@@ -117,10 +114,21 @@ def submission_lines(script, packages, known, commits, submission):
     yield from envelope_lines(script, submission, seed, by, views)
 
 
+def raw_lines(script, raw):
+    yield 'raw %s %s' % (raw['participant'], raw['command'])
+    yield ' '.join(['confirming'] + raw['confirming'])
+    yield 'mediator ' + raw['mediator'].lower()
+    for name, digits in raw['envelopes']:
+        yield 'to %s %s' % (name, digits.lower())
+    yield 'framed ' + yes(is_framed(script, read_raw(raw)))
+
+
 def script_lines(script):
     packages, known, commits = Packages(script.get('packages', [])), [], []
     for round_ in script['rounds']:
         for submission in round_.get('submits', []):
             yield from submission_lines(script, packages, known, commits, submission)
+        for raw in round_.get('raw', []):
+            yield from raw_lines(script, raw)
     found = ledger.first_inconsistent(commits)
     yield 'ledger consistent' if found is None else 'ledger inconsistent %d %s' % (found[0], path_text(found[1]))

@@ -96,7 +96,14 @@ class Made:
         self.hosts = [{'name': f'P{n + 1}', 'parties': [p for k, p in enumerate(PARTIES) if k % count == n]} for n in range(count)]
         if self.random.random() < 0.2:
             self.random.choice(self.hosts)['vetted'] = []
+        if self.random.random() < 0.4:
+            self.observe(self.random.choice(self.hosts))
         self.issued, self.packages, self.commands = [], packages, 0
+
+    def observe(self, host):
+        """A participant also hosts some parties only to observe them."""
+        others = [party for party in PARTIES if party not in host['parties']]
+        host['observing'] = self.random.sample(others, self.random.randint(0, min(3, len(others))))
 
     def home(self, party):
         return next(h['name'] for h in self.hosts if party in h['parties'])

@@ -6,6 +6,7 @@ All is worked out from the log and from how much of it each participant and the 
 import check_cases
 import ledger
 import trees
+from hosting import confirmed, hosted, that_confirm, that_host
 from language import Packages
 from terms import instance_text
 from tree_cases import path_text, transaction_of, tree_lines
@@ -23,16 +24,20 @@ class Request:
         _, self.by, self.roots = transaction_of(world.packages, known, submission)
         self.views = list(trees.all_views(trees.split(world.packages, self.roots)))
 
-    def hosts(self, kind):
-        parties = {party for view in self.views for party in view[kind]}
-        return [h['name'] for h in self.world.hosts if set(h['parties']) & parties]
+    def parties(self, kind):
+        return {party for view in self.views for party in view[kind]}
+
+    def confirming(self):
+        """Who is asked to confirm."""
+        return that_confirm(self.world.script, self.parties('confirmers'))
 
     def recipients(self):
-        return [h['name'] for h in self.world.hosts if h['name'] == self.sender or h['name'] in self.hosts('informees')]
+        seeing = that_host(self.world.script, self.parties('informees'))
+        return [h['name'] for h in self.world.hosts if h['name'] == self.sender or h['name'] in seeing]
 
     def seen(self, name):
         """The topmost views that a participant sees."""
-        return trees.topmost([v for v in self.views if len(v['path']) == 1], self.world.parties(name))
+        return trees.topmost([v for v in self.views if len(v['path']) == 1], hosted(self.world.host(name)))
 
     def acts(self, name):
         """The actions that a participant sees whose ids are right."""
@@ -50,7 +55,7 @@ class Checked(check_cases.Check):
     def __init__(self, world, name, place):
         request = world.log[place]['request']
         self.packages, self.script, self.roots, self.by = world.packages, world.script, request.roots, request.by
-        self.host = next(h for h in world.hosts if h['name'] == name)
+        self.host = world.host(name)
         self.time, self.ledger_time = world.log[place]['time'], request.ledger_time
         self.facts = world.facts(name, place)
         seen = request.seen(name)
@@ -70,8 +75,8 @@ class World:
             self.read[host['name']], self.taken[host['name']], self.outbox[host['name']] = 0, set(), {}
         self.told, self.given = 0, set()
 
-    def parties(self, name):
-        return next(h['parties'] for h in self.hosts if h['name'] == name)
+    def host(self, name):
+        return next(h for h in self.hosts if h['name'] == name)
 
     # the log
 
@@ -141,7 +146,7 @@ class World:
         created, consumed = self.status(name, most, end)
         for cid, (place, node) in created.items():
             instance = node['action']['instance']
-            if cid not in consumed and set(ledger.union(*self.packages.stakeholders(instance))) & set(self.parties(name)):
+            if cid not in consumed and set(ledger.union(*self.packages.stakeholders(instance))) & set(hosted(self.host(name))):
                 yield place, {'id': cid, 'salt': node['seed'], 'instance': instance}
 
     # events
@@ -149,7 +154,7 @@ class World:
     def submit(self):
         submission = self.left.pop(0)
         name = submission['participant']
-        if name in self.paused or not set(submission['act_as']) <= set(self.parties(name)):
+        if name in self.paused or not set(submission['act_as']) <= set(confirmed(self.host(name))):
             return
         try:
             known = [contract for _, contract in self.active(name, self.read[name], self.read[name])]
@@ -166,10 +171,10 @@ class World:
 
     def owed(self, name, end):
         """The requests before an end, undecided there, whose views this participant is to confirm."""
-        return [k for k, r in self.requests(end) if name in r.hosts('confirmers') and not self.is_decided(k, end)]
+        return [k for k, r in self.requests(end) if name in r.confirming() and not self.is_decided(k, end)]
 
     def verdicts(self, name, place):
-        checked, parties = Checked(self, name, place), set(self.parties(name))
+        checked, parties = Checked(self, name, place), set(confirmed(self.host(name)))
         mine = [v['path'] for v in self.log[place]['request'].views if set(v['confirmers']) & parties]
         return [(path_text(path), checked.verdict(path)) for path in mine]
 
@@ -200,7 +205,7 @@ class World:
 
     def decision(self, place, end):
         """The mediator's decision by what stands before an end."""
-        missing = self.log[place]['request'].hosts('confirmers')
+        missing = self.log[place]['request'].confirming()
         for entry in self.log[place + 1:end]:
             if entry['time'] > self.deadline(place):
                 return 'timeout ' + ' '.join(missing)
@@ -322,7 +327,7 @@ class World:
 
     def applied(self, name):
         for place, request in self.approved(len(self.log), self.clean(name)):
-            roots = ledger.projection(self.packages, request.roots, self.parties(name))
+            roots = ledger.projection(self.packages, request.roots, hosted(self.host(name)))
             if roots:
                 yield place, roots
 

@@ -4,7 +4,7 @@ A fact is the number of a contract among those that a script's transactions crea
 """
 from tables.transactions import FLASH, IOU, OTHER, TRANSFER, asked, create, does, exercise, fetch, forged, iou, known, party, prepared, script
 
-P1, P2, P3 = 0, 1, 2
+P1, P2, P3, P4 = range(4)
 FREE, HELD = False, True
 
 # --- views
@@ -28,6 +28,12 @@ OTHER_FETCHED = look(fetch(K9, ["Alice"]))
 def vetting(script, at, packages):
     """The script where one participant has vetted these packages alone."""
     hosts = [dict(host, vetted=packages) if k == at else host for k, host in enumerate(script['participants'])]
+    return dict(script, participants=hosts)
+
+
+def watched(script):
+    """The script where P4 observes Alice."""
+    hosts = [dict(host, observing=["Alice"]) if k == P4 else host for k, host in enumerate(script['participants'])]
     return dict(script, participants=hosts)
 
 
@@ -90,7 +96,13 @@ VIEWS = [
     ('invented', INVENTED, P1, 8, [0], FIRST, 'Inactive 0'),
     ('below-alone', TRANSFER, P3, 4, [0, 0], FIRST, 'approve'),
     ('no-stakeholder', STRANGER, P3, 4, [0], [(0, 'consumed', HELD)], 'NotAuthorised 0'),
-    ('stakeholder', STRANGER, P1, 4, [0], [(0, 'consumed', HELD)], 'Locked 0')]
+    ('stakeholder', STRANGER, P1, 4, [0], [(0, 'consumed', HELD)], 'Locked 0'),
+    # by what is only observed
+    ('locked-where-observed', watched(FETCHED), P4, 5, [0], [(0, 'active', HELD)], 'Locked 0'),
+    ('inactive-where-observed', watched(INVENTED), P4, 8, [0], FIRST, 'Inactive 0'),
+    ('fresh-where-observed', watched(ASK), P4, 10, [0], BOTH + [(2, 'active', FREE)], 'NotFresh 3'),
+    ('order-where-observed', watched(look(does(K7, "Archive", ["Alice"]), fetch(K7, ["Alice"]))), P4, 10, [0], BOTH, 'Unordered 2'),
+    ('approve-where-observed', watched(ASK), P4, 10, [0], BOTH, 'approve')]
 
 # --- jobs: name, script, who checks, the place, the time, the paths, the facts, and what was worked out of the lines after the first
 TWO_POLLS = ['place 3 left 2', 'pending, woken yes left 1', 'place 3 left 1', 'ready place 3']

@@ -1,7 +1,7 @@
 """What whole runs do at their edges, and calls of sources, sinks and a log there, with what is answered, worked out by hand."""
 import json
 
-from tables.runs import HOSTS, TWO_SPENDS
+from tables.runs import FULL, HOSTS, TRANSFER, TWO_SPENDS, WATCHED
 from tables.transactions import IOU, asked, exercise, iou, note, prepared
 
 
@@ -16,7 +16,15 @@ COUNTS = [
     ('two-spends-with-workers', 'run,--workers,4', TWO_SPENDS, [
         ('3 4 request P2 t1 to P1 P2 P3', 1), ('result 1 P2 t1 sent 3', 1), ('outcome 3 approved', 1),
         ('result 1 P2 t2 refused ContractUnknown|outcome * Locked|outcome * Inactive', 1),
-        ('commit 3', 3), ('active 3 Iou.Iou(Bank,Carol,10)', 2)])]
+        ('commit 3', 3), ('active 3 Iou.Iou(Bank,Carol,10)', 2)]),
+    # who observes is told with the others, and answers nothing
+    ('observing-host-with-workers', 'run,--workers,4', WATCHED, [
+        ('0 1 request P1 c1 to P1 P2 P4', 1), ('3 4 request P2 t1 to P1 P2 P3 P4', 1), ('entries 7', 1), ('outcome 3 approved', 1),
+        ('participant P4 clean 7 time 7', 1), ('commit 0', 3), ('commit 3', 4), ('active 3 Iou.Iou(Bank,Carol,10)', 2)])]
+
+# --- scripts of which each beginning is tried
+
+CUTS = [('worked-transfer', TRANSFER)]
 
 
 # --- what comes to a gate: who is held there for how long, and what it noted
@@ -78,10 +86,23 @@ NATIVES = [('native-of-its-own-text', 'own', FLASH, FLASHED, 'asked'), ('native-
 LETTERS = '0123456789abcdefghijklmnopqrstuvwxyz'
 LONG = 'x' * 100
 
+# Logs: a name, how many places the requests may need, the script whose requests are appended, what is changed in each of them, and what the
+# log says to each. A request needs two places and one for each participant that confirms it.
+ASKED_LESS, ASKED_MORE, ASKED_OTHERWISE = {"confirming": ["P1"]}, {"confirming": ["P1", "P2", "P3"]}, {"confirming": ["P2", "P1"]}
+AGAIN, OTHER = {}, {"command": "t2"}
 LOGS = [
-    # a request needs two places and one for each participant that confirms it
-    ('append second-has-no-room 4 2,1', ['append second-has-no-room', 'appended', 'LogFull 4 3', '1 entries']),
-    ('append both-have-room 7 2,1', ['append both-have-room', 'appended', 'appended', '2 entries'])]
+    ('second-has-no-room', 4, FULL, [(0, {}), (1, {})], ['appended', 'LogFull 4 3', '1 entries']),
+    ('both-have-room', 7, FULL, [(0, {}), (1, {})], ['appended', 'appended', '2 entries']),
+    ('worked-transfer', 20, TRANSFER, [(0, {}), (1, {}), (1, AGAIN), (1, dict(ASKED_LESS)), (1, dict(OTHER, **ASKED_LESS))],
+     ['appended', 'appended', 'Already 1', 'Already 1', 'Unframed', '2 entries']),
+    ('others-are-asked', 20, TRANSFER, [(1, ASKED_LESS), (1, ASKED_MORE), (1, ASKED_OTHERWISE), (1, {"confirming": []}), (1, {"participant": "P3"})],
+     ['Unframed', 'Unframed', 'Unframed', 'Unframed', 'appended', '1 entries']),
+    # what isn't framed isn't counted, and room is tried behind that
+    ('no-room-for-what-is-not-framed', 3, TRANSFER, [(1, ASKED_LESS), (1, {}), (0, {}), (0, {"command": "c2", "mediator": b''}), (0, {"command": "c2"})],
+     ['Unframed', 'LogFull 0 4', 'appended', 'Unframed', 'LogFull 3 3', '1 entries']),
+    # who observes is no confirming participant, and envelopes may be fewer, or to others
+    ('observing-host-is-not-asked', 20, WATCHED, [(0, {"confirming": ["P1", "P4"]}), (0, {"envelopes": []}), (1, {"envelopes": [("P4", b'\7')]})],
+     ['Unframed', 'appended', 'appended', '2 entries'])]
 SOURCES = [
     ('mem-source 4 2 10,6 0123456789', ['source within 10,6', 'failed', '|456789']),
     # one byte past the limit is taken

@@ -2,7 +2,7 @@
 import json
 
 from tables import script_faults
-from tables.transactions import IOU, PARTICIPANTS, asked, iou, note, prepared, transfer
+from tables.transactions import IOU, PARTICIPANTS, asked, create, does, exercise, iou, known, note, party, prepared, transfer
 
 NOTE = '{"participants":[{"name":"P1","parties":["Alice"]}],"rounds":[%s]}'
 EMPTY = '{"participants":[{"name":"P1","parties":["Alice"]}],"rounds":[]}'
@@ -97,6 +97,135 @@ commit 3
 active 3 Iou.Iou(Bank,Carol,10)
 end
 '''
+
+# the same transfer, where a fourth participant observes Alice: it is a recipient and keeps her part, and nobody asks it
+WATCHING = HOSTS + [{"name": "P4", "parties": [], "observing": ["Alice"]}]
+WATCHED = json.dumps(dict(json.loads(TRANSFER), participants=WATCHING), separators=(',', ':'))
+SEEN_BY_FOUR = TRANSFERRED.replace('c1 to P1 P2\n', 'c1 to P1 P2 P4\n').replace('t1 to P1 P2 P3\n', 't1 to P1 P2 P3 P4\n').replace(
+    'end\n', '''participant P4 clean 7 time 7
+commit 0
+  create Iou.Iou(Bank,Alice,10)
+commit 3
+  consume Iou.Iou(Bank,Alice,10) Transfer(Carol) by Alice = ()
+    create Iou.Iou(Bank,Carol,10)
+end
+''')
+
+# who observes a party doesn't submit for it, and who observes just the new owner sees the inner view alone
+SUBMITTED_FOR = json.dumps(
+    {"participants": HOSTS + [{"name": "P4", "parties": ["Dora"], "observing": ["Alice", "Carol"]}], "packages": [IOU], "rounds": [{"submits": [
+        asked('P4', 'n1', ['Alice'], note('Alice', 'Alice', 'a')), asked('P4', 'n2', ['Dora', 'Carol'], note('Carol', 'Dora', 'b')),
+        asked('P4', 'n3', ['Dora'], note('Dora', 'Carol', 'c'))]}]},
+    separators=(',', ':'))
+HAS_SUBMITTED = '''entries 3
+0 1 request P4 n3 to P3 P4
+1 2 response P4 for 0 0=approve
+2 3 verdict for 0 approved
+result 0 P4 n1 refused NotHosted Alice
+result 0 P4 n2 refused NotHosted Carol
+result 0 P4 n3 sent 0
+outcome 0 approved
+participant P1 clean 3 time 3
+participant P2 clean 3 time 3
+participant P3 clean 3 time 3
+commit 0
+  create Note.Note(Dora,Carol,"c")
+active 0 Note.Note(Dora,Carol,"c")
+participant P4 clean 3 time 3
+commit 0
+  create Note.Note(Dora,Carol,"c")
+active 0 Note.Note(Dora,Carol,"c")
+end
+'''
+INNER = json.dumps(
+    dict(json.loads(TRANSFER), participants=HOSTS + [{"name": "P4", "parties": [], "observing": ["Carol"]}]), separators=(',', ':'))
+SEEN_INSIDE = TRANSFERRED.replace('t1 to P1 P2 P3\n', 't1 to P1 P2 P3 P4\n').replace(
+    'end\n', '''participant P4 clean 7 time 7
+commit 3
+  create Iou.Iou(Bank,Carol,10)
+active 3 Iou.Iou(Bank,Carol,10)
+end
+''')
+
+# Dora controls a choice on a debt that P4 only observes. P4 is asked for her, and by what it observes it knows that the debt is spent.
+POKE = {"name": "Poke", "templates": [{
+    "name": "Debt", "fields": [{"name": "owner", "type": "Party"}, {"name": "helper", "type": "Party"}],
+    "signatories": ["set", ["var", "this.owner"]],
+    "choices": [{"name": "Look", "consuming": False, "controllers": ["set", ["var", "this.helper"]]},
+                {"name": "End", "consuming": True, "controllers": ["set", ["var", "this.owner"]]}]}]}
+DEBT = known('#P2:d1:0')
+POKED = json.dumps(
+    {"participants": HOSTS[:2] + [{"name": "P4", "parties": ["Dora"], "observing": ["Alice"]}], "packages": [POKE], "rounds": [
+        {"submits": [asked('P2', 'd1', ['Alice'], create('Poke.Debt', party('Alice'), party('Dora')))]},
+        {"submits": [
+            asked('P2', 'e1', ['Alice'], exercise('Poke.Debt', '#P2:d1:0', 'End')),
+            prepared('P4', 'l1', ['Dora'], does(DEBT, 'Look', ['Dora'], consuming=False))]}]},
+    separators=(',', ':'))
+IS_POKED = '''entries 10
+0 1 request P2 d1 to P2 P4
+1 2 response P2 for 0 0=approve
+2 3 verdict for 0 approved
+3 4 request P2 e1 to P2 P4
+4 5 request P4 l1 to P2 P4
+5 6 response P2 for 3 0=approve
+6 7 response P2 for 4 0=Locked
+7 8 response P4 for 4 0=Locked
+8 9 verdict for 3 approved
+9 10 verdict for 4 rejected P2 0 Locked
+result 0 P2 d1 sent 0
+result 1 P2 e1 sent 3
+result 1 P4 l1 sent 4
+outcome 0 approved
+outcome 3 approved
+outcome 4 rejected P2 0 Locked
+participant P1 clean 10 time 10
+participant P2 clean 10 time 10
+commit 0
+  create Poke.Debt(Alice,Dora)
+commit 3
+  consume Poke.Debt(Alice,Dora) End() by Alice = ()
+participant P4 clean 10 time 10
+commit 0
+  create Poke.Debt(Alice,Dora)
+commit 3
+  consume Poke.Debt(Alice,Dora) End() by Alice = ()
+end
+'''
+
+# three notes in one round, of which each needs three places of the log
+THREE_NOTES = script(*(submission('a', 'n%d' % at) for at in range(3)))
+TWO_OF_THREE = '''entries 6
+0 1 request P1 n0 to P1
+1 2 request P1 n1 to P1
+2 3 response P1 for 0 0=approve
+3 4 response P1 for 1 0=approve
+4 5 verdict for 0 approved
+5 6 verdict for 1 approved
+result 0 P1 n0 sent 0
+result 0 P1 n1 sent 1
+result 0 P1 n2 refused LogFull 6 3
+outcome 0 approved
+outcome 1 approved
+participant P1 clean 6 time 6
+commit 0
+  create Note.Note(Alice,Alice,"a")
+commit 1
+  create Note.Note(Alice,Alice,"a")
+active 0 Note.Note(Alice,Alice,"a")
+active 1 Note.Note(Alice,Alice,"a")
+end
+'''
+NONE_OF_THREE = '''entries 0
+result 0 P1 n0 refused LogFull 0 3
+result 0 P1 n1 refused LogFull 0 3
+result 0 P1 n2 refused LogFull 0 3
+participant P1 clean 0 time 0
+end
+'''
+
+# a raw request, which nothing hands in yet
+RAW = '{"raw":[{"participant":"P1","command":"z","confirming":[],"mediator":"","envelopes":[]}]}'
+NOT_BUILT = 'canton_cli: script NotBuilt'
 
 # the same debt, which Alice transfers to Carol twice in the second round
 TWO_SPENDS = json.dumps(
@@ -306,6 +435,17 @@ RUNS = [
     ('log-of-four-places', 'run,--log,4', FULL, 0, 0, 0, None, IS_FULL),
     ('log-of-two-places', 'run,--log,2', HI, 0, 0, 0, None,
      'entries 0\nresult 0 P1 c1 refused LogFull 0 3\nparticipant P1 clean 0 time 0\nend\n'),
+    ('log-of-six-places', 'run,--log,6', THREE_NOTES, 0, 0, 0, None, TWO_OF_THREE),
+    ('log-of-no-room', 'run,--log,2', THREE_NOTES, 0, 0, 0, None, NONE_OF_THREE),
+    ('observing-host', 'run', WATCHED, 0, 0, 0, None, SEEN_BY_FOUR),
+    ('observing-host-of-the-new-owner', 'run', INNER, 0, 0, 0, None, SEEN_INSIDE),
+    ('requesters-only-observed', 'run', SUBMITTED_FOR, 0, 0, 0, None, HAS_SUBMITTED),
+    ('locked-where-observed', 'run', POKED, 0, 0, 0, None, IS_POKED),
+    ('no-raw-request', 'run', NOTE % '{"raw":[]}', 0, 0, 0, None, NOTHING),
+    ('raw-request', 'run', NOTE % RAW, 0, 0, 3, NOT_BUILT, ''),
+    ('raw-request-in-the-last-round', 'run,--workers,2', NOTE % ('{"advance":1},{"raw":[]},' + RAW), 0, 0, 3, NOT_BUILT, ''),
+    ('raw-request-before-a-fault', 'run', NOTE % (RAW + ',{"advance":-1}'), 0, 0, 3, 'canton_cli: script Limit /rounds/1/advance', ''),
+    ('raw-request-to-a-sink-that-fails', 'run', NOTE % RAW, 0, 1, 3, NOT_BUILT, ''),
     ('one-debt', 'gen,1,7', '', 0, 0, 0, None, ONE_DEBT),
     # nothing is taken from the source
     ('one-debt-from-no-source', 'gen,--workers,1,1,7', HI, 1, 0, 0, None, ONE_DEBT),
@@ -317,6 +457,10 @@ RUNS = [
     ('first-put-fails', 'run', HI, 0, 1, 5, 'canton_cli: write fault', ''),
     ('second-put-fails', 'run', HI, 0, 2, 5, 'canton_cli: write fault', report('hi')[:MOST_PIECE]),
     ('fourth-put-fails', 'run', HI, 0, 4, 5, 'canton_cli: write fault', report('hi')[:3 * MOST_PIECE]),
+    ('first-put-of-three-fails', 'run', EMPTY, 0, 1, 5, 'canton_cli: write fault', ''),
+    ('second-put-of-three-fails', 'run', EMPTY, 0, 2, 5, 'canton_cli: write fault', NOTHING[:16]),
+    ('last-put-of-three-fails', 'run', EMPTY, 0, 3, 5, 'canton_cli: write fault', NOTHING[:32]),
+    ('put-after-the-last-would-fail', 'run', EMPTY, 0, 4, 0, None, NOTHING),
     ('put-of-a-fault', 'run', '{', 0, 1, 3, 'canton_cli: script NotJson', ''),
     ('nothing', 'run', '', 0, 0, 3, 'canton_cli: script NotJson', ''),
     ('served-in-order', 'run', IN_TURN, 0, 0, 0, None, SERVED_IN_ORDER),

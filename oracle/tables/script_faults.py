@@ -87,10 +87,70 @@ PARTICIPANT_LISTS = [
     ('[{"name":"P1","parties":[7,"A"]}]', 'Shape /participants/0/parties/0'),
     ('[{"name":"P1","parties":[]},{"name":"P1","parties":7}]', 'Repeated /participants/1/name'),
     ('[{"name":"P1","parties":[]},{"name":"1","parties":7}]', 'Shape /participants/1/name'),
-    ('[{"name":"P1","parties":[],"observing":[]}]', 'Shape /participants/0'),
     ('[{"name":"P1","parties":[],"vetted":["Note"]}]', None),
     ('[{"name":"P1","parties":[],"vetted":["Note","Iou"]}]', 'Unknown Iou /participants/0/vetted/1'),
     ('[{"name":"P1","parties":[],"vetted":null}]', 'Shape /participants/0/vetted'),
+    ('[{"name":"P1","parties":[],"observing":[],"vetted":7}]', 'Shape /participants/0/vetted'),
+]
+
+# the participants of a script without rounds, some of whom observe; parties that nobody confirms for and repetitions come once all
+# participants were read
+OBSERVING = [
+    ('[{"name":"P1","parties":[],"observing":[]}]', None),
+    ('[{"name":"P1","parties":[],"observing":["B"]},{"name":"P2","parties":["B"],"observing":[]}]', None),
+    ('[{"name":"P1","parties":["A"],"observing":["B"]},{"name":"P2","parties":["B"],"observing":["A"]},{"name":"P3","parties":[],"observing":["B","A"]}]',
+     None),
+    ('[{"name":"P1","parties":[],"observing":null}]', 'Shape /participants/0/observing'),
+    ('[{"name":"P1","parties":["A"],"observing":{"party":"A"}}]', 'Shape /participants/0/observing'),
+    ('[{"name":"P1","parties":["A"],"observing":["A",7]}]', 'Shape /participants/0/observing/1'),
+    ('[{"name":"P1","parties":["A"],"observing":["1"]}]', 'Shape /participants/0/observing/0'),
+    ('[{"name":"P1","parties":7,"observing":7}]', 'Shape /participants/0/parties'),
+    ('[{"name":"P1","parties":[],"observed":[]}]', 'Shape /participants/0'),
+    ('[{"name":"P1","parties":[],"observing":["Zed"]},7]', 'Shape /participants/1'),
+    ('[{"name":"P1","parties":["A"],"observing":["Zed"]},{"name":"P2","parties":["A"]}]', 'Repeated /participants/1/parties/0'),
+    ('[{"name":"P1","parties":["A"],"observing":["B","Zed"]},{"name":"P2","parties":["B"]}]', 'Unknown Zed /participants/0/observing/1'),
+    ('[{"name":"P1","parties":["A"]},{"name":"P2","parties":[],"observing":["P1"]}]', 'Unknown P1 /participants/1/observing/0'),
+    ('[{"name":"P1","parties":["A"],"observing":["A"]}]', 'Repeated /participants/0/observing/0'),
+    ('[{"name":"P1","parties":["B"],"observing":[]},{"name":"P2","parties":["A"],"observing":["B","B"]}]', 'Repeated /participants/1/observing/1'),
+    ('[{"name":"P1","parties":[],"observing":["Zed","Zed"]}]', 'Unknown Zed /participants/0/observing/0'),
+    ('[{"name":"P1","parties":[],"observing":["B","B","Zed"]},{"name":"P2","parties":["B"]}]', 'Repeated /participants/0/observing/1'),
+    ('[{"name":"P1","parties":["A"],"observing":["B","A"]},{"name":"P2","parties":["B"],"observing":["Zed"]}]', 'Repeated /participants/0/observing/1'),
+    ('[{"name":"P1","parties":[],"observing":["Zed"],"vetted":7}]', 'Unknown Zed /participants/0/observing/0'),
+]
+
+# the raw requests of a round, with places below their list
+RAW = '{"participant":"P1","command":"z","confirming":[],"mediator":"","envelopes":[]}'
+RAWS = [
+    ('null', 'Shape '),
+    ('{}', 'Shape '),
+    ('[7]', 'Shape /0'),
+    (many('7', 64), 'Shape /0'),
+    (many('7', 65), 'Limit 21 65 '),
+    (many(RAW, 2)[:-1] + ',{}]', 'Shape /2'),
+]
+ONE_RAW = [
+    ('"participant":"P1","command":"z","confirming":[],"mediator":""', 'Shape '),
+    ('"participant":"P1","command":"z","confirming":[],"mediator":"","envelopes":[],"root":""', 'Shape '),
+    ('"participant":7,"command":"1","confirming":7,"mediator":7,"envelopes":7', 'Shape /participant'),
+    ('"participant":"P3","command":"1","confirming":7,"mediator":7,"envelopes":7', 'Unknown P3 /participant'),
+    ('"participant":"P1","command":"1","confirming":7,"mediator":7,"envelopes":7', 'Shape /command'),
+    ('"participant":"P1","command":"z","confirming":"P1","mediator":7,"envelopes":7', 'Shape /confirming'),
+    ('"participant":"P1","command":"z","confirming":["P1",""],"mediator":7,"envelopes":7', 'Shape /confirming/1'),
+    ('"participant":"P1","command":"z","confirming":["P1","Alice"],"mediator":7,"envelopes":7', 'Unknown Alice /confirming/1'),
+    ('"participant":"P1","command":"z","confirming":["P2","P1","P2"],"mediator":7,"envelopes":7', 'Shape /mediator'),
+    ('"participant":"P1","command":"z","confirming":[],"mediator":"0","envelopes":7', 'Shape /mediator'),
+    ('"participant":"P1","command":"z","confirming":[],"mediator":"0g","envelopes":7', 'Shape /mediator'),
+    ('"participant":"P1","command":"z","confirming":[],"mediator":"0x00","envelopes":7', 'Shape /mediator'),
+    ('"participant":"P1","command":"z","confirming":[],"mediator":"aB0f","envelopes":7', 'Shape /envelopes'),
+    ('"participant":"P1","command":"z","confirming":[],"mediator":"","envelopes":[["P1",""],7]', 'Shape /envelopes/1'),
+    ('"participant":"P1","command":"z","confirming":[],"mediator":"","envelopes":[["P1"]]', 'Shape /envelopes/0'),
+    ('"participant":"P1","command":"z","confirming":[],"mediator":"","envelopes":[["P1","00",""]]', 'Shape /envelopes/0'),
+    ('"participant":"P1","command":"z","confirming":[],"mediator":"","envelopes":[["P3",7]]', 'Unknown P3 /envelopes/0/0'),
+    ('"participant":"P1","command":"z","confirming":[],"mediator":"","envelopes":[["P1",7]]', 'Shape /envelopes/0/1'),
+    ('"participant":"P1","command":"z","confirming":[],"mediator":"","envelopes":[["P1","00"],["P1","0"]]', 'Shape /envelopes/1/1'),
+    # the mediator's bytes are as many as may be, and an envelope's are one more
+    ('"participant":"P1","command":"z","confirming":[],"mediator":"%s","envelopes":[["P1","%s"]]' % ('00' * 65_536, '00' * 65_537),
+     'Limit 22 65537 /envelopes/0/1'),
 ]
 
 # a submission, with places below it
@@ -216,6 +276,8 @@ def counts():
         yield ('{"participants":[{"name":"P1","parties":["Alice"]},{"name":"P2","parties":%s}],"rounds":[]}' % names(count), fault)
     for count, fault in [(8, 'Shape /packages/0'), (9, 'Limit 3 9 /packages')]:
         yield script('"rounds":[],"packages":' + many('7', count)), fault
+    # who observes parties doesn't count them
+    yield '{"participants":[{"name":"P1","parties":%s},{"name":"P2","parties":[],"observing":%s}],"rounds":[]}' % (names(128), names(128)), None
     template = '{"name":"T","fields":[],"signatories":["set"]}'
     yield (script('"rounds":[],"packages":[{"name":"K","templates":[%s]},{"name":"L","templates":%s}]' % (template, many('7', 64))),
            'Limit 4 65 /packages/1/templates')
@@ -252,8 +314,15 @@ def cases():
         yield script(text), fault
     for text, fault in PARTICIPANT_LISTS:
         yield '{"participants":%s,"rounds":[]}' % text, fault
+    for text, fault in OBSERVING:
+        yield '{"participants":%s,"response_timeout":0,"rounds":[]}' % text, fault or 'Limit 16 0 /response_timeout'
+        yield '{"participants":%s,"rounds":[]}' % text, fault
     yield from vetted()
     yield from counts()
+    yield script('"rounds":[{"raw":[7],"submits":[7]}]'), 'Shape /rounds/0/submits/0'
+    yield script('"rounds":[{"raw":[],"submits":[]},{"raw":[7],"submits":[]},{"advance":-1}]'), 'Shape /rounds/1/raw/0'
+    yield from below('/rounds/0/raw', RAWS, lambda text: script('"rounds":[{"raw":%s}]' % text))
+    yield from below('/rounds/0/raw/0', ONE_RAW, lambda text: script('"rounds":[{"raw":[{%s}]}]' % text))
     yield from below('/rounds/0/submits/0', SUBMISSIONS, submitting)
     yield from below(COMMANDS, COMMAND, lambda text: asking('"commands":[%s]' % text))
     yield from below(FIELD, VALUES, creating)

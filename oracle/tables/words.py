@@ -70,7 +70,7 @@ GENERATED = [
     (10, 7, []),
     (11, 7, []),
     (100, 7, ['G1 t99 as A1 now exercise Iou.Iou #G4:c99:0 Transfer(A2)']),
-    (1024, 7, ['round advance 0 paused 0 verdicts given submits 1024']),
+    (1024, 7, ['round advance 0 paused 0 verdicts given submits 1024 raws 0']),
     (0, MOST_SEED, []),
     # the number after the greatest is 1442695040888963407 - 6364136223846793005 modulo 2^64
     (1, MOST_SEED, ['G1 c0 as A1 now create Iou.Iou(A1,A2,%d)' % (1 + 13525302890751722018 % 1000)]),

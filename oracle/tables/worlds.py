@@ -5,6 +5,7 @@ from tables.transactions import IOU, asked, create, does, exercise, fetch, iou, 
 
 ONE = [{"name": "P1", "parties": ["Alice"]}]
 THREE = [{"name": "P1", "parties": ["Bank"]}, {"name": "P2", "parties": ["Alice", "Bob"]}, {"name": "P3", "parties": ["Carol"]}]
+FOUR = THREE + [{"name": "P4", "parties": [], "observing": ["Alice"]}]
 
 
 def script(participants, *submissions):
@@ -53,6 +54,12 @@ TRANSIENT = script(
     THREE, asked("P2", "n1", ["Alice"], note("Alice", "Carol", "a")),
     asked("P2", "n2", ["Alice"], exercise("Note.Note", "#P2:n1:0", "Flash")))
 
+# P4 observes Alice: it gets what she gets, answers nothing, and doesn't submit for her
+OBSERVED = script(FOUR, C1, asked("P4", "o1", ["Alice"], note("Alice", "Alice", "hi")), asked("P2", "t1", ["Alice"], transfer(of='c1')))
+OBSERVED_SENT = words(
+    'submit', 'submit', answers('P4'), answers('P1'), decides(2), *['read:P2'] * 3, *['read:P4'] * 3, 'submit', answers('P1', 3), answers('P4', 1),
+    answers('P2', 1), decides(4))
+
 MOVED = ['commit 0', '  create Iou.Iou(Bank,Alice,10)', 'commit 3',
          '  consume Iou.Iou(Bank,Alice,10) Transfer(Carol) by Alice = ()', '    create Iou.Iou(Bank,Carol,10)']
 
@@ -76,6 +83,12 @@ CASES = [
         'active 3 Iou.Iou(Bank,Carol,10)', 'participant P2 clean 7 time 7'] + MOVED + [
         'participant P3 clean 7 time 7', 'commit 3', '  create Iou.Iou(Bank,Carol,10)', 'active 3 Iou.Iou(Bank,Carol,10)', 'end',
         'consistent P1', 'consistent P2', 'consistent P3']),
+    ('observing-host', OBSERVED, OBSERVED_SENT, ['entries 7', '0 1 request P1 c1 to P1 P2 P4'] + OWED_LOG[1:] + [
+        '3 4 request P2 t1 to P1 P2 P3 P4', '4 5 response P1 for 3 0=approve 0.0=approve', '5 6 response P2 for 3 0=approve',
+        '6 7 verdict for 3 approved', 'outcome 0 approved', 'outcome 3 approved', 'participant P1 clean 7 time 7'] + MOVED + [
+        'active 3 Iou.Iou(Bank,Carol,10)', 'participant P2 clean 7 time 7'] + MOVED + [
+        'participant P3 clean 7 time 7', 'commit 3', '  create Iou.Iou(Bank,Carol,10)', 'active 3 Iou.Iou(Bank,Carol,10)',
+        'participant P4 clean 7 time 7'] + MOVED + ['end', 'consistent P1', 'consistent P2', 'consistent P3', 'consistent P4']),
     ('wrong-child', WRONG_CHILD, BOTH_ANSWER, [None] + OWED_LOG + [
         '3 4 request P2 w1 to P1 P2 P3', '4 5 response P1 for 3 0=NotConformant 0.0=approve', '5 6 response P2 for 3 0=NotConformant',
         '6 7 verdict for 3 rejected P1 0 NotConformant']),

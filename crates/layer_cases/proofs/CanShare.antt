@@ -42,7 +42,8 @@ pub left_can : (topology : Topology) (packages : Packages) (m : Machine) (world 
 left_can topology packages m world nodes w now = record { nodes = nodes; state = w.0; is = w.1; lawful = w.2; now = now }
 
 -- time stays in its range through a sharing in whose round nothing is moved on
-pub in_time : (of asked left : Sharing) (entry now : ℕ) → of ≡ record { out = 0; counted = 0; round = record { time = entry; paused = []; hold_verdicts = false } }
+pub in_time : (of asked left : Sharing) (entry now : ℕ) (known : List Entry)
+    → of ≡ record { out = 0; counted = 0; round = record { time = entry; paused = []; hold_verdicts = false }; known = known }
     → asked.round ≡ of.round → left.round ≡ asked.round → now ≡ left.round.time → entry ≤ 10 ^ 16 → now ≤ 10 ^ 16
-in_time of asked left entry now is ask leave at bound =
+in_time of asked left entry now known is ask leave at bound =
     subst (λ (n : ℕ). n ≤ 10 ^ 16) (sym (at ∙ ap (λ (r : RoundRules). r.time) (leave ∙ (ask ∙ ap (λ (s : Sharing). s.round) is)))) bound

@@ -13,4 +13,5 @@ mod stores;
 mod trackers;
 
 pub(crate) use case::Cases;
+pub(crate) use facts::paths_of;
 pub(crate) use polls::put_poll;

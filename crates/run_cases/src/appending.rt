@@ -1,64 +1,64 @@
-//! `append NAME CAPACITY COUNTS`: requests are appended to a new log whose requests may need so many entries in all. COUNTS is for each
-//! how many participants are asked to confirm it, with commas between them.
-use canton_model::{EnvelopeList, Message, Request, SharedBytes};
-use ledger_terms::{Bytes, Name, Params, ParticipantId, ParticipantIdList};
+//! `append NAME CAPACITY SCRIPT`: the raw requests of a script's rounds are appended to a new log whose requests may need so many entries in
+//! all.
+ghost use Rattle.std.specs.Prelude.{◌≤◌, length};
+
+use canton_model::Message;
+use fixtures::request_of;
+use ledger_terms::RawRequest;
 use log_row::LogRow;
+use script_read::{Script, ScriptFault, read_script};
 use seq_log::{AppendFault, Sequencer};
 use std::alloc::{AllocError, Global};
 
-const TIMES: Params = Params {
-    response_timeout: 30_000_000,
-    reaction_timeout: 30_000_000,
-    skew: 60_000_000,
-};
-
-// A request that so many participants are asked to confirm. It needs two entries more than they are.
-fn request(alloc: Global, command: Name, confirming: u8) -> Result<Message, AllocError> {
-    let mut asked = ParticipantIdList::new(alloc);
-    for at in 0..confirming {
-        asked.push(ParticipantId(at))?;
-    }
-    Ok(Message::Request(Request {
-        sender: ParticipantId(0),
-        command,
-        confirming: asked,
-        mediator: SharedBytes::new(alloc, Bytes::new(alloc))?,
-        envelopes: EnvelopeList::new(alloc),
-    }))
-}
-
 // Appends a request, and puts at the end what the log says to it.
 fn put_appended(
+    alloc: Global,
     log: &mut Sequencer<'_>,
-    message: Message,
+    raw: &RawRequest,
     out: &mut String,
 ) -> Result<(), AllocError> {
+    let message = Message::Request(request_of(alloc, raw)?);
     match log.append(message, 0) {
         Ok(_) => out.push_str("appended\n"),
         Err(refusal) => match refusal.fault {
+            AppendFault::Already { place } => write!(out, "Already {place}\n"),
+            AppendFault::Unframed => out.push_str("Unframed\n"),
             AppendFault::LogFull { reserved, need } => write!(out, "LogFull {reserved} {need}\n"),
-            _ => out.push_str("refused\n"),
+            AppendFault::TooLate { .. } => out.push_str("TooLate\n"),
+            AppendFault::Memory => Err(AllocError),
         },
     }
+}
+
+fn put_log(
+    alloc: Global,
+    script: &Script,
+    capacity: u64,
+    out: &mut String,
+) -> Result<(), AllocError>
+    requires { length script.now.topology.hosts ≤ 256 }
+{
+    let mut row = LogRow::new(alloc)?;
+    let mut log = Sequencer::new(alloc, &mut row, capacity, &script.topology)?;
+    for round in script.rounds.as_slice() {
+        for raw in round.raws.as_slice() {
+            put_appended(alloc, &mut log, raw, out)?;
+        }
+    }
+    let count = log.len();
+    write!(out, "{count} entries\n")
 }
 
 pub(crate) fn append_answer(alloc: Global, spelled: &str) -> Result<Option<String>, AllocError> {
     let Some((name, given)) = spelled.split_once(' ') else {
         return Ok(None);
     };
-    let (capacity, counts) = given.split_once(' ').unwrap_or(("0", ""));
-    let mut row = LogRow::new(alloc)?;
-    let capacity = capacity.parse().unwrap_or(0);
-    let mut log = Sequencer::new(alloc, &mut row, capacity, TIMES)?;
+    let (capacity, text) = given.split_once(' ').unwrap_or(("0", ""));
     let mut out = format!(in alloc; "append {name}\n")?;
-    for (at, count) in counts.split(',').enumerate() {
-        let command = format!(in alloc; "c{at}")?;
-        if let Some(command) = Name::read(command.as_str()) {
-            let message = request(alloc, command, count.parse().unwrap_or(0))?;
-            put_appended(&mut log, message, &mut out)?;
-        }
+    match read_script(alloc, text.as_bytes()) {
+        Ok(script) => put_log(alloc, &script, capacity.parse().unwrap_or(0), &mut out)?,
+        Err(ScriptFault::Memory) => return Err(AllocError),
+        Err(_) => out.push_str("no script\n")?,
     }
-    let count = log.len();
-    write!(out, "{count} entries\n")?;
     Ok(Some(out))
 }

@@ -8,6 +8,7 @@
 //!   `patterns.rt` spells them.
 //! - `gate NAME LOOKS WORDS SOURCE`: the answer has what a gate noted that holds who comes first for so many looks.
 //! - `native NAME TEXT WORDS SOURCE`: the answer says in the end whether a native of Flash's `own` or of `another` text was asked.
+//! - `cut NAME SOURCE`: the answer has of how many beginnings of the source it is said that they aren't JSON.
 //!
 //! Calls of what is below: `append`, `mem-source`, `sure-source`, `reader`, `mem-sink`, `sure-sink` and `writer`, as `appending.rt`,
 //! `reading.rt` and `writing.rt` spell them.
@@ -16,6 +17,7 @@
 mod appending;
 mod case;
 mod counting_native;
+mod cutting;
 mod failing_case;
 mod halting_reader;
 mod halting_writer;
@@ -30,6 +32,7 @@ mod told;
 mod writing;
 
 use appending::append_answer;
+use cutting::cut_answer;
 use reading::{mem_source_answer, reader_answer, sure_source_answer};
 use runs::{count_answer, gate_answer, native_answer, run_answer, sure_answer};
 use std::alloc::{AllocError, AllocGlobal, Global};
@@ -52,6 +55,7 @@ fn answer<R: Threads + Wait + Sync + RandomSource + AllocGlobal>(
         "count" => count_answer(rt, alloc, spelled),
         "gate" => gate_answer(rt, alloc, spelled),
         "native" => native_answer(rt, alloc, spelled),
+        "cut" => cut_answer(rt, alloc, spelled),
         "append" => append_answer(alloc, spelled),
         "mem-source" => mem_source_answer(alloc, spelled),
         "sure-source" => sure_source_answer(alloc, spelled),

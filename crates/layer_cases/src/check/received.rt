@@ -6,7 +6,7 @@ use canton_model::Request;
 use confirm_reply::{IdFactsList, SharedTree};
 use fixtures::know_created;
 use ledger_terms::{KnownList, ParticipantId, Submission};
-use proto_model::opened_for;
+use proto_model::opened_to;
 use script_read::Script;
 use std::alloc::{AllocError, Global};
 use view_split::split;
@@ -87,7 +87,7 @@ fn read_last(
     let Some(request) = requests.last() else {
         return Ok(None);
     };
-    match opened_for(alloc, request, me)? {
+    match opened_to(alloc, request, me)? {
         Some(tree) => Ok(Some(SharedTree::new(alloc, tree)?)),
         None => Ok(None),
     }

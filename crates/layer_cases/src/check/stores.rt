@@ -116,7 +116,6 @@ pub(crate) fn change_one(
 fn make_ready(alloc: Global, store: &mut Store, known: &Known) -> Result<(), AllocError>
     ensures spare { OnOk result (0 < store.new.spare) }
     ensures id { OnOk result (is_ready store.new.ready known.now.id ≡ true) }
-    ensures salt { OnOk result (is_ready store.new.ready known.now.salt ≡ true) }
 {
     let mut knowns = KnownList::new(alloc);
     knowns.push(known.copied()?)?;

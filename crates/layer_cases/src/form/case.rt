@@ -1,6 +1,7 @@
 //! Cases.
 use crate::answer::Answer;
 use crate::form::actions::put_action;
+use crate::form::openings::put_opening;
 use crate::form::trees::put_tree;
 use crate::words::Words;
 use std::alloc::Global;
@@ -10,6 +11,9 @@ use wire_form::WireFault;
 pub(crate) fn put_answer(alloc: Global, line: &str, out: &mut Answer) {
     let mut words = Words::of(line);
     let word = words.next();
+    if word == "opened-for" {
+        return put_opening(alloc, words, out);
+    }
     match hex::decode(alloc, words.rest()) {
         Ok(bytes) => put_read(alloc, word, bytes.as_slice(), out),
         Err(_) => out.line(&[line]),

@@ -21,6 +21,8 @@ fn put_participant(host: &Host, out: &mut Answer) {
     out.put(host.name.as_str());
     out.put(" hosts ");
     out.names(host.parties.as_slice());
+    out.put(" observes ");
+    out.number(host.observing.len() as u64);
     out.put(" vets ");
     out.names(host.vetted.as_slice());
     out.put("\n");

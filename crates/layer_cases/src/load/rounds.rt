@@ -23,6 +23,8 @@ pub(crate) fn put_round(topology: &Topology, round: &Round, out: &mut Answer) {
     });
     out.put(" submits ");
     out.number(round.submits.len() as u64);
+    out.put(" raws ");
+    out.number(round.raws.len() as u64);
     out.put("\n");
     for submission in shown(round.submits.as_slice()) {
         put_submission(topology, submission, out);

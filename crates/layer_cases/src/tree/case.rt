@@ -1,5 +1,8 @@
 //! Cases.
+ghost use Rattle.std.specs.Prelude.{◌≤◌, length};
+
 use crate::answer::Answer;
+use crate::tree::raws::put_raw;
 use crate::tree::script::script_in;
 use crate::tree::submissions::put_submission;
 use crate::words::Words;
@@ -22,8 +25,11 @@ pub(crate) fn put_answer(alloc: Global, line: &str, out: &mut Answer) {
     }
 }
 
-/// Puts the submissions of a script at the end, each over what those before it created, and whether they are one ledger.
-fn put_script(alloc: Global, script: &Script, out: &mut Answer) {
+/// Puts the submissions of a script at the end, each over what those before it created, its raw requests, and whether the submissions are
+/// one ledger.
+fn put_script(alloc: Global, script: &Script, out: &mut Answer)
+    requires { length script.now.topology.hosts ≤ 256 }
+{
     let mut known = KnownList::new(alloc);
     let mut ledger = CommitList::new(alloc);
     for round in script.rounds.as_slice() {
@@ -32,6 +38,9 @@ fn put_script(alloc: Global, script: &Script, out: &mut Answer) {
                 out.keep(know_created(&roots, &mut known));
                 put_commit(&mut ledger, roots, out);
             }
+        }
+        for raw in round.raws.as_slice() {
+            put_raw(alloc, &script.topology, raw, out);
         }
     }
     put_ledger(alloc, &ledger, out)

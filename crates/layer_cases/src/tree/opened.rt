@@ -5,7 +5,7 @@ use crate::answer::Answer;
 use crate::tree::given::Sent;
 use blind_tree::{OpenedTree, PlacedView, Tree, opened};
 use ledger_terms::ParticipantId;
-use proto_model::{envelope_of, opened_for};
+use proto_model::{envelope_of, opened_to};
 use std::alloc::Global;
 use wire_form::WireFault;
 
@@ -33,14 +33,15 @@ pub(crate) fn put_opened(
 }
 
 fn put_sent(alloc: Global, sent: Sent<'_>, me: ParticipantId, out: &mut Answer) {
-    match opened_for(alloc, sent.request, me) {
+    match opened_to(alloc, sent.request, me) {
         Ok(Some(opened)) => put_tree(&opened, out),
         Ok(None) => out.line(&[" nothing"]),
         Err(_) => out.lack(),
     }
 }
 
-fn put_tree(opened: &OpenedTree, out: &mut Answer) {
+/// Puts what is opened at the end of a line and below it.
+pub(crate) fn put_tree(opened: &OpenedTree, out: &mut Answer) {
     out.put(" ");
     out.put(opened.sender.as_str());
     out.put(" ");

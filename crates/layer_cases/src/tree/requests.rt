@@ -66,7 +66,11 @@ fn put_sealed(
 }
 
 /// Puts who is asked to confirm at the end.
-fn put_confirming(topology: &Topology, participants: &[ParticipantId], out: &mut Answer) {
+pub(crate) fn put_confirming(
+    topology: &Topology,
+    participants: &[ParticipantId],
+    out: &mut Answer,
+) {
     out.put("confirming");
     for at in participants {
         out.put(" ");

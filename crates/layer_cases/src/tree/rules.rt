@@ -1,4 +1,9 @@
 //! What the rules of the ledger say of a transaction.
+ghost use Rattle.std.specs.Prelude.{◌≡◌, true, All};
+ghost use Rattle.ledger_terms.specs.Forest.{preorder};
+ghost use Rattle.ledger_terms.specs.declared.act.Act.{Act};
+ghost use Rattle.lang_eval.specs.Language.{has_roles};
+
 use crate::answer::Answer;
 use crate::tree::roles_given::{all_have_roles, children_have_roles, has_roles};
 use authorise::{authorised, children_authorised};
@@ -109,9 +114,22 @@ fn put_projections(
     }
     for host in hosts {
         out.line(&["projection", host.name.as_str()]);
-        match project(alloc, checked, roots, &host.parties) {
+        match projected(alloc, checked, roots, host) {
             Ok(part) => out.trees(&part),
             Err(_) => out.lack(),
         }
     }
+}
+
+/// The projection to all parties that a participant hosts.
+fn projected(
+    alloc: Global,
+    checked: &Checked,
+    roots: &ActionNodeList,
+    host: &Host,
+) -> Result<ActionNodeList, AllocError>
+    requires { All (λ (a : Act). has_roles checked.now a.action ≡ true) (preorder roots.now) }
+{
+    let hosted = host.parties.union(&host.observing)?;
+    project(alloc, checked, roots, &hosted)
 }

@@ -2,7 +2,7 @@
 use crate::answer::Answer;
 use crate::tree::given::Sent;
 use blind_tree::ViewRoles;
-use ledger_terms::{PartySet, Topology};
+use ledger_terms::{ParticipantId, PartySet, Topology};
 use proto_model::requested_views;
 use std::alloc::Global;
 
@@ -25,20 +25,34 @@ pub(crate) fn put_told(alloc: Global, sent: Sent<'_>, out: &mut Answer) {
 fn put_view(topology: &Topology, view: &ViewRoles, out: &mut Answer) {
     out.put("view ");
     out.path(&view.path);
-    put_parties(topology, &view.informees, out);
+    put_parties(topology, &view.informees, Tie::Hosts, out);
     out.put("confirmed ");
     out.path(&view.path);
-    put_parties(topology, &view.confirmers, out);
+    put_parties(topology, &view.confirmers, Tie::Confirms, out);
 }
 
-/// Puts parties at the end of a line, and the participants that host one of them.
-fn put_parties(topology: &Topology, parties: &PartySet, out: &mut Answer) {
+/// What ties a participant to parties.
+#[derive(Clone, Copy)]
+enum Tie {
+    Hosts,
+    Confirms,
+}
+
+fn is_tied(topology: &Topology, at: ParticipantId, parties: &PartySet, tie: Tie) -> bool {
+    match tie {
+        Tie::Hosts => topology.hosts_any(at, parties),
+        Tie::Confirms => topology.confirms_any(at, parties),
+    }
+}
+
+/// Puts parties at the end of a line, and the participants that are tied to one of them.
+fn put_parties(topology: &Topology, parties: &PartySet, tie: Tie, out: &mut Answer) {
     out.put(" ");
     out.names(parties.as_slice());
     out.put(" on ");
     let mut gap = "";
-    for host in topology.hosts.as_slice() {
-        if host.parties.meets(parties) {
+    for (at, host) in (0..=255u8).zip(topology.hosts.as_slice()) {
+        if is_tied(topology, ParticipantId(at), parties, tie) {
             out.put(gap);
             out.put(host.name.as_str());
             gap = ",";

@@ -9,5 +9,5 @@ returns-clause-world g c =
     let in_range = subst (λ (w : World). w.now ≤ 10 ^ 16) (sym c.into_inner.ensures) c.requires.world.now in
     subst (CanBeShared _ _ _) (sym c.in_ok-next.ensures.world) (
     left_can _ _ _ _ c.into_parts-world.ensures.nodes c.into_parts-world.ensures.world
-    (in_time c.of-shared.result c.ask_by.new.shared c.submit_and_ask-left.new.shared _ _ c.of-shared.ensures c.ask_by.ensures.round
+    (in_time c.of-shared.result c.ask_by.new.shared c.submit_and_ask-left.new.shared _ _ _ c.of-shared.ensures c.ask_by.ensures.round
     c.submit_and_ask-left.ensures.round c.into_parts-world.ensures.now in_range))

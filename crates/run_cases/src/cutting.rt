@@ -1,0 +1,49 @@
+//! `cut NAME SOURCE`: each beginning of the source that isn't all of it is run, and those are counted that aren't JSON.
+use crate::inputs::words_of;
+use crate::natives::run_words;
+use canton_run::line;
+use cli_words::WordList;
+use cn_io::{SureSink, SureSource};
+use ledger_terms::Bytes;
+use std::alloc::{AllocError, AllocGlobal, Global};
+use std::random::RandomSource;
+use std::sync::Wait;
+use std::thread::Threads;
+
+const NOT_JSON: &str = "canton_cli: script NotJson";
+
+fn is_not_json<R: Threads + Wait + Sync + RandomSource + AllocGlobal>(
+    rt: &R,
+    alloc: Global,
+    words: &WordList,
+    beginning: &[u8],
+) -> Result<bool, AllocError> {
+    let mut bytes = Bytes::new(alloc);
+    bytes.extend(beginning)?;
+    let mut source = SureSource::new(bytes);
+    let mut sink = SureSink::new(alloc);
+    let finish = run_words(rt, alloc, words, &mut source, &mut sink)?;
+    let line = line(alloc, &finish)?;
+    Ok(finish.status == 3 && line.as_str() == NOT_JSON && sink.written().is_empty())
+}
+
+pub(crate) fn cut_answer<R: Threads + Wait + Sync + RandomSource + AllocGlobal>(
+    rt: &R,
+    alloc: Global,
+    spelled: &str,
+) -> Result<Option<String>, AllocError> {
+    let Some((name, source)) = spelled.split_once(' ') else {
+        return Ok(None);
+    };
+    let words = words_of(alloc, "run")?;
+    let bytes = source.as_bytes();
+    let all = bytes.len();
+    let mut refused = 0u64;
+    for count in 0..all {
+        if is_not_json(rt, alloc, &words, &bytes[..count])? {
+            refused = refused.saturating_add(1);
+        }
+    }
+    let out = format!(in alloc; "cut {name}\n{refused} of {all} are {NOT_JSON}\n")?;
+    Ok(Some(out))
+}
