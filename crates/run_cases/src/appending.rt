@@ -1,7 +1,5 @@
 //! `append NAME CAPACITY SCRIPT`: the raw requests of a script's rounds are appended to a new log whose requests may need so many entries in
 //! all.
-ghost use Rattle.std.specs.Prelude.{◌≤◌, length};
-
 use canton_model::Message;
 use fixtures::request_of;
 use ledger_terms::RawRequest;
@@ -9,6 +7,9 @@ use log_row::LogRow;
 use script_read::{Script, ScriptFault, read_script};
 use seq_log::{AppendFault, Sequencer};
 use std::alloc::{AllocError, Global};
+
+/// How many participants have an index.
+const MOST_INDICES: usize = 256;
 
 // Appends a request, and puts at the end what the log says to it.
 fn put_appended(
@@ -35,9 +36,10 @@ fn put_log(
     script: &Script,
     capacity: u64,
     out: &mut String,
-) -> Result<(), AllocError>
-    requires { length script.now.topology.hosts ≤ 256 }
-{
+) -> Result<(), AllocError> {
+    if script.topology.hosts.len() > MOST_INDICES {
+        return out.push_str("too many participants\n");
+    }
     let mut row = LogRow::new(alloc)?;
     let mut log = Sequencer::new(alloc, &mut row, capacity, &script.topology)?;
     for round in script.rounds.as_slice() {
@@ -49,6 +51,14 @@ fn put_log(
     write!(out, "{count} entries\n")
 }
 
+// A script that isn't read has no requests.
+fn put_fault(fault: &ScriptFault, out: &mut String) -> Result<(), AllocError> {
+    match fault {
+        ScriptFault::Memory => Err(AllocError),
+        _ => out.push_str("no script\n"),
+    }
+}
+
 pub(crate) fn append_answer(alloc: Global, spelled: &str) -> Result<Option<String>, AllocError> {
     let Some((name, given)) = spelled.split_once(' ') else {
         return Ok(None);
@@ -57,8 +67,7 @@ pub(crate) fn append_answer(alloc: Global, spelled: &str) -> Result<Option<Strin
     let mut out = format!(in alloc; "append {name}\n")?;
     match read_script(alloc, text.as_bytes()) {
         Ok(script) => put_log(alloc, &script, capacity.parse().unwrap_or(0), &mut out)?,
-        Err(ScriptFault::Memory) => return Err(AllocError),
-        Err(_) => out.push_str("no script\n")?,
+        Err(fault) => put_fault(&fault, &mut out)?,
     }
     Ok(Some(out))
 }

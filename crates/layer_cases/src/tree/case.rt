@@ -1,6 +1,4 @@
 //! Cases.
-ghost use Rattle.std.specs.Prelude.{◌≤◌, length};
-
 use crate::answer::Answer;
 use crate::tree::raws::put_raw;
 use crate::tree::script::script_in;
@@ -27,9 +25,7 @@ pub(crate) fn put_answer(alloc: Global, line: &str, out: &mut Answer) {
 
 /// Puts the submissions of a script at the end, each over what those before it created, its raw requests, and whether the submissions are
 /// one ledger.
-fn put_script(alloc: Global, script: &Script, out: &mut Answer)
-    requires { length script.now.topology.hosts ≤ 256 }
-{
+fn put_script(alloc: Global, script: &Script, out: &mut Answer) {
     let mut known = KnownList::new(alloc);
     let mut ledger = CommitList::new(alloc);
     for round in script.rounds.as_slice() {

@@ -1,6 +1,4 @@
 //! Raw requests.
-ghost use Rattle.std.specs.Prelude.{◌≤◌, length};
-
 use crate::answer::Answer;
 use crate::tree::requests::put_confirming;
 use fixtures::request_of;
@@ -8,10 +6,11 @@ use ledger_terms::{Bytes, RawRequest, Topology};
 use proto_model::framed;
 use std::alloc::Global;
 
+/// How many participants have an index.
+const MOST_INDICES: usize = 256;
+
 /// Puts a raw request at the end as it is read, and whether it is framed.
-pub(crate) fn put_raw(alloc: Global, topology: &Topology, raw: &RawRequest, out: &mut Answer)
-    requires { length topology.now.hosts ≤ 256 }
-{
+pub(crate) fn put_raw(alloc: Global, topology: &Topology, raw: &RawRequest, out: &mut Answer) {
     out.put("raw ");
     out.host(topology, raw.participant);
     out.line(&["", raw.command.as_str()]);
@@ -23,6 +22,14 @@ pub(crate) fn put_raw(alloc: Global, topology: &Topology, raw: &RawRequest, out:
         out.host(topology, envelope.to);
         out.put(" ");
         put_bytes(&envelope.bytes, out);
+    }
+    put_framed(alloc, topology, raw, out);
+}
+
+/// Puts at the end whether a raw request is framed, where no index is past those of participants.
+fn put_framed(alloc: Global, topology: &Topology, raw: &RawRequest, out: &mut Answer) {
+    if topology.hosts.len() > MOST_INDICES {
+        return out.line(&["too many participants"]);
     }
     match request_of(alloc, raw) {
         Ok(request) => out.truth("framed", framed(alloc, topology, &request)),

@@ -50,12 +50,14 @@ fn put_parties(topology: &Topology, parties: &PartySet, tie: Tie, out: &mut Answ
     out.put(" ");
     out.names(parties.as_slice());
     out.put(" on ");
-    let mut gap = "";
+    let mut is_first = true;
     for (at, host) in (0..=255u8).zip(topology.hosts.as_slice()) {
         if is_tied(topology, ParticipantId(at), parties, tie) {
-            out.put(gap);
+            if !is_first {
+                out.put(",");
+            }
             out.put(host.name.as_str());
-            gap = ",";
+            is_first = false;
         }
     }
     out.put("\n");
