@@ -1,5 +1,5 @@
 -- Ids tell of a store's contracts after each change of a row.
-use Rattle.std.proofs.Common.{◌≡◌, ℕ, Bool, true, false, if◌then◌else◌, List, [], ◌∷◌, Option, Some, None, find, Contains, refl, sym, ap, ◌∙◌, subst, inl, inr, true≢false}
+use Rattle.std.proofs.Common.{◌≡◌, ℕ, Bool, true, false, if◌then◌else◌, List, [], ◌∷◌, Option, Some, None, find, refl, sym, ap, ◌∙◌, subst, inl, inr, true≢false}
 use Rattle.std.specs.Prelude.{◌||◌, ◌⊎◌}
 use Rattle.std.specs.Str.{bytes_eq}
 use Rattle.std.proofs.lemmas.Bool.{cases_Bool}
@@ -10,7 +10,7 @@ use Rattle.ledger_model.specs.Terms.{Hash, ParticipantId}
 use Rattle.ledger_model.proofs.Lists.{In, contains_from_In, in_from_Contains}
 use Rattle.canton_model.specs.Inbox.{is_stakeholder_hosted}
 use Rattle.canton_model.specs.Reading.{Reading}
-use Rattle.contract_store.specs.Active.{active, active_of}
+use Rattle.contract_store.specs.Active.{active_of}
 use Rattle.contract_store.specs.Rows.{consumed, created, is_of, put, row_of, smaller, with_consumed, with_created}
 use Rattle.contract_store.specs.declared.row.StoreRow.{StoreRow}
 use Rattle.contract_store.proofs.Maps.{equal_bytes, same_bytes}

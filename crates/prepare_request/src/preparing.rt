@@ -173,7 +173,7 @@ pub fn prepare<K: KnownContracts>(
     let tx = wanted_tx(setup, natives, me, known, what, now)?;
     let alloc = *tx.roots.allocator();
     let views = views_for(alloc, &setup.checked, &tx)?;
-    // the prover learns from this call that the formats have room
+    // the prover learns from this call what the types keep of the views, and that the formats have room
     let _sealable = is_sealable(&views);
     Ok(seal(alloc, &setup.topology, me, what.command, &views)?)
 }

@@ -1,6 +1,5 @@
-use Rattle.std.proofs.Common.{◌≡◌, Ok, ap, sym}
+use Rattle.std.proofs.Common.{ap, sym}
 use Rattle.canton_model.specs.declared.request.Request.{Request}
-use Rattle.view_split.specs.Faults.{views_of_tx}
 use Rattle.prepare_request.specs.Prepared.{name_at}
 use Rattle.prepare_request.proofs.Machines.{gives}
 use Rattle.prepare_request.proofs.Prepares.{exact, is_split, keeps_limits, sealable, sealed, some_root}
