@@ -28,6 +28,8 @@ use Rattle.ledger_terms.proofs.topology.Topology.TheSendSync as topology
 use Rattle.ledger_terms.proofs.participant_id.ParticipantId.TheSendSync as participant_id
 use Rattle.inbox_standing.proofs.standing.Standing.TheSendSync as standing
 use Rattle.prepare_request.proofs.hosted_ids.HostedIds.TheSendSync as hosted_ids
+use Rattle.node_inbox.proofs.approved_places.ApprovedPlaces.TheSendSync as approved_places
+use Rattle.node_inbox.proofs.kept_active.KeptActive.TheSendSync as kept_active
 use Rattle.node_core.proofs.duties.Duties.TheSendSync as duties
 use Rattle.lang_eval.specs.contracts.checked.Checked as Checked
 use Rattle.confirm_reply.specs.contracts.setup.Setup as Setup
@@ -81,11 +83,11 @@ setup_sync = search (of_terms, topology.the_field_sync, checked_sync) depth 40 f
 
 pub inbox_send : (κ : NamedLft) → IsSend (Inbox.the_row κ)
 inbox_send κ =
-    search (sendable, crosses, setup_sync, participant_id.the_send, kept_item_send, standing.the_send, hosted_ids.the_send) depth 40 fits 10000
+    search (sendable, crosses, setup_sync, participant_id.the_send, kept_item_send, standing.the_send, hosted_ids.the_send, approved_places.the_field_send, kept_active.the_field_send) depth 40 fits 10000
 
 pub inbox_sync : (κ : NamedLft) → IsSync (Inbox.the_row κ)
 inbox_sync κ =
-    search (sendable, crosses, setup_sync, participant_id.the_sync, kept_item_sync, standing.the_sync, hosted_ids.the_sync) depth 40 fits 10000
+    search (sendable, crosses, setup_sync, participant_id.the_sync, kept_item_sync, standing.the_sync, hosted_ids.the_sync, approved_places.the_field_sync, kept_active.the_field_sync) depth 40 fits 10000
 
 pub node_send : (κ : NamedLft) → IsSend (Node.the_row κ)
 node_send κ = search (sendable, crosses, setup_sync, participant_id.the_send, inbox_send, duties.the_send) depth 40 fits 10000

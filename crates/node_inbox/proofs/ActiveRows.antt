@@ -1,5 +1,5 @@
 -- Approved requests are written into rows, and the active contracts of these are listed.
-use Rattle.std.proofs.Common.{◌≡◌, ℕ, zero, suc, ◌+◌, Bool, true, false, List, [], ◌∷◌, ◌++◌, map, filter, take, Option, Some, None, refl, sym, ap, ◌∙◌, add-one}
+use Rattle.std.proofs.Common.{◌≡◌, ℕ, zero, suc, ◌+◌, ◌≤◌, Bool, true, false, List, [], ◌∷◌, ◌++◌, map, filter, take, Option, Some, None, refl, sym, ap, ◌∙◌, add-one, append_assoc}
 use Rattle.std.specs.Prelude.{if◌then◌else◌, slice_get}
 use Rattle.std.proofs.lemmas.Option.{none-some}
 use Rattle.world_model.proofs.Steps.{take_next}
@@ -11,13 +11,15 @@ use Rattle.canton_model.specs.Inbox.{Item, moments, opened_at}
 use Rattle.canton_model.specs.Reading.{Reading}
 use Rattle.canton_model.specs.Timeline.{is_approved_in}
 use Rattle.contract_store.specs.Active.{active}
-use Rattle.contract_store.specs.Below.{at_place, placed_below, writes_of}
-use Rattle.contract_store.specs.Written.{written}
+use Rattle.contract_store.specs.Below.{at_place, writes_of}
+use Rattle.contract_store.specs.Written.{Placed, written}
 use Rattle.contract_store.specs.declared.row.StoreRow.{StoreRow}
 use Rattle.inbox_standing.specs.ChangeLists.{changes_of, write_changes}
 use Rattle.inbox_standing.proofs.Written.{changes_written, written_append}
 use Rattle.node_inbox.specs.Approved.{approved_at}
+use Rattle.node_inbox.specs.KeptActive.{placed_between}
 use Rattle.node_inbox.specs.Listed.{listed, listed_at, listed_if}
+use Rattle.node_inbox.proofs.Between.{next_between}
 
 -- ---- rows
 
@@ -28,14 +30,16 @@ writes_are reading items k = by (is_approved_in k (moments items))
     by true = refl
     by false = refl
 
-pub next_written : (reading : Reading) (items : List Item) (k : ℕ) (rows : List StoreRow) → rows ≡ written (placed_below reading items k) []
-    → write_changes k (changes_of (filter reading.is_authentic (acts (approved_at items k)))) rows ≡ written (placed_below reading items (k + 1)) []
-next_written reading items k rows before =
+pub next_written : (reading : Reading) (items : List Item) (start k : ℕ) (rows : List StoreRow) → start ≤ k
+    → rows ≡ written (placed_between reading items start k) []
+    → write_changes k (changes_of (filter reading.is_authentic (acts (approved_at items k)))) rows ≡ written (placed_between reading items start (k + 1)) []
+next_written reading items start k rows le before =
     rw add-one
     (changes_written k (filter reading.is_authentic (acts (approved_at items k))) rows
     ∙ (ap (λ (as' : List Act). written (map (at_place k) as') rows) (writes_are reading items k)
     ∙ (ap (written (map (at_place k) (writes_of reading items k))) before
-    ∙ sym (written_append (placed_below reading items k) (map (at_place k) (writes_of reading items k)) []))))
+    ∙ (sym (written_append (placed_between reading items start k) (map (at_place k) (writes_of reading items k)) [])
+    ∙ ap (λ (ps : List Placed). written ps []) (sym (next_between reading items start k le))))))
 
 -- ---- a list
 
@@ -69,7 +73,7 @@ append_none [] = refl
 append_none (row ∷ rows) = ap (λ (rest : List ActiveRow). row ∷ rest) (append_none rows)
 
 -- one row more
-pub next_listed : (test : ActiveRow → Bool) (rows : List StoreRow) (at : ℕ)
+next_listed : (test : ActiveRow → Bool) (rows : List StoreRow) (at : ℕ)
     → filter test (listed (take at rows)) ++ filter test (listed_at (slice_get rows at)) ≡ filter test (listed (take (at + 1) rows))
 next_listed test rows at = by (slice_get rows at) refl
   where
@@ -82,3 +86,10 @@ next_listed test rows at = by (slice_get rows at) refl
     by None none =
         append_none (filter test (listed (take at rows)))
         ∙ ap (λ (some : List StoreRow). filter test (listed some)) (all_taken at rows none ∙ sym (all_taken (at + 1) rows (past_too at rows none)))
+
+-- one row more of those that come behind others
+pub next_behind : (test : ActiveRow → Bool) (before : List ActiveRow) (rows : List StoreRow) (at : ℕ)
+    → (before ++ filter test (listed (take at rows))) ++ filter test (listed_at (slice_get rows at)) ≡ before ++ filter test (listed (take (at + 1) rows))
+next_behind test before rows at =
+    append_assoc before (filter test (listed (take at rows))) (filter test (listed_at (slice_get rows at)))
+    ∙ ap (λ (more : List ActiveRow). before ++ more) (next_listed test rows at)

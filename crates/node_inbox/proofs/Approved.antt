@@ -13,7 +13,7 @@ use Rattle.canton_model.specs.Timeline.{is_approval, is_approved_in, is_past, ki
 use Rattle.inbox_standing.specs.Requests.{outcome_received}
 use Rattle.node_inbox.specs.Approved.{approved_at, is_approved}
 
-by_verdict : (d : Option Decision) (past : Bool) → is_approved (Some (kind_of (outcome_from d past))) ≡ is_approval d
+pub by_verdict : (d : Option Decision) (past : Bool) → is_approved (Some (kind_of (outcome_from d past))) ≡ is_approval d
 by_verdict None true = refl
 by_verdict None false = refl
 by_verdict (Some Approved) past = refl

@@ -14,6 +14,7 @@ pub mod Checkable
 pub mod Jobs
 pub mod DecidedSince
 pub mod Approved
+pub mod Places
 pub mod ActiveRows
 pub mod LiveRows
 pub mod HostedRows
@@ -22,4 +23,7 @@ pub mod AddedIds
 pub mod NewContracts
 pub mod Told
 pub mod Taken
+pub mod Later
+pub mod Between
+pub mod KeptAnswers
 mod FirstVerdict

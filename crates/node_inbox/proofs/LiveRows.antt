@@ -1,17 +1,19 @@
 -- A change of a contract, as it is put behind the contract's id.
 use Rattle.std.proofs.Common.{◌≡◌, ℕ, Bool, true, false, cond, List, [], ◌∷◌, Some, None, refl, sym, ap, ◌∙◌}
-use Rattle.std.specs.Prelude.{if◌then◌else◌}
+use Rattle.std.specs.Prelude.{if◌then◌else◌, is_some}
 use Rattle.std.specs.Map.{lookup, values_of}
 use Rattle.std.specs.Str.{bytes_eq}
 use Rattle.indexmap.specs.IndexMap.{insert_entry}
 use Rattle.ledger_terms.specs.declared.known.Known.{Known}
 use Rattle.ledger_model.specs.Terms.{Hash}
-use Rattle.contract_store.specs.Rows.{is_of, put, created, consumed}
+use Rattle.ledger_model.specs.declared.status.Status.TheVariants.{Unknown, Active, Consumed}
+use Rattle.contract_store.specs.Rows.{is_of, put, created, consumed, row_of, status_in, status_of}
 use Rattle.contract_store.specs.declared.row.StoreRow.{StoreRow}
 use Rattle.contract_store.proofs.Maps.{same_bytes, equal_bytes}
 use Rattle.inbox_standing.specs.ChangeLists.{write_change}
 use Rattle.inbox_standing.specs.declared.change.Change.{Change}
-use Rattle.node_inbox.specs.LiveRows.{AreById, changed_row, new_row, row_after}
+use Rattle.node_inbox.specs.KeptActive.{is_consumed}
+use Rattle.node_inbox.specs.LiveRows.{AreById, changed_row, has_consumed_row, new_row, row_after}
 
 bytes_sym : (a b : Hash) → bytes_eq a b ≡ bytes_eq b a
 bytes_sym a b = by (bytes_eq a b) refl (bytes_eq b a) refl
@@ -85,3 +87,25 @@ module _ (place : ℕ) (change : Change) where
           else entry ∷ insert_entry bytes_eq entries id_in (row_after place change (cond b (Some entry.1) (lookup (bytes_eq id_in) entries))))
       by true rest = (keyed.0 ∙ ap (λ (k : Known). k.id) (sym (known_changed place change.is_create entry.1)), keyed.1)
       by false rest = (keyed.0, rest)
+
+-- the contract of an id was consumed where the row behind it says so
+pub consumed_behind : (id : Hash) (entries : List (Hash × StoreRow)) → AreById entries
+    → is_consumed (status_in (values_of entries) id) ≡ has_consumed_row (lookup (bytes_eq id) entries)
+consumed_behind id [] keyed = refl
+consumed_behind id (entry ∷ entries) keyed =
+    ap (λ (b : Bool). is_consumed (status_of (cond b (Some entry.1) (row_of id (values_of entries))))) same
+    ∙ by (bytes_eq id entry.0) (consumed_behind id entries keyed.1)
+  where
+    same : is_of id entry.1 ≡ bytes_eq id entry.0
+    same = ap (λ (h : Hash). bytes_eq h id) (sym keyed.0) ∙ bytes_sym entry.0 id
+
+    here : (consumed created : Bool) → is_consumed (if consumed then Consumed else if created then Active else Unknown) ≡ consumed
+    here true created = refl
+    here false true = refl
+    here false false = refl
+
+    by : (b : Bool) → is_consumed (status_in (values_of entries) id) ≡ has_consumed_row (lookup (bytes_eq id) entries)
+        → is_consumed (status_of (cond b (Some entry.1) (row_of id (values_of entries))))
+        ≡ has_consumed_row (cond b (Some entry.1) (lookup (bytes_eq id) entries))
+    by true rest = here (is_some entry.1.consumed_at) (is_some entry.1.created_at)
+    by false rest = rest

@@ -25,6 +25,7 @@ use Rattle.inbox_standing.specs.declared.change.Change.{Change}
 use Rattle.inbox_standing.proofs.Grown.{changes_push}
 use Rattle.prepare_request.specs.Hosted.{is_among}
 use Rattle.node_inbox.specs.AddedIds.{are_new, is_unheard, is_unknown}
+use Rattle.node_inbox.specs.KeptActive.{CreateOnly}
 
 abbrev how_many : Hash → List Act → ℕ
 how_many c xs = length (filter (creates c) xs)
@@ -150,6 +151,15 @@ module _ (rows : List StoreRow) where
             λ e. absurd (true≢false (sym (subst (λ (x : Hash). is_unknown (status_in rows x) ≡ true) w.1 known.0) ∙ e)),
           )
       by f rest false b = rest
+
+  -- the store knows none of what they create
+  pub all_unknown : (xs : List Act) (changed : List Hash) → are_new rows changed (changes_of xs) ≡ true → CreateOnly (λ c. is_unknown (status_in rows c)) xs
+  all_unknown [] changed new = tt
+  all_unknown (a ∷ xs) changed new =
+      let f = first changed a xs new in (
+        λ is. (and_parts (is_unknown (status_in rows (id_of a.action))) (not (is_among changed (id_of a.action))) (f.unheard is)).0,
+        all_unknown xs f.later f.rest,
+      )
 
 -- a contract of which nothing is known wasn't created
 none_known : (past : List Act) (c : Hash) → is_unknown (status_after past c) ≡ true → how_many c past ≡ 0

@@ -3,16 +3,15 @@ use Rattle.std.proofs.Common.{◌≡◌, ℕ, zero, suc, ◌≤◌, List, [], �
 use Rattle.ledger_terms.specs.declared.act.Act.{Act}
 use Rattle.ledger_terms.specs.declared.active_row.ActiveRow.{ActiveRow}
 use Rattle.ledger_model.specs.Terms.{ParticipantId}
-use Rattle.canton_model.specs.Inbox.{Item, node_active}
+use Rattle.canton_model.specs.Inbox.{Item, first_of_each, is_active_row}
 use Rattle.canton_model.specs.Reading.{Reading}
 use Rattle.contract_store.specs.Active.{active}
-use Rattle.contract_store.specs.ActiveLaw.{InOrder, NoneBefore}
+use Rattle.contract_store.specs.ActiveLaw.{InOrder, NoneBefore, created_rows}
 use Rattle.contract_store.specs.Below.{at_place, placed_below, writes_of}
-use Rattle.contract_store.specs.Written.{Placed, written}
+use Rattle.contract_store.specs.Written.{Placed, acts_of, written}
 use Rattle.contract_store.specs.declared.row.StoreRow.{StoreRow}
 use Rattle.contract_store.proofs.Left.{actives, actives_left, cons_if}
-use Rattle.contract_store.proofs.Ordered.{active_is_left}
-use Rattle.contract_store.proofs.PlacedBelow.{active_is_node_active}
+use Rattle.contract_store.proofs.Ordered.{active_is_left, hosted_is_active}
 use Rattle.node_inbox.specs.Listed.{is_offered, listed, listed_if}
 
 abbrev AtMost : ℕ → List Placed → Type 0
@@ -45,7 +44,7 @@ module _ (reading : Reading) (items : List Item) where
       at_most_with (suc k) k (placed_below reading items k) (writes_of reading items k) (omega arith)
       (higher k (placed_below reading items k) (at_most_below k))
 
-  in_order_below : (n : ℕ) → InOrder (placed_below reading items n)
+  pub in_order_below : (n : ℕ) → InOrder (placed_below reading items n)
   in_order_below zero = tt
   in_order_below (suc k) = in_order_with k (placed_below reading items k) (writes_of reading items k) (at_most_below k) (in_order_below k)
 
@@ -57,12 +56,9 @@ as_actives : (rows : List StoreRow) → listed rows ≡ actives rows
 as_actives [] = refl
 as_actives (row ∷ rows) = ap (listed_if (active row)) (as_actives rows) ∙ same_if (active row) (actives rows)
 
--- the rows of the approved requests, as they stand, are those of the active contracts in order
-pub are_listed : (reading : Reading) (p : ParticipantId) (items : List Item) (n : ℕ)
-    → filter (is_offered reading p) (listed (written (placed_below reading items n) [])) ≡ node_active reading p items n
-are_listed reading p items n =
-    let ps = placed_below reading items n in
-    ap (filter (is_offered reading p))
-    (as_actives (written ps []) ∙ actives_left (length ps) ps (omega arith) (in_order_below reading items n)
-    ∙ sym (active_is_left ps (in_order_below reading items n)))
-    ∙ active_is_node_active reading p items n
+-- the rows of actions in order of place, as they stand, are those of the active contracts among them in order
+pub listed_placed : (reading : Reading) (p : ParticipantId) (ps : List Placed) → InOrder ps
+    → filter (is_offered reading p) (listed (written ps [])) ≡ filter (is_active_row reading p (acts_of ps)) (first_of_each (created_rows ps))
+listed_placed reading p ps o =
+    ap (filter (is_offered reading p)) (as_actives (written ps []) ∙ actives_left (length ps) ps (omega arith) o ∙ sym (active_is_left ps o))
+    ∙ hosted_is_active reading p ps o

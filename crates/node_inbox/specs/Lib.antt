@@ -9,6 +9,8 @@ pub mod Reads
 pub mod Confirmed
 pub mod JobInput
 pub mod Approved
+pub mod Places
+pub mod KeptActive
 pub mod Decisions
 pub mod Listed
 pub mod LiveRows

@@ -1,5 +1,5 @@
 -- The rows of contracts that changes make, each behind its contract's id.
-use Rattle.std.specs.Prelude.{◌≡◌, ℕ, Bool, List, [], ◌∷◌, Option, None, if◌then◌else◌, unwrap_or}
+use Rattle.std.specs.Prelude.{◌≡◌, ℕ, Bool, false, List, [], ◌∷◌, Option, Some, None, if◌then◌else◌, is_some, unwrap_or}
 use Rattle.ledger_terms.specs.declared.known.Known.{Known}
 use Rattle.ledger_model.specs.Terms.{Hash}
 use Rattle.contract_store.specs.Rows.{with_created, with_consumed}
@@ -22,3 +22,8 @@ row_after place change before = changed_row place change.is_create (unwrap_or be
 abbrev pub AreById : List (Hash × StoreRow) → Type 0
 AreById [] = Unit {0}
 AreById (entry ∷ entries) = (entry.0 ≡ entry.1.known.id) × AreById entries
+
+-- of a consumed contract
+abbrev pub has_consumed_row : Option StoreRow → Bool
+has_consumed_row None = false
+has_consumed_row (Some row) = is_some row.consumed_at

@@ -1,19 +1,20 @@
 //! The active contracts at a place.
-ghost use Rattle.std.specs.Prelude.{◌≡◌, ◌++◌, ◌∷◌, [], IfOk, OnOk, filter, slice_get};
+ghost use Rattle.std.specs.Prelude.{◌≡◌, ◌++◌, ◌∷◌, ◌≤◌, [], IfOk, OnOk, filter, slice_get};
 ghost use Rattle.ledger_model.specs.Forest.{acts};
 ghost use Rattle.canton_model.specs.Inbox.{node_active};
 ghost use Rattle.interpret.specs.Ids.{is_authentic};
-ghost use Rattle.contract_store.specs.Below.{placed_below};
 ghost use Rattle.contract_store.specs.Written.{written};
 ghost use Rattle.sealed_form.specs.SealedReading.{sealed_reading};
 ghost use Rattle.inbox_standing.specs.ChangeLists.{changes_of, write_changes};
 ghost use Rattle.node_inbox.specs.Approved.{KeepChanges, TellsOutcomes, approved_at};
 ghost use Rattle.node_inbox.specs.Hosts.{reading_by};
 ghost use Rattle.node_inbox.specs.Items.{model_items};
+ghost use Rattle.node_inbox.specs.KeptActive.{AreActive, is_unconsumed, placed_between};
 ghost use Rattle.node_inbox.specs.Listed.{active_row_of, is_offered, listed, listed_at};
 
 use crate::applied::approved_at;
 use crate::hosting::Hosting;
+use crate::kept_active::KeptActive;
 use crate::kept_item::KeptItem;
 use crate::live_row::LiveRow;
 use crate::live_rows::LiveRows;
@@ -51,22 +52,23 @@ fn write_approved<'k>(
     }
 }
 
-// The rows that the approved requests below a place make.
-fn live_below<'k>(
+// The rows that the approved requests from one place on, below another, make.
+fn live_between<'k>(
     alloc: Global,
     setup: &Setup,
     items: &'k [KeptItem],
     standing: &Standing,
+    start: u64,
     end: u64,
 ) -> Result<LiveRows<'k>, AllocError>
+    requires order { start ≤ end }
     requires told { TellsOutcomes setup.now.topology.params (model_items items.now) standing.now }
     requires kept { KeepChanges items.now }
     ensures { IfOk result (λ live. live
-        ≡ written (placed_below (sealed_reading setup.now.topology setup.now.checked) (model_items items.now) end) []) }
+        ≡ written (placed_between (sealed_reading setup.now.topology setup.now.checked) (model_items items.now) start end) []) }
 {
-    // each of these contracts has a row in the store
-    let mut live = LiveRows::with_room(alloc, standing.store().len())?;
-    'places: for place in 0..end {
+    let mut live = LiveRows::new(alloc);
+    'places: for place in start..end {
         write_approved(setup, items, standing, place, &mut live)?;
     }
     Ok(live)
@@ -120,34 +122,73 @@ fn push_row(
     }
 }
 
-// The active contracts with a hosted stakeholder, in the order of the rows.
-fn hosted_rows(
+// Those with a hosted stakeholder, in the order of the rows, come behind these.
+fn push_hosted(
     alloc: Global,
     hosting: &Hosting<'_>,
     live: &LiveRows<'_>,
-) -> Result<ActiveRowList, AllocError>
-    ensures { IfOk result (λ kept. kept ≡ filter (is_offered (reading_by hosting.now) hosting.now.me) (listed live.now)) }
+    kept: &mut ActiveRowList,
+) -> Result<(), AllocError>
+    ensures { OnOk result (kept.new ≡ kept.old ++ filter (is_offered (reading_by hosting.now) hosting.now.me) (listed live.now)) }
 {
-    let mut kept = ActiveRowList::with_room(alloc, live.len())?;
     'rows: for at in 0..live.len() {
-        push_row(alloc, hosting, live, at, &mut kept)?;
+        push_row(alloc, hosting, live, at, kept)?;
     }
-    Ok(kept)
+    Ok(())
+}
+
+fn push_if_unconsumed(
+    live: &LiveRows<'_>,
+    row: &ActiveRow,
+    left: &mut ActiveRowList,
+) -> Result<(), AllocError>
+    ensures { OnOk result (left.new ≡ left.old ++ filter (is_unconsumed live.now) (row.now ∷ [])) }
+{
+    if live.is_consumed(&row.known.id) {
+        return Ok(());
+    }
+    let ActiveRow { created_at, known } = row;
+    let known = known.copied()?;
+    left.push(ActiveRow {
+        created_at: *created_at,
+        known,
+    })
+}
+
+// Those of these contracts that weren't consumed.
+fn left_of(
+    alloc: Global,
+    rows: &[ActiveRow],
+    live: &LiveRows<'_>,
+) -> Result<ActiveRowList, AllocError>
+    ensures { IfOk result (λ left. left ≡ filter (is_unconsumed live.now) rows.now) }
+{
+    let mut left = ActiveRowList::with_room(alloc, rows.len())?;
+    for row in rows {
+        push_if_unconsumed(live, row, &mut left)?;
+    }
+    Ok(left)
 }
 
 /// The contracts with a hosted stakeholder that the approved requests below a place create and none of them consumes, in order
-/// of creation.
+/// of creation. Goes on from those that are kept.
 pub fn active_rows(
     alloc: Global,
     hosting: &Hosting<'_>,
     items: &[KeptItem],
     standing: &Standing,
+    kept: &KeptActive,
     end: u64,
 ) -> Result<ActiveRowList, AllocError>
     requires told { TellsOutcomes hosting.now.topology.params (model_items items.now) standing.now }
     requires kept { KeepChanges items.now }
+    requires active { AreActive (reading_by hosting.now) hosting.now.me (model_items items.now) kept.now }
     ensures { IfOk result (λ rows. rows ≡ node_active (reading_by hosting.now) hosting.now.me (model_items items.now) end) }
 {
-    let live = live_below(alloc, hosting.setup(), items, standing, end)?;
-    hosted_rows(alloc, hosting, &live)
+    let none = KeptActive::new(alloc);
+    let known = kept.not_behind(&none, end);
+    let live = live_between(alloc, hosting.setup(), items, standing, known.place, end)?;
+    let mut rows = left_of(alloc, known.rows.as_slice(), &live)?;
+    push_hosted(alloc, hosting, &live, &mut rows)?;
+    Ok(rows)
 }

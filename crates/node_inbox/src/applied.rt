@@ -1,5 +1,5 @@
 //! What the approved requests open.
-ghost use Rattle.std.specs.Prelude.{◌≡◌, ◌++◌, true, IfOk, IfSome, OnOk, option_copied, option_map};
+ghost use Rattle.std.specs.Prelude.{◌≡◌, ◌++◌, true, if◌then◌else◌, nat_le, IfOk, IfSome, OnOk, option_copied, option_map};
 ghost use Rattle.ledger_model.specs.Opening.{roots_in};
 ghost use Rattle.canton_model.specs.Inbox.{moments, opened_at, part_if, parts_below};
 ghost use Rattle.canton_model.specs.Timeline.{is_approved_in};
@@ -7,8 +7,10 @@ ghost use Rattle.request_track.specs.Pairs.{outcome_at};
 ghost use Rattle.node_inbox.specs.Approved.{KeepChanges, TellsOutcomes, approved_at, is_approved};
 ghost use Rattle.node_inbox.specs.Items.{model_items, shown_of};
 ghost use Rattle.node_inbox.specs.Kept.{opened_changes};
+ghost use Rattle.node_inbox.specs.Places.{AreApproved, parts_at};
 
 use crate::actions::roots_of;
+use crate::approved_places::ApprovedPlaces;
 use crate::items::request_at;
 use crate::kept_item::{KeptItem, KeptRequest};
 use canton_model::Outcome;
@@ -98,20 +100,65 @@ fn push_approved(
     }
 }
 
-/// The approved requests below a place, as they are opened.
+// What is opened of the request at a place.
+fn push_opened(items: &[KeptItem], place: u64, commits: &mut CommitList) -> Result<(), AllocError>
+    requires { KeepChanges items.now }
+    ensures { OnOk result (commits.new ≡ commits.old ++ part_if true place (opened_at (model_items items.now) place)) }
+{
+    match opened_at(items, place) {
+        Some(kept) => {
+            let roots = roots_of(*commits.allocator(), &kept.tree.opened().views)?;
+            push_commit(place, roots, commits)
+        }
+        None => Ok(()),
+    }
+}
+
+// What is opened of the requests at these places.
+fn opened_of(alloc: Global, items: &[KeptItem], places: &[u64]) -> Result<CommitList, AllocError>
+    requires { KeepChanges items.now }
+    ensures { IfOk result (λ commits. commits ≡ parts_at (model_items items.now) places.now) }
+{
+    let mut commits = CommitList::new(alloc);
+    for place in places {
+        push_opened(items, *place, &mut commits)?;
+    }
+    Ok(commits)
+}
+
+// The places of the approved requests below a place that isn't behind another, and else those below the first.
+fn not_behind<'a>(
+    approved: &'a ApprovedPlaces,
+    none: &'a ApprovedPlaces,
+    end: u64,
+) -> &'a ApprovedPlaces
+    ensures { result.now ≡ (if nat_le approved.now.below end then approved.now else none.now) }
+{
+    if approved.below <= end {
+        approved
+    } else {
+        none
+    }
+}
+
+/// The approved requests below a place, as they are opened. Goes through the places that are known, and on from there.
 pub fn applied(
     alloc: Global,
     setup: &Setup,
     items: &[KeptItem],
     standing: &Standing,
+    approved: &ApprovedPlaces,
     end: u64,
 ) -> Result<CommitList, AllocError>
     requires told { TellsOutcomes setup.now.topology.params (model_items items.now) standing.now }
     requires kept { KeepChanges items.now }
+    requires approved { AreApproved setup.now.topology.params (model_items items.now) approved.now }
     ensures { IfOk result (λ commits. commits ≡ parts_below (model_items items.now) end) }
 {
-    let mut commits = CommitList::new(alloc);
-    'places: for place in 0..end {
+    let none = ApprovedPlaces::new(alloc);
+    let known = not_behind(approved, &none, end);
+    let mut commits = opened_of(alloc, items, known.places.as_slice())?;
+    'places: for place in known.below..end {
         push_approved(setup, items, standing, place, &mut commits)?;
     }
     Ok(commits)

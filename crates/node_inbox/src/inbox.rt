@@ -25,12 +25,14 @@ ghost use Rattle.node_inbox.specs.Reads.{item_with};
 use crate::active_rows::active_rows;
 use crate::added_ids::{added_ids, put_ids};
 use crate::applied::applied;
+use crate::approved_places::{ApprovedPlaces, bring_up};
 use crate::coming::coming;
 use crate::decided_since::decided_since;
 use crate::decision::decision_at;
 use crate::hosting::Hosting;
 use crate::items::{request_at, time_at};
 use crate::job::job;
+use crate::kept_active::KeptActive;
 use crate::kept_item::KeptItem;
 use crate::offered_contracts::OfferedContracts;
 use crate::putting::{put_nothing, put_request, put_verdict};
@@ -60,6 +62,8 @@ pub struct Inbox<'s> {
     hosted: HostedIds,
     // no contract was created twice
     is_once: bool,
+    approved: ApprovedPlaces,
+    active: KeptActive,
 }
 
 impl<'s> Model for Inbox<'s> {
@@ -86,10 +90,14 @@ impl<'s> Model for Inbox<'s> {
     ghost use Rattle.sealed_form.specs.SealedReading.{sealed_reading};
     ghost use Rattle.prepare_request.specs.Hosted.{AreTold};
     ghost use Rattle.node_inbox.specs.Offered.{AreOnceIf};
+    ghost use Rattle.node_inbox.specs.Places.{AreApproved};
+    ghost use Rattle.node_inbox.specs.KeptActive.{AreActive};
 
     ghost invariant = { λ i. IsInbox i.setup.now.topology i.setup.now.checked i.me i.items.items i.standing
         × AreTold (sealed_reading i.setup.now.topology i.setup.now.checked) i.me i.hosted.ids i.standing.store.rows
-        × AreOnceIf i.is_once (sealed_reading i.setup.now.topology i.setup.now.checked) (model_items i.items.items) };
+        × AreOnceIf i.is_once (sealed_reading i.setup.now.topology i.setup.now.checked) (model_items i.items.items)
+        × AreApproved i.setup.now.topology.params (model_items i.items.items) i.approved
+        × AreActive (sealed_reading i.setup.now.topology i.setup.now.checked) i.me (model_items i.items.items) i.active };
 }
 
 impl<'s> Inbox<'s> {
@@ -104,6 +112,8 @@ impl<'s> Inbox<'s> {
             standing: Standing::new(alloc),
             hosted: HostedIds::new(alloc),
             is_once: true,
+            approved: ApprovedPlaces::new(alloc),
+            active: KeptActive::new(alloc),
         }
     }
 
@@ -177,6 +187,7 @@ impl<'s> Inbox<'s> {
         ensures ok { OnOk result (self.new ≡ with_item self.old (item_with time (Told coming.verdict))) }
         ensures err { OnErr result (self.new ≡ self.old) }
     {
+        let place = coming.verdict.request;
         let (ids, are_new) = added_ids(
             *self.items.allocator(),
             self.setup,
@@ -196,6 +207,33 @@ impl<'s> Inbox<'s> {
         ids_tell_after_each_change();
         put_ids(&mut self.hosted, &ids);
         self.is_once = both(self.is_once, are_new);
+        // what is kept was true below a place, and a verdict on a request there may come late
+        let is_approved_kept = self.approved.below <= place;
+        self.approved.keep_if(is_approved_kept);
+        let is_active_kept = both(are_new, self.active.place <= place);
+        self.active.keep_if(is_active_kept);
+        Ok(())
+    }
+
+    // The places of the approved requests are brought up to the clean place, as far as there is memory.
+    fn bring_up(&mut self) -> Result<(), AllocError>
+        ensures { self.new ≡ self.old }
+    {
+        let clean = self.clean();
+        bring_up(&mut self.approved, &self.standing, clean)
+    }
+
+    // Where all that was read is decided, and more came since than a few times as many entries as contracts are kept, those at the
+    // cursor take their place. So a question goes through hardly more than it answers, and few contracts are copied for each entry.
+    fn move_on(&mut self) -> Result<(), AllocError>
+        ensures { self.new ≡ self.old }
+    {
+        let place = self.cursor();
+        if self.clean() == place && self.active.is_far(place) {
+            let alloc = *self.items.allocator();
+            let rows = self.active_at(alloc, place)?;
+            self.active = KeptActive { place, rows };
+        }
         Ok(())
     }
 
@@ -207,6 +245,8 @@ impl<'s> Inbox<'s> {
         ensures ok { OnOk result (self.new ≡ with_item self.old (item_from (reading_of self.old) self.old.me self.old.items entry.now)) }
         ensures err { OnErr result (self.new ≡ self.old) }
     {
+        self.bring_up()?;
+        self.move_on()?;
         match &entry.message {
             Message::Request(request) => self.read_request(entry.time, request),
             Message::Verdict(verdict) => self.read_verdict(entry.time, verdict),
@@ -293,7 +333,7 @@ impl<'s> Inbox<'s> {
         }
     }
 
-    // The active contracts with a hosted stakeholder at a place, in order of creation. Goes through the approved requests before it.
+    // The active contracts with a hosted stakeholder at a place, in order of creation. Goes on from those that are kept.
     fn active_at(&self, alloc: Global, place: u64) -> Result<ActiveRowList, AllocError>
         ensures { IfOk result (λ rows. rows ≡ node_active (reading_of self.now) self.now.me self.now.items place) }
     {
@@ -303,6 +343,7 @@ impl<'s> Inbox<'s> {
             &hosting,
             self.items.as_slice(),
             &self.standing,
+            &self.active,
             place,
         )
     }
@@ -366,6 +407,7 @@ impl<'s> Inbox<'s> {
             self.setup,
             self.items.as_slice(),
             &self.standing,
+            &self.approved,
             self.clean(),
         )
     }
@@ -390,12 +432,14 @@ impl<'s> Inbox<'s> {
             items,
             standing,
             hosted,
+            approved,
+            active,
             ..
         } = self;
-        InboxRemains::new(items, standing, hosted)
+        InboxRemains::new(items, standing, hosted, approved, active)
     }
 
-    /// The active contracts with a hosted stakeholder at the clean place, in order of creation. Goes through the approved requests.
+    /// The active contracts with a hosted stakeholder at the clean place, in order of creation. Goes on from those that are kept.
     pub fn active(&self, alloc: Global) -> Result<ActiveRowList, AllocError>
         ensures { IfOk result (λ rows. rows ≡ node_active (reading_of self.now) self.now.me self.now.items (clean (params_of self.now) self.now.items)) }
     {

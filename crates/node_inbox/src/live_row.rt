@@ -1,5 +1,5 @@
 //! The row of a contract that a change holds.
-ghost use Rattle.std.specs.Prelude.{◌≡◌};
+ghost use Rattle.std.specs.Prelude.{◌≡◌, is_some};
 ghost use Rattle.contract_store.specs.Rows.{smaller};
 ghost use Rattle.node_inbox.specs.Listed.{active_since};
 ghost use Rattle.node_inbox.specs.LiveRows.{changed_row, new_row};
@@ -61,6 +61,13 @@ impl<'k> LiveRow<'k> {
         ensures { result.now ≡ self.now.known }
     {
         self.known
+    }
+
+    /// Whether the contract was consumed.
+    pub fn is_consumed(&self) -> bool
+        ensures { result ≡ is_some self.now.consumed_at }
+    {
+        self.consumed_at.is_some()
     }
 
     /// The place of creation, where the contract is active.

@@ -2,8 +2,10 @@
 ghost use Rattle.std.specs.Prelude.{◌≡◌, [], length, option_copied, slice_get, IfOk, OnErr, OnOk};
 ghost use Rattle.std.specs.Str.{bytes_eq};
 ghost use Rattle.indexmap.specs.IndexMap.{get, insert_entry};
+ghost use Rattle.contract_store.specs.Rows.{status_in};
 ghost use Rattle.inbox_standing.specs.ChangeLists.{write_change};
-ghost use Rattle.node_inbox.specs.LiveRows.{row_after};
+ghost use Rattle.node_inbox.specs.KeptActive.{is_consumed};
+ghost use Rattle.node_inbox.specs.LiveRows.{has_consumed_row, row_after};
 
 use crate::live_row::LiveRow;
 use inbox_standing::Change;
@@ -47,14 +49,24 @@ fn put<'k>(
     Ok(())
 }
 
+// Whether the row behind an id is of a consumed contract.
+fn is_consumed_in(rows: &IndexMap<Hash, LiveRow<'_>>, id: &Hash) -> bool
+    ensures { result ≡ has_consumed_row (get bytes_eq rows.now id.now) }
+{
+    match rows.get(id) {
+        Some(row) => row.is_consumed(),
+        None => false,
+    }
+}
+
 impl<'k> LiveRows<'k> {
-    /// No rows, with room for so many.
-    pub fn with_room(alloc: Global, count: usize) -> Result<LiveRows<'k>, AllocError>
-        ensures { IfOk result (λ live. live ≡ []) }
+    /// No rows.
+    pub fn new(alloc: Global) -> LiveRows<'k>
+        ensures { result ≡ [] }
     {
-        let mut rows = IndexMap::new(alloc);
-        rows.reserve(count)?;
-        Ok(LiveRows { rows })
+        LiveRows {
+            rows: IndexMap::new(alloc),
+        }
     }
 
     /// A change by the request at a place.
@@ -63,6 +75,13 @@ impl<'k> LiveRows<'k> {
     {
         put(&mut self.rows, place, change)?;
         Ok(())
+    }
+
+    /// Whether a contract was consumed.
+    pub fn is_consumed(&self, id: &Hash) -> bool
+        ensures { result ≡ is_consumed (status_in self.now id.now) }
+    {
+        is_consumed_in(&self.rows, id)
     }
 
     /// How many rows there are.

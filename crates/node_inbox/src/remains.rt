@@ -1,4 +1,6 @@
 //! What an inbox kept.
+use crate::approved_places::ApprovedPlaces;
+use crate::kept_active::KeptActive;
 use crate::kept_item::KeptItem;
 use inbox_standing::Standing;
 use prepare_request::HostedIds;
@@ -9,15 +11,25 @@ pub struct InboxRemains {
     items: Vec<KeptItem>,
     standing: Standing,
     hosted: HostedIds,
+    approved: ApprovedPlaces,
+    active: KeptActive,
 }
 
 impl InboxRemains {
     /// The parts of an inbox.
-    pub(crate) fn new(items: Vec<KeptItem>, standing: Standing, hosted: HostedIds) -> InboxRemains {
+    pub(crate) fn new(
+        items: Vec<KeptItem>,
+        standing: Standing,
+        hosted: HostedIds,
+        approved: ApprovedPlaces,
+        active: KeptActive,
+    ) -> InboxRemains {
         InboxRemains {
             items,
             standing,
             hosted,
+            approved,
+            active,
         }
     }
 }

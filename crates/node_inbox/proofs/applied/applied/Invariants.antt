@@ -1,7 +1,7 @@
-use Rattle.std.proofs.Common.{◌≡◌}
+use Rattle.std.proofs.Common.{◌≡◌, ◌≤◌}
 use Rattle.canton_model.specs.Inbox.{parts_below}
 use Rattle.node_inbox.specs.Items.{model_items}
 use Rattle.node_inbox.proofs.applied.applied.Given as goal
 
 abbrev pub invariant-places : goal.invariant-places
-invariant-places l = l.commits ≡ parts_below (model_items l.items) l.place
+invariant-places l = (l.place ≤ l.end) × (l.commits ≡ parts_below (model_items l.items) l.place)

@@ -24,5 +24,8 @@ active_rows-requires-clause-kept c =
     rw (c.as_slice.ensures.value)
     (keep_changes c.self.inside.setup.now.topology c.self.inside.setup.now.checked c.self.inside.me c.self.inside.items.items c.self.invariant.0.each)
 
+pub active_rows-requires-clause-active : goal.active_rows-requires-clause-active
+active_rows-requires-clause-active c = rw (c.new-hosting.ensures, c.as_slice.ensures.value) (c.self.invariant.4)
+
 pub returns : goal.returns
 returns c = rw (← c.self.view_is) (rw (c.new-hosting.ensures, c.as_slice.ensures.value) at c.active_rows.ensures)

@@ -2,12 +2,21 @@ use Rattle.std.proofs.Common.{refl}
 use Rattle.node_inbox.specs.Items.{model_content}
 use Rattle.node_inbox.specs.Reads.{item_with}
 use Rattle.node_inbox.specs.declared.kept_item.KeptContent.TheVariants as kept
+use Rattle.node_inbox.proofs.KeptAnswers.{both_anyway}
 use Rattle.node_inbox.proofs.Told.{kept_anyway}
 use Rattle.node_inbox.proofs.inbox.Inbox.read_request.Goals as goal
 
 pub invariant_of-self : goal.invariant_of-self
 invariant_of-self c =
     let i = c.self.inside in
-    kept_anyway i.setup.now.topology i.setup.now.checked i.me i.items.items c.put_request.new.items.items i.standing c.put_request.new.standing c.self.invariant.0
-    i.hosted.ids c.put_request.result (item_with c.args.time (model_content (kept.Received c.in-Some.coming.kept)))
-    refl c.put_request.ensures.ok c.put_request.ensures.err i.is_once c.self.invariant.1 c.self.invariant.2
+    let topology = i.setup.now.topology in
+    let packages = i.setup.now.checked in
+    let put = c.put_request in
+    let x = item_with c.args.time (model_content (kept.Received c.in-Some.coming.kept)) in
+    let told =
+    kept_anyway topology packages i.me i.items.items put.new.items.items i.standing put.new.standing c.self.invariant.0 i.hosted.ids put.result x refl
+    put.ensures.ok put.ensures.err i.is_once c.self.invariant.1 c.self.invariant.2 in
+    let both =
+    both_anyway topology packages i.me i.items.items put.new.items.items i.standing put.new.standing c.self.invariant.0 i.approved i.active put.result x refl
+    put.ensures.ok put.ensures.err (c.self.invariant.3, c.self.invariant.4) in
+    (told.0, told.1, told.2, both.0, both.1)

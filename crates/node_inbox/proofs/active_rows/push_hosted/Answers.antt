@@ -3,12 +3,12 @@ use Rattle.std.specs.Prelude.{slice_get}
 use Rattle.ledger_terms.specs.declared.active_row.ActiveRow.{ActiveRow}
 use Rattle.node_inbox.specs.Hosts.{reading_by}
 use Rattle.node_inbox.specs.Listed.{is_offered, listed_at}
-use Rattle.node_inbox.proofs.ActiveRows.{next_listed}
-use Rattle.node_inbox.proofs.active_rows.hosted_rows.Goals as goal
+use Rattle.node_inbox.proofs.ActiveRows.{next_behind}
+use Rattle.node_inbox.proofs.active_rows.push_hosted.Goals as goal
 
 pub rows-preserved : goal.rows-preserved
 rows-preserved c =
     let test = is_offered (reading_by c.args.hosting.now) c.args.hosting.now.me in
     c.in_ok-push_row.ensures
     ∙ (ap (λ (kept : List ActiveRow). kept ++ filter test (listed_at (slice_get c.args.live.now c.rows.at))) c.rows.invariant
-    ∙ next_listed test c.args.live.now c.rows.at)
+    ∙ next_behind test c.args.kept.now c.args.live.now c.rows.at)

@@ -1,9 +1,0 @@
-use Rattle.std.proofs.Common.{◌≡◌, []}
-use Rattle.contract_store.specs.Below.{placed_below}
-use Rattle.contract_store.specs.Written.{written}
-use Rattle.sealed_form.specs.SealedReading.{sealed_reading}
-use Rattle.node_inbox.specs.Items.{model_items}
-use Rattle.node_inbox.proofs.active_rows.live_below.Given as goal
-
-abbrev pub invariant-places : goal.invariant-places
-invariant-places l = l.live ≡ written (placed_below (sealed_reading l.setup.topology l.setup.checked) (model_items l.items) l.place) []

@@ -1,0 +1,40 @@
+-- The places of the approved requests.
+use Rattle.std.specs.Prelude.{◌≡◌, ◌≤◌, ℕ, zero, suc, Bool, true, false, List, [], ◌∷◌, ◌++◌, if◌then◌else◌, length}
+use Rattle.ledger_model.specs.declared.commit.Commit.{Commit}
+use Rattle.canton_model.specs.Inbox.{Item, opened_at, part_if}
+use Rattle.canton_model.specs.Log.{Params}
+use Rattle.request_track.specs.Pairs.{Pair, outcome_at}
+use Rattle.inbox_standing.specs.Requests.{outcome_received}
+use Rattle.node_inbox.specs.Approved.{is_approved}
+use Rattle.node_inbox.specs.declared.approved_places.ApprovedPlaces.{ApprovedPlaces}
+
+abbrev pub place_if : Bool → ℕ → List ℕ
+place_if wanted k = if wanted then k ∷ [] else []
+
+-- the places below one at which the test holds
+abbrev pub places_below : (ℕ → Bool) → ℕ → List ℕ
+places_below test zero = []
+places_below test (suc k) = places_below test k ++ place_if (test k) k
+
+-- those at which an approved request is tracked
+abbrev pub tracked_below : List Pair → ℕ → List ℕ
+tracked_below pairs n = places_below (λ k. is_approved (outcome_at pairs k)) n
+
+-- those at which a request was received that is approved
+abbrev pub approved_below : Params → List Item → ℕ → List ℕ
+approved_below params items n = places_below (λ k. is_approved (outcome_received params items k)) n
+
+-- what the requests at these places open
+abbrev pub parts_at : List Item → List ℕ → List Commit
+parts_at items [] = []
+parts_at items (k ∷ ks) = part_if true k (opened_at items k) ++ parts_at items ks
+
+-- they are those of the approved requests of the inbox below a place in it
+pub record AreApproved (params : Params) (items : List Item) (approved : ApprovedPlaces) : Type 0 where
+  pub within : approved.below ≤ length items
+  pub places : approved.places ≡ approved_below params items approved.below
+
+-- they are as they were, or else none
+abbrev pub AreKeptIf : Bool → (old new : ApprovedPlaces) → Type 0
+AreKeptIf true old new = new ≡ old
+AreKeptIf false old new = (new.below ≡ 0) × (new.places ≡ [])

@@ -1,0 +1,70 @@
+//! The places of approved requests.
+ghost use Rattle.std.specs.Prelude.{◌≡◌, ◌++◌, ◌∷◌, ◌+◌, ◌<◌, ◌≤◌, ◌^◌, ℕ, [], if◌then◌else◌, OnErr, OnOk};
+ghost use Rattle.request_track.specs.Pairs.{outcome_at};
+ghost use Rattle.node_inbox.specs.Approved.{is_approved};
+ghost use Rattle.node_inbox.specs.Places.{AreKeptIf, place_if, tracked_below};
+
+use crate::applied::is_approved;
+use inbox_standing::Standing;
+use ledger_terms::U64List;
+use std::alloc::{AllocError, Global};
+
+/// The places of the approved requests below a place.
+#[derive(Drop)]
+pub struct ApprovedPlaces {
+    pub below: u64,
+    pub places: U64List,
+}
+
+impl ApprovedPlaces {
+    /// Those below the first place.
+    pub fn new(alloc: Global) -> ApprovedPlaces
+        ensures below { result.below ≡ 0 }
+        ensures places { result.places ≡ [] }
+    {
+        ApprovedPlaces {
+            below: 0,
+            places: U64List::new(alloc),
+        }
+    }
+
+    /// Forgets them unless they are to be kept. Takes no memory.
+    pub fn keep_if(&mut self, kept: bool)
+        ensures { AreKeptIf kept self.old self.new }
+    {
+        if !kept {
+            *self = ApprovedPlaces::new(*self.places.allocator());
+        }
+    }
+
+    // Those below the place behind.
+    fn pass(&mut self, standing: &Standing, place: u64) -> Result<(), AllocError>
+        requires { place + 1 < 2 ^ 64 }
+        ensures below { OnOk result (self.new.below ≡ place + 1) }
+        ensures places { OnOk result (self.new.places
+            ≡ self.old.places ++ place_if (is_approved (outcome_at standing.now.tracking.pairs place)) place) }
+        ensures err { OnErr result (self.new ≡ self.old) }
+    {
+        if is_approved(standing, place) {
+            self.places.push(place)?;
+        }
+        self.below = place + 1;
+        Ok(())
+    }
+}
+
+/// Brings them up to a place, as far as there is memory.
+pub fn bring_up(
+    approved: &mut ApprovedPlaces,
+    standing: &Standing,
+    end: u64,
+) -> Result<(), AllocError>
+    requires { approved.old.places ≡ tracked_below standing.now.tracking.pairs approved.old.below }
+    ensures places { approved.new.places ≡ tracked_below standing.now.tracking.pairs approved.new.below }
+    ensures within { (n : ℕ) → approved.old.below ≤ n → end ≤ n → approved.new.below ≤ n }
+{
+    for place in approved.below..end {
+        approved.pass(standing, place)?;
+    }
+    Ok(())
+}
