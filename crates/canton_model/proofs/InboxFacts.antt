@@ -1,37 +1,37 @@
 -- What a participant concludes from its inbox is what the log says.
 use Rattle.std.proofs.Common.{◌≡◌, ℕ, zero, suc, ◌+◌, ◌<◌, ◌≤◌, Bool, true, false, List, [], ◌∷◌, ◌++◌, take, map, length, Option, Some, None, option_map, filter, refl, sym, ap, ◌∙◌, inl, inr, arith, not, append-nil, append_assoc, length-take-le, le_refl, take-take}
 use Rattle.std.specs.Prelude.{slice_get, if◌then◌else◌, ◌&&◌, ◌||◌, nat_lt, nat_eq, is_some}
-use Rattle.std.proofs.lemmas.Bool.{cases_Bool, cases_lt, and_parts, not-true, and_cases, or_cases, or_left, or_right, both_ways, not-false, eqb-true}
+use Rattle.std.proofs.lemmas.Bool.{cases_Bool, cases_lt, and_parts, not-true, and_cases, or_cases, or_left, or_right, or_parts, both_ways, not-false, eqb-true}
 use Rattle.std.proofs.lemmas.Option.{same_Some, none-some, slice_get-map}
 use Rattle.std.proofs.lemmas.List.Folds.{list_any_kept}
 use Rattle.std.proofs.lemmas.List.{take-map, take_all, length-map}
 use Rattle.ledger_model.specs.Terms.{Hash, Act, ParticipantId}
-use Rattle.ledger_model.specs.Forest.{Forest, NoRoots, Commit, acts, project}
+use Rattle.ledger_model.specs.Forest.{NoRoots, Commit, acts, project}
 use Rattle.canton_model.specs.Log.{Params, Entry, Message, RequestMessage, ResponseMessage, VerdictMessage, Tick, Request, Verdict, request_of, request_in, request_at, verdict_of, time_of, decision_time_of}
 use Rattle.canton_model.specs.Timeline.{Moment, moment_of, timeline_of, decision_on, verdict_on, is_past, is_decided_at, is_approval, is_approved_in}
 use Rattle.ledger_model.specs.Opening.{Transaction, Shown, roots_in}
-use Rattle.canton_model.specs.Reading.{Reading, is_recipient}
+use Rattle.canton_model.specs.Reading.{Reading, is_recipient, sees_some_view, shown_to}
 use Rattle.canton_model.specs.Evidence.{commit_if, gather, past_at, pending_at}
-use Rattle.canton_model.specs.Ledger.{opened_to, requests_of, Timely, commit_of, read_by, whole_at, commits_below}
-use Rattle.canton_model.specs.Inbox.{past_in, pending_in, Item, received, verdict_content, content_of, item_after, verdict_in, moments, shown_by, shown_in, shown_at, item_time, opened_at, is_decided_in, is_received, clean_from, clean, IsClean, CommitRoots, part_if, parts_below, node_log, is_informed, project_whole, OpensProjection, project_ledger}
+use Rattle.canton_model.specs.Ledger.{opened_to, requests_of, Timely, commit_of, read_by, whole_at, commits_below, is_withheld, is_unopened}
+use Rattle.ledger_model.proofs.Lists.{filter_append}
+use Rattle.canton_model.specs.Inbox.{past_in, pending_in, Item, Notice, Content, notice_of, received, verdict_content, content_of, item_after, verdict_in, moments, notice_by, notice_in, notice_at, shown_in_notice, shown_in, item_time, opened_at, is_decided_in, is_withheld_in, is_received, clean_from, clean, IsClean, CommitRoots, part_if, parts_below, node_log, is_informed, project_whole, project_ledger, without_places}
 use Rattle.canton_model.proofs.Decided.{verdict_stays}
 
--- what is received shows what was shown
-pub shown_received : (o : Option Shown) → shown_by (received o) ≡ o
-shown_received None = refl
-shown_received (Some shown) = refl
+-- what is learnt of a request
+pub shown_received : (reading : Reading) (p : ParticipantId) (q : Request) → shown_in_notice (notice_by (received reading p q)) ≡ shown_to reading p q
+shown_received reading p q = elim (cases_Bool (is_recipient reading p q)) [ inl b ↦ rw b refl | inr b ↦ rw b refl ]
 
-pub received_is : (o : Option Shown) → is_some o ≡ true → is_received (received o) ≡ true
-received_is None e = cc
-received_is (Some shown) e = refl
+pub received_is : (reading : Reading) (p : ParticipantId) (q : Request) → is_recipient reading p q ≡ true → is_received (received reading p q) ≡ true
+received_is reading p q e = rw e refl
 
-pub silent : (o : Option Shown) → is_some o ≡ false → roots_in o ≡ NoRoots
-silent None e = refl
-silent (Some shown) e = cc
+pub notice_received : (reading : Reading) (p : ParticipantId) (q : Request) → is_recipient reading p q ≡ true → notice_by (received reading p q) ≡ Some (notice_of reading p q)
+notice_received reading p q e = rw e refl
 
-no_verdict : (m : ℕ) (o : Option Shown) → decision_on m (verdict_in (received o)) ≡ None
-no_verdict m None = refl
-no_verdict m (Some shown) = refl
+pub silent : (reading : Reading) (p : ParticipantId) (q : Request) → is_recipient reading p q ≡ false → shown_to reading p q ≡ None
+silent reading p q e = rw e refl
+
+no_verdict : (m : ℕ) (reading : Reading) (p : ParticipantId) (q : Request) → decision_on m (verdict_in (received reading p q)) ≡ None
+no_verdict m reading p q = elim (cases_Bool (is_recipient reading p q)) [ inl b ↦ rw b refl | inr b ↦ rw b refl ]
 
 -- the items of a list of which every entry is read with the whole list known
 abbrev pub mapped : Reading → ParticipantId → List Entry → List Item
@@ -56,7 +56,7 @@ module _ (reading : Reading) (p : ParticipantId) (log : List Entry) where
       other_told (Some q) e = elim (cases_Bool (is_recipient reading p q)) [ inl b ↦ rw (b, e) refl | inr b ↦ rw b refl ]
 
   same_decision : (m : ℕ) (request : Request) → request_at log m ≡ Some request → is_recipient reading p request ≡ true → (message : Message) → decision_on m (verdict_in (content_of reading p log message)) ≡ decision_on m (verdict_of message)
-  same_decision m request at here (RequestMessage q) = no_verdict m (reading.shown p q)
+  same_decision m request at here (RequestMessage q) = no_verdict m reading p q
   same_decision m request at here (ResponseMessage q) = refl
   same_decision m request at here Tick = refl
   same_decision m request at here (VerdictMessage v) = same_told m request at here v
@@ -72,19 +72,19 @@ module _ (reading : Reading) (p : ParticipantId) (log : List Entry) where
   same_past time [] = refl
   same_past time (x ∷ xs) = let rest = same_past time xs in ap (λ (b : Bool). nat_lt time x.time || b) rest
 
-  -- what is opened at a place
-  nothing_opened : (message : Message) → request_of message ≡ None → shown_by (content_of reading p log message) ≡ None
-  nothing_opened (RequestMessage q) e = absurd (none-some q (sym e))
-  nothing_opened (ResponseMessage q) e = refl
-  nothing_opened Tick e = refl
-  nothing_opened (VerdictMessage v) e = told_nothing (request_at log v.request)
+  -- what is learnt at a place
+  nothing_learnt : (message : Message) → request_of message ≡ None → notice_by (content_of reading p log message) ≡ None
+  nothing_learnt (RequestMessage q) e = absurd (none-some q (sym e))
+  nothing_learnt (ResponseMessage q) e = refl
+  nothing_learnt Tick e = refl
+  nothing_learnt (VerdictMessage v) e = told_nothing (request_at log v.request)
     where
-      told_nothing : (o : Option Request) → shown_by (verdict_content reading p v o) ≡ None
+      told_nothing : (o : Option Request) → notice_by (verdict_content reading p v o) ≡ None
       told_nothing None = refl
       told_nothing (Some q) = elim (cases_Bool (is_recipient reading p q)) [ inl b ↦ rw b refl | inr b ↦ rw b refl ]
 
-  request_received : (message : Message) (q : Request) → request_of message ≡ Some q → content_of reading p log message ≡ received (reading.shown p q)
-  request_received (RequestMessage r) q e = ap (λ (x : Request). received (reading.shown p x)) (same_Some r q e)
+  request_received : (message : Message) (q : Request) → request_of message ≡ Some q → content_of reading p log message ≡ received reading p q
+  request_received (RequestMessage r) q e = ap (received reading p) (same_Some r q e)
   request_received (ResponseMessage r) q e = absurd (none-some q e)
   request_received (VerdictMessage r) q e = absurd (none-some q e)
   request_received Tick q e = absurd (none-some q e)
@@ -92,13 +92,13 @@ module _ (reading : Reading) (p : ParticipantId) (log : List Entry) where
   pub item_at : (k : ℕ) → slice_get (mapped reading p log) k ≡ option_map item_of (slice_get log k)
   item_at k = slice_get-map item_of log k
 
-  pub content_at : (o : Option Entry) (q : Request) → request_in o ≡ Some q → (item : Item) × (option_map item_of o ≡ Some item) × (item.content ≡ received (reading.shown p q))
+  pub content_at : (o : Option Entry) (q : Request) → request_in o ≡ Some q → (item : Item) × (option_map item_of o ≡ Some item) × (item.content ≡ received reading p q)
   content_at None q e = absurd (none-some q e)
   content_at (Some entry) q e = (item_of entry, refl, request_received entry.message q e)
 
-  pub none_at : (o : Option Entry) → request_in o ≡ None → shown_in (option_map item_of o) ≡ None
+  pub none_at : (o : Option Entry) → request_in o ≡ None → notice_in (option_map item_of o) ≡ None
   none_at None e = refl
-  none_at (Some entry) e = nothing_opened entry.message e
+  none_at (Some entry) e = nothing_learnt entry.message e
 
   pub same_time : (o : Option Entry) → item_time (option_map item_of o) ≡ time_of o
   same_time None = refl
@@ -190,13 +190,35 @@ project_append keeps (x ∷ xs) ys =
     ap (λ (zs : List CommitRoots). part_if true x.place (project keeps x.roots) ++ zs) (project_append keeps xs ys)
     ∙ sym (append_assoc (part_if true x.place (project keeps x.roots)) (project_ledger keeps xs) (project_ledger keeps ys))
 
-part_projected : (reading : Reading) (p : ParticipantId) (b : Bool) (k : ℕ) (w : Option Transaction) → part_if b k (project_whole reading p w) ≡ project_ledger (is_informed reading p) (commit_if b (commit_of k w))
-part_projected reading p true k None = refl
-part_projected reading p true k (Some t) = sym (append-nil _)
-part_projected reading p false k None = refl
-part_projected reading p false k (Some t) = refl
+-- the commit of a place that isn't withheld
+kept_part : (reading : Reading) (p : ParticipantId) (is_withheld : ℕ → Bool) (b : Bool) (k : ℕ) (w : Option Transaction)
+    → project_ledger (is_informed reading p) (without_places is_withheld (commit_if b (commit_of k w)))
+    ≡ (if is_withheld k then [] else part_if b k (project_whole reading p w))
+kept_part reading p is_withheld true k None = elim (cases_Bool (is_withheld k)) [ inl h ↦ rw h refl | inr h ↦ rw h refl ]
+kept_part reading p is_withheld true k (Some t) = elim (cases_Bool (is_withheld k)) [ inl h ↦ rw h refl | inr h ↦ rw h (append-nil _) ]
+kept_part reading p is_withheld false k None = elim (cases_Bool (is_withheld k)) [ inl h ↦ rw h refl | inr h ↦ rw h refl ]
+kept_part reading p is_withheld false k (Some t) = elim (cases_Bool (is_withheld k)) [ inl h ↦ rw h refl | inr h ↦ rw h refl ]
 
-module _ (reading : Reading) (params : Params) (log : List Entry) (p : ParticipantId) (n : ℕ) (timely : Timely params log) (opens : OpensProjection reading p log) (within : n ≤ length log) where
+-- What is opened of an approved request that isn't withheld is its projection to the hosted parties.
+pub record OpensApproved (reading : Reading) (p : ParticipantId) (log : List Entry) : Type 0 where
+  pub projected : (k : ℕ) (request : Request) → request_at log k ≡ Some request → is_approved_in k (timeline_of log) ≡ true
+      → is_withheld reading log p k ≡ false → roots_in (shown_to reading p request) ≡ project_whole reading p (reading.whole request)
+
+-- who is no recipient sees no view
+pub sees_nothing : (reading : Reading) (p : ParticipantId) (q : Request) → is_recipient reading p q ≡ false → sees_some_view reading p q ≡ false
+sees_nothing reading p q e = (or_parts _ _ e).1
+
+-- nothing is shown of what is withheld
+pub withheld_shut : (reading : Reading) (log : List Entry) (p : ParticipantId) (k : ℕ) (q : Request) → request_at log k ≡ Some q → is_withheld reading log p k ≡ true → shown_to reading p q ≡ None
+withheld_shut reading log p k q at h =
+    let held : is_unopened reading p (Some q) ≡ true = ap (is_unopened reading p) (sym at) ∙ (and_parts _ _ h).1 in
+    none_of (shown_to reading p q) (not-true _ (and_parts _ _ held).1)
+  where
+    none_of : (o : Option Shown) → is_some o ≡ false → o ≡ None
+    none_of None e = refl
+    none_of (Some s) e = cc
+
+module _ (reading : Reading) (params : Params) (log : List Entry) (p : ParticipantId) (n : ℕ) (timely : Timely params log) (within : n ≤ length log) where
   abbrev pub read : List Entry
   read = take n log
 
@@ -242,51 +264,104 @@ module _ (reading : Reading) (params : Params) (log : List Entry) (p : Participa
       let all = length-take-le n log within in
       omega arith
 
-  -- one place below the clean place
-  part_at : (k : ℕ) → k < clean params items → (o : Option Request) → request_at log k ≡ o → part_if (is_approved_in k (moments items)) k (opened_at items k) ≡ project_ledger (is_informed reading p) (commit_if (is_approved_in k (timeline_of log)) (whole_at reading log k))
-  part_at k lt None e =
-      let shut : opened_at items k ≡ NoRoots = ap (λ (o : Option Item). roots_in (shown_in o)) (item_at reading p read k) ∙ ap roots_in (none_at reading p read (slice_get read k) (request_same k (below_read k lt) ∙ e)) in
-      let none : whole_at reading log k ≡ None = ap (λ (o : Option Request). commit_of k (read_by reading.whole o)) e in
-      rw (shut, part_of_nothing, none, commit_of_nothing) refl
-  part_at k lt (Some q) e =
-      let below = below_read k lt in
-      let kept = is_informed reading p in
-      let approved = is_approved_in k (timeline_of log) in
+  -- what is opened at a place
+  pub opened_of : (k : ℕ) (q : Request) → k < n → request_at log k ≡ Some q → opened_at items k ≡ roots_in (shown_to reading p q)
+  opened_of k q below e =
       let c = content_at reading p read (slice_get read k) q (request_same k below ∙ e) in
       let there : slice_get items k ≡ Some c.0 = item_at reading p read k ∙ c.1 in
-      let whole : project_ledger kept (commit_if approved (commit_of k (reading.whole q))) ≡ project_ledger kept (commit_if approved (whole_at reading log k)) =
-      ap (λ (o : Option Request). project_ledger kept (commit_if approved (commit_of k (read_by reading.whole o)))) (sym e) in
-      let opened : opened_at items k ≡ roots_in (reading.shown p q) = ap (λ (o : Option Item). roots_in (shown_in o)) there ∙ ap roots_in (ap shown_by c.2 ∙ shown_received (reading.shown p q)) in
+      ap (λ (o : Option Item). roots_in (shown_in o)) there ∙ ap roots_in (ap (λ (x : Content). shown_in_notice (notice_by x)) c.2 ∙ shown_received reading p q)
+
+  pub opened_none : (k : ℕ) → k < n → request_at log k ≡ None → opened_at items k ≡ NoRoots
+  opened_none k below e =
+      ap (λ (o : Option Item). roots_in (shown_in o)) (item_at reading p read k)
+      ∙ ap (λ (o : Option Notice). roots_in (shown_in_notice o)) (none_at reading p read (slice_get read k) (request_same k below ∙ e))
+
+  -- below the clean place a recipient knows whether the request is approved
+  pub known_approval : (k : ℕ) (q : Request) → k < clean params items → request_at log k ≡ Some q → is_recipient reading p q ≡ true → is_approved_in k (moments items) ≡ is_approved_in k (timeline_of log)
+  known_approval k q lt e here =
+      let below = below_read k lt in
+      let c = content_at reading p read (slice_get read k) q (request_same k below ∙ e) in
+      let there : slice_get items k ≡ Some c.0 = item_at reading p read k ∙ c.1 in
+      let is : is_received (c.0).content ≡ true = ap is_received c.2 ∙ received_is reading p q here in
+      let start : 0 + k ≡ k = omega arith in
+      let decided : is_decided_in params items k (length items) ≡ true = rw start at (clean_decided params items 0 items k c.0 lt there is) in
+      same_approval k q below e here decided
+
+  -- what is learnt at a place
+  notice_there : (k : ℕ) (q : Request) → k < n → request_at log k ≡ Some q → notice_at items k ≡ notice_by (received reading p q)
+  notice_there k q below e =
+      let c = content_at reading p read (slice_get read k) q (request_same k below ∙ e) in
+      ap notice_in (item_at reading p read k ∙ c.1) ∙ ap notice_by c.2
+
+  never : (a b : Bool) → (a && false) ≡ (b && false)
+  never true true = refl
+  never true false = refl
+  never false true = refl
+  never false false = refl
+
+  -- below the clean place it is known what is withheld
+  withheld_at : (k : ℕ) (o : Option Request) → k < clean params items → request_at log k ≡ o → is_withheld_in items k ≡ (is_approved_in k (timeline_of log) && is_unopened reading p o)
+  withheld_at k None lt e =
+      let none : notice_at items k ≡ None = ap notice_in (item_at reading p read k) ∙ none_at reading p read (slice_get read k) (request_same k (below_read k lt) ∙ e) in
+      rw none (never (is_approved_in k (moments items)) (is_approved_in k (timeline_of log)))
+  withheld_at k (Some q) lt e =
+      let there = notice_there k q (below_read k lt) e in
       elim (cases_Bool (is_recipient reading p q)) [
-        | inl here ↦
-            let is : is_received (c.0).content ≡ true = ap is_received c.2 ∙ received_is (reading.shown p q) here in
-            let start : 0 + k ≡ k = omega arith in
-            let decided : is_decided_in params items k (length items) ≡ true = rw start at (clean_decided params items 0 items k c.0 lt there is) in
-            let shown : opened_at items k ≡ project_whole reading p (reading.whole q) = opened ∙ opens.projected k q e in
-            let approval = same_approval k q below e here decided in
-            ap (λ (f : Forest Act). part_if (is_approved_in k (moments items)) k f) shown
-            ∙ (ap (λ (b : Bool). part_if b k (project_whole reading p (reading.whole q))) approval
-            ∙ (part_projected reading p approved k (reading.whole q) ∙ whole))
+        | inl here ↦ rw (there, here, known_approval k q lt e here) refl
         | inr away ↦
-            let shut : opened_at items k ≡ NoRoots = opened ∙ silent (reading.shown p q) away in
-            let none : project_whole reading p (reading.whole q) ≡ NoRoots = sym (opens.projected k q e) ∙ silent (reading.shown p q) away in
-            ap (λ (f : Forest Act). part_if (is_approved_in k (moments items)) k f) shut
-            ∙ (part_of_nothing (is_approved_in k (moments items)) k
-            ∙ (sym (part_of_nothing approved k)
-            ∙ (ap (λ (f : Forest Act). part_if approved k f) (sym none)
-            ∙ (part_projected reading p approved k (reading.whole q) ∙ whole))))
+            let unseen' = sees_nothing reading p q away in
+            rw (there, away, unseen') (never (is_approved_in k (moments items)) (is_approved_in k (timeline_of log)))
       ]
 
-  parts_projected : (m : ℕ) → m ≤ clean params items → parts_below items m ≡ project_ledger (is_informed reading p) (commits_below reading log m)
-  parts_projected zero le = refl
-  parts_projected (suc k) le =
-      let rest = parts_projected k (omega arith) in
-      let here = part_at k (omega arith) (request_at log k) refl in
-      let split = project_append (is_informed reading p) (commits_below reading log k) (commit_if (is_approved_in k (timeline_of log)) (whole_at reading log k)) in
-      cc
+  pub withheld_known : (k : ℕ) → k < clean params items → is_withheld_in items k ≡ is_withheld reading log p k
+  withheld_known k lt = withheld_at k (request_at log k) lt refl
 
-  pub node_log_projected : node_log params items ≡ project_ledger (is_informed reading p) (commits_below reading log (clean params items))
-  node_log_projected = parts_projected (clean params items) (le_refl (clean params items))
+  module _ (opens : OpensApproved reading p log) where
+    abbrev held : ℕ → Bool
+    held = is_withheld reading log p
+
+    -- one place below the clean place
+    part_at : (k : ℕ) → k < clean params items → (o : Option Request) → request_at log k ≡ o → part_if (is_approved_in k (moments items)) k (opened_at items k) ≡ (if held k then [] else part_if (is_approved_in k (timeline_of log)) k (project_whole reading p (read_by reading.whole o)))
+    part_at k lt None e =
+        rw (opened_none k (below_read k lt) e, part_of_nothing) (elim (cases_Bool (held k)) [ inl h ↦ rw h refl | inr h ↦ rw (h, part_of_nothing) refl ])
+    part_at k lt (Some q) e =
+        let below = below_read k lt in
+        elim (cases_Bool (held k)) [
+          | inl h ↦
+              let shut : opened_at items k ≡ NoRoots = opened_of k q below e ∙ ap roots_in (withheld_shut reading log p k q e h) in
+              rw (shut, h) (part_of_nothing (is_approved_in k (moments items)) k)
+          | inr free ↦ elim (cases_Bool (is_recipient reading p q)) [
+            | inl here ↦ rw (free, known_approval k q lt e here) (by_approval k q e free (is_approved_in k (timeline_of log)) refl (opened_of k q below e))
+            | inr away ↦
+                let shut : opened_at items k ≡ NoRoots = opened_of k q below e ∙ ap roots_in (silent reading p q away) in
+                rw (free, shut) (part_of_nothing (is_approved_in k (moments items)) k ∙ unseen_part k q e free away (is_approved_in k (timeline_of log)) refl)
+          ]
+        ]
+      where
+        by_approval : (k : ℕ) (q : Request) → request_at log k ≡ Some q → held k ≡ false → (b : Bool) → is_approved_in k (timeline_of log) ≡ b → opened_at items k ≡ roots_in (shown_to reading p q)
+            → part_if b k (opened_at items k) ≡ part_if b k (project_whole reading p (reading.whole q))
+        by_approval k q e free false ok opened = refl
+        by_approval k q e free true ok opened = ap (part_if true k) (opened ∙ opens.projected k q e ok free)
+
+        unseen_part : (k : ℕ) (q : Request) → request_at log k ≡ Some q → held k ≡ false → is_recipient reading p q ≡ false → (b : Bool) → is_approved_in k (timeline_of log) ≡ b
+            → [] ≡ part_if b k (project_whole reading p (reading.whole q))
+        unseen_part k q e free away false ok = refl
+        unseen_part k q e free away true ok = ap (part_if true k) (sym (ap roots_in (silent reading p q away)) ∙ opens.projected k q e ok free)
+
+    parts_projected : (m : ℕ) → m ≤ clean params items → parts_below items m ≡ project_ledger (is_informed reading p) (without_places held (commits_below reading log m))
+    parts_projected zero le = refl
+    parts_projected (suc k) le =
+        let rest = parts_projected k (omega arith) in
+        let here = part_at k (omega arith) (request_at log k) refl in
+        let kept = kept_part reading p held (is_approved_in k (timeline_of log)) k (read_by reading.whole (request_at log k)) in
+        let parted = filter_append (λ (commit : Commit). not (held commit.place)) (commits_below reading log k) (commit_if (is_approved_in k (timeline_of log)) (whole_at reading log k)) in
+        let split = project_append (is_informed reading p) (without_places held (commits_below reading log k)) (without_places held (commit_if (is_approved_in k (timeline_of log)) (whole_at reading log k))) in
+        ap (λ (xs : List CommitRoots). xs ++ part_if (is_approved_in k (moments items)) k (opened_at items k)) rest
+        ∙ (ap (λ (xs : List CommitRoots). project_ledger (is_informed reading p) (without_places held (commits_below reading log k)) ++ xs) (here ∙ sym kept)
+        ∙ (sym split ∙ ap (project_ledger (is_informed reading p)) (sym parted)))
+
+    pub node_log_projected : node_log params items ≡ project_ledger (is_informed reading p) (without_places held (commits_below reading log (clean params items)))
+    node_log_projected = parts_projected (clean params items) (le_refl (clean params items))
 
 -- lists joined by place that agree at each place
 pub gather_same : (keeps keeps' : ℕ → Bool) (f f' : ℕ → List Act) (k : ℕ) → ((m : ℕ) → m < k → (if keeps m then f m else []) ≡ (if keeps' m then f' m else [])) → gather keeps f k ≡ gather keeps' f' k
@@ -300,7 +375,7 @@ if_nothing : (b : Bool) → ◌≡◌ {A = List Act} (if b then [] else []) []
 if_nothing true = refl
 if_nothing false = refl
 
-module _ (reading : Reading) (params : Params) (log : List Entry) (p : ParticipantId) (opens : OpensProjection reading p log) (k : ℕ) where
+module _ (reading : Reading) (params : Params) (log : List Entry) (p : ParticipantId) (k : ℕ) where
   abbrev so_far : List Entry
   so_far = take (suc k) log
 
@@ -334,18 +409,21 @@ module _ (reading : Reading) (params : Params) (log : List Entry) (p : Participa
   same_place : (m : ℕ) → m < k → (keeps keeps' : Bool) → ((q : Request) → request_at log m ≡ Some q → is_recipient reading p q ≡ true → keeps ≡ keeps') → (o : Option Request) → request_at log m ≡ o → (if keeps then filter reading.is_authentic (acts (opened_at its_items m)) else []) ≡ (if keeps' then filter reading.is_authentic (acts (opened_to reading p (request_at log m))) else [])
   same_place m lt keeps keeps' agree None e =
       let here = slice_get_take (suc k) log m (omega arith) in
-      let shut : opened_at its_items m ≡ NoRoots = ap (λ (o : Option Item). roots_in (shown_in o)) (item_at reading p so_far m) ∙ ap roots_in (none_at reading p so_far (slice_get so_far m) (ap request_in here ∙ e)) in
+      let shut : opened_at its_items m ≡ NoRoots =
+      ap (λ (o : Option Item). roots_in (shown_in o)) (item_at reading p so_far m)
+      ∙ ap (λ (o : Option Notice). roots_in (shown_in_notice o)) (none_at reading p so_far (slice_get so_far m) (ap request_in here ∙ e)) in
       rw (shut, e) (if_nothing keeps ∙ sym (if_nothing keeps'))
   same_place m lt keeps keeps' agree (Some q) e =
       let here = slice_get_take (suc k) log m (omega arith) in
       let c = content_at reading p so_far (slice_get so_far m) q (ap request_in here ∙ e) in
       let there : slice_get its_items m ≡ Some c.0 = item_at reading p so_far m ∙ c.1 in
-      let opened : opened_at its_items m ≡ roots_in (reading.shown p q) = ap (λ (o : Option Item). roots_in (shown_in o)) there ∙ ap roots_in (ap shown_by c.2 ∙ shown_received (reading.shown p q)) in
+      let opened : opened_at its_items m ≡ roots_in (shown_to reading p q) = ap (λ (o : Option Item). roots_in (shown_in o)) there ∙ ap roots_in (ap (λ (x : Content). shown_in_notice (notice_by x)) c.2 ∙ shown_received reading p q) in
       elim (cases_Bool (is_recipient reading p q)) [
         | inl to_it ↦ rw (opened, e, agree q e to_it) refl
         | inr away ↦
-            let shut : opened_at its_items m ≡ NoRoots = opened ∙ silent (reading.shown p q) away in
-            rw (shut, e, silent (reading.shown p q) away) (if_nothing keeps ∙ sym (if_nothing keeps'))
+            let none = silent reading p q away in
+            let shut : opened_at its_items m ≡ NoRoots = opened ∙ ap roots_in none in
+            rw (shut, e, none) (if_nothing keeps ∙ sym (if_nothing keeps'))
       ]
 
   pub same_counted_mapped : (confirms_signatory_of : ParticipantId → Hash → Bool) → past_in reading its_items k ≡ past_at (requests_of reading params log confirms_signatory_of) p k
@@ -359,10 +437,10 @@ module _ (reading : Reading) (params : Params) (log : List Entry) (p : Participa
       (λ x. filter reading.is_authentic (acts (opened_at its_items x))) (λ x. filter reading.is_authentic (acts (opened_to reading p (request_at log x)))) k (λ m lt. same_place m lt _ _ (λ q e to_it. ap not (same_decided m q lt e to_it)) (request_at log m) refl)
 
   -- the item of the request itself
-  pub shown_here_mapped : (q : Request) → request_at log k ≡ Some q → shown_at its_items k ≡ reading.shown p q
-  shown_here_mapped q at =
+  pub notice_here_mapped : (q : Request) → request_at log k ≡ Some q → notice_at its_items k ≡ notice_by (received reading p q)
+  notice_here_mapped q at =
       let c = content_at reading p so_far (slice_get so_far k) q (ap request_in (slice_get_take (suc k) log k (omega arith)) ∙ at) in
-      ap shown_in (item_at reading p so_far k ∙ c.1) ∙ (ap shown_by c.2 ∙ shown_received (reading.shown p q))
+      ap notice_in (item_at reading p so_far k ∙ c.1) ∙ ap notice_by c.2
 
   pub time_here_mapped : item_time (slice_get its_items k) ≡ time_of (slice_get log k)
   time_here_mapped = ap item_time (item_at reading p so_far k) ∙ (same_time reading p so_far (slice_get so_far k) ∙ ap time_of (slice_get_take (suc k) log k (omega arith)))

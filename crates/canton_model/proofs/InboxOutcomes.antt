@@ -1,18 +1,18 @@
 -- What is decided over the inbox of a log, and how, is what is decided in the log; and what is known at a place depends on
 -- the items up to it.
-use Rattle.std.proofs.Common.{◌≡◌, ℕ, suc, ◌+◌, ◌<◌, ◌≤◌, Bool, true, List, [], take, map, length, Option, Some, None, filter, refl, sym, ap, ◌∙◌, subst, arith, le_refl, not, take-take}
+use Rattle.std.proofs.Common.{◌≡◌, ℕ, suc, ◌+◌, ◌<◌, ◌≤◌, Bool, true, List, [], ◌∷◌, take, map, length, Option, Some, None, filter, refl, sym, ap, ◌∙◌, subst, arith, le_refl, not, take-take}
 use Rattle.std.specs.Prelude.{slice_get, ◌||◌, if◌then◌else◌, is_some}
 use Rattle.std.proofs.lemmas.List.{take_all, take-map, length-map}
-use Rattle.ledger_model.specs.Terms.{Act, Hash, ParticipantId}
+use Rattle.ledger_model.specs.Terms.{Act, Hash, ParticipantId, Path}
 use Rattle.ledger_model.specs.Forest.{acts}
 use Rattle.ledger_model.specs.Status.{status_after, is_locked_by}
 use Rattle.ledger_model.specs.Opening.{OpenedView, Shown, roots_in}
-use Rattle.canton_model.specs.Log.{Params, Entry, Request, ViewVerdict, request_at, time_of, decision_time_of}
+use Rattle.canton_model.specs.Log.{Params, Entry, Request, ViewVerdict, LocalVerdict, Reject, RootMismatch, ViewMissing, request_at, time_of, decision_time_of}
 use Rattle.canton_model.specs.Timeline.{Moment, timeline_of, is_decided_at, is_approved_in, verdict_on, is_past, outcome_of}
 use Rattle.canton_model.specs.Ledger.{Timely}
-use Rattle.canton_model.specs.Reading.{Reading, is_recipient}
-use Rattle.canton_model.specs.Inbox.{Item, item_after, inbox, moments, item_time, shown_in, shown_at, opened_at, decision_time_in, is_decided_in, outcome_in, past_in, pending_in, status_in_inbox, is_locked_in_inbox}
-use Rattle.canton_model.specs.Checks.{is_confirmed_by, verdict_by, verdicts_owed, verdicts_on}
+use Rattle.canton_model.specs.Reading.{Reading, Offer, Mismatch, Missing, Open, is_recipient}
+use Rattle.canton_model.specs.Inbox.{Item, Notice, item_after, inbox, moments, item_time, notice_in, notice_at, shown_in, opened_at, decision_time_in, is_decided_in, outcome_in, past_in, pending_in, status_in_inbox, is_locked_in_inbox}
+use Rattle.canton_model.specs.Checks.{verdict_by, verdict_on_found, verdict_on_offer, view_at, verdicts_owed, verdicts_on}
 use Rattle.canton_model.proofs.InboxFacts.{mapped, item_at, same_verdicts, same_past, same_time, slice_get_take, gather_same}
 use Rattle.canton_model.proofs.InboxGrows.{inbox_is_mapped}
 
@@ -95,20 +95,54 @@ module _ (items : List Item) (k : ℕ) where
 
       module _ (p : ParticipantId) where
         -- the verdicts owed, by what is known
-        abbrev owed_by : (time : ℕ) → (past pending : List Act) → Option Shown → List ViewVerdict
-        owed_by time past pending None = []
-        owed_by time past pending (Some shown) =
-            map (λ (view : OpenedView). record { view = view.path; verdict = verdict_by reading params p time shown view (status_after past) (is_locked_by pending) })
-            (filter (is_confirmed_by reading p) shown.views)
+        abbrev verdict_by_found : (time : ℕ) → (past pending : List Act) → (sender : ParticipantId) → Shown → Option OpenedView → LocalVerdict
+        verdict_by_found time past pending sender shown None = Reject ViewMissing 0
+        verdict_by_found time past pending sender shown (Some view) = verdict_by reading params p sender time shown view (status_after past) (is_locked_by pending)
 
-        owed_is : (its : List Item) (o : Option Shown) → verdicts_on reading params p its k o ≡ owed_by (item_time (slice_get its k)) (past_in reading its k) (pending_in reading params its k) o
-        owed_is its None = refl
-        owed_is its (Some shown) = refl
+        abbrev verdict_by_offer : (time : ℕ) → (past pending : List Act) → (sender : ParticipantId) → Path → Offer → LocalVerdict
+        verdict_by_offer time past pending sender path Mismatch = Reject RootMismatch 0
+        verdict_by_offer time past pending sender path Missing = Reject ViewMissing 0
+        verdict_by_offer time past pending sender path (Open shown) = verdict_by_found time past pending sender shown (view_at path shown.views)
+
+        abbrev said_by : (time : ℕ) → (past pending : List Act) → Notice → Path → ViewVerdict
+        said_by time past pending notice path = record { view = path; verdict = verdict_by_offer time past pending notice.sender path notice.offer }
+
+        abbrev said_at : List Item → Notice → Path → ViewVerdict
+        said_at list notice path = record { view = path; verdict = verdict_on_offer reading params p list k notice.sender path notice.offer }
+
+        abbrev owed_by : (time : ℕ) → (past pending : List Act) → Option Notice → List ViewVerdict
+        owed_by time past pending None = []
+        owed_by time past pending (Some notice) = map (said_by time past pending notice) notice.confirmed
+
+        abbrev known_by : List Item → Notice → Path → ViewVerdict
+        known_by list = said_by (item_time (slice_get list k)) (past_in reading list k) (pending_in reading params list k)
+
+        found_is : (list : List Item) (sender : ParticipantId) (shown : Shown) (o : Option OpenedView) → verdict_on_found reading params p list k sender shown o ≡ verdict_by_found (item_time (slice_get list k)) (past_in reading list k) (pending_in reading params list k) sender shown o
+        found_is list sender shown None = refl
+        found_is list sender shown (Some view) = refl
+
+        offer_is : (list : List Item) (sender : ParticipantId) (path : Path) (o : Offer) → verdict_on_offer reading params p list k sender path o ≡ verdict_by_offer (item_time (slice_get list k)) (past_in reading list k) (pending_in reading params list k) sender path o
+        offer_is list sender path Mismatch = refl
+        offer_is list sender path Missing = refl
+        offer_is list sender path (Open shown) = found_is list sender shown (view_at path shown.views)
+
+        said_is : (list : List Item) (notice : Notice) (path : Path) → said_at list notice path ≡ known_by list notice path
+        said_is list notice path = ap (λ (v : LocalVerdict). record { view = path; verdict = v }) (offer_is list notice.sender path notice.offer)
+
+        each_is : (list : List Item) (notice : Notice) (paths : List Path) → map (said_at list notice) paths ≡ map (known_by list notice) paths
+        each_is list notice [] = refl
+        each_is list notice (path ∷ more) =
+            ap (λ (v : ViewVerdict). v ∷ map (said_at list notice) more) (said_is list notice path)
+            ∙ ap (λ (vs : List ViewVerdict). known_by list notice path ∷ vs) (each_is list notice more)
+
+        owed_is : (list : List Item) (o : Option Notice) → verdicts_on reading params p list k o ≡ owed_by (item_time (slice_get list k)) (past_in reading list k) (pending_in reading params list k) o
+        owed_is list None = refl
+        owed_is list (Some notice) = each_is list notice notice.confirmed
 
         pub owed_front : verdicts_owed reading params p front k ≡ verdicts_owed reading params p items k
         owed_front =
-            owed_is front (shown_at front k)
-            ∙ (ap (λ (o : Option Item). owed_by (item_time o) (past_in reading front k) (pending_in reading params front k) (shown_in o)) (item_same k (le_refl k))
-            ∙ (ap (λ (past : List Act). owed_by (item_time (slice_get items k)) past (pending_in reading params front k) (shown_at items k)) past_front
-            ∙ (ap (λ (pending : List Act). owed_by (item_time (slice_get items k)) (past_in reading items k) pending (shown_at items k)) pending_front
-            ∙ sym (owed_is items (shown_at items k)))))
+            owed_is front (notice_at front k)
+            ∙ (ap (λ (o : Option Item). owed_by (item_time o) (past_in reading front k) (pending_in reading params front k) (notice_in o)) (item_same k (le_refl k))
+            ∙ (ap (λ (past : List Act). owed_by (item_time (slice_get items k)) past (pending_in reading params front k) (notice_at items k)) past_front
+            ∙ (ap (λ (pending : List Act). owed_by (item_time (slice_get items k)) (past_in reading items k) pending (notice_at items k)) pending_front
+            ∙ sym (owed_is items (notice_at items k)))))

@@ -8,18 +8,16 @@ use Rattle.canton_model.specs.Log.{Params, Entry, Message, RequestMessage, Respo
 use Rattle.canton_model.specs.Timeline.{Moment, moment_of, timeline_of, verdict_on, is_past, Outcome, Decided, Expired, Undecided, outcome_from, outcome_of}
 use Rattle.canton_model.specs.Mediation.{is_response_of, has_responded, scan}
 use Rattle.canton_model.specs.Reading.{Reading}
-use Rattle.canton_model.specs.Inbox.{OpensProjection}
-use Rattle.canton_model.specs.Genuine.{Genuine, IsSealed, NoCollision}
+use Rattle.canton_model.specs.Genuine.{Genuine, IsReading, NoCollision}
 use Rattle.canton_model.specs.Causes.{has_responded_by, TimeoutHolds, ExpiryHolds, LocalCauseOf, CauseOf}
-use Rattle.canton_model.proofs.Lawful.{Informs}
 use Rattle.ledger_model.proofs.Lists.{In, in_any, from_any, in_at, at_in, at_in_take, in_take_in, in_drop_in, in_map}
 use Rattle.canton_model.proofs.Decided.{rising, slice_get_drop}
 use Rattle.canton_model.proofs.InboxFacts.{slice_get_take}
 use Rattle.canton_model.proofs.HostStatus.{same_bools}
 use Rattle.canton_model.proofs.Mediated.{Late, timeout}
 use Rattle.canton_model.proofs.Approved.{response_message}
-use Rattle.canton_model.proofs.RejectionChecks.{decided_scan, request_there, rejection_stands}
-use Rattle.canton_model.proofs.Rejections.{rejection_holds}
+use Rattle.canton_model.proofs.RejectionChecks.{decided_scan, request_there}
+use Rattle.canton_model.proofs.Rejections.{local_rejection_holds, rejection_holds}
 
 filter_same : {X : Type 0} (f g : X → Bool) (xs : List X) → ((x : X) → f x ≡ g x) → filter f xs ≡ filter g xs
 filter_same f g [] h = refl
@@ -103,21 +101,24 @@ module _ (reading : Reading) (params : Params) (log : List Entry) (genuine : Gen
   decided_by None true d h = cc
   decided_by None false d h = cc
 
-  module _ (opens : (p : ParticipantId) → OpensProjection reading p log) where
-    pub local_cause_holds : (j : ℕ) (outcome : Outcome) → outcome_of (timeline_of log) j (decision_time_of params log j) ≡ outcome → LocalCauseOf reading params log j outcome
-    local_cause_holds j Undecided h = tt
-    local_cause_holds j Expired h = expiry_holds j (verdict_on j (timeline_of log)) (is_past (decision_time_of params log j) (timeline_of log)) refl refl h
-    local_cause_holds j (Decided Approved) h = tt
-    local_cause_holds j (Decided (Rejected from view reason)) h = rejection_stands reading params log genuine opens j from view reason (decided_by _ _ _ h)
-    local_cause_holds j (Decided (TimedOut missing)) h =
-        let scanned = decided_scan reading params log genuine j (TimedOut missing) (decided_by _ _ _ h) in
-        let q = request_there reading params log genuine j scanned.0 (TimedOut missing) scanned.1 scanned.2 (request_at log j) refl in
-        timeout_holds j scanned.0 q.0 missing scanned.1 q.1 scanned.2
+  local_cause : IsReading reading → (j : ℕ) (outcome : Outcome) → outcome_of (timeline_of log) j (decision_time_of params log j) ≡ outcome → LocalCauseOf reading params log j outcome
+  local_cause lawful j Undecided h = tt
+  local_cause lawful j Expired h = expiry_holds j (verdict_on j (timeline_of log)) (is_past (decision_time_of params log j) (timeline_of log)) refl refl h
+  local_cause lawful j (Decided Approved) h = tt
+  local_cause lawful j (Decided (Rejected from view reason)) h =
+      local_rejection_holds reading params log lawful genuine j from view reason (decided_by _ _ _ h)
+  local_cause lawful j (Decided (TimedOut missing)) h =
+      let scanned = decided_scan reading params log genuine j (TimedOut missing) (decided_by _ _ _ h) in
+      let q = request_there reading params log genuine j scanned.0 (TimedOut missing) scanned.1 scanned.2 (request_at log j) refl in
+      timeout_holds j scanned.0 q.0 missing scanned.1 q.1 scanned.2
 
-    module _ (lawful : Informs reading) (distinct : NoCollision reading log) (sealed : (k : ℕ) (request : Request) → request_at log k ≡ Some request → IsSealed reading request) where
-      pub cause_holds : (j : ℕ) (outcome : Outcome) → outcome_of (timeline_of log) j (decision_time_of params log j) ≡ outcome → CauseOf reading params log j outcome
-      cause_holds j Undecided h = tt
-      cause_holds j Expired h = local_cause_holds j Expired h
-      cause_holds j (Decided Approved) h = tt
-      cause_holds j (Decided (Rejected from view reason)) h = rejection_holds reading params log lawful distinct genuine sealed opens j from view reason (decided_by _ _ _ h)
-      cause_holds j (Decided (TimedOut missing)) h = local_cause_holds j (Decided (TimedOut missing)) h
+pub local_cause_holds : (reading : Reading) (params : Params) (log : List Entry) → IsReading reading → Genuine reading params log → (j : ℕ) (outcome : Outcome) → outcome_of (timeline_of log) j (decision_time_of params log j) ≡ outcome → LocalCauseOf reading params log j outcome
+local_cause_holds reading params log lawful genuine j outcome h = local_cause reading params log genuine lawful j outcome h
+
+pub cause_holds : (reading : Reading) (params : Params) (log : List Entry) → IsReading reading → Genuine reading params log → NoCollision reading log → (j : ℕ) (outcome : Outcome) → outcome_of (timeline_of log) j (decision_time_of params log j) ≡ outcome → CauseOf reading params log j outcome
+cause_holds reading params log lawful genuine distinct j Undecided h = tt
+cause_holds reading params log lawful genuine distinct j Expired h = local_cause reading params log genuine lawful j Expired h
+cause_holds reading params log lawful genuine distinct j (Decided Approved) h = tt
+cause_holds reading params log lawful genuine distinct j (Decided (Rejected from view reason)) h =
+    rejection_holds reading params log lawful genuine distinct j from view reason (decided_by reading params log genuine _ _ _ h)
+cause_holds reading params log lawful genuine distinct j (Decided (TimedOut missing)) h = local_cause reading params log genuine lawful j (Decided (TimedOut missing)) h

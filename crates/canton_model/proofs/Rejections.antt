@@ -1,31 +1,28 @@
 -- Each rejection's named cause holds.
-use Rattle.std.proofs.Common.{◌≡◌, ℕ, suc, ◌<◌, Bool, true, false, List, [], ◌∷◌, ◌++◌, take, drop, length, Option, Some, None, filter, refl, sym, ap, ◌∙◌, subst, inl, inr, arith}
+use Rattle.std.proofs.Common.{◌≡◌, ◌⊎◌, ℕ, zero, suc, ◌<◌, Bool, true, false, List, [], ◌∷◌, take, length, Option, Some, None, refl, sym, ap, ◌∙◌, subst, inl, inr, arith}
 use Rattle.std.specs.Prelude.{slice_get, nat_eq, ◌&&◌}
 use Rattle.std.specs.List.{list_any}
-use Rattle.std.proofs.lemmas.Bool.{cases_Bool, and_parts, both_ways, not-true, not-false, eq-eqb}
+use Rattle.std.proofs.lemmas.Bool.{cases_Bool, cases_order, and_parts, both_ways, not-true, not-false, eq-eqb}
 use Rattle.std.proofs.lemmas.Option.{none-some, slice_get_within}
-use Rattle.ledger_model.specs.Terms.{Hash, Act, Instance, id_of, creates, ParticipantId, Path}
-use Rattle.ledger_model.specs.Forest.{Forest, acts, project}
-use Rattle.ledger_model.specs.Status.{status_after, is_active, is_unknown, is_locked_by}
-use Rattle.canton_model.specs.Evidence.{acts_of, IsShownChanges, is_locked_at, status_at, past_at, pending_at}
-use Rattle.canton_model.specs.Log.{Params, Entry, Request, Reject, Reason, IdMismatch, NotVetted, TimeSkew, Locked, Inactive, NotFresh, Unordered, NotConformant, NotAuthorised, Rejected, request_in, request_at}
-use Rattle.canton_model.specs.Timeline.{timeline_of, verdict_on}
+use Rattle.ledger_model.specs.Terms.{Act, id_of, creates, ParticipantId, Path}
+use Rattle.ledger_model.specs.Forest.{acts}
+use Rattle.ledger_model.specs.Status.{is_active}
 use Rattle.ledger_model.specs.Opening.{OpenedView, Shown, roots_in}
-use Rattle.canton_model.specs.Reading.{Reading}
-use Rattle.canton_model.specs.Ledger.{commit_of, read_by, whole_at}
-use Rattle.canton_model.specs.Inbox.{inbox, item_time, past_in, pending_in, status_in_inbox, is_locked_in_inbox, has_hosted_stakeholder, is_informed, OpensProjection}
-use Rattle.canton_model.specs.Checks.{Check, first_shown, first_place, checks, verdict_on_view}
-use Rattle.canton_model.specs.Genuine.{Genuine, IsSealed, NoCollision}
-use Rattle.canton_model.proofs.Lawful.{Informs}
-use Rattle.canton_model.specs.Causes.{NotCreatedBefore, ReasonHolds, RejectionHolds}
-use Rattle.ledger_model.proofs.Lists.{In, contains_from_In, in_from_Contains, in_any, from_any, from_filter, at_in, in_filter, at_split, from_on}
-use Rattle.ledger_model.proofs.Projected.{placed}
-use Rattle.canton_model.proofs.Decided.{final_of_log}
-use Rattle.canton_model.proofs.HostStatus.{same_locked, same_status}
-use Rattle.canton_model.proofs.InboxGrows.{same_counted, same_pending}
+use Rattle.canton_model.specs.Log.{Params, Entry, Request, Reject, Reason, IdMismatch, NotVetted, TimeSkew, Locked, Inactive, NotFresh, Unordered, NotConformant, NotAuthorised, RootMismatch, ViewMissing, WrongSender, WrongCommon, Rejected, request_in, request_at}
+use Rattle.canton_model.specs.Timeline.{timeline_of, verdict_on}
+use Rattle.canton_model.specs.Reading.{Reading, Offer, Mismatch, Missing, Open, shown_to, is_recipient}
+use Rattle.canton_model.specs.Ledger.{opened_to, status_in, is_withheld}
+use Rattle.canton_model.specs.Inbox.{inbox, item_time, status_in_inbox, is_locked_in_inbox}
+use Rattle.canton_model.specs.Checks.{Check, first_shown, first_place, checks, is_from, is_well_split, view_at, verdict_on_found, verdict_on_offer}
+use Rattle.canton_model.specs.Genuine.{Genuine, IsReading, NoCollision}
+use Rattle.canton_model.specs.Causes.{LocalReasonHolds, LedgerReasonHolds, LocalRejectionHolds, RejectionHolds, RejectionStands, SomeCore}
+use Rattle.ledger_model.proofs.Lists.{In, contains_from_In, in_from_Contains, in_any, from_any, at_in}
+use Rattle.canton_model.proofs.Fits.{framed_of}
+use Rattle.canton_model.proofs.FoundViews.{view_at_in}
+use Rattle.canton_model.proofs.Approved.{confirmer_receives}
+use Rattle.canton_model.proofs.FromGenuine.{second}
+use Rattle.canton_model.proofs.HostLaw.{locked_in_log, known_in_log, status_of_host}
 use Rattle.canton_model.proofs.RejectionChecks.{rejection_stands}
-use Rattle.canton_model.proofs.HostLaw.{shown as changes_shown}
-use Rattle.canton_model.proofs.FromGenuine.{confirms_signatory_of, r, shown_in_whole, second, checked_of_log}
 
 -- reasons told apart by computation
 abbrev number : Reason → ℕ
@@ -38,6 +35,10 @@ number NotFresh = 6
 number Unordered = 7
 number NotConformant = 8
 number NotAuthorised = 9
+number RootMismatch = 10
+number ViewMissing = 11
+number WrongSender = 12
+number WrongCommon = 13
 
 apart : (a b : Reason) → nat_eq (number a) (number b) ≡ false → a ≡ b → ⊥
 apart a b h e = both_ways _ h (eq-eqb _ _ (ap number e))
@@ -81,152 +82,211 @@ hit (c ∷ rest) core reason i h not_later =
       | inr none ↦ absurd (not_later (rw none at h))
     ]
 
-module _ (reading : Reading) (params : Params) (log : List Entry) (lawful : Informs reading) (distinct : NoCollision reading log) (genuine : Genuine reading params log) (sealed : (k : ℕ) (request : Request) → request_at log k ≡ Some request → IsSealed reading request) (opens : (p : ParticipantId) → OpensProjection reading p log) where
-  -- the changes of a contract with a hosted stakeholder are shown
-  shown_changes : (p j : ℕ) (q : Request) (i : ℕ) (a : Act) → request_at log j ≡ Some q → slice_get (acts (roots_in (reading.shown p q))) i ≡ Some a → reading.is_authentic a ≡ true → has_hosted_stakeholder reading p a ≡ true → IsShownChanges (r reading params log lawful distinct genuine sealed opens) (length log) p (id_of a.action)
-  shown_changes p j q i a at there real hosted =
-      let a_whole = shown_in_whole reading params log lawful distinct genuine sealed opens j p q a at (at_in (acts (roots_in (reading.shown p q))) i a there) in
-      changes_shown reading params log lawful distinct genuine sealed opens p j a a_whole real hosted
+-- no place below j is withheld, or one is
+search_withheld : (is_withheld : ℕ → Bool) (j : ℕ) → ((m : ℕ) → m < j → is_withheld m ≡ false) ⊎ ((m : ℕ) × (m < j) × (is_withheld m ≡ true))
+search_withheld is_withheld zero = inl (λ m lt. absurd (omega (arith, lt)))
+search_withheld is_withheld (suc j) =
+    elim (search_withheld is_withheld j) [
+      | inr w ↦ inr (w.0, omega (arith, w.1), w.2)
+      | inl none ↦ elim (cases_Bool (is_withheld j)) [
+        | inl held ↦ inr (j, omega arith, held)
+        | inr free ↦ inl (λ m lt. elim (cases_order m j) [
+          | inl same ↦ ap is_withheld same ∙ free
+          | inr o ↦ elim o [ inl below ↦ none m below | inr above ↦ absurd (omega (arith, lt, above)) ]
+        ])
+      ]
+    ]
 
-  -- none of the actions before it in the whole creates its contract
-  not_created : (p j : ℕ) (q : Request) (s : Shown) (view : OpenedView) (a : ℕ × Act) → request_at log j ≡ Some q → reading.shown p q ≡ Some s → In view s.views → In a view.core → reading.is_authentic a.1 ≡ true → has_hosted_stakeholder reading p a.1 ≡ true → list_any (creates (id_of (a.1).action)) (take a.0 (acts s.roots)) ≡ false → NotCreatedBefore reading (acts_of (whole_at reading log j)) a.1
-  not_created p j q s view a at is there core real hosted none =
-      let t = sealed j q at in
-      let c = id_of (a.1).action in
-      let test : Act → Bool = λ b. reading.is_authentic b && creates c b in
-      let place = t.numbered p s view a.0 a.1 is (contains_from_In _ view there) (contains_from_In _ a core) in
-      let whole : whole_at reading log j ≡ commit_of j (Some t.transaction) = ap (λ (o : Option Request). commit_of j (read_by reading.whole o)) at ∙ ap (commit_of j) t.is_whole in
-      let opened : acts s.roots ≡ acts (project (is_informed reading p) (t.transaction).roots) = ap (λ (o : Option Shown). acts (roots_in o)) (sym is) ∙ ap (λ (f : Forest Act). acts f) (t.opens p) in
-      let a_opened : In a.1 (acts (roots_in (reading.shown p q))) = subst (λ (o : Option Shown). In a.1 (acts (roots_in o))) (sym is) (at_in (acts s.roots) a.0 a.1 place) in
-      let a_whole = shown_in_whole reading params log lawful distinct genuine sealed opens j p q a.1 at a_opened in
-      let verdict_content : (b : Act) → In b (acts (t.transaction).roots) → test b ≡ true → is_informed reading p b ≡ true =
-      λ b i e.
-      let parts = and_parts _ _ e in
-      let m = and_parts _ _ parts.1 in
-      let b_whole : In b (acts_of (whole_at reading log j)) = rw whole i in
-      let one = distinct j j b a.1 (contains_from_In _ b b_whole) (contains_from_In _ a.1 a_whole) parts.0 real (from_on c b m.0) in
-      lawful.stakeholders_informed p b (inl m.1) (ap (λ (x : Instance). list_any (reading.hosts p) ((reading.language).signatories x ++ (reading.language).observers x)) one ∙ hosted) in
-      let w = placed (is_informed reading p) test (t.transaction).roots (take a.0 (acts s.roots)) (drop (suc a.0) (acts s.roots)) a.1 verdict_content (sym opened ∙ at_split (acts s.roots) a.0 a.1 place) in
-      record {
-        before = w.before;
-        after = w.after;
-        stands = ap acts_of whole ∙ w.stands;
-        none = elim (cases_Bool (list_any test w.before)) [
-          | inr f ↦ f
-          | inl made ↦
-              let b = from_any test w.before made in
-              let kept : In b.0 (filter test (take a.0 (acts s.roots))) = subst (λ (xs : List Act). In b.0 xs) w.same (in_filter test w.before b.0 b.1 b.2) in
-              let early = (from_filter test (take a.0 (acts s.roots)) b.0 kept).0 in
-              absurd (both_ways _ none (in_any (creates c) (take a.0 (acts s.roots)) b.0 early (and_parts _ _ b.2).1))
-        ];
-      }
+any_weaker : (f g : Act → Bool) (xs : List Act) → list_any g xs ≡ false → list_any (λ x. f x && g x) xs ≡ false
+any_weaker f g xs none =
+    elim (cases_Bool (list_any (λ x. f x && g x) xs)) [
+      | inr b ↦ b
+      | inl some' ↦ let w = from_any (λ x. f x && g x) xs some' in absurd (both_ways _ none (in_any g xs w.0 w.1 (and_parts _ _ w.2).1))
+    ]
 
-  -- what the participant counts at a place is what the ledger says
-  record Counts (p k : ℕ) (c : Hash) : Type 0 where
-    locked : is_locked_by (pending_at (r reading params log lawful distinct genuine sealed opens) p k) c ≡ is_locked_at (r reading params log lawful distinct genuine sealed opens) k c
-    status : is_locked_by (pending_at (r reading params log lawful distinct genuine sealed opens) p k) c ≡ false → status_after (past_at (r reading params log lawful distinct genuine sealed opens) p k) c ≡ status_at (r reading params log lawful distinct genuine sealed opens) k c
-
-  -- so it is of an action of the core that passed the first checks
-  counts : (p j : ℕ) (q : Request) (s : Shown) (view : OpenedView) (a : ℕ × Act) → request_at log j ≡ Some q → reading.shown p q ≡ Some s → In view s.views → In a view.core → reading.is_authentic a.1 ≡ true → has_hosted_stakeholder reading p a.1 ≡ true → Counts p j (id_of (a.1).action)
-  counts p j q s view a at is there core real hosted =
-      let place = ap (λ (o : Option Shown). slice_get (acts (roots_in o)) a.0) is ∙ (sealed j q at).numbered p s view a.0 a.1 is (contains_from_In _ view there) (contains_from_In _ a core) in
-      let shown = shown_changes p j q a.0 a.1 at place real hosted in
-      let inside = within (slice_get log j) refl at in
-      record {
-        locked = same_locked (r reading params log lawful distinct genuine sealed opens) (length log) p (id_of (a.1).action) shown j inside;
-        status = same_status (r reading params log lawful distinct genuine sealed opens) (length log) p (id_of (a.1).action) j
-            (record { shows = λ k lt ok. shown.shows k (omega (arith, lt, inside)) })
-            (final_of_log params log genuine.timely reading (confirms_signatory_of reading params log lawful distinct genuine sealed opens))
-            (checked_of_log reading params log lawful distinct genuine sealed opens)
-            inside;
-      }
-    where
-      within : (o : Option Entry) → slice_get log j ≡ o → request_in o ≡ Some q → j < length log
-      within None e h = absurd (none-some q h)
-      within (Some x) e h = slice_get_within log j x e
-
-  abbrev its_past : ℕ → ParticipantId → List Act
-  its_past j p = past_in reading (inbox reading p (take (suc j) log)) j
-
-  abbrev its_pending : ℕ → ParticipantId → List Act
-  its_pending j p = pending_in reading params (inbox reading p (take (suc j) log)) j
-
-  its_past_is : (j p : ℕ) → its_past j p ≡ past_at (r reading params log lawful distinct genuine sealed opens) p j
-  its_past_is j p = same_counted reading params log p genuine.timely (opens p) j (confirms_signatory_of reading params log lawful distinct genuine sealed opens)
-
-  its_pending_is : (j p : ℕ) → its_pending j p ≡ pending_at (r reading params log lawful distinct genuine sealed opens) p j
-  its_pending_is j p = same_pending reading params log p genuine.timely (opens p) j (confirms_signatory_of reading params log lawful distinct genuine sealed opens)
-
+module _ (reading : Reading) (params : Params) (log : List Entry) (lawful : IsReading reading) (genuine : Genuine reading params log) where
   abbrev nine : ℕ → Shown → ParticipantId → OpenedView → List Check
   nine j s p view =
       checks reading params p (item_time (slice_get (inbox reading p (take (suc j) log)) j)) s view
       (status_in_inbox reading (inbox reading p (take (suc j) log)) j) (is_locked_in_inbox reading params (inbox reading p (take (suc j) log)) j)
 
-  reason_holds : (j : ℕ) (p : ParticipantId) (q : Request) (s : Shown) (view : OpenedView) (reason : Reason) (i : ℕ) → request_at log j ≡ Some q → reading.shown p q ≡ Some s → In view s.views → verdict_on_view reading params p (inbox reading p (take (suc j) log)) j s view ≡ Reject reason i → ReasonHolds reading params log j view.core reason
-  reason_holds j p q s view IdMismatch i at is there h = tt
-  reason_holds j p q s view NotVetted i at is there h = tt
-  reason_holds j p q s view TimeSkew i at is there h = tt
-  reason_holds j p q s view Unordered i at is there h = tt
-  reason_holds j p q s view NotConformant i at is there h = tt
-  reason_holds j p q s view NotAuthorised i at is there h = tt
-  reason_holds j p q s view Locked i at is there h =
-      let s1 = skip (nine j s p view) view.core Locked i h refl in
-      let s2 = skip (tail (nine j s p view)) view.core Locked i s1.1 refl in
-      let s3 = skip (tail (tail (nine j s p view))) view.core Locked i s2.1 refl in
-      let a = hit (tail (tail (tail (nine j s p view)))) view.core Locked i s3.1 (λ k.
-      let t1 = skip (tail (tail (tail (tail (nine j s p view))))) view.core Locked i k refl in
-      let t2 = skip (tail (tail (tail (tail (tail (nine j s p view)))))) view.core Locked i t1.1 refl in
-      let t3 = skip (tail (tail (tail (tail (tail (tail (nine j s p view))))))) view.core Locked i t2.1 refl in
-      let t4 = skip (tail (tail (tail (tail (tail (tail (tail (nine j s p view)))))))) view.core Locked i t3.1 refl in
-      let t5 = skip (tail (tail (tail (tail (tail (tail (tail (tail (nine j s p view))))))))) view.core Locked i t4.1 refl in
-      no_more view.core Locked i t5.1) in
-      let parts = and_parts _ _ a.2 in
-      let real = not-false _ (s1.0 a.0 a.1) in
-      let right = counts p j q s view a.0 at is there a.1 real parts.0 in
-      let locked : is_locked_by (pending_at (r reading params log lawful distinct genuine sealed opens) p j) (id_of ((a.0).1).action) ≡ true = rw (← its_pending_is j p) parts.1 in
-      (a.0, contains_from_In view.core a.0 a.1, sym right.locked ∙ locked)
-  reason_holds j p q s view Inactive i at is there h =
-      let s1 = skip (nine j s p view) view.core Inactive i h refl in
-      let s2 = skip (tail (nine j s p view)) view.core Inactive i s1.1 refl in
-      let s3 = skip (tail (tail (nine j s p view))) view.core Inactive i s2.1 refl in
-      let s4 = skip (tail (tail (tail (nine j s p view)))) view.core Inactive i s3.1 refl in
-      let a = hit (tail (tail (tail (tail (nine j s p view))))) view.core Inactive i s4.1 (λ k.
-      let t1 = skip (tail (tail (tail (tail (tail (nine j s p view)))))) view.core Inactive i k refl in
-      let t2 = skip (tail (tail (tail (tail (tail (tail (nine j s p view))))))) view.core Inactive i t1.1 refl in
-      let t3 = skip (tail (tail (tail (tail (tail (tail (tail (nine j s p view)))))))) view.core Inactive i t2.1 refl in
-      let t4 = skip (tail (tail (tail (tail (tail (tail (tail (tail (nine j s p view))))))))) view.core Inactive i t3.1 refl in
-      no_more view.core Inactive i t4.1) in
-      let parts = and_parts _ _ a.2 in
-      let shown = and_parts _ _ parts.1 in
-      let rest = and_parts _ _ shown.1 in
-      let real = not-false _ (s1.0 a.0 a.1) in
-      let right = counts p j q s view a.0 at is there a.1 real parts.0 in
-      let unlocked : is_locked_by (pending_at (r reading params log lawful distinct genuine sealed opens) p j) (id_of ((a.0).1).action) ≡ false = rw (← its_pending_is j p) (second reading params log lawful distinct genuine sealed opens _ _ parts.0 (s4.0 a.0 a.1)) in
-      let status : status_after (its_past j p) (id_of ((a.0).1).action) ≡ _ = ap (λ (xs : List Act). status_after xs (id_of ((a.0).1).action)) (its_past_is j p) ∙ right.status unlocked in
-      (a.0, contains_from_In view.core a.0 a.1, (not-true _ shown.0, ap is_active (sym status) ∙ not-true _ rest.0, not_created p j q s view a.0 at is there a.1 real parts.0 (not-true _ rest.1)))
-  reason_holds j p q s view NotFresh i at is there h =
-      let s1 = skip (nine j s p view) view.core NotFresh i h refl in
-      let s2 = skip (tail (nine j s p view)) view.core NotFresh i s1.1 refl in
-      let s3 = skip (tail (tail (nine j s p view))) view.core NotFresh i s2.1 refl in
-      let s4 = skip (tail (tail (tail (nine j s p view)))) view.core NotFresh i s3.1 refl in
-      let s5 = skip (tail (tail (tail (tail (nine j s p view))))) view.core NotFresh i s4.1 refl in
-      let a = hit (tail (tail (tail (tail (tail (nine j s p view)))))) view.core NotFresh i s5.1 (λ k.
-      let t1 = skip (tail (tail (tail (tail (tail (tail (nine j s p view))))))) view.core NotFresh i k refl in
-      let t2 = skip (tail (tail (tail (tail (tail (tail (tail (nine j s p view)))))))) view.core NotFresh i t1.1 refl in
-      let t3 = skip (tail (tail (tail (tail (tail (tail (tail (tail (nine j s p view))))))))) view.core NotFresh i t2.1 refl in
-      no_more view.core NotFresh i t3.1) in
-      let parts = and_parts _ _ a.2 in
-      let shown = and_parts _ _ parts.1 in
-      let real = not-false _ (s1.0 a.0 a.1) in
-      let right = counts p j q s view a.0 at is there a.1 real parts.0 in
-      let unlocked : is_locked_by (pending_at (r reading params log lawful distinct genuine sealed opens) p j) (id_of ((a.0).1).action) ≡ false = rw (← its_pending_is j p) (second reading params log lawful distinct genuine sealed opens _ _ parts.0 (s4.0 a.0 a.1)) in
-      let status : status_after (its_past j p) (id_of ((a.0).1).action) ≡ _ = ap (λ (xs : List Act). status_after xs (id_of ((a.0).1).action)) (its_past_is j p) ∙ right.status unlocked in
-      (a.0, contains_from_In view.core a.0 a.1, (shown.0, ap is_unknown (sym status) ∙ not-true _ shown.1))
+  -- The reason is one of the nine, of a view that is opened.
+  record IsOpen (j : ℕ) (p : ParticipantId) (q : Request) (path : Path) (reason : Reason) (i : ℕ) : Type 0 where
+    shown : Shown
+    is_shown : shown_to reading p q ≡ Some shown
+    view : OpenedView
+    is_in : In view shown.views
+    has_path : view.path ≡ path
+    check : first_shown (nine j shown p view) view.core ≡ Reject reason i
 
-  pub rejection_holds : (j : ℕ) (from : ParticipantId) (path : Path) (reason : Reason) → verdict_on j (timeline_of log) ≡ Some (Rejected from path reason) → RejectionHolds reading params log j from path reason
-  rejection_holds j from path reason h =
-      let s = rejection_stands reading params log genuine opens j from path reason h in
-      record {
-        stands = s;
-        holds = reason_holds j from s.request s.shown s.view reason s.action s.there s.is_shown (in_from_Contains _ s.view s.is_opened) s.check;
-      }
+  abbrev IsOfNine : Reason → Type 0
+  IsOfNine reason = (nat_eq 10 (number reason) ≡ false) × (nat_eq 11 (number reason) ≡ false) × (nat_eq 12 (number reason) ≡ false) × (nat_eq 13 (number reason) ≡ false)
+
+  open_view : (j : ℕ) (p : ParticipantId) (q : Request) (path : Path) (reason : Reason) (i : ℕ) → IsOfNine reason → (s : Shown) → shown_to reading p q ≡ Some s → (o : Option OpenedView) → view_at path s.views ≡ o → verdict_on_found reading params p (inbox reading p (take (suc j) log)) j q.sender s o ≡ Reject reason i → IsOpen j p q path reason i
+  open_view j p q path reason i other s is None e h = absurd (apart ViewMissing reason other.1 (rejected_same _ _ _ _ h))
+  open_view j p q path reason i other s is (Some view) e h =
+      elim (cases_Bool (is_from reading q.sender s)) [
+        | inr wrong ↦ let h' : Reject WrongSender 0 ≡ Reject reason i = rw wrong at h in absurd (apart WrongSender reason other.2 (rejected_same _ _ _ _ h'))
+        | inl from ↦ elim (cases_Bool (is_well_split reading s view)) [
+          | inr wrong ↦ let h' : Reject WrongCommon 0 ≡ Reject reason i = rw (from, wrong) at h in absurd (apart WrongCommon reason other.3 (rejected_same _ _ _ _ h'))
+          | inl split ↦
+              let there = view_at_in path s.views view e in
+              record { shown = s; is_shown = is; view = view; is_in = there.0; has_path = there.1; check = rw (from, split) at h }
+        ]
+      ]
+
+  open_offer : (j : ℕ) (p : ParticipantId) (q : Request) (path : Path) (reason : Reason) (i : ℕ) → IsOfNine reason → is_recipient reading p q ≡ true → (o : Offer) → reading.offered p q ≡ o → verdict_on_offer reading params p (inbox reading p (take (suc j) log)) j q.sender path o ≡ Reject reason i → IsOpen j p q path reason i
+  open_offer j p q path reason i other receives Mismatch e h = absurd (apart RootMismatch reason other.0 (rejected_same _ _ _ _ h))
+  open_offer j p q path reason i other receives Missing e h = absurd (apart ViewMissing reason other.1 (rejected_same _ _ _ _ h))
+  open_offer j p q path reason i other receives (Open s) e h = open_view j p q path reason i other s (rw (receives, e) refl) (view_at path s.views) refl h
+
+  -- where the reason stands and its action
+  module _ (j : ℕ) (p : ParticipantId) (path : Path) (reason : Reason) (stands : RejectionStands reading params log j p path reason) where
+    abbrev q : Request
+    q = stands.request
+
+    opened : IsOfNine reason → IsOpen j p q path reason stands.action
+    opened other =
+        open_offer j p q path reason stands.action other
+        (confirmer_receives reading params log lawful genuine j q p path stands.there (in_from_Contains _ path stands.is_confirmed)) (reading.offered p q) refl stands.check
+
+    short : j < length log
+    short = within (slice_get log j) refl stands.there
+      where
+        within : (o : Option Entry) → slice_get log j ≡ o → request_in o ≡ Some q → j < length log
+        within None e h = absurd (none-some q h)
+        within (Some x) e h = slice_get_within log j x e
+
+    -- an action of the core stands in what is opened
+    stands_opened : (o : IsOpen j p q path reason stands.action) (a : ℕ × Act) → In a o.view.core → In a.1 (acts (opened_to reading p (request_at log j)))
+    stands_opened o a core =
+        let placed = (framed_of reading params log genuine lawful j q stands.there).placed p o.shown o.is_shown in
+        let place = placed.numbered o.view a.0 a.1 (contains_from_In _ o.view o.is_in) (contains_from_In _ a core) in
+        subst (λ (xs : List Act). In a.1 xs) (sym (ap (λ (x : Option Request). acts (opened_to reading p x)) stands.there ∙ ap (λ (x : Option Shown). acts (roots_in x)) o.is_shown))
+        (at_in (acts (o.shown).roots) a.0 a.1 place)
+
+    some_core : (P : Shown → ℕ × Act → Type 0) (o : IsOpen j p q path reason stands.action) (a : ℕ × Act) → In a o.view.core → P o.shown a → SomeCore reading p q path P
+    some_core P o a core holds =
+        record {
+          shown = o.shown;
+          is_shown = o.is_shown;
+          view = o.view;
+          is_opened = contains_from_In _ o.view o.is_in;
+          has_path = o.has_path;
+          action = a;
+          in_core = contains_from_In _ a core;
+          holds = holds;
+        }
+
+  locked_holds : (j : ℕ) (p : ParticipantId) (path : Path) (stands : RejectionStands reading params log j p path Locked) → LocalReasonHolds reading params log j p stands.request path Locked
+  locked_holds j p path stands =
+      let o = opened j p path Locked stands (refl, refl, refl, refl) in
+      let i = stands.action in
+      let core = (o.view).core in
+      let cs = nine j o.shown p o.view in
+      let s1 = skip cs core Locked i o.check refl in
+      let s2 = skip (tail cs) core Locked i s1.1 refl in
+      let s3 = skip (tail (tail cs)) core Locked i s2.1 refl in
+      let a = hit (tail (tail (tail cs))) core Locked i s3.1 (λ k.
+      let t1 = skip (tail (tail (tail (tail cs)))) core Locked i k refl in
+      let t2 = skip (tail (tail (tail (tail (tail cs))))) core Locked i t1.1 refl in
+      let t3 = skip (tail (tail (tail (tail (tail (tail cs)))))) core Locked i t2.1 refl in
+      let t4 = skip (tail (tail (tail (tail (tail (tail (tail cs))))))) core Locked i t3.1 refl in
+      let t5 = skip (tail (tail (tail (tail (tail (tail (tail (tail cs)))))))) core Locked i t4.1 refl in
+      no_more core Locked i t5.1) in
+      some_core j p path Locked stands _ o a.0 a.1
+      (locked_in_log reading params log genuine.timely p j (id_of ((a.0).1).action) (and_parts _ _ a.2).1)
+
+  local_reason_holds : (j : ℕ) (p : ParticipantId) (path : Path) (reason : Reason) (stands : RejectionStands reading params log j p path reason) → LocalReasonHolds reading params log j p stands.request path reason
+  local_reason_holds j p path RootMismatch stands = tt
+  local_reason_holds j p path ViewMissing stands = tt
+  local_reason_holds j p path WrongSender stands = tt
+  local_reason_holds j p path WrongCommon stands = tt
+  local_reason_holds j p path IdMismatch stands = tt
+  local_reason_holds j p path NotVetted stands = tt
+  local_reason_holds j p path TimeSkew stands = tt
+  local_reason_holds j p path Inactive stands = tt
+  local_reason_holds j p path NotFresh stands = tt
+  local_reason_holds j p path Unordered stands = tt
+  local_reason_holds j p path NotConformant stands = tt
+  local_reason_holds j p path NotAuthorised stands = tt
+  local_reason_holds j p path Locked stands = locked_holds j p path stands
+
+  pub local_rejection_holds : (j : ℕ) (from : ParticipantId) (path : Path) (reason : Reason) → verdict_on j (timeline_of log) ≡ Some (Rejected from path reason) → LocalRejectionHolds reading params log j from path reason
+  local_rejection_holds j from path reason h =
+      let s = rejection_stands reading params log genuine j from path reason h in
+      record { stands = s; holds = local_reason_holds j from path reason s }
+
+  module _ (distinct : NoCollision reading log) where
+    inactive_holds : (j : ℕ) (p : ParticipantId) (path : Path) (stands : RejectionStands reading params log j p path Inactive) → LedgerReasonHolds reading log j p stands.request path Inactive
+    inactive_holds j p path stands =
+        let o = opened j p path Inactive stands (refl, refl, refl, refl) in
+        let i = stands.action in
+        let core = (o.view).core in
+        let cs = nine j o.shown p o.view in
+        let s1 = skip cs core Inactive i o.check refl in
+        let s2 = skip (tail cs) core Inactive i s1.1 refl in
+        let s3 = skip (tail (tail cs)) core Inactive i s2.1 refl in
+        let s4 = skip (tail (tail (tail cs))) core Inactive i s3.1 refl in
+        let a = hit (tail (tail (tail (tail cs)))) core Inactive i s4.1 (λ k.
+        let t1 = skip (tail (tail (tail (tail (tail cs))))) core Inactive i k refl in
+        let t2 = skip (tail (tail (tail (tail (tail (tail cs)))))) core Inactive i t1.1 refl in
+        let t3 = skip (tail (tail (tail (tail (tail (tail (tail cs))))))) core Inactive i t2.1 refl in
+        let t4 = skip (tail (tail (tail (tail (tail (tail (tail (tail cs)))))))) core Inactive i t3.1 refl in
+        no_more core Inactive i t4.1) in
+        let parts = and_parts _ _ a.2 in
+        let shows = and_parts _ _ parts.1 in
+        let rest = and_parts _ _ shows.1 in
+        let real = not-false _ (s1.0 a.0 a.1) in
+        let there = stands_opened j p path Inactive stands o a.0 a.1 in
+        let unlocked = second _ _ parts.0 (s4.0 a.0 a.1) in
+        let c = id_of ((a.0).1).action in
+        let agrees : ((m : ℕ) → m < j → is_withheld reading log p m ≡ false) → is_active (status_in reading log j c) ≡ false =
+        λ free. ap is_active (sym (status_of_host reading params log lawful genuine distinct p p j (a.0).1 there real parts.0 j free (short j p path Inactive stands) unlocked)) ∙ not-true _ rest.0 in
+        some_core j p path Inactive stands _ o a.0 a.1 (
+          not-true _ shows.0,
+          any_weaker reading.is_authentic (creates c) _ (not-true _ rest.1),
+          elim (search_withheld (is_withheld reading log p) j) [ inl free ↦ inl (agrees free) | inr held ↦ inr held ],
+        )
+
+    not_fresh_holds : (j : ℕ) (p : ParticipantId) (path : Path) (stands : RejectionStands reading params log j p path NotFresh) → LedgerReasonHolds reading log j p stands.request path NotFresh
+    not_fresh_holds j p path stands =
+        let o = opened j p path NotFresh stands (refl, refl, refl, refl) in
+        let i = stands.action in
+        let core = (o.view).core in
+        let cs = nine j o.shown p o.view in
+        let s1 = skip cs core NotFresh i o.check refl in
+        let s2 = skip (tail cs) core NotFresh i s1.1 refl in
+        let s3 = skip (tail (tail cs)) core NotFresh i s2.1 refl in
+        let s4 = skip (tail (tail (tail cs))) core NotFresh i s3.1 refl in
+        let s5 = skip (tail (tail (tail (tail cs)))) core NotFresh i s4.1 refl in
+        let a = hit (tail (tail (tail (tail (tail cs))))) core NotFresh i s5.1 (λ k.
+        let t1 = skip (tail (tail (tail (tail (tail (tail cs)))))) core NotFresh i k refl in
+        let t2 = skip (tail (tail (tail (tail (tail (tail (tail cs))))))) core NotFresh i t1.1 refl in
+        let t3 = skip (tail (tail (tail (tail (tail (tail (tail (tail cs)))))))) core NotFresh i t2.1 refl in
+        no_more core NotFresh i t3.1) in
+        let parts = and_parts _ _ a.2 in
+        let shows = and_parts _ _ parts.1 in
+        let c = id_of ((a.0).1).action in
+        some_core j p path NotFresh stands _ o a.0 a.1
+        (shows.0, known_in_log reading params log lawful genuine distinct p j c (short j p path NotFresh stands) (not-true _ shows.1))
+
+    ledger_reason_holds : (j : ℕ) (p : ParticipantId) (path : Path) (reason : Reason) (stands : RejectionStands reading params log j p path reason) → LedgerReasonHolds reading log j p stands.request path reason
+    ledger_reason_holds j p path RootMismatch stands = tt
+    ledger_reason_holds j p path ViewMissing stands = tt
+    ledger_reason_holds j p path WrongSender stands = tt
+    ledger_reason_holds j p path WrongCommon stands = tt
+    ledger_reason_holds j p path IdMismatch stands = tt
+    ledger_reason_holds j p path NotVetted stands = tt
+    ledger_reason_holds j p path TimeSkew stands = tt
+    ledger_reason_holds j p path Locked stands = tt
+    ledger_reason_holds j p path Unordered stands = tt
+    ledger_reason_holds j p path NotConformant stands = tt
+    ledger_reason_holds j p path NotAuthorised stands = tt
+    ledger_reason_holds j p path Inactive stands = inactive_holds j p path stands
+    ledger_reason_holds j p path NotFresh stands = not_fresh_holds j p path stands
+
+    pub rejection_holds : (j : ℕ) (from : ParticipantId) (path : Path) (reason : Reason) → verdict_on j (timeline_of log) ≡ Some (Rejected from path reason) → RejectionHolds reading params log j from path reason
+    rejection_holds j from path reason h =
+        let locally = local_rejection_holds j from path reason h in
+        record { locally = locally; holds = ledger_reason_holds j from path reason locally.stands }

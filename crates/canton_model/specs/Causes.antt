@@ -1,69 +1,109 @@
 -- What each rejection says, as a fact in which no participant's status occurs.
-use Rattle.std.specs.Prelude.{◌≡◌, ℕ, suc, Bool, true, false, List, ◌∷◌, ◌++◌, Some, None, Contains, take, filter, not, nat_lt, ◌&&◌}
+use Rattle.std.specs.Prelude.{◌≡◌, ◌⊎◌, ℕ, suc, ◌<◌, Bool, true, false, List, Some, None, Contains, take, filter, not, nat_lt, ◌&&◌, ◌||◌}
 use Rattle.std.specs.List.{list_any}
-use Rattle.ledger_model.specs.Terms.{Act, id_of, is_create, creates, ParticipantId, Path}
+use Rattle.ledger_model.specs.Terms.{Hash, Act, id_of, is_create, creates, consumes, ParticipantId, Path}
+use Rattle.ledger_model.specs.Forest.{acts}
 use Rattle.ledger_model.specs.Status.{is_active, is_unknown}
-use Rattle.canton_model.specs.Evidence.{acts_of, is_locked_at}
 use Rattle.canton_model.specs.Log.{Params, Entry, Request, Reason, IdMismatch, NotVetted, TimeSkew, Locked, Inactive, NotFresh, Unordered}
-use Rattle.canton_model.specs.Log.{NotConformant, NotAuthorised, Reject, Approved, Rejected, TimedOut, request_at, deadline_of}
-use Rattle.canton_model.specs.Log.{decision_time_of}
-use Rattle.canton_model.specs.Timeline.{Outcome, Decided, Expired, Undecided, timeline_of, verdict_on, is_past}
+use Rattle.canton_model.specs.Log.{NotConformant, NotAuthorised, RootMismatch, ViewMissing, WrongSender, WrongCommon}
+use Rattle.canton_model.specs.Log.{Reject, Approved, Rejected, TimedOut, request_at, deadline_of, decision_time_of}
+use Rattle.canton_model.specs.Timeline.{Outcome, Decided, Expired, Undecided, timeline_of, verdict_on, is_past, is_decided_at}
 use Rattle.canton_model.specs.Mediation.{is_response_of}
 use Rattle.ledger_model.specs.Opening.{OpenedView, Shown}
-use Rattle.canton_model.specs.Reading.{Reading}
+use Rattle.canton_model.specs.Reading.{Reading, shown_to, paths_confirmed}
 use Rattle.canton_model.specs.Inbox.{inbox}
-use Rattle.canton_model.specs.Ledger.{requests_of, status_in, whole_at}
-use Rattle.canton_model.specs.Checks.{verdict_on_view, is_confirmed_by}
+use Rattle.canton_model.specs.Ledger.{opened_to, status_in, is_withheld}
+use Rattle.canton_model.specs.Checks.{verdict_on_offer}
 
--- whether a request below the place that isn't decided there creates or consumes the contract of the action
-abbrev pub is_locked_in : Reading → Params → List Entry → (place : ℕ) → Act → Bool
-is_locked_in reading params log k a = is_locked_at (requests_of reading params log (λ p c. false)) k (id_of a.action)
+-- A request below the place that isn't decided there creates or consumes the contract, by an authentic action that a complete
+-- envelope opens.
+pub record IsLockedIn (reading : Reading) (params : Params) (log : List Entry) (k : ℕ) (c : Hash) : Type 0 where
+  pub place : ℕ
+  pub below : place < k
+  pub undecided : is_decided_at (timeline_of log) place (decision_time_of params log place) k ≡ false
+  pub participant : ParticipantId
+  pub act : Act
+  pub is_opened : Contains (acts (opened_to reading participant (request_at log place))) act
+  pub authentic : reading.is_authentic act ≡ true
+  pub changes : (creates c act || consumes c act) ≡ true
 
--- some action of the core has this
-abbrev pub SomeCore : List (ℕ × Act) → (Act → Type 0) → Type 0
-SomeCore core P = (a : ℕ × Act) × Contains core a × P a.1
+-- some action of the view's core, as the view is opened to the participant, has this
+pub record SomeCore (reading : Reading) (p : ParticipantId) (request : Request) (path : Path) (P : Shown → ℕ × Act → Type 0) : Type 0 where
+  pub shown : Shown
+  pub is_shown : shown_to reading p request ≡ Some shown
+  pub view : OpenedView
+  pub is_opened : Contains shown.views view
+  pub has_path : view.path ≡ path
+  pub action : ℕ × Act
+  pub in_core : Contains view.core action
+  pub holds : P shown action
 
--- the action stands in the whole, and no authentic action before it there creates its contract
-pub record NotCreatedBefore (reading : Reading) (whole : List Act) (a : Act) : Type 0 where
-  pub before : List Act
-  pub after : List Act
-  pub stands : whole ≡ before ++ a ∷ after
-  pub none : list_any (λ (b : Act). reading.is_authentic b && creates (id_of a.action) b) before ≡ false
+-- no authentic action that is opened before this one creates its contract
+abbrev pub is_created_before : Reading → Shown → ℕ × Act → Bool
+is_created_before reading shown a =
+    list_any (λ (b : Act). reading.is_authentic b && creates (id_of (a.1).action) b) (take a.0 (acts shown.roots))
 
--- what the reason says of a view's core
-abbrev pub ReasonHolds : Reading → Params → List Entry → (j : ℕ) → List (ℕ × Act) → Reason → Type 0
-ReasonHolds reading params log j core Locked = SomeCore core (λ a. is_locked_in reading params log j a ≡ true)
-ReasonHolds reading params log j core Inactive =
-    SomeCore core (λ a.
-    (is_create a.action ≡ false)
-    × (is_active (status_in reading log j (id_of a.action)) ≡ false)
-    × NotCreatedBefore reading (acts_of (whole_at reading log j)) a)
-ReasonHolds reading params log j core NotFresh =
-    SomeCore core (λ a. (is_create a.action ≡ true) × (is_unknown (status_in reading log j (id_of a.action)) ≡ false))
-ReasonHolds reading params log j core IdMismatch = Unit {0}
-ReasonHolds reading params log j core NotVetted = Unit {0}
-ReasonHolds reading params log j core TimeSkew = Unit {0}
-ReasonHolds reading params log j core Unordered = Unit {0}
-ReasonHolds reading params log j core NotConformant = Unit {0}
-ReasonHolds reading params log j core NotAuthorised = Unit {0}
+-- a place below this one is withheld from the participant
+abbrev pub IsWithheldBelow : Reading → List Entry → ParticipantId → ℕ → Type 0
+IsWithheldBelow reading log p j = (m : ℕ) × (m < j) × (is_withheld reading log p m ≡ true)
+
+-- what the reason says of a view, whether hashes collide or not
+abbrev pub LocalReasonHolds : Reading → Params → List Entry → (j : ℕ) → ParticipantId → Request → Path → Reason → Type 0
+LocalReasonHolds reading params log j p request path Locked =
+    SomeCore reading p request path (λ shown a. IsLockedIn reading params log j (id_of (a.1).action))
+LocalReasonHolds reading params log j p request path RootMismatch = Unit {0}
+LocalReasonHolds reading params log j p request path ViewMissing = Unit {0}
+LocalReasonHolds reading params log j p request path WrongSender = Unit {0}
+LocalReasonHolds reading params log j p request path WrongCommon = Unit {0}
+LocalReasonHolds reading params log j p request path IdMismatch = Unit {0}
+LocalReasonHolds reading params log j p request path NotVetted = Unit {0}
+LocalReasonHolds reading params log j p request path TimeSkew = Unit {0}
+LocalReasonHolds reading params log j p request path Inactive = Unit {0}
+LocalReasonHolds reading params log j p request path NotFresh = Unit {0}
+LocalReasonHolds reading params log j p request path Unordered = Unit {0}
+LocalReasonHolds reading params log j p request path NotConformant = Unit {0}
+LocalReasonHolds reading params log j p request path NotAuthorised = Unit {0}
+
+-- what it says besides of the ledger, where none collide
+abbrev pub LedgerReasonHolds : Reading → List Entry → (j : ℕ) → ParticipantId → Request → Path → Reason → Type 0
+LedgerReasonHolds reading log j p request path Inactive =
+    SomeCore reading p request path (λ shown a.
+    (is_create (a.1).action ≡ false)
+    × (is_created_before reading shown a ≡ false)
+    × ((is_active (status_in reading log j (id_of (a.1).action)) ≡ false) ⊎ IsWithheldBelow reading log p j))
+LedgerReasonHolds reading log j p request path NotFresh =
+    SomeCore reading p request path (λ shown a. (is_create (a.1).action ≡ true) × (is_unknown (status_in reading log j (id_of (a.1).action)) ≡ false))
+LedgerReasonHolds reading log j p request path RootMismatch = Unit {0}
+LedgerReasonHolds reading log j p request path ViewMissing = Unit {0}
+LedgerReasonHolds reading log j p request path WrongSender = Unit {0}
+LedgerReasonHolds reading log j p request path WrongCommon = Unit {0}
+LedgerReasonHolds reading log j p request path IdMismatch = Unit {0}
+LedgerReasonHolds reading log j p request path NotVetted = Unit {0}
+LedgerReasonHolds reading log j p request path TimeSkew = Unit {0}
+LedgerReasonHolds reading log j p request path Locked = Unit {0}
+LedgerReasonHolds reading log j p request path Unordered = Unit {0}
+LedgerReasonHolds reading log j p request path NotConformant = Unit {0}
+LedgerReasonHolds reading log j p request path NotAuthorised = Unit {0}
 
 -- The participant confirms the view, and its check there gives the reason.
 pub record RejectionStands (reading : Reading) (params : Params) (log : List Entry) (j : ℕ) (p : ParticipantId) (path : Path) (reason : Reason) : Type 0 where
   pub request : Request
   pub there : request_at log j ≡ Some request
-  pub shown : Shown
-  pub is_shown : reading.shown p request ≡ Some shown
-  pub view : OpenedView
-  pub is_opened : Contains shown.views view
-  pub has_path : view.path ≡ path
-  pub is_confirmed : is_confirmed_by reading p view ≡ true
+  pub is_confirmed : Contains (paths_confirmed reading p request) path
   pub action : ℕ
-  pub check : verdict_on_view reading params p (inbox reading p (take (suc j) log)) j shown view ≡ Reject reason action
+  pub check : verdict_on_offer reading params p (inbox reading p (take (suc j) log)) j request.sender path (reading.offered p request)
+      ≡ Reject reason action
 
--- It does, and the reason is a fact of the ledger.
-pub record RejectionHolds (reading : Reading) (params : Params) (log : List Entry) (j : ℕ) (p : ParticipantId) (path : Path) (reason : Reason) : Type 0 where
+-- It does, and what the reason says is so.
+pub record LocalRejectionHolds (reading : Reading) (params : Params) (log : List Entry) (j : ℕ) (p : ParticipantId) (path : Path) (reason : Reason)
+    : Type 0 where
   pub stands : RejectionStands reading params log j p path reason
-  pub holds : ReasonHolds reading params log j (stands.view).core reason
+  pub holds : LocalReasonHolds reading params log j p stands.request path reason
+
+-- And what it says of the ledger is so too.
+pub record RejectionHolds (reading : Reading) (params : Params) (log : List Entry) (j : ℕ) (p : ParticipantId) (path : Path) (reason : Reason) : Type 0 where
+  pub locally : LocalRejectionHolds reading params log j p path reason
+  pub holds : LedgerReasonHolds reading log j p (locally.stands).request path reason
 
 -- p has a response to the request at place j by this time
 abbrev pub has_responded_by : List Entry → (j time : ℕ) → ParticipantId → Bool
@@ -84,7 +124,7 @@ pub record ExpiryHolds (params : Params) (log : List Entry) (j : ℕ) : Type 0 w
 -- what an outcome of the request at place j says without the ledger
 abbrev pub LocalCauseOf : Reading → Params → List Entry → (j : ℕ) → Outcome → Type 0
 LocalCauseOf reading params log j (Decided Approved) = Unit {0}
-LocalCauseOf reading params log j (Decided (Rejected from view reason)) = RejectionStands reading params log j from view reason
+LocalCauseOf reading params log j (Decided (Rejected from view reason)) = LocalRejectionHolds reading params log j from view reason
 LocalCauseOf reading params log j (Decided (TimedOut missing)) = TimeoutHolds params log j missing
 LocalCauseOf reading params log j Expired = ExpiryHolds params log j
 LocalCauseOf reading params log j Undecided = Unit {0}

@@ -1,19 +1,23 @@
 -- The local checks of a participant on a view.
-use Rattle.std.specs.Prelude.{ℕ, suc, ◌+◌, Bool, false, List, [], ◌∷◌, Option, Some, None, take, filter, map, length, not, ◌&&◌, ◌||◌}
-use Rattle.std.specs.Prelude.{if◌then◌else◌, slice_get, nat_eq, nat_le}
+use Rattle.std.specs.Prelude.{ℕ, suc, ◌+◌, Bool, true, false, List, [], ◌∷◌, ◌++◌, Option, Some, None, take, filter, find, flat_map, map, length}
+use Rattle.std.specs.Prelude.{not, ◌&&◌, ◌||◌, if◌then◌else◌, slice_get, nat_eq, nat_le}
 use Rattle.std.specs.List.{list_any, list_all}
-use Rattle.ledger_model.specs.Terms.{PartySet, Hash, Action, Act, instance_of, ParticipantId}
+use Rattle.std.specs.Str.{bytes_eq}
+use Rattle.std.specs.Cmp.Lexicographic.{pointwise}
+use Rattle.ledger_model.specs.Terms.{Name, PartySet, Hash, Action, Act, instance_of, ParticipantId, Path}
 use Rattle.ledger_model.specs.Forest.{Forest, NoRoots, Root, acts, roots_of, below_at}
 use Rattle.ledger_model.specs.declared.status.Status.{Status}
 use Rattle.ledger_model.specs.Status.{shows_locked, shows_inactive, shows_not_fresh, shows_unordered}
-use Rattle.ledger_model.specs.Language.{roles_of}
+use Rattle.ledger_model.specs.Language.{Language, roles_of}
+use Rattle.ledger_model.specs.Views.{confirmers_of, its_informees, starts}
 use Rattle.ledger_model.specs.declared.roles.Roles.{Roles}
 use Rattle.ledger_model.specs.Authority.{is_authorised, authorisers_below}
 use Rattle.canton_model.specs.Log.{Params, ViewVerdict, LocalVerdict, Approve, Reject, Reason, IdMismatch, NotVetted, TimeSkew, Locked}
 use Rattle.canton_model.specs.Log.{Inactive, NotFresh, Unordered, NotConformant, NotAuthorised}
+use Rattle.canton_model.specs.Log.{RootMismatch, ViewMissing, WrongSender, WrongCommon}
 use Rattle.ledger_model.specs.Opening.{Shown, OpenedView}
-use Rattle.canton_model.specs.Reading.{Reading}
-use Rattle.canton_model.specs.Inbox.{Item, item_time, shown_at, status_in_inbox, is_locked_in_inbox, has_hosted_stakeholder}
+use Rattle.canton_model.specs.Reading.{Reading, Offer, Mismatch, Missing, Open}
+use Rattle.canton_model.specs.Inbox.{Item, Notice, item_time, notice_at, status_in_inbox, is_locked_in_inbox, has_hosted_stakeholder}
 
 -- the place of the first that passes, and the length where none does
 abbrev pub first_place : {X : Type 0} → (X → Bool) → List X → ℕ
@@ -71,6 +75,46 @@ abbrev pub is_authorised_in : Reading → Shown → OpenedView → ℕ × Act �
 is_authorised_in reading shown view a =
     authorises_children (roles_of reading.language) shown a && is_requested (roles_of reading.language) shown view a
 
+abbrev pub are_confirmed : (Name → Bool) → Option PartySet → Bool
+are_confirmed confirms None = true
+are_confirmed confirms (Some names) = list_all confirms names
+
+-- The name that is shown is the sender's, and it confirms the requesters, where they are told.
+abbrev pub is_from : Reading → (sender : ParticipantId) → Shown → Bool
+is_from reading sender shown = reading.is_named sender shown.sender && are_confirmed (reading.confirms sender) shown.requesters
+
+abbrev pub same_names : PartySet → PartySet → Bool
+same_names a b = pointwise bytes_eq a b
+
+-- the path of a view directly below the one with this path
+abbrev pub is_directly_below : Path → Path → Bool
+is_directly_below path other = nat_eq (length other) (suc (length path)) && bytes_eq (take (length path) other) path
+
+abbrev pub first_act : List (ℕ × Act) → List Act
+first_act [] = []
+first_act (first ∷ rest) = first.1 ∷ []
+
+-- the first actions of the views directly below one
+abbrev pub subview_starts : Shown → OpenedView → List Act
+subview_starts shown view =
+    flat_map (λ (other : OpenedView). first_act other.core)
+    (filter (λ (other : OpenedView). is_directly_below view.path other.path) shown.views)
+
+-- A core whose first action starts a view with these informees and confirmers, in which no other action starts one, above views
+-- whose first actions do. All of them have roles.
+abbrev pub is_split_core : Language → (informees confirmers : PartySet) → List (ℕ × Act) → (below : List Act) → Bool
+is_split_core language informees confirmers [] below = false
+is_split_core language informees confirmers (first ∷ rest) below =
+    list_all (λ (a : Act). language.has_roles a.action) (map (λ (a : ℕ × Act). a.1) (first ∷ rest) ++ below)
+    && (same_names informees (its_informees (roles_of language) first.1)
+    && (same_names confirmers (confirmers_of (roles_of language) (record { informees = informees; core = first ∷ rest }))
+    && (list_all (λ (a : ℕ × Act). not (starts (roles_of language) (its_informees (roles_of language) first.1) a.1)) rest
+    && list_all (starts (roles_of language) (its_informees (roles_of language) first.1)) below)))
+
+-- the view is one that its actions make, and so begin those directly below it
+abbrev pub is_well_split : Reading → Shown → OpenedView → Bool
+is_well_split reading shown view = is_split_core reading.language view.informees view.confirmers view.core (subview_starts shown view)
+
 -- The nine, in order, for a participant at the time of the request's entry. `status` and `locked` are what the participant
 -- knows of contracts at the request's place.
 abbrev pub checks : Reading → Params → ParticipantId → (time : ℕ) → Shown → OpenedView → (status : Hash → Status) → (locked : Hash → Bool) → List Check
@@ -86,26 +130,43 @@ checks reading params p time shown view status locked =
     ∷ record { reason = NotAuthorised; is_shown_by = λ a. not (is_authorised_in reading shown view a) }
     ∷ []
 
--- a participant's verdict on a view, by what it knows of contracts
-abbrev pub verdict_by : Reading → Params → ParticipantId → (time : ℕ) → Shown → OpenedView → (status : Hash → Status) → (locked : Hash → Bool) → LocalVerdict
-verdict_by reading params p time shown view status locked = first_shown (checks reading params p time shown view status locked) view.core
+-- A participant's verdict on a view that is opened, by what it knows of contracts. Whose it is and how it is split is tried
+-- before the nine.
+abbrev pub verdict_by : Reading → Params → ParticipantId → (sender : ParticipantId) → (time : ℕ) → Shown → OpenedView → (status : Hash → Status)
+    → (locked : Hash → Bool) → LocalVerdict
+verdict_by reading params p sender time shown view status locked =
+    if not (is_from reading sender shown) then Reject WrongSender 0
+    else if not (is_well_split reading shown view) then Reject WrongCommon 0
+    else first_shown (checks reading params p time shown view status locked) view.core
 
 -- the same of what it is shown at place k, where it knows of contracts what the first k + 1 items of its inbox say
-abbrev pub verdict_on_view : Reading → Params → ParticipantId → List Item → (k : ℕ) → Shown → OpenedView → LocalVerdict
-verdict_on_view reading params p items k shown view =
-    verdict_by reading params p (item_time (slice_get items k)) shown view
+abbrev pub verdict_on_view : Reading → Params → ParticipantId → List Item → (k : ℕ) → (sender : ParticipantId) → Shown → OpenedView → LocalVerdict
+verdict_on_view reading params p items k sender shown view =
+    verdict_by reading params p sender (item_time (slice_get items k)) shown view
     (status_in_inbox reading items k) (is_locked_in_inbox reading params items k)
 
--- p confirms a confirmer of the view
-abbrev pub is_confirmed_by : Reading → ParticipantId → OpenedView → Bool
-is_confirmed_by reading p view = list_any (reading.confirms p) view.confirmers
+-- the first view with this path
+abbrev pub view_at : Path → List OpenedView → Option OpenedView
+view_at path views = find (λ (view : OpenedView). bytes_eq path view.path) views
 
-abbrev pub verdicts_on : Reading → Params → ParticipantId → List Item → (k : ℕ) → Option Shown → List ViewVerdict
+abbrev pub verdict_on_found : Reading → Params → ParticipantId → List Item → (k : ℕ) → (sender : ParticipantId) → Shown → Option OpenedView → LocalVerdict
+verdict_on_found reading params p items k sender shown None = Reject ViewMissing 0
+verdict_on_found reading params p items k sender shown (Some view) = verdict_on_view reading params p items k sender shown view
+
+-- A participant's verdict on a view with this path, by what its envelope gives it. An envelope that isn't complete is rejected
+-- for each view.
+abbrev pub verdict_on_offer : Reading → Params → ParticipantId → List Item → (k : ℕ) → (sender : ParticipantId) → Path → Offer → LocalVerdict
+verdict_on_offer reading params p items k sender path Mismatch = Reject RootMismatch 0
+verdict_on_offer reading params p items k sender path Missing = Reject ViewMissing 0
+verdict_on_offer reading params p items k sender path (Open shown) =
+    verdict_on_found reading params p items k sender shown (view_at path shown.views)
+
+abbrev pub verdicts_on : Reading → Params → ParticipantId → List Item → (k : ℕ) → Option Notice → List ViewVerdict
 verdicts_on reading params p items k None = []
-verdicts_on reading params p items k (Some shown) =
-    map (λ (view : OpenedView). record { view = view.path; verdict = verdict_on_view reading params p items k shown view })
-    (filter (is_confirmed_by reading p) shown.views)
+verdicts_on reading params p items k (Some notice) =
+    map (λ (path : Path). record { view = path; verdict = verdict_on_offer reading params p items k notice.sender path notice.offer }) notice.confirmed
 
--- the verdicts that a participant owes to the request at place k, in order of path, from the first k + 1 items of its inbox
+-- the verdicts that a participant owes to the request at place k, one for each view that it confirms, in order of path, from
+-- the first k + 1 items of its inbox
 abbrev pub verdicts_owed : Reading → Params → ParticipantId → List Item → (k : ℕ) → List ViewVerdict
-verdicts_owed reading params p items k = verdicts_on reading params p items k (shown_at items k)
+verdicts_owed reading params p items k = verdicts_on reading params p items k (notice_at items k)

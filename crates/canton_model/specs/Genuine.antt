@@ -4,18 +4,17 @@ use Rattle.std.specs.List.Sorted.{IsStrictlyIncreasing}
 use Rattle.ledger_terms.specs.Parties.{IsRising}
 use Rattle.std.specs.List.{list_any}
 use Rattle.std.specs.Str.{bytes_eq}
-use Rattle.ledger_model.specs.Terms.{Name, PartySet, Act, id_of, instance_of, ParticipantId}
+use Rattle.ledger_model.specs.Terms.{Name, PartySet, Act, id_of, instance_of, ParticipantId, Path}
 use Rattle.ledger_model.specs.Forest.{Forest, NoRoots, Root, acts, project, below_at, trees_of, root_trees}
 use Rattle.canton_model.specs.Log.{Params, Entry, Message, RequestMessage, ResponseMessage, VerdictMessage, Tick, Request, Response}
 use Rattle.canton_model.specs.Log.{request_at, decision_time_of, FollowsTime, time_at_end}
 use Rattle.canton_model.specs.Mediation.{has_responded}
 use Rattle.ledger_model.specs.Conformance.{Conforms}
-use Rattle.ledger_model.specs.Opening.{OpenedView, Shown, Transaction, roots_in}
-use Rattle.canton_model.specs.Reading.{Reading}
+use Rattle.ledger_model.specs.Opening.{OpenedView, Shown, Transaction}
+use Rattle.canton_model.specs.Reading.{Reading, shown_to, view_paths, paths_seen, paths_confirmed, sees_some_view}
 use Rattle.canton_model.specs.Inbox.{inbox, confirms_signatory, is_informed}
-use Rattle.canton_model.specs.Checks.{verdicts_owed, is_confirmed_by, is_first, is_root_view, first_tree}
-use Rattle.canton_model.specs.Ledger.{Timely, FitsIfVerdict, whole_at}
-use Rattle.canton_model.specs.Evidence.{acts_of}
+use Rattle.canton_model.specs.Checks.{verdicts_owed, is_first, is_root_view, first_tree, is_from, is_well_split}
+use Rattle.canton_model.specs.Ledger.{Timely, FitsIfVerdict, opened_to}
 
 -- A response fits the log before it: its request stands there and names its sender as confirming, it is the first of that
 -- sender, it holds the verdicts owed, and it isn't too late.
@@ -34,65 +33,83 @@ FitsIfResponse reading params log k time (RequestMessage request) = Unit {0}
 FitsIfResponse reading params log k time (VerdictMessage verdict) = Unit {0}
 FitsIfResponse reading params log k time Tick = Unit {0}
 
--- somebody confirms a view that holds the action, and is shown all that is below it
-pub record IsCovered (reading : Reading) (request : Request) (tree : Act × Forest Act) : Type 0 where
+-- What is shown to who sees the views with these paths: each of them is there, a core's actions have their numbers among all that
+-- is opened, and the views stand in order of path.
+pub record IsPlaced (seen : List Path) (shown : Shown) : Type 0 where
+  pub all_seen : (path : Path) → Contains seen path → (view : OpenedView) × Contains shown.views view × (view.path ≡ path)
+  pub numbered : (view : OpenedView) (i : ℕ) (a : Act) → Contains shown.views view → Contains view.core (i, a) → slice_get (acts shown.roots) i ≡ Some a
+  pub path_order : IsRising (map (λ (view : OpenedView). view.path) shown.views)
+
+-- What a framed request has of a reading, whoever sent it.
+pub record FramedFacts (reading : Reading) (request : Request) : Type 0 where
+  -- there is a view; each is confirmed by somebody, who sees it
+  pub some_view : (path : Path) × Contains (view_paths reading request) path
+  pub confirmed : (path : Path) → Contains (view_paths reading request) path → (p : ParticipantId) × Contains (paths_confirmed reading p request) path
+  pub sees : (p : ParticipantId) (path : Path) → Contains (paths_confirmed reading p request) path → Contains (paths_seen reading p request) path
+  -- who confirms a view is asked, and nobody else is; each is named once, in the order of the participants
+  pub confirming_order : IsStrictlyIncreasing request.confirming
+  pub asked : (p : ParticipantId) (path : Path) → Contains (paths_confirmed reading p request) path → Contains request.confirming p
+  pub answers : (p : ParticipantId) → Contains request.confirming p → (path : Path) × Contains (paths_confirmed reading p request) path
+  pub placed : (p : ParticipantId) (shown : Shown) → shown_to reading p request ≡ Some shown → IsPlaced (paths_seen reading p request) shown
+
+-- Somebody confirms the view, is shown it, and found it to be from the sender and well split.
+pub record IsVouched (reading : Reading) (request : Request) (path : Path) : Type 0 where
   pub participant : ParticipantId
+  pub is_confirmed : Contains (paths_confirmed reading participant request) path
   pub shown : Shown
-  pub is_shown : reading.shown participant request ≡ Some shown
+  pub is_shown : shown_to reading participant request ≡ Some shown
   pub view : OpenedView
   pub is_opened : Contains shown.views view
-  pub is_confirmed : is_confirmed_by reading participant view ≡ true
+  pub has_path : view.path ≡ path
+  pub from_sender : is_from reading request.sender shown ≡ true
+  pub split_well : is_well_split reading shown view ≡ true
+
+-- The participant, which is shown this, confirms a view that holds the action, and is shown all that is below it.
+pub record IsCovered (reading : Reading) (request : Request) (p : ParticipantId) (shown : Shown) (tree : Act × Forest Act) : Type 0 where
+  pub view : OpenedView
+  pub is_opened : Contains shown.views view
+  pub is_confirmed : Contains (paths_confirmed reading p request) view.path
   pub number : ℕ
   pub in_core : Contains view.core (number, tree.0)
   pub below : below_at number shown.roots ≡ tree.1
 
 -- the same of a root and its own view, to who knows the requesters
-pub record IsRootCovered (reading : Reading) (request : Request) (requesters : PartySet) (tree : Act × Forest Act) : Type 0 where
-  pub covered : IsCovered reading request tree
+pub record IsRootCovered (reading : Reading) (request : Request) (p : ParticipantId) (shown : Shown) (requesters : PartySet)
+    (tree : Act × Forest Act) : Type 0 where
+  pub covered : IsCovered reading request p shown tree
   pub is_first : is_first (covered.view).core covered.number ≡ true
-  pub first : first_tree covered.shown (covered.view).core ≡ Root tree.0 tree.1 NoRoots
+  pub first : first_tree shown (covered.view).core ≡ Root tree.0 tree.1 NoRoots
   pub is_root : is_root_view covered.view ≡ true
-  pub known : (covered.shown).requesters ≡ Some requesters
+  pub known : shown.requesters ≡ Some requesters
 
--- the participant confirms a view that it is shown
-pub record Answers (reading : Reading) (request : Request) (p : ParticipantId) : Type 0 where
-  pub shown : Shown
-  pub is_shown : reading.shown p request ≡ Some shown
-  pub view : OpenedView
-  pub is_opened : Contains shown.views view
-  pub is_confirmed : is_confirmed_by reading p view ≡ true
-
--- What is told of ledger time and requesters is the transaction's, and the views stand in order of path.
+-- What is told of ledger time and requesters is the transaction's.
 pub record TellsOf (transaction : Transaction) (shown : Shown) : Type 0 where
   pub ledger_time : shown.ledger_time ≡ transaction.ledger_time
   pub requesters : (names : PartySet) → shown.requesters ≡ Some names → names ≡ transaction.requesters
-  pub path_order : IsRising (map (λ (view : OpenedView). view.path) shown.views)
 
--- What a sealed request has of a reading.
-pub record IsSealed (reading : Reading) (request : Request) : Type 0 where
+-- What a request has of a reading that is as good as one whose sender keeps the rules, to each whose envelope is complete.
+pub record IsSound (reading : Reading) (request : Request) : Type 0 where
   pub transaction : Transaction
   pub is_whole : reading.whole request ≡ Some transaction
   pub has_roles : (a : Act) → Contains (acts transaction.roots) a → (reading.language).has_roles a.action ≡ true
-  -- what is opened to a participant is the projection to its hosted parties
-  pub opens : (p : ParticipantId) → roots_in (reading.shown p request) ≡ project (is_informed reading p) transaction.roots
-  -- somebody confirms a signatory of each action
+  -- what is opened to a participant is the projection to its hosted parties, which is empty for who sees no view
+  pub opens : (p : ParticipantId) (shown : Shown) → shown_to reading p request ≡ Some shown → shown.roots ≡ project (is_informed reading p) transaction.roots
+  pub hidden : (p : ParticipantId) → sees_some_view reading p request ≡ false → project (is_informed reading p) transaction.roots ≡ NoRoots
+  -- somebody confirms a signatory of each action, and whoever does confirms a view
   pub confirmed : (a : Act) → Contains (acts transaction.roots) a → (p : ParticipantId) × (confirms_signatory reading p a ≡ true)
+  pub guarded : (a : Act) (p : ParticipantId) → Contains (acts transaction.roots) a → confirms_signatory reading p a ≡ true
+      → (path : Path) × Contains (paths_confirmed reading p request) path
   -- Who confirms a signatory of an action that is opened to it confirms a view in whose core the action stands.
-  pub viewed : (p : ParticipantId) (shown : Shown) (i : ℕ) (a : Act) → reading.shown p request ≡ Some shown
+  pub viewed : (p : ParticipantId) (shown : Shown) (i : ℕ) (a : Act) → shown_to reading p request ≡ Some shown
       → slice_get (acts shown.roots) i ≡ Some a → confirms_signatory reading p a ≡ true
-      → (view : OpenedView) × Contains shown.views view × Contains view.core (i, a) × (is_confirmed_by reading p view ≡ true)
-  -- a core's actions have their numbers among what is opened
-  pub numbered : (p : ParticipantId) (shown : Shown) (view : OpenedView) (i : ℕ) (a : Act) → reading.shown p request ≡ Some shown
-      → Contains shown.views view → Contains view.core (i, a) → slice_get (acts shown.roots) i ≡ Some a
-  pub tells : (p : ParticipantId) (shown : Shown) → reading.shown p request ≡ Some shown → TellsOf transaction shown
-  -- Who confirms a view is asked, and nobody else is; each is named once, in the order of the participants.
-  pub confirming_order : IsStrictlyIncreasing request.confirming
-  pub answers : (p : ParticipantId) → Contains request.confirming p → Answers reading request p
-  pub asked : (p : ParticipantId) (shown : Shown) (view : OpenedView) → reading.shown p request ≡ Some shown → Contains shown.views view
-      → is_confirmed_by reading p view ≡ true → Contains request.confirming p
-  -- each action and each root is covered
-  pub covers : (tree : Act × Forest Act) → Contains (trees_of transaction.roots) tree → IsCovered reading request tree
-  pub roots : (tree : Act × Forest Act) → Contains (root_trees transaction.roots) tree → IsRootCovered reading request transaction.requesters tree
+      → (view : OpenedView) × Contains shown.views view × Contains view.core (i, a) × Contains (paths_confirmed reading p request) view.path
+  pub tells : (p : ParticipantId) (shown : Shown) → shown_to reading p request ≡ Some shown → TellsOf transaction shown
+  -- each action and each root is covered at who confirms a signatory of it
+  pub covers : (p : ParticipantId) (shown : Shown) (tree : Act × Forest Act) → shown_to reading p request ≡ Some shown
+      → Contains (trees_of transaction.roots) tree → confirms_signatory reading p tree.0 ≡ true → IsCovered reading request p shown tree
+  pub roots : (p : ParticipantId) (shown : Shown) (tree : Act × Forest Act) → shown_to reading p request ≡ Some shown
+      → Contains (root_trees transaction.roots) tree → confirms_signatory reading p tree.0 ≡ true
+      → IsRootCovered reading request p shown transaction.requesters tree
 
 -- a request with this sender and command
 abbrev pub is_request_of : ParticipantId → Name → Message → Bool
@@ -101,9 +118,9 @@ is_request_of p command (ResponseMessage response) = false
 is_request_of p command (VerdictMessage verdict) = false
 is_request_of p command Tick = false
 
--- A request fits the log before it: it is sealed, and the first with its sender and command.
+-- A request fits the log before it: it is framed, and the first with its sender and command.
 pub record RequestFits (reading : Reading) (log : List Entry) (k : ℕ) (request : Request) : Type 0 where
-  pub is_sealed : reading.is_sealed request ≡ true
+  pub is_framed : reading.is_framed request ≡ true
   pub first : list_any (λ (entry : Entry). is_request_of request.sender request.command entry.message) (take k log) ≡ false
 
 abbrev pub FitsIfRequest : Reading → List Entry → (k : ℕ) → Message → Type 0
@@ -128,14 +145,17 @@ pub record EntryFits (reading : Reading) (params : Params) (log : List Entry) (e
 pub record IsReading (reading : Reading) : Type 0 where
   pub confirms_hosted : (p : ParticipantId) (name : Name) → reading.confirms p name ≡ true → reading.hosts p name ≡ true
   pub conforms_is : (roots : Forest Act) → (reading.conforms roots ≡ true) ↔ Conforms reading.language roots
-  pub sealed_facts : (request : Request) → reading.is_sealed request ≡ true → IsSealed reading request
+  pub framed_facts : (request : Request) → reading.is_framed request ≡ true → FramedFacts reading request
 
--- No two authentic actions of the requests of this log are on one contract and carry different instances. (Of all actions
--- that there could be this is false, whatever the hash.)
-abbrev pub NoCollision : Reading → List Entry → Type 0
-NoCollision reading log =
-    (k m : ℕ) (a b : Act)
-    → Contains (acts_of (whole_at reading log k)) a → Contains (acts_of (whole_at reading log m)) b
-    → reading.is_authentic a ≡ true → reading.is_authentic b ≡ true
-    → id_of a.action ≡ id_of b.action
-    → instance_of a.action ≡ instance_of b.action
+-- What hashes that don't collide give a log. No two authentic actions that complete envelopes open are on one contract and carry
+-- different instances. (Of all actions that there could be this is false, whatever the hash.) And the trees of one request agree,
+-- so that a framed request of which each view is vouched for is sound.
+pub record NoCollision (reading : Reading) (log : List Entry) : Type 0 where
+  pub one_instance : (p k q m : ℕ) (a b : Act)
+      → Contains (acts (opened_to reading p (request_at log k))) a → Contains (acts (opened_to reading q (request_at log m))) b
+      → reading.is_authentic a ≡ true → reading.is_authentic b ≡ true
+      → id_of a.action ≡ id_of b.action
+      → instance_of a.action ≡ instance_of b.action
+  pub sound : (k : ℕ) (request : Request) → request_at log k ≡ Some request → reading.is_framed request ≡ true
+      → ((path : Path) → Contains (view_paths reading request) path → IsVouched reading request path)
+      → IsSound reading request

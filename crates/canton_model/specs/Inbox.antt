@@ -1,9 +1,9 @@
 -- What one participant learns of a log, and what it concludes from that.
 use Rattle.std.specs.Prelude.{◌≡◌, ℕ, zero, suc, ◌+◌, ◌<◌, ◌≤◌, Bool, true, false, List, [], ◌∷◌, ◌++◌, Option, Some, None, length, map}
-use Rattle.std.specs.Prelude.{filter, flat_map, take, slice_get, not, if◌then◌else◌, ◌&&◌}
+use Rattle.std.specs.Prelude.{filter, flat_map, take, slice_get, not, is_some, if◌then◌else◌, ◌&&◌}
 use Rattle.std.specs.List.{list_any}
 use Rattle.std.specs.Str.{bytes_eq}
-use Rattle.ledger_model.specs.Terms.{Hash, Act, ActiveRow, Instance, id_of, instance_of, is_create, consumes, ParticipantId}
+use Rattle.ledger_model.specs.Terms.{Hash, Act, ActiveRow, Instance, id_of, instance_of, is_create, consumes, ParticipantId, Path}
 use Rattle.ledger_model.specs.Forest.{Forest, NoRoots, Root, Commit, acts, ledger_acts, project}
 use Rattle.ledger_model.specs.Status.{status_after, is_locked_by}
 use Rattle.ledger_model.specs.declared.status.Status.{Status}
@@ -11,13 +11,20 @@ use Rattle.canton_model.specs.Evidence.{gather}
 use Rattle.canton_model.specs.Log.{Params, Entry, Message, RequestMessage, ResponseMessage, VerdictMessage, Tick, Request, Verdict, request_at}
 use Rattle.canton_model.specs.Timeline.{Moment, Outcome, is_decided_at, is_approved_in, outcome_of}
 use Rattle.ledger_model.specs.Opening.{Transaction, Shown, roots_in}
-use Rattle.canton_model.specs.Reading.{Reading, is_recipient}
+use Rattle.canton_model.specs.Reading.{Reading, Offer, is_recipient, paths_seen, paths_confirmed, is_some_path, shown_in_offer}
 use Rattle.ledger_model.specs.Language.{informees_of}
 pub use Rattle.ledger_model.specs.declared.commit.Commit.{Commit as CommitRoots}
 
--- a request of which the participant is a recipient, as it is shown; a verdict on such a request; or nothing
+-- what a recipient learns of a request
+pub record Notice : Type 0 where
+  pub sender : ParticipantId
+  pub seen : List Path  -- the views that it sees
+  pub confirmed : List Path  -- those that it confirms
+  pub offer : Offer
+
+-- a request of which the participant is a recipient; a verdict on such a request; or nothing
 pub data Content : Type 0 where
-  Received : Shown → Content
+  Received : Notice → Content
   Told : Verdict → Content
   Nothing : Content
 
@@ -25,16 +32,24 @@ pub record Item : Type 0 where
   pub time : ℕ
   pub content : Content
 
-abbrev pub received : Option Shown → Content
-received None = Nothing
-received (Some shown) = Received shown
+abbrev pub notice_of : Reading → ParticipantId → Request → Notice
+notice_of reading p request =
+    record {
+      sender = request.sender;
+      seen = paths_seen reading p request;
+      confirmed = paths_confirmed reading p request;
+      offer = reading.offered p request;
+    }
+
+abbrev pub received : Reading → ParticipantId → Request → Content
+received reading p request = if is_recipient reading p request then Received (notice_of reading p request) else Nothing
 
 abbrev pub verdict_content : Reading → ParticipantId → Verdict → Option Request → Content
 verdict_content reading p verdict None = Nothing
 verdict_content reading p verdict (Some request) = if is_recipient reading p request then Told verdict else Nothing
 
 abbrev pub content_of : Reading → ParticipantId → List Entry → Message → Content
-content_of reading p log (RequestMessage request) = received (reading.shown p request)
+content_of reading p log (RequestMessage request) = received reading p request
 content_of reading p log (VerdictMessage verdict) = verdict_content reading p verdict (request_at log verdict.request)
 content_of reading p log (ResponseMessage response) = Nothing
 content_of reading p log Tick = Nothing
@@ -52,21 +67,29 @@ abbrev pub inbox : Reading → ParticipantId → List Entry → List Item
 inbox reading p log = items_after reading p [] log
 
 abbrev pub verdict_in : Content → Option Verdict
-verdict_in (Received shown) = None
+verdict_in (Received notice) = None
 verdict_in (Told verdict) = Some verdict
 verdict_in Nothing = None
 
 abbrev pub moments : List Item → List Moment
 moments items = map (λ (item : Item). record { time = item.time; verdict = verdict_in item.content }) items
 
-abbrev pub shown_by : Content → Option Shown
-shown_by (Received shown) = Some shown
-shown_by (Told verdict) = None
-shown_by Nothing = None
+abbrev pub notice_by : Content → Option Notice
+notice_by (Received notice) = Some notice
+notice_by (Told verdict) = None
+notice_by Nothing = None
+
+abbrev pub notice_in : Option Item → Option Notice
+notice_in None = None
+notice_in (Some item) = notice_by item.content
+
+-- what a complete envelope shows
+abbrev pub shown_in_notice : Option Notice → Option Shown
+shown_in_notice None = None
+shown_in_notice (Some notice) = shown_in_offer notice.offer
 
 abbrev pub shown_in : Option Item → Option Shown
-shown_in None = None
-shown_in (Some item) = shown_by item.content
+shown_in item = shown_in_notice (notice_in item)
 
 abbrev pub item_time : Option Item → ℕ
 item_time None = 0
@@ -78,7 +101,11 @@ last_time [] = 0
 last_time (item ∷ []) = item.time
 last_time (item ∷ next ∷ rest) = last_time (next ∷ rest)
 
--- what is shown of the request at a place
+-- what is learnt of the request at a place
+abbrev pub notice_at : List Item → ℕ → Option Notice
+notice_at items m = notice_in (slice_get items m)
+
+-- what is shown of it
 abbrev pub shown_at : List Item → ℕ → Option Shown
 shown_at items m = shown_in (slice_get items m)
 
@@ -114,7 +141,7 @@ abbrev pub is_locked_in_inbox : Reading → Params → List Item → ℕ → Has
 is_locked_in_inbox reading params items k c = is_locked_by (pending_in reading params items k) c
 
 abbrev pub is_received : Content → Bool
-is_received (Received shown) = true
+is_received (Received notice) = true
 is_received (Told verdict) = false
 is_received Nothing = false
 
@@ -150,6 +177,24 @@ pub record IsClean (params : Params) (items : List Item) (n : ℕ) : Type 0 wher
 -- the time of the item before the clean place
 abbrev pub clean_time : Params → List Item → ℕ
 clean_time params items = last_time (take (clean params items) items)
+
+-- a view of the request is seen, and its envelope isn't complete
+abbrev pub is_kept_from : Option Notice → Bool
+is_kept_from None = false
+is_kept_from (Some notice) = is_some_path notice.seen && not (is_some (shown_in_offer notice.offer))
+
+-- The place is withheld: its request is approved, and no complete envelope opens what the participant sees of it.
+abbrev pub is_withheld_in : List Item → ℕ → Bool
+is_withheld_in items m = is_approved_in m (moments items) && is_kept_from (notice_at items m)
+
+-- the withheld places below one, in order
+abbrev pub withheld_below : List Item → ℕ → List ℕ
+withheld_below items zero = []
+withheld_below items (suc k) = withheld_below items k ++ (if is_withheld_in items k then k ∷ [] else [])
+
+-- what a participant keeps as withheld: the places below its clean place
+abbrev pub withheld : Params → List Item → List ℕ
+withheld params items = withheld_below items (clean params items)
 
 -- a participant's log
 abbrev pub node_log : Params → List Item → List CommitRoots
@@ -215,12 +260,11 @@ abbrev pub project_whole : Reading → ParticipantId → Option Transaction → 
 project_whole reading p None = NoRoots
 project_whole reading p (Some transaction) = project (is_informed reading p) transaction.roots
 
--- What is opened of a request to a participant is its projection to the hosted parties.
-pub record OpensProjection (reading : Reading) (p : ParticipantId) (log : List Entry) : Type 0 where
-  pub projected : (k : ℕ) (request : Request) → request_at log k ≡ Some request
-      → roots_in (reading.shown p request) ≡ project_whole reading p (reading.whole request)
-
 -- the projected commits, without the empty ones
 abbrev pub project_ledger : (Act → Bool) → List Commit → List CommitRoots
 project_ledger keeps [] = []
 project_ledger keeps (commit ∷ rest) = part_if true commit.place (project keeps commit.roots) ++ project_ledger keeps rest
+
+-- the commits at other places than these
+abbrev pub without_places : (ℕ → Bool) → List Commit → List Commit
+without_places is_withheld commits = filter (λ (commit : Commit). not (is_withheld commit.place)) commits

@@ -6,6 +6,7 @@ pub use Rattle.canton_model.specs.declared.request.Request.{Request}
 pub use Rattle.canton_model.specs.declared.reason.Reason.{Reason}
 pub use Rattle.canton_model.specs.declared.reason.Reason.TheVariants.{IdMismatch, NotVetted, TimeSkew, Locked, Inactive, NotFresh}
 pub use Rattle.canton_model.specs.declared.reason.Reason.TheVariants.{Unordered, NotConformant, NotAuthorised}
+pub use Rattle.canton_model.specs.declared.reason.Reason.TheVariants.{RootMismatch, ViewMissing, WrongSender, WrongCommon}
 pub use Rattle.canton_model.specs.declared.local_verdict.LocalVerdict.{LocalVerdict}
 pub use Rattle.canton_model.specs.declared.local_verdict.LocalVerdict.TheVariants.{Approve, Reject}
 pub use Rattle.canton_model.specs.declared.view_verdict.ViewVerdict.{ViewVerdict}

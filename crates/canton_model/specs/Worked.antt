@@ -1,21 +1,23 @@
 -- Worked examples, over three participants that host Bank, Alice and Carol, and contracts whose id is 9 and the salt.
-use Rattle.std.specs.Prelude.{ℕ, zero, suc, ◌+◌, Bool, true, false, List, [], ◌∷◌, ◌++◌, Option, Some, take, nat_eq, if◌then◌else◌, ◌&&◌, ◌||◌}
+use Rattle.std.specs.Prelude.{ℕ, zero, suc, ◌+◌, Bool, true, false, List, [], ◌∷◌, ◌++◌, Option, Some, None, option_map, map, flat_map, take, drop}
+use Rattle.std.specs.Prelude.{nat_eq, nat_lt, not, if◌then◌else◌, ◌&&◌, ◌||◌}
 use Rattle.std.specs.Str.{bytes_eq}
 use Rattle.std.specs.Cmp.Lexicographic.{pointwise}
 use Rattle.ledger_terms.specs.contracts.value.ValuePartialEq.TheImpl as value_eq
 use Rattle.ledger_terms.specs.contracts.template_name.TemplateNamePartialEq.TheImpl as template_eq
 use Rattle.ledger_terms.specs.declared.value.Value.TheVariants.{Party as PartyValue, Unit as UnitValue}
-use Rattle.ledger_model.specs.Terms.{Name, PartySet, Value, Instance, Action, Act, Create, Exercise, Fetch, Hash, id_of}
-use Rattle.ledger_model.specs.Forest.{Forest, NoRoots, Root}
-use Rattle.ledger_model.specs.Language.{Language}
+use Rattle.ledger_model.specs.Terms.{Name, PartySet, Value, Instance, Action, Act, Create, Exercise, Fetch, Hash, id_of, instance_of, ParticipantId, Path}
+use Rattle.ledger_model.specs.Forest.{Forest, NoRoots, Root, paths_from}
+use Rattle.ledger_model.specs.Language.{Language, roles_of}
+use Rattle.ledger_model.specs.Views.{View, views, confirmers_of}
 use Rattle.ledger_model.specs.declared.step.ChoiceCall.{ChoiceCall}
 use Rattle.ledger_model.specs.declared.step.ChildResult.{ChildResult}
 use Rattle.ledger_model.specs.declared.step.Step.{Step}
 use Rattle.ledger_model.specs.declared.step.Step.TheVariants.{Create as CreateNext, Done}
 use Rattle.canton_model.specs.Log.{Params, Entry, Request, ViewVerdict, LocalVerdict, Approve, Reject, Locked, Decision, Approved, Rejected}
-use Rattle.canton_model.specs.Log.{TimedOut, RequestMessage, ResponseMessage, VerdictMessage, Tick}
-use Rattle.ledger_model.specs.Opening.{Transaction, shown_of, confirming_of}
-use Rattle.canton_model.specs.Reading.{Reading}
+use Rattle.canton_model.specs.Log.{ViewMissing, TimedOut, RequestMessage, ResponseMessage, VerdictMessage, Tick}
+use Rattle.ledger_model.specs.Opening.{Transaction, OpenedView, Shown, shown_of, confirming_of}
+use Rattle.canton_model.specs.Reading.{Reading, Outlined, Offer, Mismatch, Missing, Open}
 
 abbrev pub alice : Name
 alice = 65 ∷ []
@@ -31,6 +33,10 @@ hosts zero name = bytes_eq name bank
 hosts (suc zero) name = bytes_eq name alice
 hosts (suc (suc zero)) name = bytes_eq name carol
 hosts (suc (suc (suc p))) name = false
+
+abbrev pub is_empty : {X : Type 0} → List X → Bool
+is_empty [] = true
+is_empty (x ∷ xs) = false
 
 -- issuer and owner
 abbrev pub contract : Name → Name → Instance
@@ -62,7 +68,7 @@ language =
       signatories = λ i. first_field i.fields;
       observers = λ i. second_field i.fields;
       choice_observers = λ call. [];
-      has_roles = λ a. true;
+      has_roles = λ a. not (is_empty (first_field (instance_of a).fields));
       has_kinds = λ i. true;
       is_creatable = λ i. true;
       is_exercisable = λ call actors consuming result. true;
@@ -127,9 +133,13 @@ alone_at ledger_time = record { requesters = alice ∷ []; ledger_time = ledger_
 abbrev pub foreign : Instance
 foreign = record { template = record { «package» = 88 ∷ []; name = [] }; fields = PartyValue alice ∷ PartyValue alice ∷ [] }
 
+abbrev pub unsigned : Instance
+unsigned = record { template = record { «package» = []; name = [] }; fields = [] }
+
 -- the transactions by their command: 1 the issue, 2 and 3 two transfers, 4 a fetch, 5 a create of Alice's own, 6 a
 -- forged and 7 an invented fetch, 8 a transfer and a fetch, 9 a create that Bank didn't ask for, 10 two creates, 11 and 12
--- creates ahead of time, 13 a create of a package that nobody vetted, 14 a transfer that creates nothing
+-- creates ahead of time, 13 a create of a package that nobody vetted, 14 a transfer that creates nothing, 20 to 28 transfers that
+-- are tampered with, the last to Alice herself, 29 a transfer that creates a contract without a signatory
 abbrev pub transaction_of : ℕ → Transaction
 transaction_of n =
     if nat_eq n 1 then issue
@@ -145,6 +155,9 @@ transaction_of n =
     else if nat_eq n 12 then alone_at 60000002
     else if nat_eq n 13 then of_alice (Root (create 13 foreign) NoRoots NoRoots)
     else if nat_eq n 14 then of_alice (Root (transfer_act 14) NoRoots NoRoots)
+    else if nat_eq n 28 then of_alice (Root (transfer_act 28) (Root (create 28 (contract bank alice)) NoRoots NoRoots) NoRoots)
+    else if nat_eq n 29 then of_alice (Root (transfer_act 29) (Root (create 29 unsigned) NoRoots NoRoots) NoRoots)
+    else if nat_lt 19 n then of_alice (transfer n NoRoots)
     else of_alice (Root (create 10 (contract alice alice)) NoRoots (Root (create 11 (contract bank alice)) NoRoots NoRoots))
 
 abbrev pub number_of : Name → ℕ
@@ -170,30 +183,127 @@ request_for sender n =
       envelopes = [];
     }
 
-abbrev pub is_empty : {X : Type 0} → List X → Bool
-is_empty [] = true
-is_empty (x ∷ xs) = false
-
 -- the request is this one, which has no bytes
 abbrev pub is_that : Request → Request → Bool
 is_that this q =
     nat_eq q.sender this.sender
     && (bytes_eq q.command this.command && (bytes_eq q.confirming this.confirming && (is_empty q.mediator && is_empty q.envelopes)))
 
--- the three requests of the two spends
-abbrev pub is_sealed : Request → Bool
-is_sealed q = is_that (request_for 0 1) q || (is_that (request_for 1 2) q || is_that (request_for 1 3) q)
+-- the three requests of the two spends, and one that is kept from Carol's participant
+abbrev pub is_framed : Request → Bool
+is_framed q = is_that (request_for 0 1) q || (is_that (request_for 1 2) q || (is_that (request_for 1 3) q || is_that (request_for 1 24) q))
+
+-- participants have the names P1, P2 and so on
+abbrev pub name_of : ParticipantId → Name
+name_of p = 80 ∷ (49 + p) ∷ []
+
+-- What is said of the tampered transfers. In 22 the sender is said to be P1, and in 25 Bank to be a requester.
+abbrev pub said : (n sender : ℕ) → Name
+said n sender = name_of (if nat_eq n 22 then 0 else sender)
+
+abbrev pub said_requesters : (n : ℕ) → PartySet → PartySet
+said_requesters n names = if nat_eq n 25 then names ++ bank ∷ [] else names
+
+-- In 23 the view 0.0 is said to be Bank's alone, and in 26 to be confirmed by Carol too.
+abbrev pub is_second : Path → Bool
+is_second path = bytes_eq path (0 ∷ 0 ∷ [])
+
+abbrev pub said_informees : (n : ℕ) → Path → PartySet → PartySet
+said_informees n path informees = if nat_eq n 23 && is_second path then bank ∷ [] else informees
+
+abbrev pub said_confirmers : (n : ℕ) → Path → PartySet → PartySet
+said_confirmers n path confirmers = if nat_eq n 26 && is_second path then bank ∷ carol ∷ [] else confirmers
+
+-- In 27 the two views are one, and in 28 the one view is two.
+abbrev pub merged : Forest Outlined → Forest Outlined
+merged NoRoots = NoRoots
+merged (Root view below others) = Root view NoRoots NoRoots
+
+abbrev pub parted : Forest Outlined → Forest Outlined
+parted NoRoots = NoRoots
+parted (Root view below others) = Root view (Root (record { informees = view.informees; confirmers = bank ∷ [] }) NoRoots NoRoots) NoRoots
+
+abbrev pub outlined : (n : ℕ) → Forest (Path × View) → Forest Outlined
+outlined n NoRoots = NoRoots
+outlined n (Root view below others) =
+    Root (record {
+      informees = said_informees n view.0 (view.1).informees;
+      confirmers = said_confirmers n view.0 (confirmers_of (roles_of language) view.1);
+    })
+    (outlined n below) (outlined n others)
+
+abbrev pub said_outline : (n : ℕ) → Forest Outlined → Forest Outlined
+said_outline n views = if nat_eq n 27 then merged views else if nat_eq n 28 then parted views else views
+
+abbrev pub outline_of : (n : ℕ) → Transaction → Forest Outlined
+outline_of n t = said_outline n (outlined n (paths_from [] 0 (views (roles_of language) t.roots)))
+
+abbrev pub said_view : (n : ℕ) → OpenedView → OpenedView
+said_view n view =
+    record {
+      path = view.path;
+      informees = said_informees n view.path view.informees;
+      confirmers = said_confirmers n view.path view.confirmers;
+      core = view.core;
+    }
+
+abbrev pub merged_views : List OpenedView → List OpenedView
+merged_views [] = []
+merged_views (view ∷ more) =
+    record {
+      path = view.path;
+      informees = view.informees;
+      confirmers = view.confirmers;
+      core = view.core ++ flat_map (λ (other : OpenedView). other.core) more;
+    }
+    ∷ []
+
+abbrev pub parted_views : List OpenedView → List OpenedView
+parted_views [] = []
+parted_views (view ∷ more) =
+    record { path = view.path; informees = view.informees; confirmers = view.confirmers; core = take 1 view.core }
+    ∷ record { path = view.path ++ 0 ∷ []; informees = view.informees; confirmers = bank ∷ []; core = drop 1 view.core }
+    ∷ []
+
+abbrev pub said_views : (n : ℕ) → List OpenedView → List OpenedView
+said_views n views = if nat_eq n 27 then merged_views views else if nat_eq n 28 then parted_views views else map (said_view n) views
+
+abbrev pub misstated : (n : ℕ) → Shown → Shown
+misstated n shown =
+    record {
+      sender = shown.sender;
+      ledger_time = shown.ledger_time;
+      requesters = option_map (said_requesters n) shown.requesters;
+      roots = shown.roots;
+      views = said_views n shown.views;
+    }
+
+abbrev pub is_misstated : (n : ℕ) → Bool
+is_misstated n = nat_eq n 23 || nat_lt 24 n
+
+abbrev pub opening : (n : ℕ) → Option Shown → Offer
+opening n None = Missing
+opening n (Some shown) = Open (if is_misstated n then misstated n shown else shown)
+
+-- Requests 20 and 24 have no envelope to P1 and P3, and that of 21 to P1 is another tree.
+abbrev pub offer_of : (n p : ℕ) → Option Shown → Offer
+offer_of n p shown =
+    if (nat_eq n 20 && nat_eq p 0) || (nat_eq n 24 && nat_eq p 2) then Missing
+    else if nat_eq n 21 && nat_eq p 0 then Mismatch
+    else opening n shown
 
 abbrev pub reading : Reading
 reading =
     record {
+      outline = λ q. outline_of (number_of q.command) (transaction_of (number_of q.command));
+      offered = λ p q. offer_of (number_of q.command) p
+          (shown_of language (hosts p) (nat_eq p q.sender) (said (number_of q.command) q.sender) (transaction_of (number_of q.command)));
       whole = λ q. Some (transaction_of (number_of q.command));
-      shown = λ p q. shown_of language (hosts p) (nat_eq p q.sender) (transaction_of (number_of q.command));
-      is_sealed = is_sealed;
-      is_framed = is_sealed;
+      is_framed = is_framed;
       is_authentic = λ a. bytes_eq (id_of a.action) (9 ∷ salt_of a);
       language = language;
       conforms = conforms;
+      is_named = λ p name. bytes_eq name (name_of p);
       hosts = hosts;
       confirms = hosts;
       has_vetted = λ p name. is_empty name;
@@ -305,3 +415,18 @@ issued_again = after_b (request 4 0 1 ∷ [])
 -- a request of Alice's at a time
 abbrev pub late : (time : ℕ) → List Entry
 late time = tick time ∷ request (time + 1) 1 5 ∷ []
+
+-- a transfer that P1 can't see
+abbrev pub missing_at_bank : List Entry
+missing_at_bank = after_b (request 4 1 20 ∷ response 5 0 3 (v0 (Reject ViewMissing 0) ∷ v00 (Reject ViewMissing 0) ∷ []) ∷ [])
+
+-- a transfer that is tampered with and approved all the same, since Carol's participant confirms nothing
+abbrev pub kept_from_carol : List Entry
+kept_from_carol =
+    after_b (
+    request 4 1 24
+    ∷ response 5 0 3 (v0 Approve ∷ v00 Approve ∷ [])
+    ∷ response 6 1 3 (v0 Approve ∷ [])
+    ∷ verdict 7 3 Approved
+    ∷ []
+    )

@@ -1,31 +1,33 @@
 //! The laws of the protocol's definitions, as the clauses of functions that do nothing.
 ghost use Rattle.std.specs.Prelude.{◌≡◌, ◌++◌, ◌∷◌, [], Some, ◌<◌, ◌≤◌, take, ℕ, Bool, List, true, false, length, None, suc, Contains};
-ghost use Rattle.ledger_model.specs.Terms.{Hash, ParticipantId, Act, id_of};
+ghost use Rattle.ledger_model.specs.Terms.{Hash, ParticipantId, Act, Path, id_of};
 ghost use Rattle.canton_model.specs.Example;
 ghost use Rattle.canton_model.specs.Worked;
 ghost use Rattle.canton_model.specs.Worked.{v0, v00, v1, two_spends, fetch_of_locked, timeout, early_tick, past_decision_time};
-ghost use Rattle.canton_model.specs.Worked.{clean_behind, asked, alone, issued_again, late};
+ghost use Rattle.canton_model.specs.Worked.{clean_behind, asked, alone, issued_again, late, missing_at_bank, kept_from_carol};
 ghost use Rattle.canton_model.specs.Mediation.{scan};
-ghost use Rattle.canton_model.specs.Checks.{verdicts_owed};
+ghost use Rattle.canton_model.specs.Checks.{verdicts_owed, view_at};
 ghost use Rattle.canton_model.specs.Log.{Approve, Reject, Approved, TimedOut, Locked, Inactive, NotFresh, NotVetted, TimeSkew, Unordered};
-ghost use Rattle.canton_model.specs.Log.{IdMismatch, NotConformant, NotAuthorised, Rejected, Params, Entry, Request, Decision};
+ghost use Rattle.canton_model.specs.Log.{IdMismatch, NotConformant, NotAuthorised, RootMismatch, ViewMissing, WrongSender, WrongCommon};
+ghost use Rattle.canton_model.specs.Log.{Rejected, Params, Entry, Request, Decision};
 ghost use Rattle.canton_model.specs.Log.{decision_time_of, request_at};
 ghost use Rattle.ledger_model.specs.Language.{roles_of};
-ghost use Rattle.canton_model.specs.Reading.{Reading, is_recipient};
+ghost use Rattle.canton_model.specs.Reading.{Reading, is_recipient, recipients, paths_confirmed, shown_to, view_paths};
+ghost use Rattle.ledger_model.specs.Opening.{OpenedView, Shown, Transaction};
 ghost use Rattle.ledger_model.specs.Authority.{is_commit_authorised};
 ghost use Rattle.ledger_model.specs.Conformance.{Conforms};
 ghost use Rattle.canton_model.specs.Inbox;
 ghost use Rattle.canton_model.specs.Inbox.{Item, IsClean, item_after, active_of, active_row, clean, inbox, is_informed, node_active};
 ghost use Rattle.canton_model.specs.Inbox.{node_log, project_ledger, has_hosted_stakeholder, is_locked_in_inbox, status_in_inbox};
-ghost use Rattle.canton_model.specs.Inbox.{is_decided_in, outcome_in};
-ghost use Rattle.canton_model.specs.Ledger.{whole_at, commits_below, Timely, requests_of, ledger, status_in, is_guard};
-ghost use Rattle.canton_model.specs.Genuine.{Genuine, EntryFits, IsReading, IsSealed, NoCollision};
-ghost use Rattle.canton_model.specs.Causes.{CauseOf, LocalCauseOf, is_locked_in};
+ghost use Rattle.canton_model.specs.Inbox.{is_decided_in, outcome_in, is_withheld_in, without_places, withheld, confirms_signatory};
+ghost use Rattle.canton_model.specs.Ledger.{whole_at, commits_below, Timely, requests_of, ledger, status_in, is_guard, is_withheld, opened_to};
+ghost use Rattle.canton_model.specs.Genuine.{Genuine, EntryFits, IsReading, FramedFacts, IsVouched, NoCollision};
+ghost use Rattle.canton_model.specs.Causes.{CauseOf, LocalCauseOf, IsLockedIn};
 ghost use Rattle.canton_model.specs.Timeline.{is_approved_in, is_decided_at, timeline_of, outcome_of};
 ghost use Rattle.ledger_model.specs.Consistency.{Consistent};
 ghost use Rattle.ledger_model.specs.Forest.{Commit, acts, ledger_acts};
 ghost use Rattle.ledger_model.specs.Status.{is_locked_by, status_after};
-ghost use Rattle.canton_model.specs.Evidence.{acts_of, IsShownApprovedChanges, IsShownChanges, is_locked_at, past_at, pending_at};
+ghost use Rattle.canton_model.specs.Evidence.{IsShownApprovedChanges, past_at, pending_at};
 ghost use Rattle.canton_model.specs.Evidence.{status_at, Requests, Opened, Final, Checked, ledger_below};
 
 /// The approved requests of a log, in order, are a consistent ledger, whatever requests are.
@@ -53,16 +55,8 @@ pub fn one_ledger_of_log()
         → Consistent (ledger_acts (ledger reading log)) }
 {}
 
-/// A participant that is shown every change of a contract counts it as locked exactly where it is.
-pub fn locks_are_shared()
-    ensures { (r : Requests) (end p k : ℕ) (c : Hash)
-        → k < end
-        → IsShownChanges r end p c
-        → is_locked_by (pending_at r p k) c ≡ is_locked_at r k c }
-{}
-
-/// Where it doesn't count it as locked it gives it the ledger's status, and for that the changes of approved requests
-/// below the place are enough.
+/// A participant that is shown every change of a contract by approved requests below a place, and doesn't count the contract as
+/// locked there, gives it the ledger's status.
 pub fn status_is_shared()
     ensures { (r : Requests) (end p k : ℕ) (c : Hash)
         → k < end
@@ -73,14 +67,26 @@ pub fn status_is_shared()
         → status_after (past_at r p k) c ≡ status_at r k c }
 {}
 
-/// A participant's log up to its clean place is the ledger's projection to its hosted parties.
+/// A participant's log up to its clean place is the projection to its hosted parties of the ledger without the places that are
+/// withheld from it.
 pub fn node_log_is_projection()
     ensures { (reading : Reading) (params : Params) (log : List Entry) (p : ParticipantId) (n : ℕ)
         → IsReading reading
+        → NoCollision reading log
         → Genuine reading params log
         → n ≤ length log
         → node_log params (inbox reading p (take n log))
-        ≡ project_ledger (is_informed reading p) (commits_below reading log (clean params (inbox reading p (take n log)))) }
+        ≡ project_ledger (is_informed reading p)
+        (without_places (is_withheld reading log p) (commits_below reading log (clean params (inbox reading p (take n log))))) }
+{}
+
+/// Below its clean place a participant knows which places are withheld from it.
+pub fn what_is_withheld_is_known()
+    ensures { (reading : Reading) (params : Params) (log : List Entry) (p : ParticipantId) (n k : ℕ)
+        → Genuine reading params log
+        → n ≤ length log
+        → k < clean params (inbox reading p (take n log))
+        → is_withheld_in (inbox reading p (take n log)) k ≡ is_withheld reading log p k }
 {}
 
 /// The approved requests of a genuine log without collisions are a consistent ledger.
@@ -92,24 +98,44 @@ pub fn one_ledger_of_genuine_log()
         → Consistent (ledger_acts (ledger reading log)) }
 {}
 
-/// Approved requests conform and are authorised, whether hashes collide or not.
+/// Approved requests have a whole, which conforms and is authorised, where no hashes collide.
 pub fn approved_conform_and_are_authorised()
+    ensures whole { (reading : Reading) (params : Params) (log : List Entry) (k : ℕ) (request : Request)
+        → IsReading reading
+        → NoCollision reading log
+        → Genuine reading params log
+        → is_approved_in k (timeline_of log) ≡ true
+        → request_at log k ≡ Some request
+        → (transaction : Transaction) × (reading.whole request ≡ Some transaction) }
     ensures conform { (reading : Reading) (params : Params) (log : List Entry) (k : ℕ) (commit : Commit)
         → IsReading reading
+        → NoCollision reading log
         → Genuine reading params log
         → is_approved_in k (timeline_of log) ≡ true
         → whole_at reading log k ≡ Some commit
         → Conforms reading.language commit.roots }
     ensures authorised { (reading : Reading) (params : Params) (log : List Entry) (k : ℕ) (commit : Commit)
         → IsReading reading
+        → NoCollision reading log
         → Genuine reading params log
         → is_approved_in k (timeline_of log) ≡ true
         → whole_at reading log k ≡ Some commit
         → is_commit_authorised (roles_of reading.language) commit ≡ true }
 {}
 
+/// Each view of an approved request was found, by somebody that confirms it, to be from the sender and well split.
+pub fn approved_requests_are_vouched_for()
+    ensures { (reading : Reading) (params : Params) (log : List Entry) (k : ℕ) (request : Request) (path : Path)
+        → IsReading reading
+        → Genuine reading params log
+        → is_approved_in k (timeline_of log) ≡ true
+        → request_at log k ≡ Some request
+        → Contains (view_paths reading request) path
+        → IsVouched reading request path }
+{}
+
 /// A participant's active contracts at its clean place are those with a hosted stakeholder that the ledger's commits below
-/// that place, taken whole, create and don't consume.
+/// that place, taken whole and without the places that are withheld from it, create and don't consume.
 pub fn active_sets_are_exact()
     ensures { (reading : Reading) (params : Params) (log : List Entry) (p : ParticipantId) (n : ℕ)
         → IsReading reading
@@ -117,7 +143,7 @@ pub fn active_sets_are_exact()
         → Genuine reading params log
         → n ≤ length log
         → node_active reading p (inbox reading p (take n log)) (clean params (inbox reading p (take n log)))
-        ≡ active_of reading p (commits_below reading log (clean params (inbox reading p (take n log)))) }
+        ≡ active_of reading p (without_places (is_withheld reading log p) (commits_below reading log (clean params (inbox reading p (take n log))))) }
 {}
 
 /// The premises of `one_ledger_of_genuine_log` can be met, and the definitions compute.
@@ -132,7 +158,7 @@ pub fn example()
 {}
 
 /// What a rejection, a timeout or an expiry says is so, whether hashes collide or not: the check of the participant that
-/// rejects gives the reason that is told.
+/// rejects gives the reason that is told, and a contract that is said to be locked is locked.
 pub fn each_outcome_has_its_cause()
     ensures { (reading : Reading) (params : Params) (log : List Entry) (j : ℕ)
         → IsReading reading
@@ -140,7 +166,7 @@ pub fn each_outcome_has_its_cause()
         → LocalCauseOf reading params log j (outcome_of (timeline_of log) j (decision_time_of params log j)) }
 {}
 
-/// Where none collide, a rejection for a contract's lock or status tells what the ledger says of the contract.
+/// Where none collide, a rejection for a contract's status tells besides what the ledger says of the contract.
 pub fn each_rejection_holds_of_the_ledger()
     ensures { (reading : Reading) (params : Params) (log : List Entry) (j : ℕ)
         → IsReading reading
@@ -149,25 +175,36 @@ pub fn each_rejection_holds_of_the_ledger()
         → CauseOf reading params log j (outcome_of (timeline_of log) j (decision_time_of params log j)) }
 {}
 
-/// Who hosts a stakeholder of a contract counts the contract as locked exactly where it is, and where it isn't gives it the
-/// ledger's status, at every place of the log.
-pub fn hosts_agree_with_the_ledger()
-    ensures locked { (reading : Reading) (params : Params) (log : List Entry) (p j k : ℕ) (a : Act)
+/// What a participant counts as locked is locked.
+pub fn what_counts_as_locked_is_locked()
+    ensures { (reading : Reading) (params : Params) (log : List Entry) (p k : ℕ) (c : Hash)
+        → Genuine reading params log
+        → is_locked_in_inbox reading params (inbox reading p (take (suc k) log)) k c ≡ true
+        → IsLockedIn reading params log k c }
+{}
+
+/// Who doesn't count a contract as locked gives it the ledger's status where it confirms a signatory of it, or hosts a
+/// stakeholder of it and nothing below the place is withheld from it. The contract's instance is that of an authentic action on
+/// it which a complete envelope opens to anybody.
+pub fn participants_agree_with_the_ledger()
+    ensures confirming { (reading : Reading) (params : Params) (log : List Entry) (p q j k : ℕ) (a : Act)
         → IsReading reading
         → NoCollision reading log
         → Genuine reading params log
-        → Contains (acts_of (whole_at reading log j)) a
+        → Contains (acts (opened_to reading q (request_at log j))) a
         → reading.is_authentic a ≡ true
-        → has_hosted_stakeholder reading p a ≡ true
+        → confirms_signatory reading p a ≡ true
         → k < length log
-        → is_locked_in_inbox reading params (inbox reading p (take (suc k) log)) k (id_of a.action) ≡ is_locked_in reading params log k a }
-    ensures status { (reading : Reading) (params : Params) (log : List Entry) (p j k : ℕ) (a : Act)
+        → is_locked_in_inbox reading params (inbox reading p (take (suc k) log)) k (id_of a.action) ≡ false
+        → status_in_inbox reading (inbox reading p (take (suc k) log)) k (id_of a.action) ≡ status_in reading log k (id_of a.action) }
+    ensures hosting { (reading : Reading) (params : Params) (log : List Entry) (p q j k : ℕ) (a : Act)
         → IsReading reading
         → NoCollision reading log
         → Genuine reading params log
-        → Contains (acts_of (whole_at reading log j)) a
+        → Contains (acts (opened_to reading q (request_at log j))) a
         → reading.is_authentic a ≡ true
         → has_hosted_stakeholder reading p a ≡ true
+        → ((m : ℕ) → m < k → is_withheld reading log p m ≡ false)
         → k < length log
         → is_locked_in_inbox reading params (inbox reading p (take (suc k) log)) k (id_of a.action) ≡ false
         → status_in_inbox reading (inbox reading p (take (suc k) log)) k (id_of a.action) ≡ status_in reading log k (id_of a.action) }
@@ -235,11 +272,19 @@ pub fn genuine_logs_are_evidence()
         → Checked (requests_of reading params log (is_guard reading log)) (length log) }
 {}
 
-/// A sealed request with an action asks somebody.
-pub fn sealed_requests_ask_somebody()
-    ensures { (reading : Reading) (request : Request) (facts : IsSealed reading request) (a : Act)
-        → IsReading reading
-        → Contains (acts (facts.transaction).roots) a
+/// A complete envelope opens each view that its recipient confirms, so that a view is found missing only where an envelope is.
+pub fn complete_envelopes_open_what_is_confirmed()
+    ensures { (reading : Reading) (request : Request) (p : ParticipantId) (shown : Shown) (path : Path)
+        → FramedFacts reading request
+        → shown_to reading p request ≡ Some shown
+        → Contains (paths_confirmed reading p request) path
+        → (view : OpenedView) × (view_at path shown.views ≡ Some view) }
+{}
+
+/// A framed request asks somebody.
+pub fn framed_requests_ask_somebody()
+    ensures { (reading : Reading) (request : Request)
+        → FramedFacts reading request
         → (p : ParticipantId) × Contains request.confirming p }
 {}
 
@@ -256,17 +301,24 @@ pub fn worked_decisions()
     ensures timeout { scan Worked.params timeout 3 ≡ Some (TimedOut (0 ∷ [])) }
     ensures after_timeout { scan Worked.params timeout 7 ≡ Some Approved }
     ensures early_tick { scan Worked.params early_tick 3 ≡ None }
+    ensures missing_at_bank { scan Worked.params missing_at_bank 3 ≡ Some (Rejected 0 (0 ∷ []) ViewMissing) }
     ensures past_decision_time { clean Worked.params (inbox Worked.reading 1 (take 3 past_decision_time)) ≡ 0 }
     ensures expired_later { clean Worked.params (inbox Worked.reading 1 past_decision_time) ≡ 4 }
     ensures clean_behind { clean Worked.params (inbox Worked.reading 1 clean_behind) ≡ 3 }
+    ensures kept_from_carol { clean Worked.params (inbox Worked.reading 2 kept_from_carol) ≡ 7 }
+    ensures kept_from_carol_places { withheld Worked.params (inbox Worked.reading 2 kept_from_carol) ≡ 3 ∷ [] }
+    ensures kept_from_carol_ledger { node_log Worked.params (inbox Worked.reading 2 kept_from_carol) ≡ [] }
     ensures clean_behind_ledger { length (node_log Worked.params (inbox Worked.reading 1 clean_behind)) ≡ 1 }
 {}
 
-/// The log of two spends, by three participants, meets the premises of the other laws.
+/// The log of two spends, by three participants, meets the premises of the other laws, and so does one that keeps a place from a
+/// participant.
 pub fn worked_log_is_genuine()
     ensures reading { IsReading Worked.reading }
     ensures distinct { NoCollision Worked.reading two_spends }
     ensures genuine { Genuine Worked.reading Worked.params two_spends }
+    ensures kept_distinct { NoCollision Worked.reading kept_from_carol }
+    ensures kept_genuine { Genuine Worked.reading Worked.params kept_from_carol }
 {}
 
 /// The responses of worked examples.
@@ -294,4 +346,28 @@ pub fn worked_checks()
     ensures too_late { verdicts_owed Worked.reading Worked.params 1 (inbox Worked.reading 1 (late 60000000)) 1 ≡ v0 (Reject TimeSkew 0) ∷ [] }
     ensures foreign_root_bank { verdicts_owed Worked.reading Worked.params 0 (inbox Worked.reading 0 (alone 10)) 0 ≡ v1 (Reject NotAuthorised 0) ∷ [] }
     ensures foreign_root_alice { verdicts_owed Worked.reading Worked.params 1 (inbox Worked.reading 1 (alone 10)) 0 ≡ v0 Approve ∷ [] }
+{}
+
+/// Verdicts on the requests of senders that leave an envelope out, send another tree, or tell of a request what isn't so.
+pub fn worked_checks_of_tampered_requests()
+    ensures no_envelope_bank { verdicts_owed Worked.reading Worked.params 0 (inbox Worked.reading 0 (asked 20)) 3
+        ≡ v0 (Reject ViewMissing 0) ∷ v00 (Reject ViewMissing 0) ∷ [] }
+    ensures no_envelope_alice { verdicts_owed Worked.reading Worked.params 1 (inbox Worked.reading 1 (asked 20)) 3 ≡ v0 Approve ∷ [] }
+    ensures other_tree_bank { verdicts_owed Worked.reading Worked.params 0 (inbox Worked.reading 0 (asked 21)) 3
+        ≡ v0 (Reject RootMismatch 0) ∷ v00 (Reject RootMismatch 0) ∷ [] }
+    ensures other_sender_bank { verdicts_owed Worked.reading Worked.params 0 (inbox Worked.reading 0 (asked 22)) 3
+        ≡ v0 (Reject WrongSender 0) ∷ v00 (Reject WrongSender 0) ∷ [] }
+    ensures other_sender_alice { verdicts_owed Worked.reading Worked.params 1 (inbox Worked.reading 1 (asked 22)) 3 ≡ v0 (Reject WrongSender 0) ∷ [] }
+    ensures other_informees_bank { verdicts_owed Worked.reading Worked.params 0 (inbox Worked.reading 0 (asked 23)) 3
+        ≡ v0 Approve ∷ v00 (Reject WrongCommon 0) ∷ [] }
+    ensures other_informees_recipients { recipients Worked.reading (0 ∷ 1 ∷ 2 ∷ []) (Worked.request_for 1 23) ≡ 0 ∷ 1 ∷ [] }
+    ensures other_requesters_bank { verdicts_owed Worked.reading Worked.params 0 (inbox Worked.reading 0 (asked 25)) 3
+        ≡ v0 (Reject WrongSender 0) ∷ v00 (Reject WrongSender 0) ∷ [] }
+    ensures other_confirmers_bank { verdicts_owed Worked.reading Worked.params 0 (inbox Worked.reading 0 (asked 26)) 3
+        ≡ v0 Approve ∷ v00 (Reject WrongCommon 0) ∷ [] }
+    ensures other_confirmers_carol { verdicts_owed Worked.reading Worked.params 2 (inbox Worked.reading 2 (asked 26)) 3 ≡ v00 (Reject WrongCommon 0) ∷ [] }
+    ensures merged_views_bank { verdicts_owed Worked.reading Worked.params 0 (inbox Worked.reading 0 (asked 27)) 3 ≡ v0 (Reject WrongCommon 0) ∷ [] }
+    ensures parted_views_bank { verdicts_owed Worked.reading Worked.params 0 (inbox Worked.reading 0 (asked 28)) 3
+        ≡ v0 (Reject WrongCommon 0) ∷ v00 Approve ∷ [] }
+    ensures no_roles_bank { verdicts_owed Worked.reading Worked.params 0 (inbox Worked.reading 0 (asked 29)) 3 ≡ v0 (Reject WrongCommon 0) ∷ [] }
 {}
