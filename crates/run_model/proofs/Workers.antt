@@ -8,7 +8,8 @@ use Rattle.threads_model.specs.Inputs.{submissions_in}
 use Rattle.threads_model.specs.Shared.{SharedPart, SharedRounds, time_after}
 use Rattle.run_model.specs.Workers.{PartBy, RoundsBy}
 use Rattle.threads_model.proofs.PlainShared.{plain_is_shared}
-use Rattle.threads_model.proofs.RunShared.{Good, part_good}
+use Rattle.world_model.proofs.BegunFacts.{Good}
+use Rattle.threads_model.proofs.RunShared.{part_good}
 
 module _ {F : Type 0} (m : Machine) (why : Why F) where
   part_is_shared : (workers now : ℕ) (round : Round) → IsMachine m → (results : Results F) (before after : List Entry) → Good m before

@@ -1,27 +1,26 @@
 -- A round of one thread is a round of clients without lanes.
-use Rattle.std.proofs.Common.{◌≡◌, ◌⊎◌, ℕ, ◌+◌, false, List, [], ◌∷◌, take, length, Option, Some, None, refl, sym, ap, ◌∙◌, subst, inl, inr, arith}
-use Rattle.std.specs.Prelude.{nat_eq}
+use Rattle.std.proofs.Common.{◌≡◌, ◌⊎◌, ℕ, ◌+◌, false, List, [], ◌∷◌, length, Option, Some, None, refl, sym, ap, ◌∙◌, subst, inl, inr, arith}
 use Rattle.std.proofs.lemmas.Bool.{cases_Bool}
 use mathlib.Core.List.{IsPrefix}
 use Rattle.ledger_terms.specs.declared.submission.Submission.{Submission}
 use Rattle.ledger_model.specs.Terms.{ParticipantId}
-use Rattle.world_model.specs.Messages.{Entry, RequestMessage, Tick, Request}
+use Rattle.world_model.specs.Messages.{Entry, RequestMessage, Request}
 use Rattle.canton_model.specs.Inbox.{inbox}
 use Rattle.world_model.specs.Machine.{Machine, IsMachine}
 use Rattle.world_model.specs.Places.{has_place}
 use Rattle.world_model.specs.Sequencing.{AppendFault, Already, Unframed, LogFull as Full, TooLate, append_fault}
 use Rattle.world_model.specs.Rounds.{Round, Unwanted, SubmitResult, Refused, Results, Why, RoundAnswers, read_at, wanted_at, begun}
 use Rattle.world_model.specs.Plain.{HandedIn, AnswersWanted, IsPausedAnswer, IsAwakeAnswer, Submitted, PlainPart, PlainRounds}
+use Rattle.world_model.proofs.BegunFacts.{Good, begun_good}
 use Rattle.world_model.proofs.RoundFacts.{submitted_longer}
-use Rattle.world_model.proofs.Appended.{appended_keeps, appended_within, sequenced_keeps, sequenced_within}
-use Rattle.canton_model.proofs.LongerLogs.{genuine_take}
+use Rattle.world_model.proofs.Appended.{appended_keeps, appended_within}
 use Rattle.world_model.proofs.Grown.{request_within}
 use Rattle.threads_model.specs.Inputs.{inputs, one_if, is_sent, tickets, is_by, results_of}
 use Rattle.threads_model.specs.Clients.{ClientStep}
 use Rattle.threads_model.specs.Shared.{ClientHas, SharedPart, SharedRounds}
 use Rattle.threads_model.proofs.Begins.{begins_itself, take_whole}
 use Rattle.threads_model.proofs.Submits.{unwanted_step, sent_step, already_step, full_step, request_already, inputs_requested}
-use Rattle.threads_model.proofs.RunShared.{Good, part_good}
+use Rattle.threads_model.proofs.RunShared.{part_good}
 
 -- over the whole log
 plain_wanted : (m : Machine) (now : ℕ) (log : List Entry) (what : Submission) (o : Option Request) → wanted_at m now log what (length log) ≡ o
@@ -126,41 +125,34 @@ module _ {F : Type 0} (m : Machine) (why : Why F) (now : ℕ) (round : Round) wh
       let more = plain_count h.0 rest after h.2 in omega arith
 
   module _ (machine : IsMachine m) where
-    good_handed : (log : List Entry) (what : Submission) (q : Request) → wanted_at m now log what (length log) ≡ Some q → (f : Option AppendFault)
-        → append_fault m log (RequestMessage q) ≡ f → (result : SubmitResult F) (next : List Entry) → HandedIn now log q f result next → Good m log
-        → Good m next
-    good_handed log what q w None e result next h g =
-        let sealed = (machine.prepares what (take (length log) log) now q (genuine_take m.reading m.params log (length log) g.0) w).is_sealed in
-        subst (Good m) (sym h.1) (appended_keeps m now log (RequestMessage q) g.0 sealed e, appended_within m now log (RequestMessage q) g.1 e)
-    good_handed log what q w (Some (Already place)) e result next h g = subst (Good m) (sym h.1) g
-    good_handed log what q w (Some Unframed) e result next h g = absurd h
-    good_handed log what q w (Some (Full amount need)) e result next h g = subst (Good m) (sym h.1) g
-    good_handed log what q w (Some (TooLate decision time)) e result next h g = absurd h
+    good_handed : (log : List Entry) (q : Request) (f : Option AppendFault) → append_fault m log (RequestMessage q) ≡ f
+        → (result : SubmitResult F) (next : List Entry) → HandedIn now log q f result next → Good m log → Good m next
+    good_handed log q None e result next h g =
+        subst (Good m) (sym h.1) (appended_keeps m now log (RequestMessage q) g.0 tt e, appended_within m now log (RequestMessage q) g.1 e)
+    good_handed log q (Some (Already place)) e result next h g = subst (Good m) (sym h.1) g
+    good_handed log q (Some Unframed) e result next h g = absurd h
+    good_handed log q (Some (Full amount need)) e result next h g = subst (Good m) (sym h.1) g
+    good_handed log q (Some (TooLate decision time)) e result next h g = absurd h
 
-    good_wanted : (log : List Entry) (what : Submission) (fault : F) (o : Option Request) → wanted_at m now log what (length log) ≡ o
-        → (result : SubmitResult F) (next : List Entry) → AnswersWanted m fault now log o result next → Good m log → Good m next
-    good_wanted log what fault None w result next h g = subst (Good m) (sym h.1) g
-    good_wanted log what fault (Some q) w result next h g = good_handed log what q w (append_fault m log (RequestMessage q)) refl result next h g
+    good_wanted : (log : List Entry) (fault : F) (o : Option Request) (result : SubmitResult F) (next : List Entry)
+        → AnswersWanted m fault now log o result next → Good m log → Good m next
+    good_wanted log fault None result next h g = subst (Good m) (sym h.1) g
+    good_wanted log fault (Some q) result next h g = good_handed log q (append_fault m log (RequestMessage q)) refl result next h g
 
     plain_good : (log : List Entry) (answers : Results F) (after : List Entry) → Submitted m why now round log answers after → Good m log → Good m after
     plain_good log [] after h g = subst (Good m) (sym h) g
     plain_good log (x ∷ rest) after h g =
         plain_good h.0 rest after h.2 (elim h.1 [
           | inl p ↦ subst (Good m) (sym p.4) g
-          | inr a ↦ good_wanted log x.0 (why x.0 (read_at m log x.0 (length log)) now) (wanted_at m now log x.0 (length log)) refl x.1 h.0 a.1 g
+          | inr a ↦ good_wanted log (why x.0 (read_at m log x.0 (length log)) now) (wanted_at m now log x.0 (length log)) x.1 h.0 a.1 g
         ])
-
-    begun_good : (log : List Entry) → Good m log → Good m (begun m now round log)
-    begun_good log g =
-        elim (cases_Bool (nat_eq round.advance 0))
-        [ inl b ↦ rw b g | inr b ↦ rw b (sequenced_keeps m now log Tick g.0 tt, sequenced_within m now log Tick g.1) ]
 
     pub plain_is_shared : (results : Results F) (before after : List Entry) → Good m before → PlainPart m why now round results before after
         → SharedPart m why now round results before after
     plain_is_shared results before after g h =
         let first = begun m now round before in
-        let good = plain_good first results h.0 h.1 (begun_good before g) in
-        let l = submitted_longer m why now round [] 0 first results h.0 h.1 in (
+        let good = plain_good first results h.0 h.1 (begun_good m now round before g) in
+        let l = submitted_longer m why now round [] [] 0 first results h.0 h.1 in (
           h.0,
           record {
             genuine = good.0;

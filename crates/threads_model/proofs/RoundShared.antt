@@ -1,7 +1,7 @@
 -- What clients beside lanes bring back is what a run says of a round.
 use Rattle.std.proofs.Common.{◌≡◌, ℕ, suc, ◌+◌, ◌<◌, ◌≤◌, true, false, List, [], ◌∷◌, ◌++◌, take, length, Some, None, refl, sym, ap, ◌∙◌, subst, inl}
-use Rattle.std.proofs.Common.{inr, arith, append_assoc, append-nil}
-use Rattle.std.specs.Prelude.{nat_eq, slice_get}
+use Rattle.std.proofs.Common.{inr, arith, append_assoc, append-nil, le_refl}
+use Rattle.std.specs.Prelude.{slice_get}
 use Rattle.std.proofs.lemmas.Bool.{cases_Bool, cases_lt, eq-eqb, both_ways}
 use Rattle.std.proofs.lemmas.Option.{none-some, same_Some}
 use mathlib.Core.List.{IsPrefix}
@@ -25,19 +25,14 @@ use Rattle.world_model.proofs.PartFacts.{in_right}
 use Rattle.threads_model.specs.Inputs.{is_input, inputs, is_by, results_of, submissions_in}
 use Rattle.threads_model.specs.Clients.{StandsAlready, ClientRefusal, ClientAnswer, IsAsleep, IsAwake}
 use Rattle.threads_model.specs.Shared.{Joined, SharedPart}
-use Rattle.threads_model.proofs.Begins.{begins_itself, begins_then, begins_length, take_same}
+use Rattle.threads_model.proofs.Begins.{begins_then, begins_length, take_same}
 use Rattle.threads_model.proofs.Counts.{Apart, sent_places, sent_at_place, all_sent, inputs_more}
 use Rattle.threads_model.proofs.Chains.{request_later, request_earlier, sent_grown, chain_sent, answers_begin, ChainAt, chain_head, chain_next}
-use Rattle.world_model.proofs.Appended.{sequenced_more}
-use Rattle.world_model.proofs.AfterTurn.{one_more}
-use Rattle.world_model.specs.Sequencing.{sequenced}
+use Rattle.world_model.proofs.BegunFacts.{AllSent, begun_longer, begun_sent}
 
--- where results so far stand, and that each request of the log is of one
+-- where results so far stand
 abbrev pub SentBelow : {F : Type 0} → ℕ → Results F → Type 0
 SentBelow n earlier = (what : Submission) (place read_to : ℕ) → In (what, Sent place read_to) earlier → place < n
-
-abbrev pub AllSent : {F : Type 0} → List Entry → Results F → Type 0
-AllSent log earlier = (k : ℕ) (q : Request) → request_at log k ≡ Some q → (before : Submission) × (n : ℕ) × In (before, Sent k n) earlier
 
 request_is_input : (message : Message) (q : Request) → request_of message ≡ Some q → is_input message ≡ true
 request_is_input (RequestMessage r) q h = refl
@@ -178,8 +173,8 @@ module _ {F : Type 0} (m : Machine) (why : Why F) (machine : IsMachine m) (now :
           omega arith in ap (λ (k : ℕ). slice_get (x ∷ (xs ++ ys)) k) z ∙ get_behind xs ys i
 
   -- After the joins answers alone come: `after` is the log when the round ends, and `earlier` are the results of earlier rounds.
-  module _ (start : ℕ) (from_start : start ≤ length first) (earlier : Results F) (below : SentBelow start earlier) (sent : AllSent first earlier)
-      (after more : List Entry) (ends : after ≡ log ++ more) where
+  module _ (start : ℕ) (from_start : start ≤ length first) (raws : List Request) (earlier : Results F) (below : SentBelow start earlier)
+      (sent : AllSent raws first earlier) (after more : List Entry) (ends : after ≡ log ++ more) where
     grows : IsPrefix log after
     grows = (more, sym ends)
 
@@ -187,26 +182,28 @@ module _ {F : Type 0} (m : Machine) (why : Why F) (machine : IsMachine m) (now :
     already : (pre rest : Results F) (what : Submission) (place n : ℕ) (seen next : List Entry)
         → (pre ++ (what, Refused (Duplicate place) n) ∷ rest ≡ results) → Chains (pre ++ (what, Refused (Duplicate place) n) ∷ []) rest
         → IsPrefix next log → ((other : Submission) (k r : ℕ) → other.participant ≡ what.participant → In (other, Sent k r) rest → length next ≤ r)
-        → StandsAlready m now next what place n → n ≤ length next → DuplicateHolds m now next (earlier ++ pre) what place n
+        → StandsAlready m now next what place n → n ≤ length next → DuplicateHolds m now next raws (earlier ++ pre) what place n
     already pre rest what place n seen next e c begins later h within =
         let at : request_at log place ≡ Some h.first = request_later next log place h.first begins h.there in
         let lt = request_within next place h.first h.there in
         record {
           request = h.request;
           wanted = h.wanted;
-          sent = elim (cases_lt place (length first)) [
-            | inl old ↦
-                let r = sent place h.first (request_earlier first log place h.first j.begins old at) in
-                (r.0, r.1, contains_from_In (earlier ++ pre) (r.0, Sent place r.1) (in_append_left earlier pre (r.0, Sent place r.1) r.2))
+          first = h.first;
+          there = h.there;
+          known = elim (cases_lt place (length first)) [
+            | inl old ↦ elim (sent place h.first (request_earlier first log place h.first j.begins old at)) [
+              | inl r ↦ inl (r.0, r.1, contains_from_In (earlier ++ pre) (r.0, Sent place r.1) (in_append_left earlier pre (r.0, Sent place r.1) r.2))
+              | inr raw ↦ inr (contains_from_In raws h.first raw)
+            ]
             | inr new ↦
-                let r = request_sent place h.first new at in (
+                let r = request_sent place h.first new at in
+                inl (
                   r.0,
                   r.1,
                   contains_from_In (earlier ++ pre) (r.0, Sent place r.1) (in_append_right earlier pre (r.0, Sent place r.1) (in_pre r.0 r.1 r.2 at lt)),
                 )
           ];
-          first = h.first;
-          there = h.there;
           sender = h.sender;
           command = h.command;
         }
@@ -237,7 +234,7 @@ module _ {F : Type 0} (m : Machine) (why : Why F) (machine : IsMachine m) (now :
         (from_first : length first ≤ length seen)
         (past : (other : Submission) (place n : ℕ) → In (other, Sent place n) pre → other.participant ≡ what.participant → place < length seen) where
       abbrev So : SubmitResult F → Type 0
-      So result = ResultHolds m why now round next start (length next) (earlier ++ pre) what result
+      So result = ResultHolds m why now round raws next start (length next) (earlier ++ pre) what result
 
       asleep_holds : (result : SubmitResult F) → IsAsleep round.paused next what result → So result
       asleep_holds result a =
@@ -269,19 +266,19 @@ module _ {F : Type 0} (m : Machine) (why : Why F) (machine : IsMachine m) (now :
         where
           by_fault : (fault : SubmitFault F) (n : ℕ) → pre ++ (what, Refused fault n) ∷ rest ≡ results
               → Chains (pre ++ (what, Refused fault n) ∷ []) rest → n ≤ length next → ClientRefusal m why now next what fault n
-              → RefusalHolds m why now round next (length next) (earlier ++ pre) what fault n
+              → RefusalHolds m why now round raws next (length next) (earlier ++ pre) what fault n
           by_fault Paused n e c within h = absurd h
           by_fault (Unwanted f) n e c within h = h
           by_fault (Duplicate place) n e c within h = already pre rest what place n seen next e c begins later h within
           by_fault (LogFull amount need) n e c within h = h
 
           by_result : (r : SubmitResult F) → pre ++ (what, r) ∷ rest ≡ results → Chains (pre ++ (what, r) ∷ []) rest → read_of r ≤ length next
-              → ClientAnswer m why now next what r → AnswerHolds m why now round next (length next) (earlier ++ pre) what r
+              → ClientAnswer m why now next what r → AnswerHolds m why now round raws next (length next) (earlier ++ pre) what r
           by_result (Sent place n) e c within h = h
           by_result (Refused fault n) e c within h = by_fault fault n e c within h
 
     each_holds : (pre rest : Results F) → pre ++ rest ≡ results → Chains pre rest
-        → ResultsHold m why now round after start (length after) (earlier ++ pre) rest
+        → ResultsHold m why now round raws after start (length after) (earlier ++ pre) rest
     each_holds pre [] e c = tt
     each_holds pre (x ∷ rest) e c =
         let p = (x.0).participant in
@@ -294,40 +291,27 @@ module _ {F : Type 0} (m : Machine) (why : Why F) (machine : IsMachine m) (now :
         (chain_sent m why now round.paused next (results_of p rest) at.last h.2 other k r
         (in_filter (λ (y : Submission × SubmitResult F). is_by p y.0) rest (other, Sent k r) i (eq-eqb other.participant p mine))).1 in
         let c' = chains_next pre x rest c in
-        let here : ResultHolds m why now round next start (length next) (earlier ++ pre) x.0 x.1 = elim (h.1).1 [
+        let here : ResultHolds m why now round raws next start (length next) (earlier ++ pre) x.0 x.1 = elim (h.1).1 [
           | inl a ↦ asleep_holds pre x.0 rest at.seen next up at.from_first at.past x.1 a
           | inr a ↦ awake_holds pre x.0 rest at.seen next up at.from_first at.past x.1 e c' later a
         ] in
         let all = begins_then next log after up grows in
         let long = begins_length next after all in
-        let grown : ResultHolds m why now round (next ++ all.0) start (length after) (earlier ++ pre) x.0 x.1 =
-        result_grown m why now round next all.0 (length next) (length after) (omega arith) long (earlier ++ pre) (earlier ++ pre) x.0
+        let grown : ResultHolds m why now round raws (next ++ all.0) start (length after) (earlier ++ pre) x.0 x.1 =
+        result_grown m why now round raws next all.0 (length next) (length after) (omega arith) long (earlier ++ pre) (earlier ++ pre) x.0
         (λ y i. i) start x.1 (λ b place n i mine. i) here in (
-          subst (λ (xs : List Entry). ResultHolds m why now round xs start (length after) (earlier ++ pre) x.0 x.1) all.1 grown,
-          subst (λ (ys : Results F). ResultsHold m why now round after start (length after) ys rest) (sym (append_assoc earlier pre (x ∷ [])))
+          subst (λ (xs : List Entry). ResultHolds m why now round raws xs start (length after) (earlier ++ pre) x.0 x.1) all.1 grown,
+          subst (λ (ys : Results F). ResultsHold m why now round raws after start (length after) ys rest) (sym (append_assoc earlier pre (x ∷ [])))
               (each_holds (pre ++ x ∷ []) rest (next_split pre x rest e) c'),
         )
 
-    pub results_hold : ResultsHold m why now round after start (length after) earlier results
+    pub results_hold : ResultsHold m why now round raws after start (length after) earlier results
     results_hold =
-        subst (λ (ys : Results F). ResultsHold m why now round after start (length after) ys results) (append-nil earlier)
+        subst (λ (ys : Results F). ResultsHold m why now round raws after start (length after) ys results) (append-nil earlier)
         (each_holds [] results refl all_chains)
 
 pub begun_begins : (m : Machine) (now : ℕ) (round : Round) (log : List Entry) → IsPrefix log (begun m now round log)
-begun_begins m now round log =
-    elim (cases_Bool (nat_eq round.advance 0)) [ inl b ↦ rw b (begins_itself log) | inr b ↦ let r = sequenced_more m now log Tick in rw b (r.0, sym r.1) ]
-
-pub begun_sent : {F : Type 0} (m : Machine) (now : ℕ) (round : Round) (before : List Entry) (earlier : Results F) → AllSent before earlier
-    → AllSent (begun m now round before) earlier
-begun_sent m now round before earlier sent k q at =
-    elim (cases_Bool (nat_eq round.advance 0)) [
-      | inl b ↦ sent k q (rw b at at)
-      | inr b ↦
-          let at' : request_at (sequenced m now before Tick) k ≡ Some q = rw b at at in
-          let lt = one_more m now before Tick k q refl at' in
-          let more = sequenced_more m now before Tick in
-          sent k q (sym (request_grown before more.0 k lt) ∙ (ap (λ (xs : List Entry). request_at xs k) (sym more.1) ∙ at'))
-    ]
+begun_begins m now round log = let l = begun_longer m now round log in (l.0, sym l.1)
 
 module _ {F : Type 0} (m : Machine) (why : Why F) (now : ℕ) (round : Round) (results : Results F) (before after : List Entry) where
   -- what settling adds
@@ -375,15 +359,16 @@ module _ {F : Type 0} (m : Machine) (why : Why F) (now : ℕ) (round : Round) (r
         settled = rw h.2 (passes_settle m now round.paused round.holds_verdicts h.0);
       }
 
-  pub shared_round : IsMachine m → (earlier : Results F) → SentBelow (length before) earlier → AllSent before earlier
-      → submissions_in results ≡ round.submits → SharedPart m why now round results before after → RoundHolds m why now round earlier results before after
-  shared_round machine earlier below sent submits h =
+  pub shared_round : IsMachine m → (raws : List Request) (earlier : Results F) → SentBelow (length before) earlier → AllSent raws before earlier
+      → submissions_in results ≡ round.submits → SharedPart m why now round results before after
+      → RoundHolds m why now round (raws ++ round.raws) earlier results before after
+  shared_round machine raws earlier below sent submits h =
       let first = begun m now round before in
       let s = settling h in
       let up = begins_length before first (begun_begins m now round before) in
       record {
         part = shared_part machine h;
         submits = submits;
-        each = results_hold m why machine now round first h.0 results h.1 (length before) up earlier below
-            (begun_sent m now round before earlier sent) after s.0 s.1;
+        each = results_hold m why machine now round first h.0 results h.1 (length first) (le_refl (length first)) (raws ++ round.raws) earlier
+            (λ what place n i. let b = below what place n i in omega arith) (begun_sent m now round raws before earlier sent) after s.0 s.1;
       }

@@ -27,6 +27,11 @@ pub behind_form : (framed : Bool) (f o : Option AppendFault) → (Some Unframed 
 behind_form true f o other e = e
 behind_form false f o other e = absurd (other e)
 
+-- it is framed
+framed_behind : (framed : Bool) (f : Option AppendFault) → (if framed then f else Some Unframed) ≡ None → framed ≡ true
+framed_behind true f e = refl
+framed_behind false f e = absurd (none-some _ (sym e))
+
 -- a framed one isn't
 pub framed_passes : (m : Machine) (log : List Entry) (q : Request) → (m.reading).is_framed q ≡ true
     → append_fault m log (RequestMessage q) ≡ Some Unframed → ⊥
@@ -89,7 +94,7 @@ appended_keeps m now log message g may none =
     request_fits (VerdictMessage v) may' none' = tt
     request_fits (RequestMessage q) may' none' =
         let parts = no_fault (first_from (is_same (RequestMessage q)) 0 log) _ none' in
-        record { is_sealed = may'; first = rw all (none_such (is_request_of q.sender q.command) 0 log parts.0) }
+        record { is_framed = framed_behind ((m.reading).is_framed q) _ parts.1; first = rw all (none_such (is_request_of q.sender q.command) 0 log parts.0) }
 
     response_fits : (x : Message) → MayStand m log x → append_fault m log x ≡ None
         → FitsIfResponse m.reading m.params log (length log) (time_after now x log) x

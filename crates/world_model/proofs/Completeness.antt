@@ -25,7 +25,7 @@ use Rattle.world_model.specs.Rounds.{is_tick}
 use Rattle.world_model.specs.Settled as s
 use Rattle.world_model.specs.Complete.{Unhindered}
 use Rattle.canton_model.proofs.LongerLogs.{scan_grown}
-use Rattle.canton_model.proofs.Fits.{sealed_of}
+use Rattle.canton_model.proofs.Fits.{framed_of}
 use Rattle.world_model.proofs.Progressed.{scan_is}
 use Rattle.world_model.proofs.NodeFacts.{confirming_asked}
 
@@ -234,8 +234,10 @@ module _ (m : Machine) (paused : List ParticipantId) (log : List Entry) (is : Is
 
   state : ApprovedOrWaits k q.confirming (drop (suc k) log) (fold (after_entry k dead) (Waiting q.confirming) (drop (suc k) log))
   state =
-      let p = (u.approval).somebody in
-      quiet_fold k dead (drop (suc k) log) quiet q.confirming (p.0, in_from_Contains q.confirming p.0 p.1)
+      let framed = framed_of m.reading m.params log genuine is k q (u.approval).there in
+      let path = framed.some_view in
+      let p = framed.confirmed path.0 path.1 in
+      quiet_fold k dead (drop (suc k) log) quiet q.confirming (p.0, in_from_Contains q.confirming p.0 (framed.asked p.0 path.0 p.1))
 
   scanned : scan m.params log k ≡ decision_of (fold (after_entry k dead) (Waiting q.confirming) (drop (suc k) log))
   scanned = scan_is m.params log k q (u.approval).there
@@ -267,7 +269,7 @@ module _ (m : Machine) (paused : List ParticipantId) (log : List Entry) (is : Is
         | inl yes' ↦ yes'
         | inr no' ↦
             let owes : s.is_asked_in m.reading p (request_at log k) ≡ true = ap (s.is_asked_in m.reading p) (u.approval).there
-            ∙ confirming_asked m.reading p q (sealed_of m.reading m.params log is genuine k q (u.approval).there) asked in
+            ∙ confirming_asked m.reading p q (framed_of m.reading m.params log genuine is k q (u.approval).there) asked in
             let due : s.is_due m log p k ≡ true = and_from _ _ owes (and_from _ _ (ap not no') (undecided none)) in
             absurd (both_ways _ not_late (settled.responses p k here.0 here.1 due))
       ]

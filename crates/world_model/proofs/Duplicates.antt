@@ -1,6 +1,7 @@
--- A submission whose sender and command an earlier Sent result has is refused as its duplicate, and as nothing else.
+-- A submission whose sender and command an earlier Sent result or a raw request has is refused as its duplicate, and as nothing
+-- else.
 use Rattle.std.proofs.Common.{◌≡◌, ℕ, ◌<◌, true, false, List, take, Some, sym, ap, ◌∙◌, subst, inl, inr, arith}
-use Rattle.std.specs.Prelude.{slice_get, Contains}
+use Rattle.std.specs.Prelude.{slice_get}
 use Rattle.std.specs.List.{list_any}
 use Rattle.std.proofs.lemmas.Bool.{cases_order, and_from, both_ways, eq-eqb}
 use Rattle.std.proofs.lemmas.Option.{none-some}
@@ -33,32 +34,31 @@ module _ (m : Machine) (log : List Entry) (genuine : GenuineLog m log) where
       let fit : RequestFits m.reading log j b = subst (FitsIfRequest m.reading log j) e.2 (genuine.requests j e.0 e.1) in
       both_ways _ fit.first (found_before log i j a b.sender b.command lt at sender command)
 
-  module _ {F : Type 0} (why : Why F) (machine : IsMachine m) (now : ℕ) (round : Round) (start end : ℕ) (earlier : Results F)
-      (what before : Submission) (awake : has_place round.paused what.participant ≡ false) (place n : ℕ)
-      (sent : Contains earlier (before, Sent place n)) (same : before.participant ≡ what.participant) (first : Request)
+  module _ {F : Type 0} (why : Why F) (machine : IsMachine m) (now : ℕ) (round : Round) (raws : List Request) (start end : ℕ) (earlier : Results F)
+      (what : Submission) (awake : has_place round.paused what.participant ≡ false) (place : ℕ) (first : Request)
       (there : request_at log place ≡ Some first) (sender : first.sender ≡ what.participant) (command : first.command ≡ what.command) where
     its : (r : ℕ) (q : Request) → wanted_at m now log what r ≡ Some q → IsRequestFor m.reading what q
     its r q w = machine.prepares what (take r log) now q (genuine_take m.reading m.params log r genuine) w
 
+    -- where the result has read past the place
     pub is_duplicate : (result : SubmitResult F) (q : Request) → wanted_at m now log what (read_of result) ≡ Some q
-        → ResultHolds m why now round log start end earlier what result → result ≡ Refused (Duplicate place) (read_of result)
-    is_duplicate (Sent k r) q w h =
+        → ResultHolds m why now round raws log start end earlier what result → place < read_of result
+        → result ≡ Refused (Duplicate place) (read_of result)
+    is_duplicate (Sent k r) q w h past =
         let a = h.answer in
         let own = its r a.request a.wanted in
-        let past = (h.read awake).after_sent before place n sent same in
         let le = a.read_before in
         absurd (only_one place k first a.request (omega arith) there a.there (sender ∙ sym own.sender) (command ∙ sym own.command))
-    is_duplicate (Refused Paused r) q w h = absurd (both_ways _ awake h.answer)
-    is_duplicate (Refused (Unwanted fault) r) q w h = absurd (none-some q (sym (h.answer).0 ∙ w))
-    is_duplicate (Refused (LogFull amount need) r) q w h =
+    is_duplicate (Refused Paused r) q w h past = absurd (both_ways _ awake h.answer)
+    is_duplicate (Refused (Unwanted fault) r) q w h past = absurd (none-some q (sym (h.answer).0 ∙ w))
+    is_duplicate (Refused (LogFull amount need) r) q w h past =
         let a = h.answer in
         let own = its r a.request a.wanted in
-        let past = (h.read awake).after_sent before place n sent same in
         let le = a.at_least in
         absurd (both_ways _ a.fresh
         (found_before log place a.some first (a.request).sender (a.request).command (omega arith) there (sender ∙ sym own.sender)
         (command ∙ sym own.command)))
-    is_duplicate (Refused (Duplicate k) r) q w h =
+    is_duplicate (Refused (Duplicate k) r) q w h past =
         let a = h.answer in
         let own = its r a.request a.wanted in
         let s : (a.first).sender ≡ first.sender = a.sender ∙ (own.sender ∙ sym sender) in

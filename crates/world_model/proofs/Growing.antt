@@ -1,10 +1,10 @@
 -- What a result says over a beginning of a log it says over the log, and a decision stays.
-use Rattle.std.proofs.Common.{◌≡◌, ℕ, ◌≤◌, Bool, true, false, List, ◌++◌, take, length, Option, Some, None, sym, ap, ◌∙◌, arith}
+use Rattle.std.proofs.Common.{◌≡◌, ℕ, ◌≤◌, Bool, true, false, List, ◌++◌, take, length, Option, Some, None, sym, ap, ◌∙◌, inl, inr, arith}
 use Rattle.std.specs.Prelude.{Contains}
 use Rattle.std.specs.List.{list_any}
 use Rattle.std.proofs.lemmas.List.{take-append-le, map-append}
 use Rattle.ledger_terms.specs.declared.submission.Submission.{Submission}
-use Rattle.world_model.specs.Messages.{Entry, Decision}
+use Rattle.world_model.specs.Messages.{Entry, Request, Decision}
 use Rattle.canton_model.specs.Timeline.{Decided, outcome_from, outcome_of, moment_of, timeline_of, verdict_on, is_past, or_else}
 use Rattle.canton_model.specs.Inbox.{Item, inbox}
 use Rattle.canton_model.specs.Genuine.{is_request_of}
@@ -34,7 +34,8 @@ outcome_stays log more k before after d h =
     ap (λ (o : Option Decision). outcome_from o (is_past after (timeline_of (log ++ more)))) still
 
 -- results
-module _ {F : Type 0} (m : Machine) (why : Why F) (now : ℕ) (round : Round) (list more : List Entry) (end end' : ℕ) (inside : end ≤ length list)
+module _ {F : Type 0} (m : Machine) (why : Why F) (now : ℕ) (round : Round) (raws : List Request) (list more : List Entry) (end end' : ℕ)
+    (inside : end ≤ length list)
     (later : end ≤ end') (earlier earlier' : Results F) (what : Submission) where
   front : (n : ℕ) → n ≤ end → take n (list ++ more) ≡ take n list
   front n le = take-append-le n list more (omega (arith, le, inside))
@@ -46,17 +47,17 @@ module _ {F : Type 0} (m : Machine) (why : Why F) (now : ℕ) (round : Round) (l
   wanted_same n le = ap (λ (items : List Item). m.prepare what items now) (read_same n le)
 
   module _ (wider : (x : Submission × SubmitResult F) → Contains earlier x → Contains earlier' x) where
-    refusal_grown : (fault : SubmitFault F) (n : ℕ) → n ≤ end → RefusalHolds m why now round list end earlier what fault n
-        → RefusalHolds m why now round (list ++ more) end' earlier' what fault n
+    refusal_grown : (fault : SubmitFault F) (n : ℕ) → n ≤ end → RefusalHolds m why now round raws list end earlier what fault n
+        → RefusalHolds m why now round raws (list ++ more) end' earlier' what fault n
     refusal_grown Paused n le h = h
     refusal_grown (Unwanted fault) n le h = (wanted_same n le ∙ h.0, ap (λ (items : List Item). why what items now) (read_same n le) ∙ h.1)
     refusal_grown (Duplicate place) n le h =
         record {
           request = h.request;
           wanted = wanted_same n le ∙ h.wanted;
-          sent = ((h.sent).0, (h.sent).1, wider _ (h.sent).2);
           first = h.first;
           there = request_grown list more place (request_within list place h.first h.there) ∙ h.there;
+          known = elim h.known [ inl sent ↦ inl (sent.0, sent.1, wider _ sent.2) | inr raw ↦ inr raw ];
           sender = h.sender;
           command = h.command;
         }
@@ -74,8 +75,8 @@ module _ {F : Type 0} (m : Machine) (why : Why F) (now : ℕ) (round : Round) (l
           fresh = ap (list_any (λ (x : Entry). is_request_of (h.request).sender (h.request).command x.message)) (front h.some h.at_most) ∙ h.fresh;
         }
 
-    answer_grown : (result : SubmitResult F) → read_of result ≤ end → AnswerHolds m why now round list end earlier what result
-        → AnswerHolds m why now round (list ++ more) end' earlier' what result
+    answer_grown : (result : SubmitResult F) → read_of result ≤ end → AnswerHolds m why now round raws list end earlier what result
+        → AnswerHolds m why now round raws (list ++ more) end' earlier' what result
     answer_grown (Refused fault n) le h = refusal_grown fault n le h
     answer_grown (Sent place n) le h =
         let below = h.in_part in
@@ -89,8 +90,8 @@ module _ {F : Type 0} (m : Machine) (why : Why F) (now : ℕ) (round : Round) (l
 
     pub result_grown : (start : ℕ) (result : SubmitResult F)
         → ((before : Submission) (place n : ℕ) → Contains earlier' (before, Sent place n) → before.participant ≡ what.participant
-        → Contains earlier (before, Sent place n)) → ResultHolds m why now round list start end earlier what result
-        → ResultHolds m why now round (list ++ more) start end' earlier' what result
+        → Contains earlier (before, Sent place n)) → ResultHolds m why now round raws list start end earlier what result
+        → ResultHolds m why now round raws (list ++ more) start end' earlier' what result
     result_grown start result own h =
         let le = h.within in
         record {

@@ -7,7 +7,7 @@ use Rattle.ledger_model.specs.Terms.{ParticipantId}
 use Rattle.canton_model.specs.Log.{Params}
 use Rattle.world_model.specs.Messages.{Entry, RequestMessage, ResponseMessage, VerdictMessage, Request, Response, Verdict}
 use Rattle.canton_model.specs.Reading.{Reading}
-use Rattle.canton_model.specs.Inbox.{Item, shown_in, items_after, inbox}
+use Rattle.canton_model.specs.Inbox.{Item, notice_in, items_after, inbox}
 use Rattle.canton_model.specs.Checks.{verdicts_owed}
 use Rattle.world_model.specs.Machine.{Machine, GenuineLog, IsMachine, confirms_some_view}
 use Rattle.world_model.specs.Sequencing.{sequenced}
@@ -27,7 +27,7 @@ module _ (reading : Reading) (params : Params) (p : ParticipantId) (items more :
   owed_stays = ap (λ (its : List Item). verdicts_owed reading params p its k) (take-append-le (suc k) items more (omega (arith, lt)))
 
   pub owes_stays : owes_at reading p (items ++ more) k ≡ owes_at reading p items k
-  owes_stays = ap (λ (o : Option Item). confirms_some_view reading p (shown_in o)) (slice_get_left items more k lt)
+  owes_stays = ap (λ (o : Option Item). confirms_some_view (notice_in o)) (slice_get_left items more k lt)
 
 pub reply_lands : (m : Machine) (now : ℕ) (list more : List Entry) (r : Response) → IsOwed m.reading m.params list r → GenuineLog m (list ++ more)
     → GenuineLog m (sequenced m now (list ++ more) (ResponseMessage r))
@@ -41,7 +41,7 @@ verdict_lands m now list more v decided g =
 pub request_lands : (m : Machine) (now then' : ℕ) (list log : List Entry) (what : Submission) (q : Request) → IsMachine m
     → Prepared m then' list what q → GenuineLog m log → GenuineLog m (sequenced m now log (RequestMessage q))
 request_lands m now then' list log what q machine h g =
-    sequenced_keeps m now log (RequestMessage q) g (machine.prepares what list then' q h.genuine h.wanted).is_sealed
+    sequenced_keeps m now log (RequestMessage q) g tt
 
 -- a job that was claimed over a shorter list
 module _ (m : Machine) (p : ParticipantId) (list more : List Entry) (k : ℕ) (c : Claimed m p list k) where

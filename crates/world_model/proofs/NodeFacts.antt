@@ -2,20 +2,17 @@
 use Rattle.std.proofs.Common.{◌≡◌, ℕ, zero, suc, ◌+◌, ◌<◌, ◌≤◌, Bool, true, false, List, [], ◌∷◌, ◌++◌, take, length, option_map, Option, Some, None}
 use Rattle.std.proofs.Common.{refl, sym, ap, ◌∙◌, inl, inr, arith, append_assoc, append-nil}
 use Rattle.std.specs.Prelude.{slice_get, Contains}
-use Rattle.std.proofs.lemmas.Bool.{cases_Bool, cases_order}
+use Rattle.std.proofs.lemmas.Bool.{cases_Bool, cases_order, or_right}
 use Rattle.std.proofs.lemmas.Option.{none-some, same_Some}
-use Rattle.ledger_model.specs.Terms.{ParticipantId}
+use Rattle.ledger_model.specs.Terms.{ParticipantId, Path}
 use Rattle.canton_model.specs.Log.{Params, request_of, request_in, request_at}
 use Rattle.world_model.specs.Messages.{Entry, Message, RequestMessage, ResponseMessage, VerdictMessage, Tick, Request, Verdict}
-use Rattle.ledger_model.specs.Opening.{Shown}
-use Rattle.canton_model.specs.Reading.{Reading, is_recipient}
-use Rattle.canton_model.specs.Inbox.{Item, verdict_content, content_of, shown_by, shown_in, shown_at, item_after, items_after, inbox}
-use Rattle.canton_model.specs.Checks.{is_confirmed_by, verdicts_owed}
-use Rattle.canton_model.specs.Ledger.{read_by}
-use Rattle.canton_model.specs.Genuine.{IsReading, IsSealed}
-use Rattle.ledger_model.proofs.Lists.{from_any, in_any, in_from_Contains, contains_from_In}
-use Rattle.canton_model.proofs.InboxFacts.{shown_received}
-use Rattle.canton_model.proofs.Fits.{sealed_of}
+use Rattle.canton_model.specs.Reading.{Reading, is_recipient, is_some_path, paths_seen, paths_confirmed}
+use Rattle.canton_model.specs.Inbox.{Item, Notice, received, notice_by, notice_in, notice_at, verdict_content, content_of, item_after, items_after, inbox}
+use Rattle.canton_model.specs.Checks.{verdicts_owed}
+use Rattle.canton_model.specs.Genuine.{IsReading, FramedFacts}
+use Rattle.ledger_model.proofs.Lists.{In, from_any, in_any, in_from_Contains, contains_from_In}
+use Rattle.canton_model.proofs.Fits.{framed_of}
 use Rattle.world_model.specs.Machine.{Machine, GenuineLog, confirms_some_view, is_asked}
 use Rattle.world_model.specs.Fits.{IsOwed}
 use Rattle.world_model.specs.Places.{first_from}
@@ -48,61 +45,75 @@ inbox_append reading p before (x ∷ xs) ys =
     ∙ ap (λ (b : List Entry). item_after reading p before x ∷ (items_after reading p (before ++ x ∷ []) xs ++ items_after reading p b ys))
     (append_assoc before (x ∷ []) xs)
 
--- what is shown at a place is what is shown of the request there
-told_shows : (reading : Reading) (p : ParticipantId) (v : Verdict) (o : Option Request) → shown_by (verdict_content reading p v o) ≡ None
+-- what is learnt at a place is what is learnt of the request there
+notice_of_request : (reading : Reading) (p : ParticipantId) → Option Request → Option Notice
+notice_of_request reading p None = None
+notice_of_request reading p (Some q) = notice_by (received reading p q)
+
+told_shows : (reading : Reading) (p : ParticipantId) (v : Verdict) (o : Option Request) → notice_by (verdict_content reading p v o) ≡ None
 told_shows reading p v None = refl
 told_shows reading p v (Some q) = elim (cases_Bool (is_recipient reading p q)) [ inl b ↦ rw b refl | inr b ↦ rw b refl ]
 
 content_shows : (reading : Reading) (p : ParticipantId) (before : List Entry) (message : Message)
-    → shown_by (content_of reading p before message) ≡ read_by (reading.shown p) (request_of message)
-content_shows reading p before (RequestMessage q) = shown_received (reading.shown p q)
+    → notice_by (content_of reading p before message) ≡ notice_of_request reading p (request_of message)
+unfolding notice_of_request
+content_shows reading p before (RequestMessage q) = refl
 content_shows reading p before (ResponseMessage r) = refl
 content_shows reading p before (VerdictMessage v) = told_shows reading p v (request_at before v.request)
 content_shows reading p before Tick = refl
 
 entry_shows : (reading : Reading) (p : ParticipantId) (before : List Entry) (o : Option Entry)
-    → shown_in (option_map (item_after reading p before) o) ≡ read_by (reading.shown p) (request_in o)
+    → notice_in (option_map (item_after reading p before) o) ≡ notice_of_request reading p (request_in o)
+unfolding notice_of_request
 entry_shows reading p before None = refl
 entry_shows reading p before (Some e) = content_shows reading p before e.message
 
-pub shown_is : (reading : Reading) (p : ParticipantId) (log : List Entry) (k : ℕ)
-    → shown_at (inbox reading p log) k ≡ read_by (reading.shown p) (request_at log k)
-shown_is reading p log k = ap shown_in (item_at reading p k [] log) ∙ entry_shows reading p (take k log) (slice_get log k)
+notice_is : (reading : Reading) (p : ParticipantId) (log : List Entry) (k : ℕ)
+    → notice_at (inbox reading p log) k ≡ notice_of_request reading p (request_at log k)
+notice_is reading p log k = ap notice_in (item_at reading p k [] log) ∙ entry_shows reading p (take k log) (slice_get log k)
 
-asked_is : (reading : Reading) (p : ParticipantId) (o : Option Request) → confirms_some_view reading p (read_by (reading.shown p) o) ≡ is_asked_in reading p o
+asked_is : (reading : Reading) (p : ParticipantId) (o : Option Request) → confirms_some_view (notice_of_request reading p o) ≡ is_asked_in reading p o
+unfolding notice_of_request
 asked_is reading p None = refl
 asked_is reading p (Some q) = refl
 
 pub owes_is : (reading : Reading) (p : ParticipantId) (log : List Entry) (k : ℕ)
     → owes_at reading p (inbox reading p log) k ≡ is_asked_in reading p (request_at log k)
-owes_is reading p log k = ap (confirms_some_view reading p) (shown_is reading p log k) ∙ asked_is reading p (request_at log k)
+owes_is reading p log k = ap confirms_some_view (notice_is reading p log k) ∙ asked_is reading p (request_at log k)
 
 pub asked_request : (reading : Reading) (p : ParticipantId) (o : Option Request) → is_asked_in reading p o ≡ true
     → (q : Request) × (o ≡ Some q) × (is_asked reading p q ≡ true)
 asked_request reading p None h = cc
 asked_request reading p (Some q) h = (q, refl, h)
 
--- who owes verdicts to a sealed request is confirming there, and is shown something
-pub asked_shown : (reading : Reading) (p : ParticipantId) (q : Request) → is_asked reading p q ≡ true → (shown : Shown) × (reading.shown p q ≡ Some shown)
-asked_shown reading p q h = by_shown (reading.shown p q) refl
-  where
-    by_shown : (o : Option Shown) → reading.shown p q ≡ o → (shown : Shown) × (reading.shown p q ≡ Some shown)
-    by_shown None e = let no : false ≡ true = sym (ap (confirms_some_view reading p) e) ∙ h in cc
-    by_shown (Some s) e = (s, e)
+-- who owes verdicts to a framed request is confirming there
+asked_path : (reading : Reading) (p : ParticipantId) (q : Request) → is_asked reading p q ≡ true → (path : Path) × In path (paths_confirmed reading p q)
+asked_path reading p q h =
+    elim (cases_Bool (is_recipient reading p q)) [
+      | inr away ↦ let no : false ≡ true = rw away at h in cc
+      | inl here ↦
+          let some' : is_some_path (paths_confirmed reading p q) ≡ true = rw here at h in
+          let w = from_any (λ (path : Path). true) (paths_confirmed reading p q) some' in (w.0, w.1)
+    ]
 
-pub asked_confirms : (reading : Reading) (p : ParticipantId) (q : Request) → IsSealed reading q → is_asked reading p q ≡ true → Contains q.confirming p
-asked_confirms reading p q sealed h =
-    let s = asked_shown reading p q h in
-    let some' : confirms_some_view reading p (Some s.0) ≡ true = sym (ap (confirms_some_view reading p) s.1) ∙ h in
-    let w = from_any (is_confirmed_by reading p) (s.0).views some' in
-    sealed.asked p s.0 w.0 s.1 (contains_from_In (s.0).views w.0 w.1) w.2
+-- and a recipient
+pub asked_receives : (reading : Reading) (p : ParticipantId) (q : Request) → is_asked reading p q ≡ true → is_recipient reading p q ≡ true
+asked_receives reading p q h =
+    elim (cases_Bool (is_recipient reading p q)) [
+      | inl here ↦ here
+      | inr away ↦ let no : false ≡ true = rw away at h in cc
+    ]
+
+pub asked_confirms : (reading : Reading) (p : ParticipantId) (q : Request) → FramedFacts reading q → is_asked reading p q ≡ true → Contains q.confirming p
+asked_confirms reading p q framed h = let w = asked_path reading p q h in framed.asked p w.0 (contains_from_In _ w.0 w.1)
 
 -- and who is confirming there owes verdicts to it
-pub confirming_asked : (reading : Reading) (p : ParticipantId) (q : Request) → IsSealed reading q → Contains q.confirming p → is_asked reading p q ≡ true
-confirming_asked reading p q sealed h =
-    let a = sealed.answers p h in
-    ap (confirms_some_view reading p) a.is_shown
-    ∙ in_any (is_confirmed_by reading p) (a.shown).views a.view (in_from_Contains (a.shown).views a.view a.is_opened) a.is_confirmed
+pub confirming_asked : (reading : Reading) (p : ParticipantId) (q : Request) → FramedFacts reading q → Contains q.confirming p → is_asked reading p q ≡ true
+confirming_asked reading p q framed h =
+    let a = framed.answers p h in
+    let seen = framed.sees p a.0 a.1 in
+    let here : is_recipient reading p q ≡ true = or_right _ _ (in_any (λ (path : Path). true) (paths_seen reading p q) a.0 (in_from_Contains _ a.0 seen) refl) in
+    rw here (in_any (λ (path : Path). true) (paths_confirmed reading p q) a.0 (in_from_Contains _ a.0 a.1) refl)
 
 -- what is owed at a place is told by the entries up to it
 pub owed_is : (reading : Reading) (params : Params) (p : ParticipantId) (log : List Entry) (k : ℕ)
@@ -117,7 +128,7 @@ response_owed m p log k is g h =
     record {
       request = r.0;
       there = r.1;
-      confirming = asked_confirms m.reading p r.0 (sealed_of m.reading m.params log is g k r.0 r.1) r.2;
+      confirming = asked_confirms m.reading p r.0 (framed_of m.reading m.params log g is k r.0 r.1) r.2;
       owed = owed_is m.reading m.params p log k;
     }
 

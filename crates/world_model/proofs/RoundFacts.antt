@@ -45,7 +45,7 @@ request_test p command Tick h = cc
 request_test p command (RequestMessage q) h =
     let parts = and_parts (nat_eq q.sender p) _ h in (q, refl, eqb-true _ _ parts.0, (bytes_eq-Decides q.command command).0 parts.1)
 
-module _ {F : Type 0} (m : Machine) (why : Why F) (now : ℕ) (round : Round) (all : List Entry) (start : ℕ) where
+module _ {F : Type 0} (m : Machine) (why : Why F) (now : ℕ) (round : Round) (raws : List Request) (all : List Entry) (start : ℕ) where
   front : (log : List Entry) → Longer log all → take (length log) all ≡ log
   front log l = ap (take (length log)) l.1 ∙ take-append_seam log l.0
 
@@ -61,12 +61,15 @@ module _ {F : Type 0} (m : Machine) (why : Why F) (now : ℕ) (round : Round) (a
   abbrev SentBelow : ℕ → Results F → Type 0
   SentBelow n earlier = (what : Submission) (place read_to : ℕ) → In (what, Sent place read_to) earlier → place < n
 
-  -- each request of the log is of an earlier result
+  -- each request of the log is of an earlier result, or a raw one
   abbrev AllSent : List Entry → Results F → Type 0
-  AllSent log earlier = (k : ℕ) (q : Request) → request_at log k ≡ Some q → (before : Submission) × (n : ℕ) × In (before, Sent k n) earlier
+  AllSent log earlier = (k : ℕ) (q : Request) → request_at log k ≡ Some q → ((before : Submission) × (n : ℕ) × In (before, Sent k n) earlier) ⊎ In q raws
 
   all_still : (log : List Entry) (earlier : Results F) (x : Submission × SubmitResult F) → AllSent log earlier → AllSent log (earlier ++ x ∷ [])
-  all_still log earlier x sent k q at = let r = sent k q at in (r.0, r.1, in_append_left earlier (x ∷ []) (r.0, Sent k r.1) r.2)
+  all_still log earlier x sent k q at = elim (sent k q at) [
+    | inl r ↦ inl (r.0, r.1, in_append_left earlier (x ∷ []) (r.0, Sent k r.1) r.2)
+    | inr raw ↦ inr raw
+  ]
 
   inside : (log : List Entry) → Longer log all → length log ≤ length all
   inside log l = let t = length-append log l.0 in let e = ap length l.1 in omega arith
@@ -80,7 +83,7 @@ module _ {F : Type 0} (m : Machine) (why : Why F) (now : ℕ) (round : Round) (a
       }
 
   abbrev Handled : List Entry → Results F → Submission → SubmitResult F → List Entry → Type 0
-  Handled log earlier what result next = ResultHolds m why now round all start (length all) earlier what result × Longer log next
+  Handled log earlier what result next = ResultHolds m why now round raws all start (length all) earlier what result × Longer log next
       × SentBelow (length next) (earlier ++ (what, result) ∷ []) × AllSent next (earlier ++ (what, result) ∷ [])
 
   -- a result that isn't Sent leaves the log
@@ -101,8 +104,8 @@ module _ {F : Type 0} (m : Machine) (why : Why F) (now : ℕ) (round : Round) (a
     not_paused : (result : SubmitResult F) → has_place round.paused what.participant ≡ true → (n : ℕ) × (result ≡ Refused Paused n)
     not_paused result h = absurd (both_ways _ awake h)
 
-    refused_so : (fault : SubmitFault F) → Longer log all → RefusalHolds m why now round all (length all) earlier what fault (length log)
-        → ResultHolds m why now round all start (length all) earlier what (Refused fault (length log))
+    refused_so : (fault : SubmitFault F) → Longer log all → RefusalHolds m why now round raws all (length all) earlier what fault (length log)
+        → ResultHolds m why now round raws all start (length all) earlier what (Refused fault (length log))
     refused_so fault l r =
         record {
           answer = r;
@@ -112,14 +115,14 @@ module _ {F : Type 0} (m : Machine) (why : Why F) (now : ℕ) (round : Round) (a
         }
 
     duplicate : (q : Request) (place : ℕ) → Longer log all → wanted_at m now log what (length log) ≡ Some q
-        → append_fault m log (RequestMessage q) ≡ Some (Already place) → DuplicateHolds m now all earlier what place (length log)
+        → append_fault m log (RequestMessage q) ≡ Some (Already place) → DuplicateHolds m now all raws earlier what place (length log)
     duplicate q place l w e = by_first (first_from (is_request_of q.sender q.command) 0 log) refl
       where
         by_full : (b : Bool) → (if b then Some (Full (reserved log) (2 + length q.confirming)) else None) ≡ Some (Already place) → ⊥
         by_full true h = cc
         by_full false h = cc
 
-        by_first : (o : Option ℕ) → first_from (is_request_of q.sender q.command) 0 log ≡ o → DuplicateHolds m now all earlier what place (length log)
+        by_first : (o : Option ℕ) → first_from (is_request_of q.sender q.command) 0 log ≡ o → DuplicateHolds m now all raws earlier what place (length log)
         by_first None h =
             absurd (by_full (nat_lt m.capacity (reserved log + (2 + length q.confirming)))
             (behind_form ((m.reading).is_framed q) _ (Some (Already place)) (λ same. cc) (sym (ap (λ (o : Option ℕ). or_else (if_already o) (other_fault m log (RequestMessage q))) h) ∙ e)))
@@ -135,9 +138,12 @@ module _ {F : Type 0} (m : Machine) (why : Why F) (now : ℕ) (round : Round) (a
             record {
               request = q;
               wanted = wanted_there log what l ∙ w;
-              sent = let f = sent place r.0 there in (f.0, f.1, contains_from_In earlier (f.0, Sent place f.1) f.2);
               first = r.0;
               there = ap (λ (xs : List Entry). request_at xs place) l.1 ∙ (request_grown log l.0 place lt ∙ there);
+              known = elim (sent place r.0 there) [
+                | inl f ↦ inl (f.0, f.1, contains_from_In earlier (f.0, Sent place f.1) f.2)
+                | inr raw ↦ inr (contains_from_In raws r.0 raw)
+              ];
               sender = r.2;
               command = r.3;
             }
@@ -210,7 +216,8 @@ module _ {F : Type 0} (m : Machine) (why : Why F) (now : ℕ) (round : Round) (a
                 all_still log earlier (what, Sent (length log) (length log)) sent k x old
             | inr past ↦
                 let within = request_within next k x at in
-                let here : length log ≡ k = omega arith in (
+                let here : length log ≡ k = omega arith in
+                inl (
                   what,
                   length log,
                   in_append_right earlier ((what, Sent (length log) (length log)) ∷ []) (what, Sent k (length log))
@@ -220,7 +227,7 @@ module _ {F : Type 0} (m : Machine) (why : Why F) (now : ℕ) (round : Round) (a
         )
 
     stopped : (fault : SubmitFault F) (result : SubmitResult F) (next : List Entry) → Longer next all
-        → RefusalHolds m why now round all (length all) earlier what fault (length log) → result ≡ Refused fault (length log) → next ≡ log
+        → RefusalHolds m why now round raws all (length all) earlier what fault (length log) → result ≡ Refused fault (length log) → next ≡ log
         → Handled log earlier what result next
     stopped fault result next l r e same =
         let l' : Longer log all = subst (λ (xs : List Entry). Longer xs all) same l in
@@ -297,7 +304,7 @@ module _ {F : Type 0} (m : Machine) (why : Why F) (now : ℕ) (round : Round) (a
 
   pub results_hold : (log : List Entry) (answers earlier : Results F) (after : List Entry) → start ≤ length log → SentBelow (length log) earlier
       → AllSent log earlier → Longer after all → Submitted m why now round log answers after
-      → ResultsHold m why now round all start (length all) earlier answers
+      → ResultsHold m why now round raws all start (length all) earlier answers
   results_hold log [] earlier after le below sent l h = tt
   results_hold log (x ∷ rest) earlier after le below sent l h =
       let tail = submitted_longer h.0 rest after h.2 in

@@ -1,75 +1,45 @@
 -- What one thread does round after round is what a run says of its rounds.
-use Rattle.std.proofs.Common.{◌≡◌, ℕ, ◌+◌, ◌<◌, ◌≤◌, List, [], ◌∷◌, ◌++◌, take, length, Option, Some, None, refl, sym, ap, ◌∙◌, subst, inl, inr}
-use Rattle.std.proofs.Common.{arith, append_assoc, append-nil}
-use Rattle.std.specs.Prelude.{nat_eq, map}
-use Rattle.std.proofs.lemmas.Bool.{cases_Bool, cases_lt}
+use Rattle.std.proofs.Common.{◌≡◌, ℕ, ◌+◌, ◌<◌, List, [], ◌∷◌, ◌++◌, take, length, Option, Some, None, refl, sym, ap, ◌∙◌, subst, inl, inr}
+use Rattle.std.proofs.Common.{arith, append-nil, le_refl}
+use Rattle.std.specs.Prelude.{map}
+use Rattle.std.proofs.lemmas.Bool.{cases_lt}
 use Rattle.std.proofs.lemmas.Option.{none-some}
-use Rattle.std.proofs.lemmas.List.{length-append}
-use Rattle.std.proofs.Math.Seq.{take-append_seam}
 use Rattle.ledger_terms.specs.declared.submission.Submission.{Submission}
 use Rattle.canton_model.specs.Log.{request_at}
-use Rattle.world_model.specs.Messages.{Entry, RequestMessage, Tick, Request}
+use Rattle.world_model.specs.Messages.{Entry, RequestMessage, Request}
 use Rattle.ledger_model.proofs.Lists.{In, in_append_cases, in_append_left, in_append_right, in_from_Contains}
-use Rattle.world_model.specs.Machine.{Machine, GenuineLog, IsMachine}
-use Rattle.world_model.specs.Sequencing.{AppendFault, Already, Unframed, LogFull as Full, TooLate, reserved, append_fault, sequenced}
+use Rattle.world_model.specs.Machine.{Machine, IsMachine}
+use Rattle.world_model.specs.Sequencing.{AppendFault, Already, Unframed, LogFull as Full, TooLate, append_fault}
 use Rattle.world_model.specs.Settled.{left}
 use Rattle.world_model.specs.Rounds.{Round, SubmitResult, Sent, Results, Why, AnswerHolds, SentHolds, ResultsHold, RoundHolds, RoundAnswers}
 use Rattle.world_model.specs.Rounds.{RoundsHold, RunHolds, begun, read_at, wanted_at}
 use Rattle.world_model.specs.Plain.{HandedIn, AnswersWanted, Submitted, PlainPart, PlainRounds}
-use Rattle.world_model.proofs.Appended.{appended_keeps, appended_within, sequenced_keeps, sequenced_within, sequenced_more}
+use Rattle.world_model.proofs.Appended.{appended_keeps, appended_within}
 use Rattle.world_model.proofs.Grown.{request_grown}
-use Rattle.world_model.proofs.AfterTurn.{one_more}
-use Rattle.canton_model.proofs.LongerLogs.{genuine_take}
 use Rattle.world_model.proofs.Ends.{passes_genuine, passes_within}
 use Rattle.world_model.proofs.Steps.{new_lawful}
+use Rattle.world_model.proofs.BegunFacts.{Longer, longer_then, longer_length, front_of, Good, begun_good, begun_longer, AllSent, begun_sent}
 use Rattle.world_model.proofs.RoundFacts.{submitted_longer, results_hold}
 use Rattle.world_model.proofs.PlainFacts.{passes_add, plain_part}
-
-abbrev Longer : List Entry → List Entry → Type 0
-Longer log all = (more : List Entry) × (all ≡ log ++ more)
-
-longer_then : (a b c : List Entry) → Longer a b → Longer b c → Longer a c
-longer_then a b c l r = (l.0 ++ r.0, r.1 ∙ (ap (λ (xs : List Entry). xs ++ r.0) l.1 ∙ append_assoc a l.0 r.0))
-
-longer_length : (a b : List Entry) → Longer a b → length a ≤ length b
-longer_length a b l = let t = length-append a l.0 in let e = ap length l.1 in omega arith
-
-front_of : (a b : List Entry) → Longer a b → take (length a) b ≡ a
-front_of a b l = ap (take (length a)) l.1 ∙ take-append_seam a l.0
-
--- genuine, and within the capacity
-abbrev Good : Machine → List Entry → Type 0
-Good m log = GenuineLog m log × (reserved log ≤ m.capacity)
-
-begun_good : (m : Machine) (now : ℕ) (round : Round) (log : List Entry) → Good m log → Good m (begun m now round log)
-begun_good m now round log g =
-    elim (cases_Bool (nat_eq round.advance 0)) [ inl b ↦ rw b g | inr b ↦ rw b (sequenced_keeps m now log Tick g.0 tt, sequenced_within m now log Tick g.1) ]
-
-begun_longer : (m : Machine) (now : ℕ) (round : Round) (log : List Entry) → Longer log (begun m now round log)
-begun_longer m now round log =
-    elim (cases_Bool (nat_eq round.advance 0)) [ inl b ↦ rw b ([], sym (append-nil log)) | inr b ↦ rw b (sequenced_more m now log Tick) ]
 
 module _ {F : Type 0} (m : Machine) (why : Why F) where
   abbrev SentBelow : ℕ → Results F → Type 0
   SentBelow n earlier = (what : Submission) (place read_to : ℕ) → In (what, Sent place read_to) earlier → place < n
 
-  abbrev AllSent : List Entry → Results F → Type 0
-  AllSent log earlier = (k : ℕ) (q : Request) → request_at log k ≡ Some q → (before : Submission) × (n : ℕ) × In (before, Sent k n) earlier
-
-  sent_in_part : (now : ℕ) (round : Round) (all : List Entry) (start end : ℕ) (earlier results : Results F)
-      → ResultsHold m why now round all start end earlier results → SentBelow end results
-  sent_in_part now round all start end earlier [] h what place read_to i = absurd i
-  sent_in_part now round all start end earlier (x ∷ rest) h what place read_to (inl same) =
+  sent_in_part : (now : ℕ) (round : Round) (raws : List Request) (all : List Entry) (start end : ℕ) (earlier results : Results F)
+      → ResultsHold m why now round raws all start end earlier results → SentBelow end results
+  sent_in_part now round raws all start end earlier [] h what place read_to i = absurd i
+  sent_in_part now round raws all start end earlier (x ∷ rest) h what place read_to (inl same) =
       let answer : SentHolds m now all end what place read_to =
-      subst (λ (y : Submission × SubmitResult F). AnswerHolds m why now round all end earlier y.0 y.1) same (h.0).answer in answer.in_part
-  sent_in_part now round all start end earlier (x ∷ rest) h what place read_to (inr there) =
-      sent_in_part now round all start end (earlier ++ x ∷ []) rest h.1 what place read_to there
+      subst (λ (y : Submission × SubmitResult F). AnswerHolds m why now round raws all end earlier y.0 y.1) same (h.0).answer in answer.in_part
+  sent_in_part now round raws all start end earlier (x ∷ rest) h what place read_to (inr there) =
+      sent_in_part now round raws all start end (earlier ++ x ∷ []) rest h.1 what place read_to there
 
   part_longer : (now : ℕ) (round : Round) (results : Results F) (before after : List Entry) (h : PlainPart m why now round results before after)
       → Longer (begun m now round before) h.0 × Longer h.0 after
   part_longer now round results before after h =
       let p = passes_add m now round.paused round.holds_verdicts (left m.hosts h.0) h.0 in
-      (submitted_longer m why now round [] 0 (begun m now round before) results h.0 h.1, (p.0, h.2 ∙ p.1))
+      (submitted_longer m why now round [] [] 0 (begun m now round before) results h.0 h.1, (p.0, h.2 ∙ p.1))
 
   whole_part_longer : (now : ℕ) (round : Round) (results : Results F) (before after : List Entry) → PlainPart m why now round results before after
       → Longer before after
@@ -77,30 +47,19 @@ module _ {F : Type 0} (m : Machine) (why : Why F) where
       let l = part_longer now round results before after h in
       longer_then before (begun m now round before) after (begun_longer m now round before) (longer_then (begun m now round before) h.0 after l.0 l.1)
 
-  begun_sent : (now : ℕ) (round : Round) (before : List Entry) (earlier : Results F) → AllSent before earlier → AllSent (begun m now round before) earlier
-  begun_sent now round before earlier sent k q at =
-      elim (cases_Bool (nat_eq round.advance 0)) [
-        | inl b ↦ sent k q (rw b at at)
-        | inr b ↦
-            let at' : request_at (sequenced m now before Tick) k ≡ Some q = rw b at at in
-            let lt = one_more m now before Tick k q refl at' in
-            let more = sequenced_more m now before Tick in
-            sent k q (sym (request_grown before more.0 k lt) ∙ (ap (λ (xs : List Entry). request_at xs k) (sym more.1) ∙ at'))
-      ]
-
   -- a round
-  pub round_holds : (now : ℕ) (round : Round) (earlier results : Results F) (before after : List Entry) → SentBelow (length before) earlier
-      → AllSent before earlier → map (λ (x : Submission × SubmitResult F). x.0) results ≡ round.submits
-      → PlainPart m why now round results before after → RoundHolds m why now round earlier results before after
-  round_holds now round earlier results before after below sent submits h =
+  pub round_holds : (now : ℕ) (round : Round) (raws : List Request) (earlier results : Results F) (before after : List Entry)
+      → SentBelow (length before) earlier → AllSent raws before earlier → map (λ (x : Submission × SubmitResult F). x.0) results ≡ round.submits
+      → PlainPart m why now round results before after → RoundHolds m why now round (raws ++ round.raws) earlier results before after
+  round_holds now round raws earlier results before after below sent submits h =
       let first = begun m now round before in
       let up = longer_length before first (begun_longer m now round before) in
       let l = part_longer now round results before after h in
       record {
         part = plain_part m why now round results before after h;
         submits = submits;
-        each = results_hold m why now round after (length before) first results earlier h.0 up
-            (λ what place read_to i. let b = below what place read_to i in omega arith) (begun_sent now round before earlier sent) l.1 h.1;
+        each = results_hold m why now round (raws ++ round.raws) after (length first) first results earlier h.0 (le_refl (length first))
+            (λ what place read_to i. let b = below what place read_to i in omega arith) (begun_sent m now round raws before earlier sent) l.1 h.1;
       }
 
   -- rounds
@@ -111,14 +70,15 @@ module _ {F : Type 0} (m : Machine) (why : Why F) where
       longer_then before h.0 after (whole_part_longer (now + x.round.advance) x.round x.results before h.0 h.2)
       (rounds_longer (now + x.round.advance) h.0 rest after h.4)
 
-  pub rounds_hold : (now : ℕ) (before : List Entry) (rounds : List (RoundAnswers F)) (after : List Entry) (earlier : Results F)
-      → SentBelow (length before) earlier → AllSent before earlier → PlainRounds m why now before rounds after
-      → RoundsHold m why now after (length before) earlier rounds
-  rounds_hold now before [] after earlier below sent h = sym (ap length h)
-  rounds_hold now before (x ∷ rest) after earlier below sent h =
+  pub rounds_hold : (now : ℕ) (before : List Entry) (rounds : List (RoundAnswers F)) (after : List Entry) (raws : List Request) (earlier : Results F)
+      → SentBelow (length before) earlier → AllSent raws before earlier → PlainRounds m why now before rounds after
+      → RoundsHold m why now after (length before) raws earlier rounds
+  rounds_hold now before [] after raws earlier below sent h = sym (ap length h)
+  rounds_hold now before (x ∷ rest) after raws earlier below sent h =
       let now' = now + x.round.advance in
       let next = h.0 in
-      let here = round_holds now' x.round earlier x.results before next below sent h.1 h.2 in
+      let first = begun m now' x.round before in
+      let here = round_holds now' x.round raws earlier x.results before next below sent h.1 h.2 in
       let grown = whole_part_longer now' x.round x.results before next h.2 in
       let tail = rounds_longer now' next rest after h.4 in
       let up = longer_length before next grown in
@@ -127,39 +87,38 @@ module _ {F : Type 0} (m : Machine) (why : Why F) where
       let below' : SentBelow (length next) (earlier ++ x.results) =
       λ what place read_to i. elim (in_append_cases earlier x.results (what, Sent place read_to) i) [
         | inl old ↦ let b = below what place read_to old in omega arith
-        | inr new ↦ sent_in_part now' x.round next (length before) (length next) earlier x.results here.each what place read_to new
+        | inr new ↦ sent_in_part now' x.round (raws ++ x.round.raws) next (length first) (length next) earlier x.results here.each what place read_to new
       ] in
-      let first = begun m now' x.round before in
       let mid = part_longer now' x.round x.results before next h.2 in
       let whole : Longer first next = longer_then first (h.2).0 next mid.0 mid.1 in
-      let sent' : AllSent next (earlier ++ x.results) =
+      let sent' : AllSent (raws ++ x.round.raws) next (earlier ++ x.results) =
       λ k q at. elim (cases_lt k (length first)) [
         | inl lt ↦
             let at' : request_at first k ≡ Some q = sym (request_grown first whole.0 k lt) ∙ (ap (λ (xs : List Entry). request_at xs k) (sym whole.1) ∙ at) in
-            let f = begun_sent now' x.round before earlier sent k q at' in
-            (f.0, f.1, in_append_left earlier x.results (f.0, Sent k f.1) f.2)
+            elim (begun_sent m now' x.round raws before earlier sent k q at') [
+              | inl f ↦ inl (f.0, f.1, in_append_left earlier x.results (f.0, Sent k f.1) f.2)
+              | inr raw ↦ inr raw
+            ]
         | inr past ↦
             let f = (here.part).of_results k q past at in
-            (f.0, f.1, in_append_right earlier x.results (f.0, Sent k f.1) (in_from_Contains x.results (f.0, Sent k f.1) f.2))
+            inl (f.0, f.1, in_append_right earlier x.results (f.0, Sent k f.1) (in_from_Contains x.results (f.0, Sent k f.1) f.2))
       ] in
-      let later = rounds_hold now' next rest after (earlier ++ x.results) below' sent' h.4 in (
+      let later = rounds_hold now' next rest after (raws ++ x.round.raws) (earlier ++ x.results) below' sent' h.4 in (
         (let e = h.3 in omega arith),
-        subst (λ (xs : List Entry). RoundHolds m why now' x.round earlier x.results xs (take x.end after)) (sym front)
-            (subst (RoundHolds m why now' x.round earlier x.results before) (sym cut) here),
-        subst (λ (n : ℕ). RoundsHold m why now' after n (earlier ++ x.results) rest) (sym h.3) later,
+        subst (λ (xs : List Entry). RoundHolds m why now' x.round (raws ++ x.round.raws) earlier x.results xs (take x.end after)) (sym front)
+            (subst (RoundHolds m why now' x.round (raws ++ x.round.raws) earlier x.results before) (sym cut) here),
+        subst (λ (n : ℕ). RoundsHold m why now' after n (raws ++ x.round.raws) (earlier ++ x.results) rest) (sym h.3) later,
       )
 
   module _ (machine : IsMachine m) where
     one_good : (now : ℕ) (log : List Entry) (what : Submission) (result : SubmitResult F) (next : List Entry) (o : Option Request)
-        → wanted_at m now log what (length log) ≡ o → AnswersWanted m (why what (read_at m log what (length log)) now) now log o result next
-        → Good m log → Good m next
-    one_good now log what result next None w h g = subst (Good m) (sym h.1) g
-    one_good now log what result next (Some q) w h g = by_fault (append_fault m log (RequestMessage q)) refl h
+        → AnswersWanted m (why what (read_at m log what (length log)) now) now log o result next → Good m log → Good m next
+    one_good now log what result next None h g = subst (Good m) (sym h.1) g
+    one_good now log what result next (Some q) h g = by_fault (append_fault m log (RequestMessage q)) refl h
       where
         by_fault : (f : Option AppendFault) → append_fault m log (RequestMessage q) ≡ f → HandedIn now log q f result next → Good m next
         by_fault None e a =
-            let sealed = (machine.prepares what (take (length log) log) now q (genuine_take m.reading m.params log (length log) g.0) w).is_sealed in
-            subst (Good m) (sym a.1) (appended_keeps m now log (RequestMessage q) g.0 sealed e, appended_within m now log (RequestMessage q) g.1 e)
+            subst (Good m) (sym a.1) (appended_keeps m now log (RequestMessage q) g.0 tt e, appended_within m now log (RequestMessage q) g.1 e)
         by_fault (Some (Already place)) e a = subst (Good m) (sym a.1) g
         by_fault (Some Unframed) e a = absurd a
         by_fault (Some (Full amount need)) e a = subst (Good m) (sym a.1) g
@@ -171,7 +130,7 @@ module _ {F : Type 0} (m : Machine) (why : Why F) where
     submitted_good now round log (x ∷ rest) after h g =
         submitted_good now round h.0 rest after h.2 (elim h.1 [
           | inl p ↦ subst (Good m) (sym p.4) g
-          | inr a ↦ one_good now log x.0 x.1 h.0 (wanted_at m now log x.0 (length log)) refl a.1 g
+          | inr a ↦ one_good now log x.0 x.1 h.0 (wanted_at m now log x.0 (length log)) a.1 g
         ])
 
     part_good : (now : ℕ) (round : Round) (results : Results F) (before after : List Entry) → PlainPart m why now round results before after
@@ -196,6 +155,6 @@ module _ {F : Type 0} (m : Machine) (why : Why F) where
         record {
           genuine = g.0;
           within_capacity = g.1;
-          cut = rounds_hold 0 [] rounds log [] (λ what place read_to i. absurd i)
+          cut = rounds_hold 0 [] rounds log [] [] (λ what place read_to i. absurd i)
               (λ k q at. absurd (none-some q at)) h;
         }

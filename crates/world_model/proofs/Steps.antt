@@ -14,7 +14,7 @@ use Rattle.canton_model.specs.Checks.{verdicts_owed}
 use Rattle.canton_model.specs.Ledger.{VerdictFits, FitsIfVerdict}
 use Rattle.canton_model.specs.Genuine.{IsReading}
 use Rattle.canton_model.specs.Mediation.{scan}
-use Rattle.canton_model.specs.Inbox.{Item, shown_in, item_after, inbox}
+use Rattle.canton_model.specs.Inbox.{Item, notice_in, item_after, inbox}
 use Rattle.ledger_model.proofs.Lists.{In, in_append_cases, in_from_Contains, contains_from_In, from_filter, in_any, from_any}
 use Rattle.canton_model.proofs.InboxGrows.{items_push}
 use Rattle.world_model.specs.Machine.{Machine, GenuineLog, IsMachine, confirms_some_view}
@@ -24,7 +24,7 @@ use Rattle.world_model.specs.Fits.{IsOwed, IsDecision, MayStand}
 use Rattle.world_model.specs.Node.{NodeState, owes_at, response_at, is_claimable, next_claim, claim, finish, validate, is_to, waiting_to}
 use Rattle.world_model.specs.Node.{is_waiting_at, outbox_head, sent, put_back, with_flag, with_items, read_entry, new_node}
 use Rattle.world_model.specs.Mediator.{MediatorState, next_verdict, take_verdict, give_back, read_by_mediator}
-use Rattle.world_model.specs.World.{World, Event, Advance, Submit, NodeRead, Validate, Reply, LoseReply, MediatorRead, GiveVerdict, LoseVerdict}
+use Rattle.world_model.specs.World.{World, Event, Advance, Submit, SubmitRaw, NodeRead, Validate, Reply, LoseReply, MediatorRead, GiveVerdict, LoseVerdict}
 use Rattle.world_model.specs.World.{Pause, set_at, with_node, with_mediator, submit_wanted, submit, node_reads, validates, replies, loses_reply}
 use Rattle.world_model.specs.World.{at_node, mediator_reads, gives_verdict, loses_verdict, happens, played, new_world}
 use Rattle.world_model.specs.Lawful.{IsOwn, NodeHas, MediatorHas, Lawful}
@@ -212,7 +212,7 @@ module _ (m : Machine) where
       let lt = o.is_read in
       record {
         is_read = omega arith;
-        owes = ap (λ (x : Option Item). confirms_some_view m.reading p (shown_in x)) (slice_get_left node.items more r.request lt) ∙ o.owes;
+        owes = ap (λ (x : Option Item). confirms_some_view (notice_in x)) (slice_get_left node.items more r.request lt) ∙ o.owes;
         is = o.is
             ∙ ap (λ (items : List Item). record { from = p; request = r.request; verdicts = verdicts_owed m.reading m.params p items r.request })
             (sym (take-append-le (suc r.request) node.items more (omega (arith, lt))));
@@ -363,19 +363,12 @@ module _ (m : Machine) where
     kept None e = h
     kept (Some v) e = took v e
 
-    wanted : (what : Submission) (node : NodeState) (o : Option Request) → slice_get w.nodes what.participant ≡ Some node
-        → m.prepare what node.items w.now ≡ o → Lawful m (submit_wanted m w o)
-    wanted what node None at e = h
-    wanted what node (Some q) at e =
-        let n = h.node what.participant node at in
-        let read = take n.0 w.log in
-        let is = machine.prepares what read w.now q (genuine_take m.reading m.params w.log n.0 h.genuine)
-        (subst (λ (items : List Item). m.prepare what items w.now ≡ Some q) (n.2).items e) in
-        lawful_append w w.now (RequestMessage q) h is.is_sealed
+    wanted : (o : Option Request) → Lawful m (submit_wanted m w o)
+    wanted None = h
+    wanted (Some q) = lawful_append w w.now (RequestMessage q) h tt
 
-    submitted : (what : Submission) (node : NodeState) → slice_get w.nodes what.participant ≡ Some node → Lawful m (submit m w what node)
-    submitted what node at =
-        elim (cases_Bool node.is_paused) [ inl b ↦ rw b h | inr b ↦ rw b (wanted what node (m.prepare what node.items w.now) at refl) ]
+    submitted : (what : Submission) (node : NodeState) → Lawful m (submit m w what node)
+    submitted what node = elim (cases_Bool node.is_paused) [ inl b ↦ rw b h | inr b ↦ rw b (wanted (m.prepare what node.items w.now)) ]
 
     at : (o : Option NodeState) (p : ParticipantId) (step : NodeState → World) → slice_get w.nodes p ≡ o
         → ((node : NodeState) → slice_get w.nodes p ≡ Some node → Lawful m (step node)) → Lawful m (at_node w o step)
@@ -384,7 +377,8 @@ module _ (m : Machine) where
 
     pub happens_keeps : (event : Event) → Lawful m (happens m w event)
     happens_keeps (Advance by) = elim (cases_Bool (nat_eq by 0)) [ inl b ↦ rw b h | inr b ↦ rw b (lawful_append w (w.now + by) Tick h tt) ]
-    happens_keeps (Submit what) = at (slice_get w.nodes what.participant) what.participant _ refl (λ node e. submitted what node e)
+    happens_keeps (Submit what) = at (slice_get w.nodes what.participant) what.participant _ refl (λ node e. submitted what node)
+    happens_keeps (SubmitRaw q) = lawful_append w w.now (RequestMessage q) h tt
     happens_keeps (NodeRead p) = at (slice_get w.nodes p) p _ refl (λ node e. reads p node (slice_get w.log (length node.items)) e refl)
     happens_keeps (Validate p) = at (slice_get w.nodes p) p _ refl (λ node e. validated p node (next_claim m.reading m.params p node) e refl)
     happens_keeps (Reply p) = at (slice_get w.nodes p) p _ refl (λ node e. replied p node (outbox_head m.params node) e refl)

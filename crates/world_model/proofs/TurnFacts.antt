@@ -10,7 +10,7 @@ use Rattle.ledger_model.specs.Terms.{ParticipantId}
 use Rattle.canton_model.specs.Log.{Params, request_at, decision_time_of}
 use Rattle.world_model.specs.Messages.{Entry, Message, RequestMessage, ResponseMessage, VerdictMessage, Tick, Response}
 use Rattle.canton_model.specs.Timeline.{or_else}
-use Rattle.canton_model.specs.Reading.{Reading, is_recipient}
+use Rattle.canton_model.specs.Reading.{Reading}
 use Rattle.canton_model.specs.Mediation.{is_response_of, has_responded}
 use Rattle.canton_model.specs.Inbox.{Item, items_after, inbox}
 use Rattle.ledger_model.proofs.Lists.{contains_from_In}
@@ -25,7 +25,7 @@ use Rattle.world_model.specs.Turns.{caught_up, validate_below, message_of, waiti
 use Rattle.world_model.proofs.Grown.{request_within, decision_time_grown}
 use Rattle.world_model.proofs.Appended.{sequenced_more}
 use Rattle.canton_model.proofs.InboxOutcomes.{decided_same}
-use Rattle.world_model.proofs.NodeFacts.{inbox_length, inbox_append, asked_request, asked_shown, owes_is, owed_is}
+use Rattle.world_model.proofs.NodeFacts.{inbox_length, inbox_append, asked_request, asked_receives, owes_is, owed_is}
 use Rattle.world_model.proofs.Steps.{has_validated, has_more, waiting_in, length_take}
 
 -- refusals
@@ -182,8 +182,7 @@ module _ (m : Machine) (now : ℕ) (p : ParticipantId) (log : List Entry) (genui
     pub undecided_same : (k : ℕ) → is_asked_in m.reading p (request_at log k) ≡ true → not (is_decided_now m.params node.items k) ≡ is_undecided m.params log k
     undecided_same k asked =
         let q = asked_request m.reading p (request_at log k) asked in
-        let shown = asked_shown m.reading p q.0 q.2 in
-        let here : is_recipient m.reading p q.0 ≡ true = rw shown.1 refl in
+        let here = asked_receives m.reading p q.0 q.2 in
         ap (λ (its : List Item). not (is_decided_now m.params its k)) has.items ∙ ap not (decided_same m.reading m.params p log k q.0 genuine.timely q.1 here)
 
     waiting_is : (k : ℕ) → waits_at node.outbox k ≡ true → (waiting_to node.outbox k ≡ Some (owed_response m p log k))

@@ -1,5 +1,5 @@
 -- What has to hold of a message for `append` to keep a log genuine.
-use Rattle.std.specs.Prelude.{◌≡◌, true, suc, take, List, Some, Contains}
+use Rattle.std.specs.Prelude.{◌≡◌, suc, take, List, Some, Contains}
 use Rattle.canton_model.specs.Log.{Params, request_at}
 use Rattle.world_model.specs.Messages.{Entry, Message, RequestMessage, ResponseMessage, VerdictMessage, Tick, Request, Response, Verdict}
 use Rattle.canton_model.specs.Reading.{Reading}
@@ -19,9 +19,9 @@ pub record IsOwed (reading : Reading) (params : Params) (log : List Entry) (resp
 abbrev pub IsDecision : Params → List Entry → Verdict → Type 0
 IsDecision params log verdict = scan params log verdict.request ≡ Some verdict.decision
 
--- the condition under which `append` keeps a log genuine
+-- The condition under which `append` keeps a log genuine. There is none for a request: one that isn't framed is refused.
 abbrev pub MayStand : Machine → List Entry → Message → Type 0
-MayStand m log (RequestMessage request) = m.reading.is_sealed request ≡ true
+MayStand m log (RequestMessage request) = Unit {0}
 MayStand m log (ResponseMessage response) = IsOwed m.reading m.params log response
 MayStand m log (VerdictMessage verdict) = IsDecision m.params log verdict
 MayStand m log Tick = Unit {0}

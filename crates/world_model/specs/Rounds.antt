@@ -1,5 +1,5 @@
 -- What a run says of its results, of its rounds and of its log, with any number of workers.
-use Rattle.std.specs.Prelude.{◌≡◌, ℕ, ◌+◌, ◌<◌, ◌≤◌, Bool, true, false, List, [], ◌∷◌, ◌++◌, Option, Some, None, length, take, map, nat_eq, Contains}
+use Rattle.std.specs.Prelude.{◌≡◌, ℕ, ◌+◌, ◌<◌, ◌≤◌, Bool, true, false, List, [], ◌∷◌, ◌++◌, Option, Some, None, length, take, map, nat_eq, Contains, ◌⊎◌}
 use Rattle.std.specs.Prelude.{if◌then◌else◌}
 use Rattle.std.specs.List.{list_any}
 use Rattle.ledger_terms.specs.declared.submission.Submission.{Submission}
@@ -17,6 +17,7 @@ pub record Round : Type 0 where
   pub advance : ℕ
   pub paused : List ParticipantId
   pub holds_verdicts : Bool
+  pub raws : List Request  -- that clients hand in, whoever made them
   pub submits : List Submission
 
 -- Why a submission isn't sent. `Unwanted` has whatever is said of a submission that wants no request.
@@ -49,8 +50,17 @@ abbrev pub wanted_at : Machine → (now : ℕ) → List Entry → Submission →
 wanted_at m now log what n = m.prepare what (read_at m log what n) now
 
 -- the log after a round's Tick, where it has one
+abbrev pub ticked : Machine → (now : ℕ) → Round → List Entry → List Entry
+ticked m now round log = if nat_eq round.advance 0 then log else sequenced m now log Tick
+
+-- the log after these requests were handed in, one after another
+abbrev pub handed_in : Machine → (now : ℕ) → List Entry → List Request → List Entry
+handed_in m now log [] = log
+handed_in m now log (request ∷ rest) = handed_in m now (sequenced m now log (RequestMessage request)) rest
+
+-- the log after a round's Tick and its raw requests
 abbrev pub begun : Machine → (now : ℕ) → Round → List Entry → List Entry
-begun m now round log = if nat_eq round.advance 0 then log else sequenced m now log Tick
+begun m now round log = handed_in m now (ticked m now round log) round.raws
 
 -- the request of the submission over what was read stands at the place
 pub record SentHolds (m : Machine) (now : ℕ) (log : List Entry) (end : ℕ) (what : Submission) (place read_to : ℕ) : Type 0 where
@@ -60,13 +70,15 @@ pub record SentHolds (m : Machine) (now : ℕ) (log : List Entry) (end : ℕ) (w
   pub read_before : read_to ≤ place
   pub in_part : place < end
 
--- the request of an earlier Sent result, which has its sender and command, stands at the place
-pub record DuplicateHolds {F : Type 0} (m : Machine) (now : ℕ) (log : List Entry) (earlier : Results F) (what : Submission) (place read_to : ℕ) : Type 0 where
+-- The request of an earlier Sent result, or a raw one of this round or an earlier one, which has its sender and command, stands at
+-- the place.
+pub record DuplicateHolds {F : Type 0} (m : Machine) (now : ℕ) (log : List Entry) (raws : List Request) (earlier : Results F) (what : Submission)
+    (place read_to : ℕ) : Type 0 where
   pub request : Request
   pub wanted : wanted_at m now log what read_to ≡ Some request
-  pub sent : (before : Submission) × (n : ℕ) × Contains earlier (before, Sent place n)
   pub first : Request
   pub there : request_at log place ≡ Some first
+  pub known : ((before : Submission) × (n : ℕ) × Contains earlier (before, Sent place n)) ⊎ Contains raws first
   pub sender : first.sender ≡ request.sender
   pub command : first.command ≡ request.command
 
@@ -83,38 +95,40 @@ pub record FullHolds (m : Machine) (now : ℕ) (log : List Entry) (end : ℕ) (w
   pub fresh : list_any (λ (entry : Entry). is_request_of request.sender request.command entry.message) (take some log) ≡ false
 
 -- The cause of a refusal. Paused is so exactly where the round's list names the participant, so no other answer has it there.
-abbrev pub RefusalHolds : {F : Type 0} → Machine → Why F → (now : ℕ) → Round → List Entry → (end : ℕ) → (earlier : Results F) → Submission
-    → SubmitFault F → (read_to : ℕ) → Type 0
-RefusalHolds m why now round log end earlier what Paused n = has_place round.paused what.participant ≡ true
-RefusalHolds m why now round log end earlier what (Unwanted fault) n = (wanted_at m now log what n ≡ None) × (why what (read_at m log what n) now ≡ fault)
-RefusalHolds m why now round log end earlier what (Duplicate place) n = DuplicateHolds m now log earlier what place n
-RefusalHolds m why now round log end earlier what (LogFull amount need) n = FullHolds m now log end what amount need n
+abbrev pub RefusalHolds : {F : Type 0} → Machine → Why F → (now : ℕ) → Round → (raws : List Request) → List Entry → (end : ℕ)
+    → (earlier : Results F) → Submission → SubmitFault F → (read_to : ℕ) → Type 0
+RefusalHolds m why now round raws log end earlier what Paused n = has_place round.paused what.participant ≡ true
+RefusalHolds m why now round raws log end earlier what (Unwanted fault) n = (wanted_at m now log what n ≡ None) × (why what (read_at m log what n) now ≡ fault)
+RefusalHolds m why now round raws log end earlier what (Duplicate place) n = DuplicateHolds m now log raws earlier what place n
+RefusalHolds m why now round raws log end earlier what (LogFull amount need) n = FullHolds m now log end what amount need n
 
-abbrev pub AnswerHolds : {F : Type 0} → Machine → Why F → (now : ℕ) → Round → List Entry → (end : ℕ) → (earlier : Results F) → Submission
-    → SubmitResult F → Type 0
-AnswerHolds m why now round log end earlier what (Sent place read_to) = SentHolds m now log end what place read_to
-AnswerHolds m why now round log end earlier what (Refused fault read_to) = RefusalHolds m why now round log end earlier what fault read_to
+abbrev pub AnswerHolds : {F : Type 0} → Machine → Why F → (now : ℕ) → Round → (raws : List Request) → List Entry → (end : ℕ)
+    → (earlier : Results F) → Submission → SubmitResult F → Type 0
+AnswerHolds m why now round raws log end earlier what (Sent place read_to) = SentHolds m now log end what place read_to
+AnswerHolds m why now round raws log end earlier what (Refused fault read_to) = RefusalHolds m why now round raws log end earlier what fault read_to
 
--- how far was read: into the part that begins at `start`, and past the places of the participant's earlier Sent results
+-- how far was read: past the Tick and the raw requests of the part, whose submissions begin at `start`, and past the places of the
+-- participant's earlier Sent results
 pub record ReadHolds {F : Type 0} (start n : ℕ) (earlier : Results F) (what : Submission) : Type 0 where
   pub after_start : start ≤ n
   pub after_sent : (before : Submission) (place read_to : ℕ) → Contains earlier (before, Sent place read_to) → before.participant ≡ what.participant
       → place < n
 
--- one result, over the log up to the end of its part, which begins at `start`
-pub record ResultHolds {F : Type 0} (m : Machine) (why : Why F) (now : ℕ) (round : Round) (log : List Entry) (start end : ℕ) (earlier : Results F)
-    (what : Submission) (result : SubmitResult F) : Type 0 where
-  pub answer : AnswerHolds m why now round log end earlier what result
+-- one result, over the log up to the end of its part, whose submissions begin at `start`
+pub record ResultHolds {F : Type 0} (m : Machine) (why : Why F) (now : ℕ) (round : Round) (raws : List Request) (log : List Entry) (start end : ℕ)
+    (earlier : Results F) (what : Submission) (result : SubmitResult F) : Type 0 where
+  pub answer : AnswerHolds m why now round raws log end earlier what result
   pub within : read_of result ≤ end
   -- of a participant that isn't paused
   pub read : has_place round.paused what.participant ≡ false → ReadHolds start (read_of result) earlier what
   pub paused : has_place round.paused what.participant ≡ true → (n : ℕ) × (result ≡ Refused Paused n)
 
 -- each result against those before it
-abbrev pub ResultsHold : {F : Type 0} → Machine → Why F → (now : ℕ) → Round → List Entry → (start end : ℕ) → (earlier : Results F) → Results F → Type 0
-ResultsHold m why now round log start end earlier [] = Unit {0}
-ResultsHold m why now round log start end earlier (x ∷ rest) =
-    ResultHolds m why now round log start end earlier x.0 x.1 × ResultsHold m why now round log start end (earlier ++ x ∷ []) rest
+abbrev pub ResultsHold : {F : Type 0} → Machine → Why F → (now : ℕ) → Round → (raws : List Request) → List Entry → (start end : ℕ)
+    → (earlier : Results F) → Results F → Type 0
+ResultsHold m why now round raws log start end earlier [] = Unit {0}
+ResultsHold m why now round raws log start end earlier (x ∷ rest) =
+    ResultHolds m why now round raws log start end earlier x.0 x.1 × ResultsHold m why now round raws log start end (earlier ++ x ∷ []) rest
 
 abbrev pub is_tick : Message → Bool
 is_tick Tick = true
@@ -122,8 +136,8 @@ is_tick (RequestMessage request) = false
 is_tick (ResponseMessage response) = false
 is_tick (VerdictMessage verdict) = false
 
--- One part of a log: `before` is the log where it begins and `after` where it ends. After its Tick, where it has one, it has
--- no other, its requests are those of the Sent results, and its end is settled.
+-- One part of a log: `before` is the log where it begins and `after` where it ends. After its Tick, where it has one, and
+-- its raw requests, it has no other Tick, its requests are those of the Sent results, and its end is settled.
 pub record PartHolds {F : Type 0} (m : Machine) (now : ℕ) (round : Round) (results : Results F) (before after : List Entry) : Type 0 where
   pub rest : List Entry
   pub is_begun : after ≡ begun m now round before ++ rest
@@ -134,25 +148,26 @@ pub record PartHolds {F : Type 0} (m : Machine) (now : ℕ) (round : Round) (res
   pub settled : Settled m round.paused round.holds_verdicts after
 
 -- a round, its results and its part
-pub record RoundHolds {F : Type 0} (m : Machine) (why : Why F) (now : ℕ) (round : Round) (earlier results : Results F)
+pub record RoundHolds {F : Type 0} (m : Machine) (why : Why F) (now : ℕ) (round : Round) (raws : List Request) (earlier results : Results F)
     (before after : List Entry) : Type 0 where
   pub part : PartHolds m now round results before after
   pub submits : map (λ (x : Submission × SubmitResult F). x.0) results ≡ round.submits
-  pub each : ResultsHold m why now round after (length before) (length after) earlier results
+  pub each : ResultsHold m why now round raws after (length (begun m now round before)) (length after) earlier results
 
 pub record RoundAnswers (F : Type 0) : Type 0 where
   pub round : Round
   pub results : Results F
   pub end : ℕ
 
--- the rounds of a run, cut at their ends. `now` is that of the round before
-abbrev pub RoundsHold : {F : Type 0} → Machine → Why F → (now : ℕ) → (log : List Entry) → (start : ℕ) → (earlier : Results F) → List (RoundAnswers F) → Type 0
-RoundsHold m why now log start earlier [] = start ≡ length log
-RoundsHold m why now log start earlier (x ∷ rest) =
-    (start ≤ x.end) × RoundHolds m why (now + x.round.advance) x.round earlier x.results (take start log) (take x.end log)
-    × RoundsHold m why (now + x.round.advance) log x.end (earlier ++ x.results) rest
+-- the rounds of a run, cut at their ends. `now` is that of the round before, and `raws` are those of all before
+abbrev pub RoundsHold : {F : Type 0} → Machine → Why F → (now : ℕ) → (log : List Entry) → (start : ℕ) → (raws : List Request)
+    → (earlier : Results F) → List (RoundAnswers F) → Type 0
+RoundsHold m why now log start raws earlier [] = start ≡ length log
+RoundsHold m why now log start raws earlier (x ∷ rest) =
+    (start ≤ x.end) × RoundHolds m why (now + x.round.advance) x.round (raws ++ x.round.raws) earlier x.results (take start log) (take x.end log)
+    × RoundsHold m why (now + x.round.advance) log x.end (raws ++ x.round.raws) (earlier ++ x.results) rest
 
 pub record RunHolds {F : Type 0} (m : Machine) (why : Why F) (log : List Entry) (rounds : List (RoundAnswers F)) : Type 0 where
   pub genuine : GenuineLog m log
   pub within_capacity : reserved log ≤ m.capacity
-  pub cut : RoundsHold m why 0 log 0 [] rounds
+  pub cut : RoundsHold m why 0 log 0 [] [] rounds

@@ -17,6 +17,7 @@ pub record World : Type 0 where
 pub data Event : Type 0 where
   Advance : (by : ℕ) → Event
   Submit : Submission → Event
+  SubmitRaw : Request → Event  -- whoever made it
   NodeRead : ParticipantId → Event
   Validate : ParticipantId → Event
   Reply : ParticipantId → Event
@@ -90,6 +91,7 @@ loses_verdict w (Some verdict) = with_mediator w (take_verdict w.mediator verdic
 abbrev pub happens : Machine → World → Event → World
 happens m w (Advance by) = if nat_eq by 0 then w else advance m w by
 happens m w (Submit what) = at_node w (slice_get w.nodes what.participant) (λ node. submit m w what node)
+happens m w (SubmitRaw request) = append_to m w (RequestMessage request)
 happens m w (NodeRead p) = at_node w (slice_get w.nodes p) (λ node. node_reads m w p node (slice_get w.log (length node.items)))
 happens m w (Validate p) = at_node w (slice_get w.nodes p) (λ node. validates m w p node (next_claim m.reading m.params p node))
 happens m w (Reply p) = at_node w (slice_get w.nodes p) (λ node. replies m w p node (outbox_head m.params node))

@@ -1,6 +1,6 @@
 //! The laws of the definitions, as the clauses of functions that do nothing.
 
-ghost use Rattle.std.specs.Prelude.{◌≡◌, ◌++◌, ◌∷◌, [], ◌<◌, ◌≤◌, ◌+◌, ℕ, suc, slice_get, List, Bool, true, false, Some, None, length, take, Contains};
+ghost use Rattle.std.specs.Prelude.{◌≡◌, ◌⊎◌, ◌++◌, ◌∷◌, [], ◌<◌, ◌≤◌, ◌+◌, ℕ, suc, slice_get, List, Bool, true, false, Some, None, length, take, Contains};
 ghost use Rattle.ledger_terms.specs.declared.submission.Submission.{Submission};
 ghost use Rattle.ledger_model.specs.Terms.{ParticipantId};
 ghost use Rattle.canton_model.specs.Log.{Params, request_at, decision_time_of};
@@ -18,7 +18,7 @@ ghost use Rattle.world_model.specs.Fits.{IsOwed, IsDecision};
 ghost use Rattle.world_model.specs.Node.{NodeState, claim, finish, next_claim, outbox_head, owed_at, owes_at, put_back, read_entry, response_at};
 ghost use Rattle.world_model.specs.Node.{sent, validate, with_flag};
 ghost use Rattle.world_model.specs.Mediator.{MediatorState, cases_of, first_verdict, give_back, next_verdict, read_by_mediator, take_verdict};
-ghost use Rattle.world_model.specs.World.{World, Event, happens, played, new_world, with_log, with_mediator, with_node};
+ghost use Rattle.world_model.specs.World.{World, Event, Submit, SubmitRaw, happens, played, new_world, with_log, with_mediator, with_node};
 ghost use Rattle.world_model.specs.Lawful.{Lawful, MediatorHas, NodeHas};
 ghost use Rattle.world_model.specs.Locks.{Claimed, NodeBehind, Prepared};
 ghost use Rattle.world_model.specs.Settled.{Settled, append_each, due, due_verdicts, left, pass, passes, replies_below};
@@ -267,33 +267,35 @@ pub fn unhindered_is_approved()
 
 /// What one thread answers to a round's submissions, in order, is what a run says of its results, whatever comes after.
 pub fn one_thread_answers<F>()
-    ensures { (m : Machine) (why : Why F) (now : ℕ) (round : Round) (all : List Entry) (start : ℕ) (log after more : List Entry) (answers earlier : Results F)
+    ensures { (m : Machine) (why : Why F) (now : ℕ) (round : Round) (raws : List Request) (all : List Entry) (start : ℕ) (log after more : List Entry)
+        (answers earlier : Results F)
         → start ≤ length log
         → ((what : Submission) (place read_to : ℕ) → Contains earlier (what, Sent place read_to) → place < length log)
-        → ((k : ℕ) (q : Request) → request_at log k ≡ Some q → (before : Submission) × (n : ℕ) × Contains earlier (before, Sent k n))
+        → ((k : ℕ) (q : Request) → request_at log k ≡ Some q
+        → ((before : Submission) × (n : ℕ) × Contains earlier (before, Sent k n)) ⊎ Contains raws q)
         → Submitted m why now round log answers after
         → all ≡ after ++ more
-        → ResultsHold m why now round all start (length all) earlier answers }
+        → ResultsHold m why now round raws all start (length all) earlier answers }
 {}
 
 /// What a result says over the list that its thread knew, against the earlier results of its own participant, it says over
 /// every longer log and against all earlier results.
 pub fn results_grow<F>()
-    ensures { (m : Machine) (why : Why F) (now : ℕ) (round : Round) (list more : List Entry) (start end later : ℕ) (own earlier : Results F)
-        (what : Submission) (result : SubmitResult F)
+    ensures { (m : Machine) (why : Why F) (now : ℕ) (round : Round) (raws : List Request) (list more : List Entry) (start end later : ℕ)
+        (own earlier : Results F) (what : Submission) (result : SubmitResult F)
         → end ≤ length list
         → end ≤ later
         → ((x : Submission × SubmitResult F) → Contains own x → Contains earlier x)
         → ((before : Submission) (place n : ℕ) → Contains earlier (before, Sent place n) → before.participant ≡ what.participant
         → Contains own (before, Sent place n))
-        → ResultHolds m why now round list start end own what result
-        → ResultHolds m why now round (list ++ more) start later earlier what result }
+        → ResultHolds m why now round raws list start end own what result
+        → ResultHolds m why now round raws (list ++ more) start later earlier what result }
 {}
 
-/// Where a participant that isn't paused wants a request of a command that an earlier Sent result of it has, the result is
-/// Duplicate with that place, and nothing else.
+/// Where a participant that isn't paused wants a request of a command that an earlier Sent result of it has, or that a request has
+/// which stood before its part's submissions, as a raw one does, the result is Duplicate with that place, and nothing else.
 pub fn duplicates_are_exact<F>()
-    ensures { (m : Machine) (why : Why F) (now : ℕ) (round : Round) (log : List Entry) (start end : ℕ) (earlier : Results F)
+    ensures sent { (m : Machine) (why : Why F) (now : ℕ) (round : Round) (raws : List Request) (log : List Entry) (start end : ℕ) (earlier : Results F)
         (what before : Submission) (result : SubmitResult F) (place n : ℕ) (first request : Request)
         → IsMachine m
         → GenuineLog m log
@@ -304,7 +306,19 @@ pub fn duplicates_are_exact<F>()
         → first.sender ≡ what.participant
         → first.command ≡ what.command
         → wanted_at m now log what (read_of result) ≡ Some request
-        → ResultHolds m why now round log start end earlier what result
+        → ResultHolds m why now round raws log start end earlier what result
+        → result ≡ Refused (Duplicate place) (read_of result) }
+    ensures standing { (m : Machine) (why : Why F) (now : ℕ) (round : Round) (raws : List Request) (log : List Entry) (start end : ℕ) (earlier : Results F)
+        (what : Submission) (result : SubmitResult F) (place : ℕ) (first request : Request)
+        → IsMachine m
+        → GenuineLog m log
+        → has_place round.paused what.participant ≡ false
+        → request_at log place ≡ Some first
+        → place < start
+        → first.sender ≡ what.participant
+        → first.command ≡ what.command
+        → wanted_at m now log what (read_of result) ≡ Some request
+        → ResultHolds m why now round raws log start end earlier what result
         → result ≡ Refused (Duplicate place) (read_of result) }
 {}
 
@@ -323,14 +337,14 @@ pub fn one_thread_run<F>()
         → RunHolds m why log rounds }
 {}
 
-/// In a short part whose verdicts aren't held a request that all approve is approved.
+/// In a short part whose verdicts aren't held a request of it that all approve is approved, a submitted and a raw one.
 pub fn short_part_approves<F>()
     ensures { (m : Machine) (now : ℕ) (round : Round) (results : Results F) (before after : List Entry) (k : ℕ)
         → IsReading m.reading
         → GenuineLog m after
         → PartHolds m now round results before after
         → round.holds_verdicts ≡ false
-        → length (begun m now round before) ≤ k
+        → length before ≤ k
         → length after ≤ k + m.params.response_timeout
         → AllApprove m round.paused after k
         → outcome_of (timeline_of after) k (decision_time_of m.params after k) ≡ Decided Approved }
@@ -341,7 +355,18 @@ pub fn headline_of_genuine_log()
     ensures { (reading : Reading) (params : Params) (log : List Entry) → IsReading reading → Genuine reading params log → Headline reading params log }
 {}
 
-/// It holds of the log after any list of events.
+/// The requests of a log after any list of events are raw ones, and those that submissions wanted over what their participants had
+/// read.
+pub fn requests_of_events()
+    ensures { (m : Machine) (events : List Event) (k : ℕ) (request : Request)
+        → IsMachine m
+        → request_at (played m (new_world m) events).log k ≡ Some request
+        → Contains events (SubmitRaw request)
+        ⊎ ((what : Submission) × (n now : ℕ) × Contains events (Submit what) × (n ≤ k)
+        × (m.prepare what (inbox m.reading what.participant (take n (played m (new_world m) events).log)) now ≡ Some request)) }
+{}
+
+/// What holds of every genuine log holds of the log after any list of events.
 pub fn headline_of_events()
     ensures { (m : Machine) (events : List Event) → IsMachine m → Headline m.reading m.params (played m (new_world m) events).log }
 {}
@@ -351,13 +376,14 @@ pub fn run_approves<F>()
     ensures { (m : Machine) (why : Why F) (log : List Entry) (rounds : List (RoundAnswers F))
         → IsReading m.reading
         → RunHolds m why log rounds
-        → RoundsApprove m log rounds }
+        → RoundsApprove m log 0 rounds }
 {}
 
 /// The premises can be met, and the definitions compute.
 pub fn example()
     ensures machine { IsMachine Example.machine }
     ensures log { (played Example.machine (new_world Example.machine) Example.events).log ≡ model.log }
+    ensures raw { (played Example.machine (new_world Example.machine) Example.raw).log ≡ model.log }
     ensures lost { passes Example.machine 0 [] false 2 (played Example.machine (new_world Example.machine) Example.losing).log ≡ model.log }
     ensures settled { pass Example.machine 0 [] false model.log ≡ model.log }
     ensures unhindered { Unhindered Example.machine [] model.log 0 }

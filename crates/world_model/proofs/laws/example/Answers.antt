@@ -25,7 +25,7 @@ returns-clause-machine c =
         | inl b ↦
             let same : wanted what.command ≡ r = same_Some _ r (rw b at e) in
             subst (IsRequestFor model.reading what) same
-            (record { is_sealed = refl; is_framed = refl; sender = sym (eqb-true what.participant 0 b); command = refl })
+            (record { is_framed = refl; sender = sym (eqb-true what.participant 0 b); command = refl })
         | inr b ↦ let no : None ≡ Some r = rw b at e in absurd (none-some r no)
       ];
     }
@@ -45,7 +45,6 @@ returns-clause-unhindered c =
       approval = record {
         request = model.request;
         there = refl;
-        somebody = (0, (0, omega arith, refl));
         present =
             λ p h. elim
             (in_from_Contains (0 ∷ []) p h) [ inl same ↦ subst (λ (n : ℕ). (n < 1) × (false ≡ false)) same (omega arith, refl) | inr none ↦ absurd none ];
