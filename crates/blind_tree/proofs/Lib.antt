@@ -20,7 +20,6 @@ pub mod SetLimits
 pub mod Fitting
 pub mod Sights
 pub mod Recipients
-pub mod Overlaid
 mod FilledLaws
 mod Ranged
 mod SpelledViews

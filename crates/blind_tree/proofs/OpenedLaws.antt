@@ -19,7 +19,7 @@ use Rattle.view_split.specs.declared.opened_tree.OpenedTree.{OpenedTree}
 use Rattle.blind_tree.specs.Vertices.{Vertices, NoVertices, BlindVertex, InnerVertex, count}
 use Rattle.blind_tree.specs.VertexLists.{vertices_of, with_vertex, one_vertex}
 use Rattle.blind_tree.specs.CoreReading.{core_at}
-use Rattle.blind_tree.specs.Opening.{with_read, read_leaf, head_at, roles_at, read_if_plain, is_open, ViewParts, view_of, parts_read, views_read, view_read, placed, views_opened, tree_opened}
+use Rattle.blind_tree.specs.Opening.{with_read, read_leaf, head_at, roles_at, read_if_plain, is_open, ViewParts, own_view, own_view_read, view_of, parts_read, views_read, view_read, placed, views_opened, tree_opened}
 use Rattle.blind_tree.specs.Opened.{vertex_read, views_after, opened_after, inner_opened}
 use Rattle.blind_tree.specs.declared.leaf.Leaf.{Leaf}
 use Rattle.blind_tree.specs.declared.tree.Tree.{Tree}
@@ -92,11 +92,31 @@ module _ (informees contents : Leaf) (subviews : Vertices) (sets : List (List �
       let same : nat_eq (holes core.children) (count subviews) ≡ true = (Decides-eqb (holes core.children) (count subviews)).1 holes_are in
       rw (h.0, h.1, same) refl
 
-  pub view_is : (below : Forest SplitView) → AreAlike → views_read subviews ≡ Ok below → view_read informees contents subviews ≡ Ok (view_of (sets, core) below)
-  view_is below h read = rw (parts_are h, read) refl
+  pub own_is : AreAlike → own_view_read informees contents (count subviews) ≡ Ok (own_view (sets, core))
+  own_is h = rw (parts_are h) refl
 
-  pub view_fault : (e : WireFault) → AreAlike → views_read subviews ≡ Err e → view_read informees contents subviews ≡ Err e
-  view_fault e h read = rw (parts_are h, read) refl
+-- a view with those below it
+own_then : (p : Result ViewParts WireFault) (q : Result (Forest SplitView) WireFault) (root : SplitView) (below : Forest SplitView)
+    → with_read p (λ parts. Ok (own_view parts)) ≡ Ok root → q ≡ Ok below
+    → with_read p (λ parts. with_read q (λ b. Ok (view_of parts b))) ≡ Ok (record { root = root; below = below })
+own_then (Err e) q root below is read = cc
+own_then (Ok parts) q root below is read =
+    let same : own_view parts ≡ root = cc in
+    rw (read) (ap (λ (x : SplitView). let v : View = record { root = x; below = below } in let r : Result View WireFault = Ok v in r) same)
+
+own_fault : (p : Result ViewParts WireFault) (q : Result (Forest SplitView) WireFault) (root : SplitView) (e : WireFault)
+    → with_read p (λ parts. Ok (own_view parts)) ≡ Ok root → q ≡ Err e → with_read p (λ parts. with_read q (λ b. Ok (view_of parts b))) ≡ Err e
+own_fault (Err f) q root e is read = cc
+own_fault (Ok parts) q root e is read = rw (read) refl
+
+pub view_is : (informees contents : Leaf) (subviews : Vertices) (root : SplitView) (below : Forest SplitView)
+    → own_view_read informees contents (count subviews) ≡ Ok root → views_read subviews ≡ Ok below
+    → view_read informees contents subviews ≡ Ok (record { root = root; below = below })
+view_is informees contents subviews root below = own_then (parts_read informees contents (count subviews)) (views_read subviews) root below
+
+pub view_fault : (informees contents : Leaf) (subviews : Vertices) (root : SplitView) (e : WireFault)
+    → own_view_read informees contents (count subviews) ≡ Ok root → views_read subviews ≡ Err e → view_read informees contents subviews ≡ Err e
+view_fault informees contents subviews root e = own_fault (parts_read informees contents (count subviews)) (views_read subviews) root e
 
 -- ---- topmost views
 

@@ -58,16 +58,16 @@ pub head_reads : Reads spell_common IsCommon head_at
 unfolding head_at
 head_reads = both_reads spell_name IsName name_at (λ n. to_be_bytes w64 n) (λ n. n < 2 ^ 64) (number_at w64) name_reads u64_reads
 
-roles_again : (view : SplitView) → IsView view → read_all roles_at (roles_bytes view) ≡ Ok (view.informees, view.confirmers)
+pub roles_again : (view : SplitView) → IsView view → read_all roles_at (roles_bytes view) ≡ Ok (view.informees, view.confirmers)
 roles_again view h = read_again roles_at (roles_bytes view) (view.informees, view.confirmers) (roles_reads.again (view.informees, view.confirmers) [] (h.informees_are, h.confirmers_are))
 
-abbrev core_in : SplitView → CoreNode
+abbrev pub core_in : SplitView → CoreNode
 core_in view = record { seed = (view.first).seed; action = (view.first).action; children = view.below }
 
-core_again : (view : SplitView) → IsView view → read_all core_at (core_bytes view) ≡ Ok (core_in view)
+pub core_again : (view : SplitView) → IsView view → read_all core_at (core_bytes view) ≡ Ok (core_in view)
 core_again view h = read_again core_at (core_bytes view) (core_in view) (cores.core_again view.first view.below [] h.core)
 
-head_again : (sender : List ℕ) (time : ℕ) → IsName sender → time < 2 ^ 64 → read_all head_at (common_bytes sender time) ≡ Ok (sender, time)
+pub head_again : (sender : List ℕ) (time : ℕ) → IsName sender → time < 2 ^ 64 → read_all head_at (common_bytes sender time) ≡ Ok (sender, time)
 head_again sender time s t = read_again head_at (common_bytes sender time) (sender, time) (head_reads.again (sender, time) [] (s, t))
 
 set_again : (set : List (List ℕ)) → IsPartySet set → read_all set_at (spell_parties set) ≡ Ok set

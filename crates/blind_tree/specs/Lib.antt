@@ -18,6 +18,5 @@ pub mod ShownViews
 pub mod Leaves
 pub mod Limits
 pub mod Recipients
-pub mod Overlay
 pub mod OpenedFor
 pub mod ListedAfter

@@ -85,6 +85,14 @@ parts_read informees contents subviews =
     with_read (read_leaf roles_at informees) (λ roles. with_read (read_leaf core_at contents) (λ core.
     if nat_eq (holes core.children) subviews then Ok (roles, core) else Err (Bad (leaf_length contents))))
 
+-- a view without those below it
+abbrev pub own_view : ViewParts → SplitView
+own_view parts = (view_of parts NoRoots).root
+
+-- the same of the leaves of a vertex
+abbrev pub own_view_read : (informees contents : Leaf) (subviews : ℕ) → Result SplitView WireFault
+own_view_read informees contents subviews = with_read (parts_read informees contents subviews) (λ parts. Ok (own_view parts))
+
 -- all the views of vertices side by side, each before those below it
 abbrev pub views_read : Vertices → Result (Forest SplitView) WireFault
 views_read NoVertices = Ok NoRoots

@@ -31,7 +31,6 @@ ghost use Rattle.view_split.specs.declared.views.Views.{Views};
 ghost use Rattle.blind_tree.specs.declared.recipient.Recipient.{Recipient};
 ghost use Rattle.blind_tree.specs.Blind.{Salts, blind_for, blind_for_mediator, blind_to, digest_with, has_sight};
 ghost use Rattle.blind_tree.specs.Blind.{is_host_named, sees_root, shown_to, transaction_digest, tree_to, tree_to_mediator, vertices_shown};
-ghost use Rattle.blind_tree.specs.Overlay.{either, overlay};
 ghost use Rattle.blind_tree.specs.Recipients.{is_recipient, recipients_of};
 ghost use Rattle.blind_tree.specs.ShownViews.{AreInRange, AreViews, contents_shown, IsSmall, paths_seen, roles_of_all};
 ghost use Rattle.blind_tree.specs.Opening.{head_at, roles_at, informee_tree_of, tree_opened, views_read};
@@ -100,13 +99,9 @@ pub fn recipients_are_the_sender_and_who_sees()
         → is_host_named hosts p name ≡ nat_eq p sender }
 {}
 
-/// What two participants' trees show together is what the tree of a host of both would show, and of what is shown whole every view
-/// is read.
-pub fn trees_together_show_what_both_see()
-    ensures together { (hosts others : List ℕ → Bool) (above below : Bool) (views : Forest SplitView)
-        → overlay (vertices_shown sha256 (shown_to hosts above views)) (vertices_shown sha256 (shown_to others below views))
-        ≡ vertices_shown sha256 (shown_to (either hosts others) (above || below) views) }
-    ensures whole { (hosts : List ℕ → Bool) (views : Forest SplitView) → AreViews views → AreFilled views
+/// Of what is shown whole every view is read.
+pub fn views_shown_whole_are_read()
+    ensures { (hosts : List ℕ → Bool) (views : Forest SplitView) → AreViews views → AreFilled views
         → views_read (vertices_shown sha256 (shown_to hosts true views)) ≡ Ok views }
 {}
 

@@ -14,7 +14,7 @@ use std::alloc::Global;
 use wire_form::{Reader, ReaderFault, WireFault};
 
 /// Sender and ledger time of a common leaf.
-pub(crate) fn read_head(leaf: &Leaf) -> Result<(Name, u64), WireFault>
+pub fn read_head(leaf: &Leaf) -> Result<(Name, u64), WireFault>
     ensures { Follows WireFault.Memory result (read_leaf head_at leaf.now) }
 {
     match leaf {

@@ -4,9 +4,9 @@ ghost use Rattle.ledger_terms.specs.Answers.{Follows, FollowsOn};
 ghost use Rattle.wire_form.specs.declared.wire_fault.WireFault.TheVariants as WireFault;
 ghost use Rattle.ledger_terms.specs.Grown.{tree_of};
 ghost use Rattle.ledger_terms.specs.Forest.{join};
-ghost use Rattle.blind_tree.specs.Vertices.{AreNarrow, IsNarrow};
+ghost use Rattle.blind_tree.specs.Vertices.{AreNarrow, IsNarrow, count};
 ghost use Rattle.blind_tree.specs.VertexLists.{one_vertex};
-ghost use Rattle.blind_tree.specs.Opening.{placed, tree_opened, view_of, view_read, views_read};
+ghost use Rattle.blind_tree.specs.Opening.{own_view, own_view_read, placed, tree_opened, view_read, views_read};
 ghost use Rattle.blind_tree.specs.Opened.{inner_opened, opened_after, vertex_read};
 
 use crate::core_read::read_core;
@@ -116,23 +116,40 @@ pub(crate) fn put_view(path: Path, view: View, out: &mut PlacedViewList) -> Resu
     }
 }
 
-fn view_of(informees: PartySet, confirmers: PartySet, core: CoreNode, below: ViewList) -> View
-    ensures { result ≡ view_of ((informees, confirmers), core) below }
+fn view_with(informees: PartySet, confirmers: PartySet, core: CoreNode) -> SplitView
+    ensures { result ≡ own_view ((informees, confirmers), core) }
 {
     let CoreNode {
         seed,
         action,
         children,
     } = core;
-    Tree {
-        root: SplitView {
-            informees,
-            confirmers,
-            first: Act { seed, action },
-            below: children,
-        },
-        below,
+    SplitView {
+        informees,
+        confirmers,
+        first: Act { seed, action },
+        below: children,
     }
+}
+
+/// The view that the two leaves of a vertex show, with these vertices below it, without the views there. Faults are those of
+/// `opened`.
+pub fn own_view(
+    alloc: Global,
+    informees: &Leaf,
+    contents: &Leaf,
+    subviews: &VertexList,
+) -> Result<SplitView, WireFault>
+    ensures { Follows WireFault.Memory result (own_view_read informees.now contents.now (count subviews.now)) }
+{
+    let (informees, confirmers) = read_roles(alloc, informees)?;
+    let core = read_core(alloc, contents)?;
+    if hole_count(&core.children) != subviews.len() {
+        return Err(WireFault::Bad {
+            at: shown_len(contents),
+        });
+    }
+    Ok(view_with(informees, confirmers, core))
 }
 
 // The view of a vertex with all below it.
@@ -145,15 +162,9 @@ pub(crate) fn read_view(
 ) -> Result<View, WireFault>
     ensures { Follows WireFault.Memory result (view_read informees.now contents.now subviews.now) }
 {
-    let (informees, confirmers) = read_roles(alloc, informees)?;
-    let core = read_core(alloc, contents)?;
-    if hole_count(&core.children) != subviews.len() {
-        return Err(WireFault::Bad {
-            at: shown_len(contents),
-        });
-    }
-    let subviews = read_views(alloc, subviews)?;
-    Ok(view_of(informees, confirmers, core, subviews))
+    let root = own_view(alloc, informees, contents, subviews)?;
+    let below = read_views(alloc, subviews)?;
+    Ok(Tree { root, below })
 }
 
 #[cycle(read)]

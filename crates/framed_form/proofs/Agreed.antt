@@ -32,8 +32,8 @@ use Rattle.blind_tree.proofs.TreeLaws.{tree_reads}
 use Rattle.sealed_form.specs.SealedForm.{bytes_of, found, tree_in, trees_in}
 use Rattle.framed_form.specs.Agreeing.{AreAgreed, request_trees}
 use Rattle.framed_form.specs.Collisions.{Collides, acts_in, hashed, message_strings, request_strings}
-use Rattle.sealed_form.specs.Framed.{AreBytes}
-use Rattle.sealed_form.specs.Collisions.{id_string}
+use Rattle.framed_form.specs.Framed.{AreBytes}
+use Rattle.framed_form.specs.Collisions.{id_string}
 
 -- ---- trees that are read of bytes have their hashes
 
@@ -86,7 +86,7 @@ tree_of (first ∷ more) t h =
       | inr later ↦ (let r = tree_of more t later in (r.0, inr r.1, r.2))
     ]
 
-in_flat_map : {X Y : Type 0} (f : X → List Y) (xs : List X) (x : X) (y : Y) → In x xs → In y (f x) → In y (flat_map f xs)
+pub in_flat_map : {X Y : Type 0} (f : X → List Y) (xs : List X) (x : X) (y : Y) → In x xs → In y (f x) → In y (flat_map f xs)
 in_flat_map f [] x y i h = absurd i
 in_flat_map {X} {Y} f (z ∷ xs) x y (inl same) h = in_append_left (f z) (flat_map f xs) y (subst (λ (w : X). In y (f w)) (sym same) h)
 in_flat_map f (z ∷ xs) x y (inr later) h = in_append_right (f z) (flat_map f xs) y (in_flat_map f xs x y later h)

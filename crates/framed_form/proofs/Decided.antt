@@ -19,7 +19,7 @@ use Rattle.blind_tree.specs.declared.view_roles.ViewRoles.{ViewRoles}
 use Rattle.sealed_form.specs.SealedForm.{found, tree_in}
 use Rattle.sealed_form.specs.Within.{is_hosted}
 use Rattle.sealed_form.proofs.Deciding.{all_decide, at_most, below, itself, three_decide}
-use Rattle.sealed_form.specs.Framed.{AreBytes, IsConfirmed, IsFramed, RisesBetween, are_envelopes_framed, are_views_framed, asked_by, hides_contents, is_confirmed, is_framed, is_short, is_tree_framed, recipient_of}
+use Rattle.framed_form.specs.Framed.{AreBytes, IsConfirmed, IsFramed, RisesBetween, are_envelopes_framed, are_views_framed, asked_by, hides_contents, is_confirmed, is_framed, is_short, is_tree_framed, recipient_of}
 use Rattle.framed_form.proofs.FramedParts.{short_decides}
 
 -- ---- parts

@@ -13,7 +13,8 @@ use Rattle.blind_tree.specs.OpenedFor.{are_listed, missing, views_listed}
 use Rattle.blind_tree.specs.Opening.{ViewParts, parts_read, placed, view_read, views_read, with_read}
 use Rattle.blind_tree.specs.Vertices.{Vertices, NoVertices, BlindVertex, InnerVertex, count}
 use Rattle.framed_form.specs.Frames.{paths_in, roles_read}
-use Rattle.framed_form.specs.Together.{Part, below_in, first_view, or_else, others_in, parts_after, parts_below, split_view, view_at, view_in, views_together}
+use Rattle.canton_model.specs.Timeline.{or_else}
+use Rattle.framed_form.specs.Together.{Part, below_in, first_view, others_in, parts_after, parts_below, split_view, view_at, view_in, views_together}
 use Rattle.framed_form.proofs.Listed.{Lists, kept_in, one_on, paths_append, paths_root}
 use Rattle.framed_form.proofs.Lying.{Stand, done, empty, hidden_below, if_there, later_stands, below_stands, no_root, no_views, read_ok, same_ok, told_parts}
 

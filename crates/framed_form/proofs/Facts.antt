@@ -15,7 +15,7 @@ use Rattle.blind_tree.specs.declared.view_roles.ViewRoles.{ViewRoles}
 use Rattle.sealed_form.specs.SealedForm.{found}
 use Rattle.sealed_form.specs.Within.{participants_of}
 use Rattle.sealed_form.proofs.Hosts.{confirmer_found, confirmer_hosts}
-use Rattle.sealed_form.specs.Framed.{IsConfirmed, IsFramed}
+use Rattle.framed_form.specs.Framed.{IsConfirmed, IsFramed}
 use Rattle.framed_form.proofs.Outlined.{Outlined, outlined}
 use Rattle.framed_form.proofs.SealedFramed.{from_subset}
 
@@ -34,7 +34,7 @@ module _ (topology : Topology) (request : Request) (framed : IsFramed topology r
   abbrev pub views : List Placed
   views = preorder (paths_from [] 0 told.outline)
 
-  each_confirmed : (v : Placed) → In v views → IsConfirmed topology (view_roles v.0 v.1)
+  pub each_confirmed : (v : Placed) → In v views → IsConfirmed topology (view_roles v.0 v.1)
   each_confirmed v there =
       framed.views (view_roles v.0 v.1) (contains_from_In (framed.roles).views (view_roles v.0 v.1)
       (subst (In (view_roles v.0 v.1)) (sym told.views) (in_map (λ (x : Placed). view_roles x.0 x.1) views v there)))

@@ -20,7 +20,7 @@ use Rattle.blind_tree.specs.declared.leaf.Leaf.{Leaf}
 use Rattle.blind_tree.specs.declared.vertex.Vertex.{Vertex}
 use Rattle.blind_tree.specs.declared.vertex.Vertex.TheVariants.{Blind, Inner}
 use Rattle.blind_tree.proofs.Grow.{next_vertex}
-use Rattle.sealed_form.specs.Framed.{AreBytes, are_bytes, hides_contents, is_short, same_participants}
+use Rattle.framed_form.specs.Framed.{AreBytes, are_bytes, hides_contents, is_short, same_participants}
 
 -- a party is hosted where some host lists it
 pub hosted_where_listed : (hosts : List Host) (party : List ℕ) → is_some (host_of hosts party) ≡ list_any (lists_party party) hosts

@@ -16,7 +16,7 @@ use Rattle.blind_tree.specs.declared.tree.Tree.{Tree}
 use Rattle.sealed_form.specs.SealedForm.{bytes_of, found, tree_in}
 use Rattle.framed_form.specs.Agreeing.{AreAgreed, request_trees}
 use Rattle.framed_form.specs.FramedForm.{complete_in, head_of, offered_by, requesters_in, requesters_of, root_in, sees_root_view}
-use Rattle.framed_form.specs.Together.{or_else}
+use Rattle.canton_model.specs.Timeline.{or_else}
 use Rattle.framed_form.proofs.Lying.{read_ok, same_ok, same_reading}
 use Rattle.framed_form.proofs.Wholes.{Complete, complete_from, in_trees, within_all}
 

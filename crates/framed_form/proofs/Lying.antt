@@ -27,7 +27,8 @@ use Rattle.blind_tree.specs.declared.leaf.Leaf.TheVariants.{Blind, Plain}
 use Rattle.wire_form.specs.Formats.{Reading}
 use Rattle.framed_form.specs.Frames.{paths_in, roles_read}
 use Rattle.blind_tree.specs.OpenedFor.{are_listed, is_end, missing, stands_at, views_listed}
-use Rattle.framed_form.specs.Together.{Part, below_in, first_view, or_else, others_in, parts_after, parts_below, split_view, view_at, view_if, view_in, views_together}
+use Rattle.canton_model.specs.Timeline.{or_else}
+use Rattle.framed_form.specs.Together.{Part, below_in, first_view, others_in, parts_after, parts_below, split_view, view_at, view_if, view_in, views_together}
 use Rattle.framed_form.proofs.Listed.{Lists, Region, kept_in, one_on, paths_append, paths_root}
 
 abbrev pub done : {A : Type 0} → A → Result A WireFault
@@ -41,7 +42,7 @@ read_ok (Err fault) go y e = absurd cc
 pub same_ok : {A : Type 0} (x y : A) → done x ≡ done y → x ≡ y
 same_ok x y e = cc
 
-view_shown : (r : Result ViewParts WireFault) (w : SplitView) → view_if r ≡ Some w → (parts : ViewParts) × (r ≡ Ok parts) × (w ≡ split_view parts)
+pub view_shown : (r : Result ViewParts WireFault) (w : SplitView) → view_if r ≡ Some w → (parts : ViewParts) × (r ≡ Ok parts) × (w ≡ split_view parts)
 view_shown (Ok parts) w e = (parts, refl, sym (same_Some (split_view parts) w e))
 view_shown (Err fault) w e = absurd (none-some w e)
 
@@ -91,7 +92,7 @@ parts_said informees contents n parts e =
     tested true r fault y e = (refl, e)
     tested false r fault y e = absurd cc
 
-said : (informees contents : Leaf) (n : ℕ) (parts : ViewParts) (w : SplitView) → LeavesLie informees contents w → parts_read informees contents n ≡ Ok parts → split_view parts ≡ w
+pub said : (informees contents : Leaf) (n : ℕ) (parts : ViewParts) (w : SplitView) → LeavesLie informees contents w → parts_read informees contents n ≡ Ok parts → split_view parts ≡ w
 said informees contents n parts w lie e =
     let two = parts_said informees contents n parts e in
     let sets = lie.roles parts.0 two.0 in

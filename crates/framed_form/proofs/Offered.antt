@@ -34,6 +34,7 @@ pub record Opened (seen : List (List ℕ)) (wanted : Bool) (tree : Tree) (opened
   pub names : Option (List (List ℕ))
   pub opens : opened_of_views seen wanted tree ≡ Ok (opened_by (opened.sender, opened.ledger_time) names opened.views)
   pub told : wanted ≡ true → names ≡ opened.requesters
+  pub untold : wanted ≡ false → names ≡ None
 
 pub honest_opens : (sha : Hashing) (salts : Salts) (sender : List ℕ) (transaction : Transaction) (w : Forest SplitView) (hosts : List ℕ → Bool) (sends wanted : Bool) (opened : OpenedTree)
     → tree_opened (tree_to sha salts sender transaction w hosts sends) ≡ Ok opened → (wanted ≡ true → sees_root hosts w ≡ true)
@@ -56,6 +57,7 @@ honest_opens sha salts sender transaction w hosts sends wanted opened e root = b
               opens_by seen false tree head None views (all_seen_stand sha hosts w) head_is refl listed
               ∙ (λ i. done (opened_by ((same i).sender, (same i).ledger_time) None (same i).views));
           told = λ never. absurd cc;
+          untold = λ no. refl;
         }
     named true root' head head_is names names_are views listed same =
         let plain : tree.requesters ≡ Plain salts.requesters (spell_parties transaction.requesters) = rw (root' refl) refl in
@@ -65,6 +67,7 @@ honest_opens sha salts sender transaction w hosts sends wanted opened e root = b
               opens_by seen true tree head names views (all_seen_stand sha hosts w) head_is (shown_leaf tree.requesters salts.requesters (spell_parties transaction.requesters) plain ∙ names_are) listed
               ∙ (λ i. done (same i));
           told = λ yes. refl;
+          untold = λ never. absurd cc;
         }
 
     by_wanted : (b : Bool) → (b ≡ true → sees_root hosts w ≡ true) → Opened seen b tree opened

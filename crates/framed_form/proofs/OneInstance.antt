@@ -27,14 +27,13 @@ use Rattle.view_split.specs.Placed.{placed_forest}
 use Rattle.view_split.specs.SeenViews.{put_back}
 use Rattle.view_split.specs.declared.opened_tree.OpenedTree.{OpenedTree}
 use Rattle.blind_tree.specs.TreeHashes.{tree_strings}
-use Rattle.sealed_form.specs.Collisions.{id_string}
-use Rattle.sealed_form.proofs.OneId.{IsRanged}
+use Rattle.framed_form.specs.Collisions.{id_string}
 use Rattle.framed_form.specs.Agreeing.{request_trees}
 use Rattle.framed_form.specs.Collisions.{Collides, acts_in, acts_opened, hashed}
-use Rattle.sealed_form.specs.Framed.{AreBytes}
+use Rattle.framed_form.specs.Framed.{AreBytes}
 use Rattle.framed_form.specs.FramedForm.{complete_in, offered_by, opened_to, paths_seen, sees_root_view}
 use Rattle.framed_form.proofs.Agreed.{logged, read_spelled}
-use Rattle.framed_form.proofs.Ranged.{opened_ranged, tree_fits}
+use Rattle.framed_form.proofs.Ranged.{IsRanged, opened_ranged, tree_fits}
 use Rattle.framed_form.proofs.Sound.{first_envelope, given_by}
 use Rattle.framed_form.proofs.Wholes.{complete_from}
 

@@ -1,19 +1,22 @@
 -- What is read of bytes is in range, whoever made them.
-use Rattle.std.proofs.Common.{◌≡◌, ℕ, suc, ◌<◌, Bool, List, [], ◌∷◌, ◌++◌, length, Ok, sym, subst, inl, inr}
+use Rattle.std.proofs.Common.{◌≡◌, ◌⊎◌, ℕ, suc, ◌<◌, Bool, List, [], ◌∷◌, ◌++◌, length, Ok, sym, subst, inl, inr}
 use Rattle.std.specs.Prelude.{if◌then◌else◌}
 use Rattle.std.specs.List.{AllByRecursion}
 use Rattle.std.specs.Int.{w16, w32, to_be_bytes}
 use Rattle.std.proofs.lemmas.Bool.{cases_Bool}
 use Rattle.std.proofs.lemmas.List.Elements.{All-from_recursion, recursion_from_All}
-use Rattle.ledger_terms.specs.Forest.{Forest, NoRoots, join, preorder}
+use Rattle.ledger_terms.specs.Forest.{Forest, NoRoots, Root, join, preorder}
 use Rattle.ledger_terms.specs.Grown.{tree_of}
 use Rattle.ledger_terms.specs.declared.act.Act.{Act}
-use Rattle.ledger_model.proofs.Lists.{In}
+use Rattle.ledger_model.proofs.Lists.{In, in_append_cases, in_append_left, in_append_right}
 use Rattle.wire_form.specs.Formats.{Reading}
+use Rattle.wire_form.specs.InRange.{IsAction, IsHash}
 use Rattle.wire_form.proofs.FormatLaws.{IsBytes, Reads}
+use Rattle.view_split.specs.Holed.{Holed, NoMore, Inner, Hole, after_holes, fill, inner}
 use Rattle.view_split.specs.Numbered.{map_forest}
 use Rattle.view_split.specs.Placed.{placed_forest}
 use Rattle.view_split.specs.SeenViews.{put_back}
+use Rattle.view_split.specs.Split.{assembled}
 use Rattle.view_split.specs.ViewTrees.{View}
 use Rattle.view_split.specs.declared.opened_tree.OpenedTree.{OpenedTree}
 use Rattle.view_split.specs.declared.placed_view.PlacedView.{PlacedView}
@@ -24,7 +27,7 @@ use Rattle.blind_tree.specs.Cores.{spell_node}
 use Rattle.blind_tree.specs.Leaves.{AreRoles, IsNode, spell_roles}
 use Rattle.blind_tree.specs.OpenedFor.{are_listed, is_listed, missing, views_listed}
 use Rattle.blind_tree.specs.Opening.{ViewParts, parts_read, placed, read_leaf, roles_at, view_of, view_read, views_read, with_read}
-use Rattle.blind_tree.specs.ShownViews.{AreViews, IsView}
+use Rattle.blind_tree.specs.ShownViews.{AreChildren, AreViews, IsView}
 use Rattle.blind_tree.specs.Spelling.{spell_bytes, spell_each, spell_leaf, spell_tree}
 use Rattle.blind_tree.specs.Vertices.{Vertices, NoVertices, BlindVertex, InnerVertex, count}
 use Rattle.blind_tree.specs.declared.leaf.Leaf.{Leaf}
@@ -33,11 +36,57 @@ use Rattle.blind_tree.specs.declared.tree.Tree.{Tree}
 use Rattle.blind_tree.proofs.AllLaws.{all_found}
 use Rattle.blind_tree.proofs.CoreLaws.{core_reads}
 use Rattle.blind_tree.proofs.OpensLaws.{roles_reads}
-use Rattle.sealed_form.proofs.OneId.{IsRanged, views_ranged}
-use Rattle.sealed_form.specs.Framed.{AreBytes}
+use Rattle.framed_form.specs.Framed.{AreBytes}
 use Rattle.framed_form.proofs.Agreed.{is_bytes}
 use Rattle.framed_form.proofs.Lying.{done, if_there, parts_said, read_ok, same_ok}
 use Rattle.framed_form.proofs.Wholes.{Opens}
+
+-- ---- what stands in views in range is in range
+
+abbrev pub IsRanged : Act → Type 0
+IsRanged a = IsHash a.seed × IsAction a.action
+
+inner_ranged : (h : Holed Act) → AreChildren h → (a : Act) → In a (inner h) → IsRanged a
+inner_ranged NoMore r a i = absurd i
+inner_ranged (Inner root below others) r a (inl same) = subst IsRanged same (r.0, r.1)
+inner_ranged (Inner root below others) r a (inr later) =
+    elim (in_append_cases (inner below) (inner others) a later) [ inl b ↦ inner_ranged below r.3 a b | inr o ↦ inner_ranged others r.4 a o ]
+inner_ranged (Hole others) r a i = inner_ranged others r a i
+
+after_in : (h : Holed Act) (trees : Forest Act) (a : Act) → In a (preorder (after_holes h trees)) → In a (preorder trees)
+after_in NoMore trees a i = i
+after_in (Inner root below others) trees a i = after_in below trees a (after_in others (after_holes below trees) a i)
+after_in (Hole others) NoRoots a i = absurd i
+after_in (Hole others) (Root root below more) a i = inr (in_append_right (preorder below) (preorder more) a (after_in others more a i))
+
+fill_in : (h : Holed Act) (trees : Forest Act) (a : Act) → In a (preorder (fill h trees)) → In a (inner h) ⊎ In a (preorder trees)
+fill_in NoMore trees a i = absurd i
+fill_in (Inner root below others) trees a (inl same) = inl (inl same)
+fill_in (Inner root below others) trees a (inr later) =
+    elim (in_append_cases (preorder (fill below trees)) (preorder (fill others (after_holes below trees))) a later) [
+      | inl b ↦ elim (fill_in below trees a b) [ inl here ↦ inl (inr (in_append_left (inner below) (inner others) a here)) | inr there ↦ inr there ]
+      | inr o ↦ elim
+          (fill_in others (after_holes below trees) a o)
+          [ inl here ↦ inl (inr (in_append_right (inner below) (inner others) a here)) | inr there ↦ inr (after_in below trees a there) ]
+    ]
+fill_in (Hole others) NoRoots a i = fill_in others NoRoots a i
+fill_in (Hole others) (Root root below more) a (inl same) = inr (inl same)
+fill_in (Hole others) (Root root below more) a (inr later) =
+    elim (in_append_cases (preorder below) (preorder (fill others more)) a later) [
+      | inl b ↦ inr (inr (in_append_left (preorder below) (preorder more) a b))
+      | inr o ↦ elim (fill_in others more a o) [ inl here ↦ inl here | inr there ↦ inr (inr (in_append_right (preorder below) (preorder more) a there)) ]
+    ]
+
+pub views_ranged : (views : Forest SplitView) → AreViews views → (a : Act) → In a (preorder (assembled views)) → IsRanged a
+views_ranged NoRoots r a i = absurd i
+views_ranged (Root view subviews others) r a (inl same) = subst IsRanged same (((r.0).core).seed_is, ((r.0).core).action_is)
+views_ranged (Root view subviews others) r a (inr later) =
+    elim (in_append_cases (preorder (fill view.below (assembled subviews))) (preorder (assembled others)) a later) [
+      | inl b ↦ elim
+          (fill_in view.below (assembled subviews) a b)
+          [ inl here ↦ inner_ranged view.below ((r.0).core).children a here | inr there ↦ views_ranged subviews r.1 a there ]
+      | inr o ↦ views_ranged others r.2 a o
+    ]
 
 -- ---- parts of bytes
 

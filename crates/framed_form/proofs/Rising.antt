@@ -106,11 +106,11 @@ forest_rises {A} above k (Root x below others) =
 
 -- ---- what is opened
 
-placed_append : (ps qs : List PlacedView) → placed_forest (ps ++ qs) ≡ join (placed_forest ps) (placed_forest qs)
+pub placed_append : (ps qs : List PlacedView) → placed_forest (ps ++ qs) ≡ join (placed_forest ps) (placed_forest qs)
 placed_append [] qs = refl
 placed_append (p ∷ ps) qs = ap (Root (p.path, (p.view).root) (paths_from p.path 0 (p.view).below)) (placed_append ps qs)
 
-abbrev paths_of : List PlacedView → List (List ℕ)
+abbrev pub paths_of : List PlacedView → List (List ℕ)
 paths_of ps = paths_in (placed_forest ps)
 
 listed_rises : (listed : List ℕ → Bool) (above : List ℕ) (k : ℕ) (v : Vertices) (ps : List PlacedView) → views_listed listed above k v ≡ Ok ps → Rises above k (paths_of ps)

@@ -44,7 +44,7 @@ use Rattle.sealed_form.specs.Within.{is_hosted, participants_of}
 use Rattle.sealed_form.proofs.Asked.{asked_by_views}
 use Rattle.sealed_form.proofs.Hosts.{named_below}
 use Rattle.sealed_form.proofs.Trees.{mediators_is_tree, tree_again}
-use Rattle.sealed_form.specs.Framed.{AreBytes, IsConfirmed, IsFramed, RisesBetween, recipient_of}
+use Rattle.framed_form.specs.Framed.{AreBytes, IsConfirmed, IsFramed, RisesBetween, recipient_of}
 
 -- ---- parties of sets
 
@@ -289,19 +289,19 @@ module _ (topology : Topology) (packages : Packages) (request : Request) (sealed
   sealed_framed some mediators each =
       record {
         tree = tree;
-        spells = ap (λ (r : Request). tree_in r.mediator) sealed.again ∙ tree_again tree (mediators_is_tree topology packages request.sender sealed.whole sealed.can_be);
+        spells = ap (λ (r : Request). tree_in r.mediator) sealed.made ∙ tree_again tree (mediators_is_tree topology packages request.sender sealed.whole sealed.can_be);
         roles = told;
         tells = ap found (tree_tells sha256 (split_as t views) (sealed.whole).sender (sealed.can_be).in_range);
         requesters_hidden = refl;
         contents_hidden = mediator_sees_none sha256 [] 0 views;
         some_view = some_told t.roots some;
         views = λ v there. told_right topology packages [] 0 views (all_right topology packages t.roots fine) v (in_from_Contains (roles_of_all [] 0 views) v there);
-        confirming = ap (λ (r : Request). r.confirming) sealed.again
+        confirming = ap (λ (r : Request). r.confirming) sealed.made
             ∙ (sym (asked_by_views (the_language packages) (confirms_at topology.hosts) (participants_of topology) t.roots) ∙ same_asked topology views (participants_of topology));
         sender = named_below topology.hosts request.sender (sealed.whole).sender (sealed.can_be).sender_is;
         envelopes = let high : 0 + length topology.hosts ≡ length topology.hosts = omega arith in
             subst (λ (ns : List ℕ). RisesBetween 0 ns (length topology.hosts))
-            (sym (ap (λ (r : Request). map recipient_of r.envelopes) sealed.again
+            (sym (ap (λ (r : Request). map recipient_of r.envelopes) sealed.made
             ∙ recipients_again (envelope_for topology packages request.sender (sealed.whole).sender (sealed.whole).salts t) (λ p. refl) (recipients_of topology.hosts views request.sender)))
             (subst (RisesBetween 0 (recipients_of topology.hosts views request.sender)) high (rises_filter (is_recipient topology.hosts views request.sender) 0 (length topology.hosts)));
         mediator_bytes = mediators;

@@ -1,5 +1,5 @@
 -- What a participant is shown of a request, each view of which somebody vouches for, is what its transaction shows by the rules.
-use Rattle.std.proofs.Common.{◌≡◌, ℕ, Bool, false, List, [], ◌∷◌, map, Ok, sym, ap, ◌∙◌, subst, inr}
+use Rattle.std.proofs.Common.{◌≡◌, ℕ, Bool, List, [], ◌∷◌, map, Ok, sym, ap, ◌∙◌, subst, inr}
 use Rattle.std.specs.Prelude.{Option, Some, None, if◌then◌else◌}
 use Rattle.std.specs.List.{list_any}
 use Rattle.std.proofs.lemmas.Option.{same_Some, none-some}
@@ -47,10 +47,11 @@ parts_of_whole (Some head) (Some names) (Some views) whole e =
       views = λ i. Some (same i).views;
     }
 
--- what a transaction shows to somebody who isn't its sender
-abbrev pub shown_here : Language → (hosts : Name → Bool) → Transaction → Shown
-shown_here language hosts t =
+-- what a transaction that this one sends shows to somebody
+abbrev pub shown_here : Language → (hosts : Name → Bool) → (sender : Name) → Transaction → Shown
+shown_here language hosts sender t =
     record {
+      sender = sender;
       ledger_time = t.ledger_time;
       requesters = if list_any is_root_path (seen_paths (roles_of language) hosts t.roots) then Some t.requesters else None;
       roots = opened_of language hosts t.roots;
@@ -104,11 +105,11 @@ module _ (topology : Topology) (request : Request) (agreed : AreAgreed request) 
         h.1 ∙ ap (λ (x : List ℕ × ℕ). x.0) (same_Some head (whole.sender, whole.ledger_time) (sym h.0 ∙ parts.head))
 
     -- and shown just what the whole shows
-    pub shown_is : shown_by opened ≡ shown_here language hosts (transaction_of whole)
+    pub shown_is : shown_by opened ≡ shown_here language hosts whole.sender (transaction_of whole)
     shown_is =
         let h = head_is topology request agreed m head spelled head_read p in_bytes.0 opened in_bytes.1 in_bytes.2 in
         let names = requesters_are topology request agreed whole.requesters parts.requesters p in_bytes.0 opened in_bytes.1 in_bytes.2 in
-        shown_is_by_rules language hosts false (transaction_of whole) opened
+        shown_is_by_rules language hosts whole.sender (transaction_of whole) opened sender_is
         (h.2 ∙ ap (λ (x : List ℕ × ℕ). x.1) (same_Some head (whole.sender, whole.ledger_time) (sym h.0 ∙ parts.head)))
         (names ∙ ap (λ (b : Bool). if b then Some whole.requesters else None) sees_by_rules)
         (opened_in_whole topology request agreed m f spelled told there.0 there.1 p opened is_opened

@@ -27,7 +27,8 @@ use Rattle.sealed_form.specs.SealedForm.{bytes_of, tree_in}
 use Rattle.framed_form.specs.Agreeing.{AreAgreed, request_trees}
 use Rattle.framed_form.specs.FramedForm.{complete_in, forest_in, offered_by, outline_in, outline_of, part_if, part_of, parts_of, paths_seen, root_in, whole_views}
 use Rattle.framed_form.specs.Frames.{paths_in, roles_read, seen_in, tells}
-use Rattle.framed_form.specs.Together.{Part, first_view, or_else, parts_after, parts_below, view_at, view_in, views_together}
+use Rattle.canton_model.specs.Timeline.{or_else}
+use Rattle.framed_form.specs.Together.{Part, first_view, parts_after, parts_below, view_at, view_in, views_together}
 use Rattle.framed_form.proofs.Existing.{AllShow, Covered, Shows, shows_listed, together_there}
 use Rattle.framed_form.proofs.Listed.{Lists, lists_seen, paths_root}
 use Rattle.framed_form.proofs.Lying.{AllAgree, Front, Stand, agree_after, agree_below, front_of, if_some, read_ok, same_ok, then_some, told_parts, no_root, no_views}

@@ -1,22 +1,31 @@
 -- What is hashed of a log of framed requests, and when two strings of it collide.
-use Rattle.std.specs.Prelude.{ℕ, List, [], ◌∷◌, ◌++◌, map, flat_map, Option, Some, None}
+use Rattle.std.specs.Prelude.{◌≡◌, ℕ, List, [], ◌∷◌, ◌++◌, map, flat_map, Option, Some, None}
 use Rattle.sha2.specs.Sha256.{sha256}
+use Rattle.hash_id.specs.Strings.{contract_id_string}
+use Rattle.wire_form.specs.Spelling.{spell_instance}
 use Rattle.ledger_terms.specs.declared.act.Act.{Act}
 use Rattle.ledger_terms.specs.declared.topology.Topology.{Topology}
+use Rattle.ledger_model.specs.Terms.{instance_of}
 use Rattle.ledger_model.specs.Forest.{acts}
+use Rattle.canton_model.specs.Log.{request_at}
 use Rattle.canton_model.specs.declared.entry.Entry.{Entry}
 use Rattle.canton_model.specs.declared.envelope.Envelope.{Envelope}
 use Rattle.canton_model.specs.declared.request.Request.{Request}
 use Rattle.canton_model.specs.declared.message.Message.{Message}
 use Rattle.canton_model.specs.declared.message.Message.TheVariants.{Request as RequestMessage, Response as ResponseMessage, Verdict as VerdictMessage, Tick}
+use Rattle.interpret.specs.Ids.{salt_of}
 use Rattle.view_split.specs.Placed.{placed_forest}
 use Rattle.view_split.specs.SeenViews.{put_back}
 use Rattle.view_split.specs.declared.opened_tree.OpenedTree.{OpenedTree}
 use Rattle.blind_tree.specs.Agreement.{Clash}
 use Rattle.blind_tree.specs.TreeHashes.{tree_strings}
-use Rattle.sealed_form.specs.Collisions.{id_string}
 use Rattle.framed_form.specs.Agreeing.{request_trees}
+use Rattle.framed_form.specs.Framed.{IsFramed}
 use Rattle.framed_form.specs.FramedForm.{complete_in, offered_by}
+
+-- the string of a contract's id
+abbrev pub id_string : Act → List ℕ
+id_string act = contract_id_string (salt_of act) (spell_instance (instance_of act.action))
 
 abbrev pub acts_opened : Option OpenedTree → List Act
 acts_opened None = []
@@ -46,3 +55,7 @@ hashed topology log = flat_map (λ (entry : Entry). message_strings topology ent
 -- two different ones have one hash
 abbrev pub Collides : Topology → List Entry → Type 0
 Collides topology log = Clash sha256 (hashed topology log) (hashed topology log)
+
+-- each request is framed
+abbrev pub AreFramed : Topology → List Entry → Type 0
+AreFramed topology log = (k : ℕ) (request : Request) → request_at log k ≡ Some request → IsFramed topology request

@@ -8,6 +8,7 @@ use Rattle.ledger_terms.specs.declared.topology.Topology.{Topology}
 use Rattle.ledger_model.specs.Opening.{Transaction, is_root_path}
 use Rattle.canton_model.specs.declared.envelope.Envelope.{Envelope}
 use Rattle.canton_model.specs.declared.request.Request.{Request}
+use Rattle.canton_model.specs.Timeline.{or_else}
 use Rattle.wire_form.specs.declared.wire_fault.WireFault.{WireFault}
 use Rattle.view_split.specs.Placed.{placed_forest}
 use Rattle.view_split.specs.SeenViews.{put_back}
@@ -25,7 +26,7 @@ use Rattle.interpret.specs.NamedParties.{parties_in_forest}
 use Rattle.sealed_form.specs.SealedForm.{envelope_to, found, tree_in}
 use Rattle.sealed_form.specs.Within.{is_hosted}
 use Rattle.framed_form.specs.Frames.{roles_read, seen_in}
-use Rattle.framed_form.specs.Together.{Part, or_else, views_together}
+use Rattle.framed_form.specs.Together.{Part, views_together}
 
 -- ---- what the mediator is told
 

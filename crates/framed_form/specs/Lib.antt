@@ -1,6 +1,9 @@
 pub mod Agreeing
+pub mod ByRules
 pub mod Collisions
+pub mod Framed
 pub mod FramedForm
+pub mod FramedReading
 pub mod Frames
 pub mod Structure
 pub mod Together

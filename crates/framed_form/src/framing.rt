@@ -6,8 +6,8 @@ ghost use Rattle.blind_tree.specs.ShownViews.{is_plain};
 ghost use Rattle.blind_tree.specs.VertexLists.{one_vertex};
 ghost use Rattle.blind_tree.specs.Vertices.{IsNarrow};
 ghost use Rattle.blind_tree.specs.declared.view_roles.ViewRoles.{ViewRoles};
-ghost use Rattle.sealed_form.specs.Framed.{are_bytes, are_envelopes_framed, are_views_framed, asked_by, hides_contents, is_confirmed};
-ghost use Rattle.sealed_form.specs.Framed.{is_framed, is_short, is_tree_framed, same_participants};
+ghost use Rattle.framed_form.specs.Framed.{are_bytes, are_envelopes_framed, are_views_framed, asked_by, hides_contents, is_confirmed};
+ghost use Rattle.framed_form.specs.Framed.{is_framed, is_short, is_tree_framed, same_participants};
 ghost use Rattle.sealed_form.specs.Within.{is_hosted};
 
 use blind_tree::{
@@ -20,7 +20,7 @@ use std::alloc::{AllocError, Global};
 use wire_form::WireFault;
 
 /// Whether a request has the form in which the sequencer takes it from anybody.
-#[tactic(auto, unfolding(sealed_form::specs::Framed::is_framed))]
+#[tactic(auto, unfolding(crate::specs::Framed::is_framed))]
 pub fn framed(alloc: Global, topology: &Topology, request: &Request) -> Result<bool, AllocError>
     requires { length topology.now.hosts ≤ 256 }
     ensures { IfOk result (λ is. is ≡ is_framed topology.now request.now) }

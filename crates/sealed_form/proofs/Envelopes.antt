@@ -114,9 +114,9 @@ module _ (topology : Topology) (packages : Packages) (request : Request) (sealed
   abbrev given : Bool → Option (List ℕ)
   given b = if b then Some (spell_tree (tree_of p)) else None
 
-  envelope_is : envelope_to p request.envelopes ≡ given gets
+  pub envelope_is : envelope_to p request.envelopes ≡ given gets
   envelope_is =
-      ap (λ (r : Request). envelope_to p r.envelopes) sealed.again
+      ap (λ (r : Request). envelope_to p r.envelopes) sealed.made
       ∙ (first_to (λ (q : ℕ). spell_tree (tree_of q)) p (recipients_of topology.hosts views request.sender)
       ∙ ap given (are_reached topology.hosts views request.sender (sealed.whole).sender (sealed.can_be).sender_is p))
 

@@ -3,14 +3,10 @@ pub mod Recipients
 pub mod Trees
 pub mod Opens
 pub mod Envelopes
-pub mod Conforming
 pub mod Deciding
 pub mod RangeDecided
 pub mod Decided
-pub mod Sealed
-pub mod Overlaid
 pub mod Made
-pub mod OneId
 pub mod Asked
 pub mod Given
 pub mod Parties
@@ -18,8 +14,5 @@ pub mod Submitted
 pub mod Short
 pub mod Limited
 pub mod Blinded
-pub mod Logs
 pub mod FromRules
 pub mod FromDrafts
-pub mod KeptRules
-pub mod WithinTopology

@@ -21,7 +21,7 @@ use Rattle.blind_tree.specs.ShownViews.{AreViews}
 use Rattle.blind_tree.specs.Spelling.{spell_tree}
 use Rattle.blind_tree.proofs.KeptLaws.{unshown, unnamed}
 use Rattle.sealed_form.specs.SealedForm.{CanBeSealed, IsSealedForm, Whole, envelope_for, request_of, roles_by, views_by}
-use Rattle.sealed_form.proofs.Made.{made_is_sealed}
+use Rattle.sealed_form.proofs.Made.{made_is_sealed, made_whole}
 use Rattle.sealed_form.proofs.Short.{AreShort, short_split, size_split, tree_length}
 
 sets_of : (views : Forest SplitView) → AreViews views → HaveSets views
@@ -60,6 +60,12 @@ module _ (topology : Topology) (packages : Packages) (sender : ℕ) (command : L
       subst (λ (x : Envelope). length x.bytes ≤ 4194304) p.2
       (short_tree (sees_root hosts views || nat_eq p.0 sender) (shown_to hosts false views) (unshown hosts false views))
 
+  short_tree_of_mediator : length made.mediator ≤ 4194304
+  short_tree_of_mediator = short_tree false (map_forest informees_alone views) (unnamed views)
+
   pub limited_is_sealed : IsSealedForm topology packages made
-  limited_is_sealed =
-      made_is_sealed topology packages sender command whole can made refl (short_tree false (map_forest informees_alone views) (unnamed views)) short_envelope
+  limited_is_sealed = made_is_sealed topology packages sender command whole made can refl short_tree_of_mediator short_envelope
+
+  pub limited_whole : limited_is_sealed.whole ≡ whole
+  unfolding limited_is_sealed
+  limited_whole = made_whole topology packages sender command whole made can refl short_tree_of_mediator short_envelope

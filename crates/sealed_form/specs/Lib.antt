@@ -1,10 +1,6 @@
 pub mod SealedForm
-pub mod Framed
 pub mod Envelopes
 pub mod RangeTests
 pub mod SealedTest
-pub mod SealedReading
 pub mod Submission
-pub mod Collisions
-pub mod Rules
 pub mod Within

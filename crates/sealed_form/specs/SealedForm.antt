@@ -1,6 +1,6 @@
 -- The sealed form of a request: a tree for each recipient and one for the mediator, as bytes.
 use Rattle.std.specs.Prelude.{◌≡◌, ℕ, ◌≤◌, Bool, true, List, [], ◌∷◌, ◌++◌, length, map, filter, Contains, nat_eq, Option, Some, None}
-use Rattle.std.specs.Prelude.{option_to_list, option_and_then, Result, Ok, Err, if◌then◌else◌}
+use Rattle.std.specs.Prelude.{option_to_list, Result, Ok, Err, if◌then◌else◌}
 use Rattle.sha2.specs.Sha256.{sha256}
 use Rattle.ledger_terms.specs.declared.act.Act.{Act}
 use Rattle.std.specs.List.{list_any}
@@ -22,22 +22,23 @@ use Rattle.wire_form.specs.declared.wire_fault.WireFault.{WireFault}
 use Rattle.interpret.specs.Language.{the_language}
 use Rattle.interpret.specs.NamedParties.{parties_in_forest}
 use Rattle.view_split.specs.declared.split_view.SplitView.{SplitView}
-use Rattle.view_split.specs.Split.{split, assembled}
+use Rattle.view_split.specs.Split.{split}
 use Rattle.sealed_form.specs.Within.{participants_of, is_hosted}
-use Rattle.view_split.specs.declared.opened_tree.OpenedTree.{OpenedTree}
 use Rattle.view_split.specs.declared.views.Views.{Views}
 use Rattle.blind_tree.specs.Blind.{Salts, is_host_named, tree_to, tree_to_mediator}
-use Rattle.blind_tree.specs.Opening.{tree_opened, views_read}
-use Rattle.blind_tree.specs.Overlay.{laid}
 use Rattle.blind_tree.specs.Reading.{read_all, tree_at}
 use Rattle.blind_tree.specs.Recipients.{recipients_of}
 use Rattle.blind_tree.specs.ShownViews.{AreInRange, IsSmall}
 use Rattle.blind_tree.specs.Spelling.{spell_tree}
-use Rattle.blind_tree.specs.declared.leaf.Leaf.{Leaf}
-use Rattle.blind_tree.specs.declared.leaf.Leaf.TheVariants.{Blind, Plain}
 use Rattle.blind_tree.specs.declared.tree.Tree.{Tree}
 
 -- ---- what a sender makes of a transaction
+
+-- A transaction with the name of its sender and the salts of the first two leaves of its trees.
+pub record Whole : Type 0 where
+  pub sender : List ℕ
+  pub salts : Salts
+  pub transaction : Transaction
 
 abbrev pub roles_by : Packages → Action → Roles
 roles_by packages = roles_of (the_language packages)
@@ -97,52 +98,6 @@ abbrev pub envelope_to : ℕ → List Envelope → Option (List ℕ)
 envelope_to p [] = None
 envelope_to p (envelope ∷ rest) = if nat_eq envelope.to p then Some envelope.bytes else envelope_to p rest
 
--- what the tree that bytes spell opens
-abbrev pub opened_in : List ℕ → Option OpenedTree
-opened_in bytes = option_and_then (λ (tree : Tree). found (tree_opened tree)) (tree_in bytes)
-
--- what is opened to a participant
-abbrev pub opened_to : ℕ → Request → Option OpenedTree
-opened_to p request = option_and_then opened_in (envelope_to p request.envelopes)
-
--- all views, each from the first envelope that shows it
-abbrev pub all_views : Request → Option (Forest SplitView)
-all_views request = found (views_read (laid (trees_in (map bytes_of request.envelopes))))
-
--- A transaction as it is read back, with the name of its sender and the salts of the first two leaves.
-pub record Whole : Type 0 where
-  pub sender : List ℕ
-  pub salts : Salts
-  pub transaction : Transaction
-
-abbrev pub salts_in : Leaf → Leaf → Option Salts
-salts_in (Plain salt bytes) (Plain salt2 bytes2) = Some (record { common = salt; requesters = salt2 })
-salts_in (Plain salt bytes) (Blind hash) = None
-salts_in (Blind hash) leaf = None
-
-abbrev pub whole_with : OpenedTree → Option Salts → Option (List (List ℕ)) → Option (Forest SplitView) → Option Whole
-whole_with opened None requesters views = None
-whole_with opened (Some salts) None views = None
-whole_with opened (Some salts) (Some requesters) None = None
-whole_with opened (Some salts) (Some requesters) (Some views) =
-    Some (record {
-      sender = opened.sender;
-      salts = salts;
-      transaction = record { requesters = requesters; ledger_time = opened.ledger_time; roots = assembled views };
-    })
-
-abbrev pub whole_if : Tree → Option (Forest SplitView) → Option OpenedTree → Option Whole
-whole_if tree views None = None
-whole_if tree views (Some opened) = whole_with opened (salts_in tree.common tree.requesters) opened.requesters views
-
-abbrev pub whole_by : Option (Forest SplitView) → Option Tree → Option Whole
-whole_by views None = None
-whole_by views (Some tree) = whole_if tree views (found (tree_opened tree))
-
--- sender, salts, ledger time and requesters from the sender's envelope, and each view from the first envelope that shows it
-abbrev pub whole_of : Request → Option Whole
-whole_of request = whole_by (all_views request) (option_and_then tree_in (envelope_to request.sender request.envelopes))
-
 -- ---- sealed requests
 
 -- What can be sealed: each action has roles, its informees and the parties that it names are those of the topology, the
@@ -159,12 +114,10 @@ pub record CanBeSealed (topology : Topology) (packages : Packages) (sender : ℕ
   pub in_range : AreInRange whole.sender (split_as whole.transaction (views_by packages whole.transaction))
   pub small : IsSmall whole.sender (split_as whole.transaction (views_by packages whole.transaction))
 
--- A request is sealed where its whole can be read and can be sealed, making it again gives the request, and its bytes are
--- within the limit.
+-- A request is sealed where it is what a sender makes of a transaction that can be sealed, and its bytes are within the limit.
 pub record IsSealedForm (topology : Topology) (packages : Packages) (request : Request) : Type 0 where
   pub whole : Whole
-  pub is_whole : whole_of request ≡ Some whole
   pub can_be : CanBeSealed topology packages request.sender whole
-  pub again : request ≡ request_of topology packages request.sender whole.sender request.command whole.salts whole.transaction
+  pub made : request ≡ request_of topology packages request.sender whole.sender request.command whole.salts whole.transaction
   pub short_mediator : length request.mediator ≤ MOST_TREE_BYTES
   pub short : (envelope : Envelope) → Contains request.envelopes envelope → length envelope.bytes ≤ MOST_TREE_BYTES

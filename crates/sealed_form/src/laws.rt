@@ -1,16 +1,12 @@
 //! The laws of the sealed form, as the clauses of functions that do nothing.
-ghost use Rattle.std.specs.Prelude.{◌≡◌, ℕ, Bool, true, false, List, Some, None, IsSome, Contains, ◌≤◌, [], Ok, length, nat_eq, option_map, if◌then◌else◌};
+ghost use Rattle.std.specs.Prelude.{◌≡◌, ℕ, Bool, true, false, List, Some, None, IsSome, Contains, ◌≤◌, [], Ok, length, option_map, if◌then◌else◌};
 ghost use Rattle.std.specs.Bool.{Decides};
 ghost use Rattle.ledger_terms.specs.declared.act.Act.{Act};
 ghost use Rattle.ledger_terms.specs.Trees.{Actions};
 ghost use Rattle.ledger_terms.specs.Forest.{Forest, below_at};
-ghost use Rattle.ledger_model.specs.Terms.{Name, ParticipantId, Path};
-ghost use Rattle.ledger_model.specs.Opening.{seen_paths, shown_of, Transaction, Shown, confirming_of};
-ghost use Rattle.ledger_model.specs.Forest.{acts, ledger_acts};
-ghost use Rattle.canton_model.specs.Reading.{Reading};
-ghost use Rattle.canton_model.specs.Genuine.{IsReading, IsSealed, Genuine, NoCollision};
-ghost use Rattle.sealed_form.specs.Rules.{KeepsRules};
-ghost use Rattle.sealed_form.specs.Within.{IsWithin, KeepsRulesWithin};
+ghost use Rattle.ledger_model.specs.Terms.{Path};
+ghost use Rattle.ledger_model.specs.Opening.{seen_paths, Transaction, Shown, confirming_of};
+ghost use Rattle.ledger_model.specs.Forest.{acts};
 ghost use Rattle.view_split.specs.Split.{split};
 ghost use Rattle.canton_model.specs.Checks.{authorises_children};
 ghost use Rattle.authorise.specs.Below.{are_authorised_below};
@@ -27,14 +23,10 @@ ghost use Rattle.ledger_terms.specs.declared.topology.Topology.{Topology};
 ghost use Rattle.sha2.specs.Sha256.{sha256};
 ghost use Rattle.blind_tree.specs.Blind.{blind_for, is_host_named, salts_of, tree_to_mediator};
 ghost use Rattle.blind_tree.specs.declared.recipient.Recipient.TheVariants.{Mediator, Participant};
-ghost use Rattle.ledger_model.specs.Consistency.{Consistent};
-ghost use Rattle.canton_model.specs.Ledger.{ledger};
 ghost use Rattle.ledger_model.specs.Language.{Language, roles_of};
-ghost use Rattle.canton_model.specs.declared.entry.Entry.{Entry};
 ghost use Rattle.canton_model.specs.declared.envelope.Envelope.{Envelope};
 ghost use Rattle.canton_model.specs.declared.request.Request.{Request};
 ghost use Rattle.lang_eval.specs.Found.{Packages};
-ghost use Rattle.interpret.specs.Language.{the_language};
 ghost use Rattle.ledger_terms.specs.declared.action.Action.{Action};
 ghost use Rattle.ledger_terms.specs.declared.tx.Tx.{Tx};
 ghost use Rattle.ledger_model.specs.declared.roles.Roles.{Roles};
@@ -46,28 +38,14 @@ ghost use Rattle.blind_tree.specs.LeafBytes.{core_bytes};
 ghost use Rattle.blind_tree.specs.ShownViews.{contents_shown};
 ghost use Rattle.blind_tree.specs.declared.tree.Tree.{Tree};
 ghost use Rattle.sealed_form.specs.Envelopes.{contents_at, sees_at, view_at};
-ghost use Rattle.sealed_form.specs.Collisions.{AreSealed, Collides};
 ghost use Rattle.sealed_form.specs.SealedForm.{CanBeSealed, IsSealedForm, Whole, confirming_by, envelope_to, request_of, roles_by, tree_for, tree_in};
-ghost use Rattle.sealed_form.specs.SealedForm.{views_by, whole_of};
-ghost use Rattle.sealed_form.specs.SealedTest.{is_sealed_form};
-ghost use Rattle.sealed_form.specs.SealedReading.{sealed_reading};
+ghost use Rattle.sealed_form.specs.SealedForm.{views_by};
+ghost use Rattle.sealed_form.specs.SealedTest.{can_be_sealed};
 
-/// The test of the sealed form decides it, by what a request itself tells.
-pub fn the_sealed_form_is_decided()
-    ensures { (topology : Topology) (packages : Packages) (request : Request)
-        → Decides (is_sealed_form topology packages request) (IsSealedForm topology packages request) }
-{}
-
-/// The reading of the sealed form is a reading.
-pub fn sealed_reading_is_reading()
-    ensures { (topology : Topology) (packages : Packages) → IsReading (sealed_reading topology packages) }
-{}
-
-/// What a sealed request shows to a participant is what the rules show of its whole: the projection, with the views in it.
-pub fn sealed_requests_show_what_the_rules_show()
-    ensures { (topology : Topology) (packages : Packages) (request : Request) (sealed : IsSealedForm topology packages request) (p : ℕ)
-        → (sealed_reading topology packages).shown p request ≡ shown_of (the_language packages) (hosts_at topology.hosts p) (nat_eq p request.sender)
-        (sealed.whole).transaction }
+/// The test of what can be sealed decides it.
+pub fn what_can_be_sealed_is_decided()
+    ensures { (topology : Topology) (packages : Packages) (sender : ℕ) (whole : Whole)
+        → Decides (can_be_sealed topology packages sender whole) (CanBeSealed topology packages sender whole) }
 {}
 
 /// The tree that is made for a participant shows the contents of exactly the views that it sees.
@@ -91,18 +69,9 @@ pub fn envelopes_show_the_contents_of_what_is_seen()
         → envelope_to p request.envelopes ≡ None → sees_at (hosts_at topology.hosts p) path (views_by packages (sealed.whole).transaction) ≡ false }
 {}
 
-/// A request that is sealed in form is sealed to the laws of the ledger.
-pub fn sealed_forms_are_sealed()
-    ensures { (topology : Topology) (packages : Packages) (request : Request) → IsSealedForm topology packages request
-        → IsSealed (sealed_reading topology packages) request }
-{}
-
-/// The request that is made of what can be sealed is sealed, and its whole is that, where no bytes of it are too long.
+/// The request that is made of what can be sealed is sealed, where no bytes of it are too long.
 pub fn requests_made_are_sealed()
-    ensures whole { (topology : Topology) (packages : Packages) (sender : ℕ) (command : List ℕ) (whole : Whole)
-        → CanBeSealed topology packages sender whole
-        → whole_of (request_of topology packages sender whole.sender command whole.salts whole.transaction) ≡ Some whole }
-    ensures sealed { (topology : Topology) (packages : Packages) (sender : ℕ) (command : List ℕ) (whole : Whole) (request : Request)
+    ensures { (topology : Topology) (packages : Packages) (sender : ℕ) (command : List ℕ) (whole : Whole) (request : Request)
         → CanBeSealed topology packages sender whole
         → request ≡ request_of topology packages sender whole.sender command whole.salts whole.transaction
         → length request.mediator ≤ MOST_TREE_BYTES
@@ -159,42 +128,6 @@ pub fn filled_trees_keep_the_limits_of_trees()
 pub fn views_tell_who_is_asked()
     ensures { (language : Language) (confirms : ℕ → List ℕ → Bool) (participants : List ℕ) (roots : Forest Act)
         → confirming_by confirms participants (split (roles_of language) roots) ≡ confirming_of language confirms participants roots }
-{}
-
-/// In a log of sealed requests of which no two hashed strings collide, authentic actions on one contract carry one instance.
-pub fn contracts_of_one_id_are_one()
-    ensures { (topology : Topology) (packages : Packages) (log : List Entry)
-        → AreSealed topology packages log
-        → (Collides log → ⊥)
-        → NoCollision (sealed_reading topology packages) log }
-{}
-
-/// Each request of a genuine log is in the sealed form, and where the log doesn't collide its approved requests are one
-/// consistent ledger.
-pub fn sealed_logs_are_one_ledger()
-    ensures sealed { (topology : Topology) (packages : Packages) (log : List Entry)
-        → Genuine (sealed_reading topology packages) topology.params log
-        → AreSealed topology packages log }
-    ensures ledger { (topology : Topology) (packages : Packages) (log : List Entry)
-        → Genuine (sealed_reading topology packages) topology.params log
-        → (Collides log → ⊥)
-        → Consistent (ledger_acts (ledger (sealed_reading topology packages) log)) }
-{}
-
-/// A request whose sender keeps the rules on views is sealed, where who confirms for a party hosts it.
-pub fn rules_are_sealed()
-    ensures { (reading : Reading) (participants : List ParticipantId) (request : Request) (transaction : Transaction)
-        → ((p : ParticipantId) (name : Name) → reading.confirms p name ≡ true → reading.hosts p name ≡ true)
-        → KeepsRules reading participants request transaction
-        → IsSealed reading request }
-{}
-
-/// Within a topology it is enough that each signatory is a party of it: then somebody confirms each action.
-pub fn rules_within_a_topology_are_sealed()
-    ensures { (topology : Topology) (packages : Packages) (reading : Reading) (request : Request) (transaction : Transaction)
-        → IsWithin topology packages reading
-        → KeepsRulesWithin topology reading request transaction
-        → IsSealed reading request }
 {}
 
 /// Where a participant checks that an action which is opened to it authorises its children, it asks of the rules whether the

@@ -19,4 +19,4 @@ pub mod Signed
 pub mod Holes
 pub mod Subtrees
 mod Children
-mod InPlace
+pub mod InPlace

@@ -1,6 +1,5 @@
-use Rattle.std.proofs.Common.{◌≤◌, Ok, arith, ap, sym, ◌∙◌}
+use Rattle.std.proofs.Common.{◌≤◌, arith}
 use Rattle.std.proofs.lemmas.Result.{err_from_is_err_and}
-use Rattle.view_split.specs.ViewTrees.{View}
 use Rattle.blind_tree.specs.VertexLists.{one_vertex, vertex_count}
 use Rattle.blind_tree.proofs.Grow.{one_at}
 use Rattle.blind_tree.proofs.OpenedLaws.{read_start, view_fault, view_is}
@@ -15,17 +14,10 @@ read_views-read_vertex-requires t c =
 pub read_views-loop-vertex-init : goal.read_views-loop-vertex-init
 read_views-loop-vertex-init t c = rw (c.new-views.ensures, c.as_slice-vertex-items.ensures) (read_start c.args.vertices.now)
 
-pub read_view-returns-in_err-subviews : goal.read_view-returns-in_err-subviews
-read_view-returns-in_err-subviews t c =
-    let p = err_from_is_err_and c.from_residual-in_err-subviews.result c.from_residual-in_err-subviews.ensures.1 in
-    rw (p.1, p.2) (λ other.
-    view_fault c.args.informees.now c.args.contents.now c.args.subviews.now _ _ _ _ _
-    (c.in_ok-informees.ensures, c.in_ok-core.ensures, c.hole_count.ensures, c.len.ensures.vertices, c.len.ensures.bound, omega (arith, c.if-hole_count-len.false))
-    (c.in_err-subviews.ensures other))
+pub read_view-returns-in_err-below : goal.read_view-returns-in_err-below
+read_view-returns-in_err-below t c =
+    let p = err_from_is_err_and c.from_residual-in_err-below.result c.from_residual-in_err-below.ensures.1 in
+    rw (p.1, p.2) (λ other. view_fault c.args.informees.now c.args.contents.now c.args.subviews.now _ _ c.in_ok-root.ensures (c.in_err-below.ensures other))
 
 pub read_view-returns : goal.read_view-returns
-read_view-returns t c =
-    view_is c.args.informees.now c.args.contents.now c.args.subviews.now (c.in_ok-informees.informees, c.in_ok-informees.confirmers) c.in_ok-core.core _ _ _
-    (c.in_ok-informees.ensures, c.in_ok-core.ensures, c.hole_count.ensures, c.len.ensures.vertices, c.len.ensures.bound, omega (arith, c.if-hole_count-len.false))
-    c.in_ok-subviews.ensures
-    ∙ ap (λ (v : View). Ok v) (sym c.view_of.ensures)
+read_view-returns t c = view_is c.args.informees.now c.args.contents.now c.args.subviews.now _ _ c.in_ok-root.ensures c.in_ok-below.ensures
