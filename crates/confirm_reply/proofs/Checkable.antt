@@ -15,7 +15,7 @@ use Rattle.lang_eval.specs.Language.{has_roles}
 use Rattle.wire_form.specs.Spellable.{IsSpellableInstance}
 use Rattle.view_split.specs.Placed.{shown_by}
 use Rattle.view_split.specs.declared.opened_tree.OpenedTree.{OpenedTree}
-use Rattle.confirm_reply.specs.Opened.{CanBeChecked, IsCheckable}
+use Rattle.confirm_reply.specs.Opened.{AllHaveRoles, CanBeChecked}
 use Rattle.confirm_reply.proofs.Checked.{core_in_place}
 use Rattle.confirm_reply.proofs.Placed.{EachIn, StandsIn, Tree, below_stands}
 
@@ -56,30 +56,47 @@ all_from_each P (x ∷ xs) each = All-cons P x xs (each x (inl refl)) (all_from_
 each_in : {X : Type 0} (P : X → Type 0) (xs : List X) → All P xs → (x : X) → In x xs → P x
 each_in P xs all x i = All-contains P xs x all (contains_from_In xs x i)
 
-module _ (packages : Packages) (roots : Actions) (roles : All (λ (act : Act). has_roles packages act.action ≡ true) (acts roots))
-    (spelled : All (λ (act : Act). IsSpellableInstance (instance_of act.action)) (acts roots)) where
-  has : (c : Act) → In c (acts roots) → has_roles packages c.action ≡ true
-  has = each_in (λ (act : Act). has_roles packages act.action ≡ true) (acts roots) roles
+module _ (packages : Packages) (roots : Actions) where
+  abbrev Below : ℕ × Act → Type 0
+  Below a = AllHaveRoles packages (roots_of (below_at a.0 roots))
 
-  one : (a : ℕ × Act) → StandsIn (trees_of roots) a → IsCheckable packages a.1 (below_at a.0 roots)
-  one a s =
-      let r = tree_of_in roots (a.1, s.0) (in_from_get (trees_of roots) a.0 (a.1, s.0) s.1) in
-      subst (λ (below : Actions). IsCheckable packages a.1 below) (sym (below_stands roots a.0 (a.1, s.0) s.1)) (record {
-        roles = has a.1 r.act;
-        below_roles = all_from_each (λ (act : Act). has_roles packages act.action ≡ true) (roots_of s.0) (λ c i. has c (r.children c i));
-        spellable = each_in (λ (act : Act). IsSpellableInstance (instance_of act.action)) (acts roots) spelled a.1 r.act;
-      })
+  abbrev Spelled : ℕ × Act → Type 0
+  Spelled a = IsSpellableInstance (instance_of (a.1).action)
 
-  each : (core : List (ℕ × Act)) → EachIn (StandsIn (trees_of roots)) core → All (λ (a : ℕ × Act). IsCheckable packages a.1 (below_at a.0 roots)) core
-  each [] e = All-nil (λ (a : ℕ × Act). IsCheckable packages a.1 (below_at a.0 roots))
-  each (a ∷ core) e = All-cons (λ (x : ℕ × Act). IsCheckable packages x.1 (below_at x.0 roots)) a core (one a e.0) (each core e.1)
+  module _ (roles : All (λ (act : Act). has_roles packages act.action ≡ true) (acts roots)) where
+    has : (c : Act) → In c (acts roots) → has_roles packages c.action ≡ true
+    has = each_in (λ (act : Act). has_roles packages act.action ≡ true) (acts roots) roles
 
-pub each_can_be : (packages : Packages) (tree : OpenedTree) (view : OpenedView) → Contains (shown_by tree).views view
-    → All (λ (act : Act). has_roles packages act.action ≡ true) (acts (shown_by tree).roots)
-    → All (λ (act : Act). IsSpellableInstance (instance_of act.action)) (acts (shown_by tree).roots)
-    → length view.core ≤ 65536 → CanBeChecked packages (shown_by tree) view
-each_can_be packages tree view there roles spelled few =
-    record {
-      each = each packages (shown_by tree).roots roles spelled view.core (core_in_place tree view (in_from_Contains (shown_by tree).views view there));
-      few = few;
-    }
+    one_below : (a : ℕ × Act) → StandsIn (trees_of roots) a → Below a
+    one_below a s =
+        let r = tree_of_in roots (a.1, s.0) (in_from_get (trees_of roots) a.0 (a.1, s.0) s.1) in
+        subst (λ (below : Actions). AllHaveRoles packages (roots_of below)) (sym (below_stands roots a.0 (a.1, s.0) s.1))
+        (all_from_each (λ (act : Act). has_roles packages act.action ≡ true) (roots_of s.0) (λ c i. has c (r.children c i)))
+
+    pub all_below : (core : List (ℕ × Act)) → EachIn (StandsIn (trees_of roots)) core → All Below core
+    all_below [] e = All-nil Below
+    all_below (a ∷ core) e = All-cons Below a core (one_below a e.0) (all_below core e.1)
+
+  module _ (spelled : All (λ (act : Act). IsSpellableInstance (instance_of act.action)) (acts roots)) where
+    one_spelled : (a : ℕ × Act) → StandsIn (trees_of roots) a → Spelled a
+    one_spelled a s =
+        let r = tree_of_in roots (a.1, s.0) (in_from_get (trees_of roots) a.0 (a.1, s.0) s.1) in
+        each_in (λ (act : Act). IsSpellableInstance (instance_of act.action)) (acts roots) spelled a.1 r.act
+
+    pub all_spelled : (core : List (ℕ × Act)) → EachIn (StandsIn (trees_of roots)) core → All Spelled core
+    all_spelled [] e = All-nil Spelled
+    all_spelled (a ∷ core) e = All-cons Spelled a core (one_spelled a e.0) (all_spelled core e.1)
+
+module _ (packages : Packages) (tree : OpenedTree) (view : OpenedView) (there : Contains (shown_by tree).views view) where
+  stands : EachIn (StandsIn (trees_of (shown_by tree).roots)) view.core
+  stands = core_in_place tree view (in_from_Contains (shown_by tree).views view there)
+
+  pub each_can_be : All (λ (act : Act). has_roles packages act.action ≡ true) (acts (shown_by tree).roots)
+      → All (λ (act : Act). IsSpellableInstance (instance_of act.action)) (acts (shown_by tree).roots)
+      → length view.core ≤ 65536 → CanBeChecked packages (shown_by tree) view
+  each_can_be roles spelled few =
+      record {
+        spellable = all_spelled packages (shown_by tree).roots spelled view.core stands;
+        few = few;
+        below = λ own. all_below packages (shown_by tree).roots roles view.core stands;
+      }

@@ -28,10 +28,11 @@ module _ (reading : Reading) (params : Params) (p : ParticipantId) (items : List
         ap lock_of f.1 ∙ (is.locked ∙ ap (is_locked_in_inbox reading params items k) same),
       )
 
-  pub as_at : (core : List (ℕ × Act)) → ((a : ℕ × Act) → Contains core a → has_hosted_stakeholder reading p a.1 ≡ true → IsSome (fact_on facts (id_of (a.1).action)))
+  pub as_at : (core : List (ℕ × Act)) → ((a : ℕ × Act) → Contains core a → (reading.language).has_roles (a.1).action ≡ true → has_hosted_stakeholder reading p a.1 ≡ true
+      → IsSome (fact_on facts (id_of (a.1).action)))
       → AreAsAt reading params p items k facts core
   as_at core there =
       record {
-        status = λ a i h. (agree (id_of (a.1).action) (there a i h)).0;
-        locked = λ a i h. (agree (id_of (a.1).action) (there a i h)).1;
+        status = λ a i r h. (agree (id_of (a.1).action) (there a i r h)).0;
+        locked = λ a i r h. (agree (id_of (a.1).action) (there a i r h)).1;
       }

@@ -57,7 +57,7 @@ Numbered = ℕ × Act
 abbrev NumberedView : Type 0
 NumberedView = Placed × List Numbered
 
-abbrev CoreHas : (Numbered → Type 0) → NumberedView → Type 0
+abbrev pub CoreHas : (Numbered → Type 0) → NumberedView → Type 0
 CoreHas P view = EachIn P view.1
 
 pub cores_each : (P : Numbered → Type 0) (views : Forest Placed) (trees : Forest Numbered) → Each P trees
@@ -81,12 +81,12 @@ Tree = Act × Actions
 abbrev pub StandsIn : List Tree → Numbered → Type 0
 StandsIn all x = (below : Actions) × (slice_get all x.0 ≡ Some (x.1, below))
 
-at_left : (xs ys : List Tree) (i : ℕ) (t : Tree) → slice_get xs i ≡ Some t → slice_get (xs ++ ys) i ≡ Some t
+pub at_left : (xs ys : List Tree) (i : ℕ) (t : Tree) → slice_get xs i ≡ Some t → slice_get (xs ++ ys) i ≡ Some t
 at_left [] ys i t e = absurd (none-some t e)
 at_left (x ∷ xs) ys zero t e = e
 at_left (x ∷ xs) ys (suc i) t e = at_left xs ys i t e
 
-at_right : (xs ys : List Tree) (i : ℕ) (t : Tree) → slice_get ys i ≡ Some t → slice_get (xs ++ ys) (length xs + i) ≡ Some t
+pub at_right : (xs ys : List Tree) (i : ℕ) (t : Tree) → slice_get ys i ≡ Some t → slice_get (xs ++ ys) (length xs + i) ≡ Some t
 at_right [] ys i t e = let same : 0 + i ≡ i = omega arith in rw same e
 at_right (x ∷ xs) ys i t e = let same : suc (length xs) + i ≡ suc (length xs + i) = omega arith in rw same (at_right xs ys i t e)
 

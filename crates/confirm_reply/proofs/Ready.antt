@@ -20,13 +20,13 @@ use Rattle.wire_form.specs.Spellable.{IsSpellableInstance}
 use Rattle.view_split.specs.Placed.{placed_forest, shown_by}
 use Rattle.view_split.specs.SeenViews.{put_back}
 use Rattle.view_split.specs.declared.opened_tree.OpenedTree.{OpenedTree}
-use Rattle.confirm_reply.specs.Located.{core_found_in}
+use Rattle.confirm_reply.specs.Located.{Found, view_found_in}
 use Rattle.confirm_reply.specs.Nodes.{acts_of, trees_in}
 use Rattle.confirm_reply.specs.Numbers.{numbers_of}
 use Rattle.confirm_reply.specs.Opened.{view_at}
 use Rattle.confirm_reply.specs.Sure.{IsReady, IsSure}
 use Rattle.confirm_reply.specs.Tried.{acts_in}
-use Rattle.confirm_reply.proofs.Located.{first_is_found}
+use Rattle.confirm_reply.proofs.Located.{first_is_found, found_from}
 use Rattle.confirm_reply.proofs.Placed.{acts_stand}
 use Rattle.confirm_reply.proofs.ShownAt.{acts_are}
 
@@ -56,51 +56,48 @@ first_of P x xs fails all = let wrong : false ≡ true = fails.1 all.0 in cc
 
 -- ---- a view
 
-few_numbers : (found : Option OpenedView) (view : OpenedView) (core : List ℕ) → found ≡ Some view
-    → option_map (λ (v : OpenedView). numbers_of v.core) found ≡ Some core → length view.core ≡ length core
-few_numbers found view core is numbers =
-    let same : numbers_of view.core ≡ core = same_Some (numbers_of view.core) core (ap (option_map (λ (v : OpenedView). numbers_of v.core)) (sym is) ∙ numbers) in
-    sym (length-map view.core (λ (a : ℕ × Act). a.0)) ∙ ap (λ (ns : List ℕ). length ns) same
+few_numbers : (opened : Option OpenedView) (view : OpenedView) (found : Found) → opened ≡ Some view
+    → option_map found_from opened ≡ Some found → length view.core ≡ length found.core
+few_numbers opened view found is from =
+    let same : found_from view ≡ found = same_Some (found_from view) found (ap (option_map found_from) (sym is) ∙ from) in
+    sym (length-map view.core (λ (a : ℕ × Act). a.0)) ∙ ap (λ (f : Found). length f.core) same
 
-view_in : (found : Option OpenedView) (core : List ℕ) → option_map (λ (v : OpenedView). numbers_of v.core) found ≡ Some core → (view : OpenedView) × (found ≡ Some view)
-view_in None core e = absurd (none-some core e)
-view_in (Some view) core e = (view, refl)
+view_in : (opened : Option OpenedView) (found : Found) → option_map found_from opened ≡ Some found → (view : OpenedView) × (opened ≡ Some view)
+view_in None found e = absurd (none-some found e)
+view_in (Some view) found e = (view, refl)
 
 module _ (path : Path) (tree : OpenedTree) (numbers : Forest (ℕ × Act)) (roots : Actions)
     (put : roots ≡ put_back (placed_forest tree.views)) (counted : numbers ≡ number_from 0 roots) where
-  numbers_are : (core : Option (List ℕ)) → core ≡ core_found_in path tree.views numbers
-      → option_map (λ (view : OpenedView). numbers_of view.core) (view_at path tree) ≡ core
-  numbers_are core found =
+  found_is : (found : Option Found) → found ≡ view_found_in path tree.views numbers → option_map found_from (view_at path tree) ≡ found
+  found_is found is =
       first_is_found path tree.views (number_from 0 (put_back (placed_forest tree.views)))
-      ∙ (sym (ap (core_found_in path tree.views) (counted ∙ ap (number_from 0) put)) ∙ sym found)
+      ∙ (sym (ap (view_found_in path tree.views) (counted ∙ ap (number_from 0) put)) ∙ sym is)
 
-  pub not_opened : (packages : Packages) → None ≡ core_found_in path tree.views numbers → Decides false (IsReady packages tree path)
-  not_opened packages found = (
+  pub not_opened : (packages : Packages) → None ≡ view_found_in path tree.views numbers → Decides false (IsReady packages tree path)
+  not_opened packages lost = (
     λ no. absurd (cc),
-    λ ready.
-        let none = numbers_are None found in
-        absurd (none-some (numbers_of ready.view.core) (sym none ∙ ap (option_map (λ (view : OpenedView). numbers_of view.core)) ready.opened)),
+    λ ready. absurd (none-some (found_from ready.view) (sym (found_is None lost) ∙ ap (option_map found_from) ready.opened)),
   )
 
-  pub too_many : (packages : Packages) (core : List ℕ) → Some core ≡ core_found_in path tree.views numbers → 65536 < length core
+  pub too_many : (packages : Packages) (found : Found) → Some found ≡ view_found_in path tree.views numbers → 65536 < length found.core
       → Decides false (IsReady packages tree path)
-  too_many packages core found many = (
+  too_many packages found is many = (
     λ no. absurd (cc),
     λ ready.
-        let count = few_numbers (view_at path tree) ready.view core ready.opened (numbers_are (Some core) found) in
+        let count = few_numbers (view_at path tree) ready.view found ready.opened (found_is (Some found) is) in
         absurd (omega (arith, count, ready.few, many)),
   )
 
-  pub ready_where_sure : (packages : Packages) (core : List ℕ) → Some core ≡ core_found_in path tree.views numbers → length core ≤ 65536
+  pub ready_where_sure : (packages : Packages) (found : Found) → Some found ≡ view_found_in path tree.views numbers → length found.core ≤ 65536
       → (nodes : List (Bor ActionNode)) → trees_in nodes ≡ trees_of roots
       → (sure : Bool) → Decides sure (AllByRecursion (λ (act : Act). IsSure packages act.action) (acts_of nodes))
       → Decides sure (IsReady packages tree path)
-  ready_where_sure packages core found few nodes gathered sure decided =
+  ready_where_sure packages found is few nodes gathered sure decided =
       let P : Act → Type 0 = λ act. IsSure packages act.action in
       let these : acts_of nodes ≡ acts (shown_by tree).roots =
       sym (acts_are nodes) ∙ (ap acts_in gathered ∙ (acts_stand roots ∙ ap acts put)) in
-      let there = view_in (view_at path tree) core (numbers_are (Some core) found) in
-      let count = few_numbers (view_at path tree) there.0 core there.1 (numbers_are (Some core) found) in (
+      let there = view_in (view_at path tree) found (found_is (Some found) is) in
+      let count = few_numbers (view_at path tree) there.0 found there.1 (found_is (Some found) is) in (
         λ yes. record {
           each = All-from_recursion P (acts (shown_by tree).roots) (subst (AllByRecursion P) these (decided.0 yes));
           view = there.0;

@@ -21,54 +21,53 @@ use Rattle.view_split.specs.Placed.{placed_forest, shown_by}
 use Rattle.view_split.specs.SeenViews.{put_back}
 use Rattle.view_split.specs.declared.opened_tree.OpenedTree.{OpenedTree}
 use Rattle.confirm_reply.specs.Sure.{IsSure}
-use Rattle.confirm_reply.specs.Located.{core_found_in}
+use Rattle.confirm_reply.specs.Located.{Found, view_found_in}
 use Rattle.confirm_reply.specs.Nodes.{acts_of, trees_in}
 use Rattle.confirm_reply.specs.Numbers.{numbers_of}
 use Rattle.confirm_reply.specs.Opened.{CanBeChecked, view_at}
 use Rattle.confirm_reply.specs.Tried.{acts_in}
 use Rattle.confirm_reply.proofs.Checkable.{each_can_be}
 use Rattle.confirm_reply.proofs.Checked.{found_in}
-use Rattle.confirm_reply.proofs.Located.{first_is_found}
+use Rattle.confirm_reply.proofs.Located.{first_is_found, found_from}
 use Rattle.confirm_reply.proofs.Placed.{acts_stand}
 use Rattle.confirm_reply.proofs.ShownAt.{acts_are}
 
-some_in : (found : Option OpenedView) (core : List ℕ) → option_map (λ (view : OpenedView). numbers_of view.core) found ≡ Some core → IsSome found
-some_in None core e = absurd (none-some core e)
-some_in (Some view) core e = refl
+some_in : (opened : Option OpenedView) (found : Found) → option_map found_from opened ≡ Some found → IsSome opened
+some_in None found e = absurd (none-some found e)
+some_in (Some view) found e = refl
 
 each : {X : Type 0} (P Q : X → Type 0) (xs : List X) → ((x : X) → P x → Q x) → AllByRecursion P xs → All Q xs
 each P Q [] more all = All-nil Q
 each P Q (x ∷ xs) more all = All-cons Q x xs (more x all.0) (each P Q xs more all.1)
 
-module _ (path : Path) (tree : OpenedTree) (core : List ℕ) (numbers : Forest (ℕ × Act)) (roots : Actions)
-    (put : roots ≡ put_back (placed_forest tree.views)) (counted : numbers ≡ number_from 0 roots) (found : Some core ≡ core_found_in path tree.views numbers) where
-  numbers_are : option_map (λ (view : OpenedView). numbers_of view.core) (view_at path tree) ≡ Some core
-  numbers_are =
+module _ (path : Path) (tree : OpenedTree) (found : Found) (numbers : Forest (ℕ × Act)) (roots : Actions)
+    (put : roots ≡ put_back (placed_forest tree.views)) (counted : numbers ≡ number_from 0 roots) (is : Some found ≡ view_found_in path tree.views numbers) where
+  found_is : option_map found_from (view_at path tree) ≡ Some found
+  found_is =
       first_is_found path tree.views (number_from 0 (put_back (placed_forest tree.views)))
-      ∙ (sym (ap (core_found_in path tree.views) (counted ∙ ap (number_from 0) put)) ∙ sym found)
+      ∙ (sym (ap (view_found_in path tree.views) (counted ∙ ap (number_from 0) put)) ∙ sym is)
 
   pub is_opened : IsSome (view_at path tree)
-  is_opened = some_in (view_at path tree) core numbers_are
+  is_opened = some_in (view_at path tree) found found_is
 
-  few_in : (view : OpenedView) → view_at path tree ≡ Some view → length core ≤ 65536 → length view.core ≤ 65536
-  few_in view is few =
-      let same : numbers_of view.core ≡ core =
-      same_Some (numbers_of view.core) core (ap (option_map (λ (v : OpenedView). numbers_of v.core)) (sym is) ∙ numbers_are) in
-      let count = ap (λ (ns : List ℕ). length ns) same in
+  few_in : (view : OpenedView) → view_at path tree ≡ Some view → length found.core ≤ 65536 → length view.core ≤ 65536
+  few_in view opened few =
+      let same : found_from view ≡ found = same_Some (found_from view) found (ap (option_map found_from) (sym opened) ∙ found_is) in
+      let count = ap (λ (f : Found). length f.core) same in
       let mapped = length-map view.core (λ (a : ℕ × Act). a.0) in
       omega (arith, count, mapped, few)
 
-  pub can_be : (packages : Packages) (nodes : List (Bor ActionNode)) → trees_in nodes ≡ trees_of roots → length core ≤ 65536
+  pub can_be : (packages : Packages) (nodes : List (Bor ActionNode)) → trees_in nodes ≡ trees_of roots → length found.core ≤ 65536
       → AllByRecursion (λ (act : Act). IsSure packages act.action) (acts_of nodes)
       → (view : OpenedView) → view_at path tree ≡ Some view → CanBeChecked packages (shown_by tree) view
-  can_be packages nodes gathered few sure view is =
+  can_be packages nodes gathered few sure view opened =
       let these : acts_of nodes ≡ acts (shown_by tree).roots =
       sym (acts_are nodes) ∙ (ap acts_in gathered ∙ (acts_stand roots ∙ ap acts put)) in
       let all : AllByRecursion (λ (act : Act). IsSure packages act.action) (acts (shown_by tree).roots) = rw these at sure in
-      let i = found_in (λ (v : OpenedView). bytes_eq path v.path) (shown_by tree).views view is in
+      let i = found_in (λ (v : OpenedView). bytes_eq path v.path) (shown_by tree).views view opened in
       each_can_be packages tree view (contains_from_In (shown_by tree).views view i.1)
       (each (λ (act : Act). IsSure packages act.action) (λ (act : Act). has_roles packages act.action ≡ true) (acts (shown_by tree).roots)
       (λ act s. s.roles) all)
       (each (λ (act : Act). IsSure packages act.action) (λ (act : Act). IsSpellableInstance (instance_of act.action)) (acts (shown_by tree).roots)
       (λ act s. s.spellable) all)
-      (few_in view is few)
+      (few_in view opened few)

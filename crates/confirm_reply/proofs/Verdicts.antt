@@ -1,6 +1,6 @@
 -- The verdict of a trial is the model's.
 use Rattle.std.proofs.Common.{◌≡◌, ℕ, Bool, true, false, List, [], ◌∷◌, take, refl, sym, ap, ◌∙◌}
-use Rattle.std.specs.Prelude.{not, ◌&&◌, ◌||◌, slice_get}
+use Rattle.std.specs.Prelude.{not, ◌&&◌, ◌||◌, slice_get, if◌then◌else◌}
 use Rattle.std.proofs.Math.Bool.{and_comm}
 use Rattle.ledger_terms.specs.declared.act.Act.{Act}
 use Rattle.ledger_terms.specs.Forest.{below_at}
@@ -10,7 +10,10 @@ use Rattle.ledger_model.specs.Opening.{OpenedView, Shown}
 use Rattle.ledger_model.specs.Status.{shows_inactive, shows_locked, shows_not_fresh, shows_unordered}
 use Rattle.canton_model.specs.declared.reason.Reason.{Reason}
 use Rattle.canton_model.specs.declared.reason.Reason.TheVariants.{IdMismatch, NotVetted, TimeSkew, Locked, Inactive, NotFresh, Unordered, NotConformant, NotAuthorised}
-use Rattle.canton_model.specs.Checks.{Check, first_shown, first_tree, is_authorised_by_known, is_root_view, is_within}
+use Rattle.canton_model.specs.declared.reason.Reason.TheVariants.{RootMismatch, ViewMissing, WrongSender, WrongCommon}
+use Rattle.canton_model.specs.declared.local_verdict.LocalVerdict.{LocalVerdict}
+use Rattle.canton_model.specs.declared.local_verdict.LocalVerdict.TheVariants.{Reject}
+use Rattle.canton_model.specs.Checks.{Check, checks, first_shown, first_tree, is_authorised_by_known, is_from, is_root_view, is_well_split, is_within, verdict_by}
 use Rattle.canton_model.specs.Checks.{is_first as is_first_of}
 use Rattle.lang_eval.specs.Language.{roles_in}
 use Rattle.lang_eval.specs.Found.{Packages}
@@ -26,8 +29,8 @@ use Rattle.view_split.specs.Placed.{shown_by}
 use Rattle.confirm_reply.specs.Facts.{is_known_locked, known_status}
 use Rattle.confirm_reply.specs.Numbers.{numbers_of}
 use Rattle.confirm_reply.specs.Tried.{Matter, all_reasons, is_first, is_hosted, place_of, place_shown, shows, shows_at, tree_shows, verdict_after}
-use Rattle.confirm_reply.specs.Verdict.{verdict_of}
-use Rattle.confirm_reply.specs.declared.check_input.CheckInput.{CheckInput}
+use Rattle.confirm_reply.specs.Verdict.{reading_by}
+use Rattle.confirm_reply.specs.declared.opened_input.OpenedInput.{OpenedInput}
 use Rattle.confirm_reply.proofs.Placed.{EachIn, StandsIn, acts_stand, below_stands}
 use Rattle.confirm_reply.proofs.Trying.{FirstIs, alone_is, place_in, place_is, tried}
 
@@ -45,13 +48,26 @@ and_true : (b : Bool) → (b && true) ≡ b
 and_true true = refl
 and_true false = refl
 
+-- whose it is, how it is split, and the rest
+abbrev after_two : (sent split : Bool) → LocalVerdict → LocalVerdict
+after_two sent split rest = if not sent then Reject WrongSender 0 else if not split then Reject WrongCommon 0 else rest
+
+both_pass : (sent split : Bool) (rest : LocalVerdict) → sent ≡ true → split ≡ true → rest ≡ after_two sent split rest
+both_pass sent split rest s t = rw (s, t) refl
+
+first_fails : (sent split : Bool) (rest : LocalVerdict) → sent ≡ false → Reject WrongSender 0 ≡ after_two sent split rest
+first_fails sent split rest s = rw s refl
+
+second_fails : (sent split : Bool) (rest : LocalVerdict) → sent ≡ true → split ≡ false → Reject WrongCommon 0 ≡ after_two sent split rest
+second_fails sent split rest s t = rw (s, t) refl
+
 each_map : (P Q : Numbered → Type 0) → ((a : Numbered) → P a → Q a) → (core : List Numbered) → EachIn P core → EachIn Q core
 each_map P Q f [] e = tt
 each_map P Q f (a ∷ core) e = (f a e.0, each_map P Q f core e.1)
 
-module _ (input : CheckInput) (view : OpenedView) where
+module _ (input : OpenedInput) (view : OpenedView) where
   abbrev shown : Shown
-  shown = shown_by input.tree
+  shown = shown_by input.tree.now
 
   abbrev packages : Packages
   packages = input.setup.now.checked
@@ -81,19 +97,39 @@ module _ (input : CheckInput) (view : OpenedView) where
       λ i. not (are_authorised_below (sym (same_roles packages) i) (a.1).action (below_is a s i)
       && (not (asks a) || is_authorised_by_known (sym (same_roles packages) i) shown.requesters (a.1).action))
 
+  abbrev nine : List Check
+  nine =
+      checks (reading_by input) input.setup.now.topology.params input.me input.time shown view (known_status input.facts.now)
+      (is_known_locked input.facts.now)
+
+  abbrev sent : Bool
+  sent = is_from (reading_by input) input.sender shown
+
+  abbrev split : Bool
+  split = is_well_split (reading_by input) shown view
+
+  abbrev verdict : LocalVerdict
+  verdict =
+      verdict_by (reading_by input) input.setup.now.topology.params input.me input.sender input.time shown view (known_status input.facts.now)
+      (is_known_locked input.facts.now)
+
   -- the model's tests
   abbrev model : Reason → Numbered → Bool
   model IdMismatch a = not (is_authentic a.1)
   model NotVetted a = not (vets (slice_get input.setup.now.topology.hosts input.me) (instance_of (a.1).action).template.«package»)
   model TimeSkew a = not (is_within input.setup.now.topology.params.skew shown.ledger_time input.time)
-  model Locked a = is_hosted input a.1 && shows_locked (is_known_locked input.facts) a.1
-  model Inactive a = is_hosted input a.1 && shows_inactive (known_status input.facts) (take a.0 (acts shown.roots)) a.1
-  model NotFresh a = is_hosted input a.1 && shows_not_fresh (known_status input.facts) a.1
+  model Locked a = is_hosted input a.1 && shows_locked (is_known_locked input.facts.now) a.1
+  model Inactive a = is_hosted input a.1 && shows_inactive (known_status input.facts.now) (take a.0 (acts shown.roots)) a.1
+  model NotFresh a = is_hosted input a.1 && shows_not_fresh (known_status input.facts.now) a.1
   model Unordered a = is_hosted input a.1 && shows_unordered (take a.0 (acts shown.roots)) a.1
   model NotConformant a = not (conforms packages (first_tree shown view.core))
   model NotAuthorised a =
       not (are_authorised_below (roles_of (the_language packages)) (a.1).action (below_at a.0 shown.roots)
       && (not (asks a) || is_authorised_by_known (roles_of (the_language packages)) shown.requesters (a.1).action))
+  model RootMismatch a = false
+  model ViewMissing a = false
+  model WrongSender a = false
+  model WrongCommon a = false
 
   abbrev checks_of : List Reason → List Check
   checks_of [] = []
@@ -120,17 +156,30 @@ module _ (input : CheckInput) (view : OpenedView) where
     place IdMismatch = among IdMismatch (λ a s. at_number IdMismatch a s)
     place NotVetted = among NotVetted (λ a s. at_number NotVetted a s)
     place TimeSkew = alone_is (shows_at input matter TimeSkew) (not (is_within input.setup.now.topology.params.skew shown.ledger_time input.time)) view.core (timed view.core e)
-    place Locked = among Locked (λ a s. at_number Locked a s ∙ and_comm (shows_locked (is_known_locked input.facts) a.1) (is_hosted input a.1))
-    place Inactive = among Inactive (λ a s. at_number Inactive a s ∙ and_comm (shows_inactive (known_status input.facts) (take a.0 (acts shown.roots)) a.1) (is_hosted input a.1))
-    place NotFresh = among NotFresh (λ a s. at_number NotFresh a s ∙ and_comm (shows_not_fresh (known_status input.facts) a.1) (is_hosted input a.1))
+    place Locked = among Locked (λ a s. at_number Locked a s ∙ and_comm (shows_locked (is_known_locked input.facts.now) a.1) (is_hosted input a.1))
+    place Inactive = among Inactive (λ a s. at_number Inactive a s ∙ and_comm (shows_inactive (known_status input.facts.now) (take a.0 (acts shown.roots)) a.1) (is_hosted input a.1))
+    place NotFresh = among NotFresh (λ a s. at_number NotFresh a s ∙ and_comm (shows_not_fresh (known_status input.facts.now) a.1) (is_hosted input a.1))
     place Unordered = among Unordered (λ a s. at_number Unordered a s ∙ and_comm (shows_unordered (take a.0 (acts shown.roots)) a.1) (is_hosted input a.1))
     place NotConformant = alone_is (shows_at input matter NotConformant) (not (conforms packages (first_tree shown view.core))) view.core (conforming view.core e)
     place NotAuthorised = among NotAuthorised (λ a s. at_number NotAuthorised a s ∙ authority a s)
+    place RootMismatch = among RootMismatch (λ a s. at_number RootMismatch a s)
+    place ViewMissing = among ViewMissing (λ a s. at_number ViewMissing a s)
+    place WrongSender = among WrongSender (λ a s. at_number WrongSender a s)
+    place WrongCommon = among WrongCommon (λ a s. at_number WrongCommon a s)
 
     each_tried : (reasons : List Reason) → verdict_after input matter reasons ≡ first_shown (checks_of reasons) view.core
     each_tried [] = refl
     each_tried (reason ∷ reasons) =
         tried reason (model reason) (checks_of reasons) view.core (place_of input matter reason) (verdict_after input matter reasons) (place reason) (each_tried reasons)
 
-    pub verdict_is : verdict_after input matter all_reasons ≡ verdict_of input view
-    verdict_is = each_tried all_reasons
+    nine_are : verdict_after input matter all_reasons ≡ first_shown nine view.core
+    nine_are = each_tried all_reasons
+
+    pub verdict_is : sent ≡ true → split ≡ true → verdict_after input matter all_reasons ≡ verdict
+    verdict_is s t = nine_are ∙ both_pass sent split (first_shown nine view.core) s t
+
+  pub not_sent : sent ≡ false → Reject WrongSender 0 ≡ verdict
+  not_sent s = first_fails sent split (first_shown nine view.core) s
+
+  pub not_split : sent ≡ true → split ≡ false → Reject WrongCommon 0 ≡ verdict
+  not_split s t = second_fails sent split (first_shown nine view.core) s t

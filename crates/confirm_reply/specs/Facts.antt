@@ -33,10 +33,11 @@ pub record IsFactAt (reading : Reading) (params : Params) (items : List Item) (k
   pub status : fact.status ≡ status_in_inbox reading items k fact.id
   pub locked : fact.locked ≡ is_locked_in_inbox reading params items k fact.id
 
--- Of each contract with a hosted stakeholder in a core the facts say what the first k + 1 items of an inbox say.
+-- Of each contract with a hosted stakeholder among the actions of a core that have roles the facts say what the first k + 1 items of an
+-- inbox say.
 pub record AreAsAt (reading : Reading) (params : Params) (p : ParticipantId) (items : List Item) (k : ℕ) (facts : List IdFacts)
     (core : List (ℕ × Act)) : Type 0 where
-  pub status : (a : ℕ × Act) → Contains core a → has_hosted_stakeholder reading p a.1 ≡ true
+  pub status : (a : ℕ × Act) → Contains core a → (reading.language).has_roles (a.1).action ≡ true → has_hosted_stakeholder reading p a.1 ≡ true
       → known_status facts (id_of (a.1).action) ≡ status_in_inbox reading items k (id_of (a.1).action)
-  pub locked : (a : ℕ × Act) → Contains core a → has_hosted_stakeholder reading p a.1 ≡ true
+  pub locked : (a : ℕ × Act) → Contains core a → (reading.language).has_roles (a.1).action ≡ true → has_hosted_stakeholder reading p a.1 ≡ true
       → is_known_locked facts (id_of (a.1).action) ≡ is_locked_in_inbox reading params items k (id_of (a.1).action)

@@ -1,10 +1,12 @@
 pub mod LocalReading
 pub mod Facts
 pub mod Opened
+pub mod Offered
 pub mod Verdict
 pub mod Numbers
 pub mod Nodes
 pub mod Located
+pub mod WellSplit
 pub mod Tried
 pub mod Fit
 pub mod Sure

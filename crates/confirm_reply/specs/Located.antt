@@ -1,12 +1,15 @@
--- The core of the first view with a path, found by walking down.
+-- The first view with a path, found by walking down, and the first actions of those directly below it.
 use Rattle.std.specs.Option.{option_or}
-use Rattle.std.specs.Prelude.{ℕ, suc, Bool, true, false, List, [], ◌∷◌, Option, Some, None, if◌then◌else◌, nat_eq}
+use Rattle.std.specs.Prelude.{ℕ, suc, Bool, true, false, List, [], ◌∷◌, ◌++◌, Option, Some, None, if◌then◌else◌, nat_eq}
 use Rattle.ledger_terms.specs.declared.act.Act.{Act}
 use Rattle.ledger_terms.specs.Forest.{Forest, NoRoots, Root}
+use Rattle.ledger_model.specs.Terms.{PartySet}
+use Rattle.canton_model.specs.Checks.{is_directly_below}
 use Rattle.view_split.specs.declared.split_view.SplitView.{SplitView}
 use Rattle.view_split.specs.Numbered.{core_in, held_in}
 use Rattle.view_split.specs.declared.placed_view.PlacedView.{PlacedView}
 use Rattle.confirm_reply.specs.Numbers.{numbers_of}
+use Rattle.confirm_reply.specs.declared.found_view.FoundView.{FoundView}
 
 -- what is left of a path after one step, where it begins with that
 abbrev pub after_step : Option (List ℕ) → ℕ → Option (List ℕ)
@@ -24,24 +27,58 @@ is_all None = false
 is_all (Some []) = true
 is_all (Some (step ∷ rest)) = false
 
--- the numbers of the view's core where its path is the one that is wanted, else those found below
-abbrev pub core_or : Option (List ℕ) → SplitView → ℕ × Act → Forest (ℕ × Act) → Option (List ℕ) → Option (List ℕ)
-core_or left view x children below = if is_all left then Some (x.0 ∷ numbers_of (core_in view.below children)) else below
+-- what a view states of its informees and confirmers, and the numbers of its core
+pub record Found : Type 0 where
+  pub informees : PartySet
+  pub confirmers : PartySet
+  pub core : List ℕ
+
+abbrev pub found_as : FoundView → Found
+found_as found = record { informees = found.informees.now; confirmers = found.confirmers.now; core = found.core.items }
+
+-- the view where its path is the one that is wanted, else what is found below
+abbrev pub view_or : Option (List ℕ) → SplitView → ℕ × Act → Forest (ℕ × Act) → Option Found → Option Found
+view_or left view x children below =
+    if is_all left
+    then Some (record { informees = view.informees; confirmers = view.confirmers; core = x.0 ∷ numbers_of (core_in view.below children) })
+    else below
 
 -- of views side by side, the first of which is number k, over the trees that they are put back to
-abbrev pub core_found : Option (List ℕ) → ℕ → Forest SplitView → Forest (ℕ × Act) → Option (List ℕ)
-core_found left k NoRoots trees = None
-core_found left k (Root view subviews others) NoRoots = None
-core_found left k (Root view subviews others) (Root x children more) =
-    option_or (core_or (after_step left k) view x children (core_found (after_step left k) 0 subviews (held_in view.below children)))
-    (core_found left (suc k) others more)
+abbrev pub view_found : Option (List ℕ) → ℕ → Forest SplitView → Forest (ℕ × Act) → Option Found
+view_found left k NoRoots trees = None
+view_found left k (Root view subviews others) NoRoots = None
+view_found left k (Root view subviews others) (Root x children more) =
+    option_or (view_or (after_step left k) view x children (view_found (after_step left k) 0 subviews (held_in view.below children)))
+    (view_found left (suc k) others more)
 
 -- of views with paths of their own
-abbrev pub core_found_in : List ℕ → List PlacedView → Forest (ℕ × Act) → Option (List ℕ)
-core_found_in path [] trees = None
-core_found_in path (placed ∷ others) NoRoots = None
-core_found_in path (placed ∷ others) (Root x children more) =
+abbrev pub view_found_in : List ℕ → List PlacedView → Forest (ℕ × Act) → Option Found
+view_found_in path [] trees = None
+view_found_in path (placed ∷ others) NoRoots = None
+view_found_in path (placed ∷ others) (Root x children more) =
     option_or
-    (core_or (after_path (Some path) placed.path) placed.view.root x children
-    (core_found (after_path (Some path) placed.path) 0 placed.view.below (held_in placed.view.root.below children)))
-    (core_found_in path others more)
+    (view_or (after_path (Some path) placed.path) placed.view.root x children
+    (view_found (after_path (Some path) placed.path) 0 placed.view.below (held_in placed.view.root.below children)))
+    (view_found_in path others more)
+
+abbrev pub number_if : Bool → ℕ × Act → List ℕ
+number_if false x = []
+number_if true x = x.0 ∷ []
+
+-- The numbers of the first actions of the views directly below the wanted path, among views side by side, the first of which is
+-- number k, and all below them.
+abbrev pub starts_among : Option (List ℕ) → ℕ → Forest SplitView → Forest (ℕ × Act) → List ℕ
+starts_among left k NoRoots trees = []
+starts_among left k (Root view subviews others) NoRoots = []
+starts_among left k (Root view subviews others) (Root x children more) =
+    number_if (is_all left) x
+    ++ (starts_among (after_step left k) 0 subviews (held_in view.below children) ++ starts_among left (suc k) others more)
+
+-- the same among views with paths of their own
+abbrev pub starts_in : List ℕ → List PlacedView → Forest (ℕ × Act) → List ℕ
+starts_in path [] trees = []
+starts_in path (placed ∷ others) NoRoots = []
+starts_in path (placed ∷ others) (Root x children more) =
+    number_if (is_directly_below path placed.path) x
+    ++ (starts_among (after_path (Some path) placed.path) 0 placed.view.below (held_in placed.view.root.below children)
+    ++ starts_in path others more)

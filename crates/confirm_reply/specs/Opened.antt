@@ -1,11 +1,12 @@
 -- What is opened to who checks it, and which of its views can be checked.
-use Rattle.std.specs.Prelude.{◌≡◌, ◌≤◌, ℕ, true, All, Option, find, length}
+use Rattle.std.specs.Prelude.{◌≡◌, ◌≤◌, ℕ, true, All, List, ◌++◌, Option, find, length, map}
 use Rattle.std.specs.Str.{bytes_eq}
 use Rattle.ledger_terms.specs.declared.act.Act.{Act}
 use Rattle.ledger_terms.specs.Forest.{below_at, roots_of}
 use Rattle.ledger_terms.specs.Trees.{Actions}
 use Rattle.ledger_model.specs.Opening.{OpenedView, Shown}
 use Rattle.ledger_model.specs.Terms.{Path, instance_of}
+use Rattle.canton_model.specs.Checks.{subview_starts}
 use Rattle.lang_eval.specs.Found.{Packages}
 use Rattle.lang_eval.specs.Language.{has_roles}
 use Rattle.wire_form.specs.Spellable.{IsSpellableInstance}
@@ -22,7 +23,17 @@ pub record IsCheckable (packages : Packages) (act : Act) (below : Actions) : Typ
   pub below_roles : All (λ (child : Act). has_roles packages child.action ≡ true) (roots_of below)
   pub spellable : IsSpellableInstance (instance_of act.action)
 
--- Each action of the view's core is so, and the core has no more than a verdict can number.
+abbrev pub acts_of_core : List (ℕ × Act) → List Act
+acts_of_core core = map (λ (a : ℕ × Act). a.1) core
+
+abbrev pub AllHaveRoles : Packages → List Act → Type 0
+AllHaveRoles packages acts = All (λ (act : Act). has_roles packages act.action ≡ true) acts
+
+-- The instances of the view's core can be spelled, and the core has no more actions than a verdict can number. Where these and
+-- the first actions of the views directly below have roles, so has all that stands directly below an action of the core: it is
+-- one of them, in every tree that is opened.
 pub record CanBeChecked (packages : Packages) (shown : Shown) (view : OpenedView) : Type 0 where
-  pub each : All (λ (a : ℕ × Act). IsCheckable packages a.1 (below_at a.0 shown.roots)) view.core
+  pub spellable : All (λ (a : ℕ × Act). IsSpellableInstance (instance_of (a.1).action)) view.core
   pub few : length view.core ≤ 65536
+  pub below : AllHaveRoles packages (acts_of_core view.core ++ subview_starts shown view)
+      → All (λ (a : ℕ × Act). AllHaveRoles packages (roots_of (below_at a.0 shown.roots))) view.core

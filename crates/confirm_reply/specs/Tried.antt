@@ -18,28 +18,30 @@ use Rattle.interpret.specs.Tries.{is_tree_possible}
 use Rattle.authorise.specs.Below.{are_authorised_below}
 use Rattle.confirm_reply.specs.Facts.{known_status, is_known_locked}
 use Rattle.confirm_reply.specs.LocalReading.{local_reading}
-use Rattle.confirm_reply.specs.declared.check_input.CheckInput.{CheckInput}
+use Rattle.confirm_reply.specs.declared.opened_input.OpenedInput.{OpenedInput}
 
 -- a stakeholder of the action's contract is hosted
-abbrev pub is_hosted : CheckInput → Act → Bool
+abbrev pub is_hosted : OpenedInput → Act → Bool
 is_hosted input act = has_hosted_stakeholder (local_reading input.setup.now.topology input.setup.now.checked) input.me act
 
-abbrev pub is_requested : CheckInput → Act → Bool
-is_requested input act = is_authorised_by_known (roles_in input.setup.now.checked) input.tree.requesters act.action
+abbrev pub is_requested : OpenedInput → Act → Bool
+is_requested input act = is_authorised_by_known (roles_in input.setup.now.checked) input.tree.now.requesters act.action
 
--- An action shows a reason, by what stands below it and before it. `asks` tells whether the requesters have to authorise it.
-abbrev pub shows : CheckInput → Reason → Act → (below : Actions) → (earlier : List Act) → (asks : Bool) → Bool
+-- An action shows a reason, by what stands below it and before it. `asks` tells whether the requesters have to authorise it. The
+-- reasons before these nine are no action's.
+abbrev pub shows : OpenedInput → Reason → Act → (below : Actions) → (earlier : List Act) → (asks : Bool) → Bool
 shows input IdMismatch act below earlier asks = not (is_authentic act)
 shows input NotVetted act below earlier asks =
     not (vets (slice_get input.setup.now.topology.hosts input.me) (instance_of act.action).template.«package»)
-shows input TimeSkew act below earlier asks = not (is_within input.setup.now.topology.params.skew input.tree.ledger_time input.time)
-shows input Locked act below earlier asks = shows_locked (is_known_locked input.facts) act && is_hosted input act
-shows input Inactive act below earlier asks = shows_inactive (known_status input.facts) earlier act && is_hosted input act
-shows input NotFresh act below earlier asks = shows_not_fresh (known_status input.facts) act && is_hosted input act
+shows input TimeSkew act below earlier asks = not (is_within input.setup.now.topology.params.skew input.tree.now.ledger_time input.time)
+shows input Locked act below earlier asks = shows_locked (is_known_locked input.facts.now) act && is_hosted input act
+shows input Inactive act below earlier asks = shows_inactive (known_status input.facts.now) earlier act && is_hosted input act
+shows input NotFresh act below earlier asks = shows_not_fresh (known_status input.facts.now) act && is_hosted input act
 shows input Unordered act below earlier asks = shows_unordered earlier act && is_hosted input act
 shows input NotConformant act below earlier asks = not (is_tree_possible input.setup.now.checked act.action below)
 shows input NotAuthorised act below earlier asks =
     not (are_authorised_below (roles_in input.setup.now.checked) act.action below && (not asks || is_requested input act))
+shows input reason act below earlier asks = false
 
 -- What a core is tried by: all that is opened in pre-order, each with what stands below it, and the numbers of the core.
 pub record Matter : Type 0 where
@@ -55,12 +57,12 @@ abbrev pub is_first : List ℕ → ℕ → Bool
 is_first [] n = false
 is_first (first ∷ rest) n = nat_eq first n
 
-abbrev pub tree_shows : CheckInput → Matter → Reason → ℕ → Option (Act × Actions) → Bool
+abbrev pub tree_shows : OpenedInput → Matter → Reason → ℕ → Option (Act × Actions) → Bool
 tree_shows input matter reason n None = false
 tree_shows input matter reason n (Some tree) =
     shows input reason tree.0 tree.1 (take n (acts_in matter.trees)) (matter.is_root && is_first matter.core n)
 
-abbrev pub shows_at : CheckInput → Matter → Reason → ℕ → Bool
+abbrev pub shows_at : OpenedInput → Matter → Reason → ℕ → Bool
 shows_at input matter reason n = tree_shows input matter reason n (slice_get matter.trees n)
 
 -- the place of the first that passes
@@ -74,7 +76,7 @@ first_alone test [] = None
 first_alone test (n ∷ ns) = if test n then Some 0 else None
 
 -- Time and conformance are the whole view's.
-abbrev pub place_of : CheckInput → Matter → Reason → Option ℕ
+abbrev pub place_of : OpenedInput → Matter → Reason → Option ℕ
 place_of input matter TimeSkew = first_alone (shows_at input matter TimeSkew) matter.core
 place_of input matter NotConformant = first_alone (shows_at input matter NotConformant) matter.core
 place_of input matter reason = place_shown (shows_at input matter reason) matter.core
@@ -86,6 +88,6 @@ abbrev pub rejected_or : Reason → Option ℕ → LocalVerdict → LocalVerdict
 rejected_or reason None rest = rest
 rejected_or reason (Some place) rest = Reject reason place
 
-abbrev pub verdict_after : CheckInput → Matter → List Reason → LocalVerdict
+abbrev pub verdict_after : OpenedInput → Matter → List Reason → LocalVerdict
 verdict_after input matter [] = Approve
 verdict_after input matter (reason ∷ rest) = rejected_or reason (place_of input matter reason) (verdict_after input matter rest)

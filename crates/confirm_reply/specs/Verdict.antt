@@ -1,30 +1,69 @@
 -- The verdicts of a check.
-use Rattle.std.specs.Prelude.{◌≡◌, ℕ, List, slice_get}
+use Rattle.std.specs.Prelude.{◌≡◌, ℕ, List, Option, Some, None, slice_get}
 use Rattle.ledger_model.specs.Opening.{OpenedView}
+use Rattle.ledger_model.specs.Opening as opening
+use Rattle.ledger_model.specs.Terms.{ParticipantId, Path}
+use Rattle.ledger_terms.specs.declared.params.Params.{Params}
 use Rattle.canton_model.specs.declared.local_verdict.LocalVerdict.{LocalVerdict}
-use Rattle.canton_model.specs.Checks.{verdict_by, verdict_on_view}
+use Rattle.canton_model.specs.declared.local_verdict.LocalVerdict.TheVariants.{Reject}
+use Rattle.canton_model.specs.declared.reason.Reason.TheVariants.{ViewMissing}
+use Rattle.canton_model.specs.Checks.{verdict_by, verdict_on_offer}
 use Rattle.canton_model.specs.Inbox.{Item, item_time}
-use Rattle.canton_model.specs.Reading.{Reading}
+use Rattle.canton_model.specs.Reading.{Offer, Reading}
 use Rattle.view_split.specs.Placed.{shown_by}
+use Rattle.view_split.specs.declared.opened_tree.OpenedTree.{OpenedTree}
 use Rattle.confirm_reply.specs.Facts.{AreAsAt, known_status, is_known_locked}
 use Rattle.confirm_reply.specs.LocalReading.{local_reading}
+use Rattle.confirm_reply.specs.Offered.{IsGivenBy}
+use Rattle.confirm_reply.specs.Opened.{CanBeChecked, view_at}
 use Rattle.confirm_reply.specs.declared.check_input.CheckInput.{CheckInput}
+use Rattle.confirm_reply.specs.declared.id_facts.IdFacts.{IdFacts}
+use Rattle.confirm_reply.specs.declared.opened_input.OpenedInput.{OpenedInput}
+use Rattle.confirm_reply.specs.declared.shown.Shown.{Shown}
+use Rattle.confirm_reply.specs.declared.shown.Shown.TheVariants.{Fixed, Open}
 
 abbrev pub reading_of : CheckInput → Reading
 reading_of input = local_reading input.setup.now.topology input.setup.now.checked
 
--- the model's verdict on a view of what is opened, where the facts are what is known of contracts
-abbrev pub verdict_of : CheckInput → OpenedView → LocalVerdict
-verdict_of input view =
-    verdict_by (reading_of input) input.setup.now.topology.params input.me input.time (shown_by input.tree) view
-    (known_status input.facts) (is_known_locked input.facts)
+-- The model's verdict on a view of what is opened, where the facts are what is known of contracts. A view that isn't found is missing.
+abbrev pub verdict_on_found : Reading → Params → (me sender : ParticipantId) → (time : ℕ) → List IdFacts → opening.Shown → Option OpenedView → LocalVerdict
+verdict_on_found reading params me sender time facts shown None = Reject ViewMissing 0
+verdict_on_found reading params me sender time facts shown (Some view) =
+    verdict_by reading params me sender time shown view (known_status facts) (is_known_locked facts)
 
--- the model's verdict on it at a place of an inbox
-abbrev pub verdict_at : CheckInput → List Item → ℕ → OpenedView → LocalVerdict
-verdict_at input items k view =
-    verdict_on_view (reading_of input) input.setup.now.topology.params input.me items k (shown_by input.tree) view
+-- of a request of which nothing is opened each view is rejected for the fixed reason
+abbrev pub verdict_on_shown : CheckInput → Path → Shown → LocalVerdict
+verdict_on_shown input path (Fixed reason) = Reject reason 0
+verdict_on_shown input path (Open tree) =
+    verdict_on_found (reading_of input) input.setup.now.topology.params input.me input.sender input.time input.facts (shown_by tree) (view_at path tree)
 
--- the time is that of item k, and the facts on the contracts of the view's core are what the items up to that one say
-pub record IsAtPlace (input : CheckInput) (items : List Item) (k : ℕ) (view : OpenedView) : Type 0 where
+abbrev pub verdict_of : CheckInput → Path → LocalVerdict
+verdict_of input path = verdict_on_shown input path input.shown
+
+abbrev pub reading_by : OpenedInput → Reading
+reading_by input = local_reading input.setup.now.topology input.setup.now.checked
+
+-- the same of what is opened
+abbrev pub verdict_of_opened : OpenedInput → Option OpenedView → LocalVerdict
+verdict_of_opened input found =
+    verdict_on_found (reading_by input) input.setup.now.topology.params input.me input.sender input.time input.facts.now
+    (shown_by input.tree.now) found
+
+-- the model's verdict on what an envelope gives, at a place of an inbox
+abbrev pub verdict_at : CheckInput → List Item → ℕ → Path → Offer → LocalVerdict
+verdict_at input items k path offer =
+    verdict_on_offer (reading_of input) input.setup.now.topology.params input.me items k input.sender path offer
+
+-- The time is that of item k, what is shown is what an envelope gives, and where that opens the view, the facts on the contracts
+-- of its core are what the items up to that one say.
+pub record IsAtPlace (input : CheckInput) (items : List Item) (k : ℕ) (path : Path) (offer : Offer) : Type 0 where
   pub time : input.time ≡ item_time (slice_get items k)
-  pub facts : AreAsAt (reading_of input) input.setup.now.topology.params input.me items k input.facts view.core
+  pub given : IsGivenBy offer input.shown
+  pub facts : (tree : OpenedTree) (view : OpenedView) → input.shown ≡ Open tree → view_at path tree ≡ Some view
+      → AreAsAt (reading_of input) input.setup.now.topology.params input.me items k input.facts view.core
+
+-- what is asked of a view that is opened, before it is checked
+abbrev pub CanCheck : CheckInput → Path → Type 0
+CanCheck input path =
+    (tree : OpenedTree) (view : OpenedView) → input.shown ≡ Open tree → view_at path tree ≡ Some view
+    → CanBeChecked input.setup.now.checked (shown_by tree) view

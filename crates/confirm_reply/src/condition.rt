@@ -9,7 +9,7 @@ ghost use Rattle.confirm_reply.specs.Sure.{IsReady, IsSure};
 ghost use Rattle.confirm_reply.specs.Nodes.{acts_of};
 ghost use Rattle.confirm_reply.specs.Opened.{CanBeChecked, view_at};
 
-use crate::cores::core_at;
+use crate::cores::found_at;
 use crate::numbering::numbered;
 use crate::opened::{nodes_of, roots_of};
 use lang_eval::{Checked, RoleFault, roles};
@@ -60,10 +60,10 @@ pub fn can_check(
     let roots = roots_of(alloc, &tree.views)?;
     let nodes = nodes_of(alloc, &roots)?;
     let trees = numbered(alloc, &roots, 0)?;
-    let Some(core) = core_at(alloc, &tree.views, trees.as_slice(), view)? else {
+    let Some(found) = found_at(alloc, &tree.views, trees.as_slice(), view)? else {
         return Ok(false);
     };
-    if core.len() > MOST_CORE_ACTIONS {
+    if found.core.len() > MOST_CORE_ACTIONS {
         return Ok(false);
     }
     are_sure(alloc, checked, nodes.as_slice())

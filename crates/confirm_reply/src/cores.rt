@@ -1,11 +1,12 @@
-//! The cores of views, as numbers of actions.
+//! Views that are opened, with the numbers of their cores.
 ghost use Rattle.std.specs.Prelude.{◌≡◌, ◌++◌, ◌∷◌, [], Some, suc, IfOk, OnOk, option_copied, option_map};
 ghost use Rattle.ledger_terms.specs.Forest.{join, number_from};
 ghost use Rattle.view_split.specs.CoreLists.{children_of};
 ghost use Rattle.view_split.specs.Numbered.{core_in, held_in};
-ghost use Rattle.confirm_reply.specs.Located.{after_path, after_step, core_found, core_found_in, core_or, is_all};
+ghost use Rattle.confirm_reply.specs.Located.{after_path, after_step, found_as, is_all, view_found, view_found_in, view_or};
 ghost use Rattle.confirm_reply.specs.Numbers.{numbered_trees, numbers_of};
 
+use crate::found_view::FoundView;
 use crate::numbered::Numbered;
 use crate::numbering::numbered_below;
 use ledger_terms::Path;
@@ -60,7 +61,8 @@ fn put_child<'a>(
     }
 }
 
-fn after_step(left: Option<&[u16]>, step: usize) -> Option<&[u16]>
+/// What is left of a wanted path after one step.
+pub(crate) fn after_step(left: Option<&[u16]>, step: usize) -> Option<&[u16]>
     ensures { option_copied result ≡ after_step (option_copied left.entry) step }
 {
     match left {
@@ -75,7 +77,8 @@ fn after_step(left: Option<&[u16]>, step: usize) -> Option<&[u16]>
     }
 }
 
-fn after_path<'p>(wanted: &'p [u16], path: &[u16]) -> Option<&'p [u16]>
+/// What is left of it after a path.
+pub(crate) fn after_path<'p>(wanted: &'p [u16], path: &[u16]) -> Option<&'p [u16]>
     ensures { option_copied result ≡ after_path (Some wanted.now) path.now }
 {
     let mut left = Some(wanted);
@@ -85,7 +88,8 @@ fn after_path<'p>(wanted: &'p [u16], path: &[u16]) -> Option<&'p [u16]>
     left
 }
 
-fn is_all(left: Option<&[u16]>) -> bool
+/// Whether all of it was walked.
+pub(crate) fn is_all(left: Option<&[u16]>) -> bool
     ensures { result ≡ is_all (option_copied left.entry) }
 {
     match left {
@@ -94,23 +98,24 @@ fn is_all(left: Option<&[u16]>) -> bool
     }
 }
 
-// The core of a view where its path is the one that is wanted, else of the first view below it with that. Where nothing is left of
-// the wanted path neither is.
-#[cycle(find)]
-fn core_of_view(
+/// A view's core over the tree that it is put back to: the numbers of its actions, and the trees that fill its holes.
+#[derive(Drop)]
+pub(crate) struct Laid<'a> {
+    pub(crate) core: Vec<usize>,
+    pub(crate) held: Vec<Numbered<'a>>,
+}
+
+/// Lays the core of a view over its tree.
+pub(crate) fn lay_core<'a>(
     alloc: Global,
     view: &View,
-    tree: &Numbered<'_>,
-    left: Option<&[u16]>,
-) -> Result<Option<Vec<usize>>, AllocError>
-    ensures { IfOk result (λ found. option_map (λ v. v.items) found
-        ≡ core_or (option_copied left.entry) view.now.root (tree.now.number, tree.now.node.now.root)
-        (number_from (suc tree.now.number) tree.now.node.now.below)
-        (core_found (option_copied left.entry) 0 view.now.below (held_in view.now.root.below (number_from (suc tree.now.number) tree.now.node.now.below)))) }
+    tree: &Numbered<'a>,
+) -> Result<Laid<'a>, AllocError>
+    ensures core { IfOk result (λ laid. laid.core.items
+        ≡ tree.now.number ∷ numbers_of (core_in view.now.root.below (number_from (suc tree.now.number) tree.now.node.now.below))) }
+    ensures held { IfOk result (λ laid. numbered_trees laid.held.items
+        ≡ held_in view.now.root.below (number_from (suc tree.now.number) tree.now.node.now.below)) }
 {
-    let Some(_) = left else {
-        return Ok(None);
-    };
     let below = numbered_below(alloc, tree)?;
     let mut core = Vec::new(alloc);
     let mut held = Vec::new(alloc);
@@ -122,27 +127,52 @@ fn core_of_view(
         &mut core,
         &mut held,
     )?;
+    Ok(Laid { core, held })
+}
+
+// The view where its path is the one that is wanted, else the first view below it with that. Where nothing is left of the wanted
+// path neither is.
+#[cycle(find)]
+fn found_of_view<'v>(
+    alloc: Global,
+    view: &'v View,
+    tree: &Numbered<'_>,
+    left: Option<&[u16]>,
+) -> Result<Option<FoundView<'v>>, AllocError>
+    ensures { IfOk result (λ found. option_map found_as found
+        ≡ view_or (option_copied left.entry) view.now.root (tree.now.number, tree.now.node.now.root)
+        (number_from (suc tree.now.number) tree.now.node.now.below)
+        (view_found (option_copied left.entry) 0 view.now.below (held_in view.now.root.below (number_from (suc tree.now.number) tree.now.node.now.below)))) }
+{
+    let Some(_) = left else {
+        return Ok(None);
+    };
+    let Laid { core, held } = lay_core(alloc, view, tree)?;
     if is_all(left) {
-        return Ok(Some(core));
+        return Ok(Some(FoundView {
+            informees: &view.root.informees,
+            confirmers: &view.root.confirmers,
+            core,
+        }));
     }
-    core_among(alloc, &view.below, held.as_slice(), left)
+    found_among(alloc, &view.below, held.as_slice(), left)
 }
 
 #[cycle(find)]
-fn core_among(
+fn found_among<'v>(
     alloc: Global,
-    views: &ViewList,
+    views: &'v ViewList,
     trees: &[Numbered<'_>],
     left: Option<&[u16]>,
-) -> Result<Option<Vec<usize>>, AllocError>
-    ensures { IfOk result (λ found. option_map (λ v. v.items) found ≡ core_found (option_copied left.entry) 0 views.now (numbered_trees trees.now)) }
+) -> Result<Option<FoundView<'v>>, AllocError>
+    ensures { IfOk result (λ found. option_map found_as found ≡ view_found (option_copied left.entry) 0 views.now (numbered_trees trees.now)) }
 {
     let items = views.as_slice();
     for at in 0..items.len() {
         if at >= trees.len() {
             return Ok(None);
         }
-        let found = core_of_view(alloc, &items[at], &trees[at], after_step(left, at))?;
+        let found = found_of_view(alloc, &items[at], &trees[at], after_step(left, at))?;
         if found.is_some() {
             return Ok(found);
         }
@@ -150,14 +180,14 @@ fn core_among(
     Ok(None)
 }
 
-/// The numbers of the actions in the core of the first view with a path, over the trees of all that is opened.
-pub(crate) fn core_at(
+/// The first view with a path, over the trees of all that is opened.
+pub(crate) fn found_at<'v>(
     alloc: Global,
-    views: &PlacedViewList,
+    views: &'v PlacedViewList,
     trees: &[Numbered<'_>],
     path: &Path,
-) -> Result<Option<Vec<usize>>, AllocError>
-    ensures { IfOk result (λ found. option_map (λ v. v.items) found ≡ core_found_in path.now views.now (numbered_trees trees.now)) }
+) -> Result<Option<FoundView<'v>>, AllocError>
+    ensures { IfOk result (λ found. option_map found_as found ≡ view_found_in path.now views.now (numbered_trees trees.now)) }
 {
     let items = views.as_slice();
     for at in 0..items.len() {
@@ -165,7 +195,7 @@ pub(crate) fn core_at(
             return Ok(None);
         }
         let left = after_path(path.as_slice(), items[at].path.as_slice());
-        let found = core_of_view(alloc, &items[at].view, &trees[at], left)?;
+        let found = found_of_view(alloc, &items[at].view, &trees[at], left)?;
         if found.is_some() {
             return Ok(found);
         }

@@ -6,7 +6,7 @@ ghost use Rattle.ledger_terms.specs.Vetting.{vets};
 ghost use Rattle.canton_model.specs.Inbox.{is_stakeholder_hosted};
 ghost use Rattle.confirm_reply.specs.LocalReading.{local_reading};
 
-use crate::check_input::CheckInput;
+use crate::opened_input::OpenedInput;
 use crate::setup::Setup;
 use lang_eval::{EvalFault, has_kinds, parties_of_contract};
 use ledger_terms::{Instance, Name, ParticipantId};
@@ -19,7 +19,7 @@ fn lists_name(names: &[Name], name: Name) -> bool
 }
 
 /// Whether the participant has vetted a package.
-pub(crate) fn has_vetted(input: &CheckInput<'_>, required: Name) -> bool
+pub(crate) fn has_vetted(input: &OpenedInput<'_>, required: Name) -> bool
     ensures { result ≡ vets (slice_get input.now.setup.now.topology.hosts input.now.me) required }
 {
     match input.setup.topology.host(input.me) {

@@ -30,7 +30,8 @@ fn is_first(core: &[usize], number: usize) -> bool
     }
 }
 
-fn node_at<'n>(nodes: &[&'n ActionNode], number: usize) -> Option<&'n ActionNode>
+/// The node with a number.
+pub(crate) fn node_at<'n>(nodes: &[&'n ActionNode], number: usize) -> Option<&'n ActionNode>
     ensures { result ≡ slice_get nodes.now number }
 {
     nodes.get(number).copied()

@@ -51,12 +51,12 @@ impl Trial<'_, '_, '_> {
     }
 
     fn is_skewed(&self) -> bool
-        ensures { result ≡ not (is_within self.now.input.now.setup.now.topology.params.skew self.now.input.now.tree.ledger_time self.now.input.now.time) }
+        ensures { result ≡ not (is_within self.now.input.now.setup.now.topology.params.skew self.now.input.now.tree.now.ledger_time self.now.input.now.time) }
     {
         let input = self.input;
         !is_near(
             input.setup.topology.params.skew,
-            input.tree.opened().ledger_time,
+            input.tree.ledger_time,
             input.time,
         )
     }
@@ -78,9 +78,9 @@ impl Trial<'_, '_, '_> {
     }
 
     fn status(&self, action: &Action) -> Status
-        ensures { result ≡ known_status self.now.input.now.facts (id_of action.now) }
+        ensures { result ≡ known_status self.now.input.now.facts.now (id_of action.now) }
     {
-        status_of(&self.input.facts, action.id())
+        status_of(self.input.facts, action.id())
     }
 
     fn conforms(&self, node: &ActionNode) -> Result<bool, AllocError>
@@ -93,7 +93,7 @@ impl Trial<'_, '_, '_> {
         requires { has_roles self.now.input.now.setup.now.checked action.now ≡ true }
         ensures { IfOk result (λ b. b ≡ is_requested self.now.input.now (record { seed = []; action = action.now })) }
     {
-        match &self.input.tree.opened().requesters {
+        match &self.input.tree.requesters {
             Some(requesters) => authorised(
                 self.alloc,
                 &self.input.setup.checked,
@@ -117,7 +117,8 @@ impl Trial<'_, '_, '_> {
         Ok(!self.is_requested(&node.root.action)?)
     }
 
-    /// Whether an action shows a reason after those before it; `asks` tells whether the requesters have to authorise it.
+    /// Whether an action shows a reason after those before it; `asks` tells whether the requesters have to authorise it. The
+    /// reasons before these nine are no action's.
     pub(crate) fn shows(
         &self,
         reason: Reason,
@@ -133,7 +134,7 @@ impl Trial<'_, '_, '_> {
             Reason::IdMismatch => self.is_mismatched(node),
             Reason::NotVetted => Ok(!has_vetted(self.input, action.instance().template.package)),
             Reason::TimeSkew => Ok(self.is_skewed()),
-            Reason::Locked => { self.if_hosted(is_locked(&self.input.facts, action.id()), action) }
+            Reason::Locked => { self.if_hosted(is_locked(self.input.facts, action.id()), action) }
             Reason::Inactive => {
                 self.if_hosted(is_inactive(self.status(action), earlier, action), action)
             }
@@ -141,6 +142,10 @@ impl Trial<'_, '_, '_> {
             Reason::Unordered => self.if_hosted(is_unordered(earlier, action), action),
             Reason::NotConformant => Ok(!self.conforms(node)?),
             Reason::NotAuthorised => self.lacks_authority(node, asks),
+            Reason::RootMismatch
+            | Reason::ViewMissing
+            | Reason::WrongSender
+            | Reason::WrongCommon => Ok(false),
         }
     }
 }

@@ -1,5 +1,5 @@
 //! What a core is tried by.
-use crate::check_input::CheckInput;
+use crate::opened_input::OpenedInput;
 use consist::Earlier;
 use lang_eval::NativeList;
 use ledger_terms::ActionNode;
@@ -9,7 +9,7 @@ use std::alloc::Global;
 #[derive(Drop)]
 pub(crate) struct Trial<'a, 's, 'n> {
     pub(crate) alloc: Global,
-    pub(crate) input: &'a CheckInput<'s>,
+    pub(crate) input: &'a OpenedInput<'s>,
     pub(crate) natives: &'a NativeList,
     pub(crate) nodes: &'a [&'n ActionNode],
     pub(crate) earlier: &'a [Earlier<'n>],

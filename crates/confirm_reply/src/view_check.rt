@@ -1,22 +1,26 @@
 //! The local check of a view.
-ghost use Rattle.std.specs.Prelude.{◌≡◌, ◌≤◌, ℕ, All, List, Some, IfOk, IsSome, length, option_map};
+ghost use Rattle.std.specs.Prelude.{◌≡◌, ◌≤◌, ℕ, All, List, Some, IfOk, length, option_map};
 ghost use Rattle.ledger_model.specs.Opening.{OpenedView};
 ghost use Rattle.canton_model.specs.Inbox.{Item};
+ghost use Rattle.canton_model.specs.Reading.{Offer};
 ghost use Rattle.view_split.specs.Placed.{shown_by};
 ghost use Rattle.confirm_reply.specs.Fit.{IsCheckableAt};
-ghost use Rattle.confirm_reply.specs.Located.{core_found_in};
 ghost use Rattle.confirm_reply.specs.Nodes.{trees_in};
-ghost use Rattle.confirm_reply.specs.Numbers.{numbered_trees};
+ghost use Rattle.confirm_reply.specs.Offered.{roots_shown};
 ghost use Rattle.confirm_reply.specs.Tried.{all_reasons, verdict_after};
 ghost use Rattle.confirm_reply.specs.Opened.{CanBeChecked, view_at};
-ghost use Rattle.confirm_reply.specs.Verdict.{IsAtPlace, verdict_at, verdict_of};
+ghost use Rattle.confirm_reply.specs.Verdict.{CanCheck, IsAtPlace, verdict_at, verdict_of, verdict_of_opened};
 
 use crate::check_input::CheckInput;
-use crate::cores::core_at;
-use crate::numbered::Numbered;
+use crate::cores::found_at;
 use crate::numbering::numbered;
 use crate::opened::{actions_of, nodes_of, roots_of};
+use crate::opened_input::OpenedInput;
+use crate::sender::is_from_sender;
+use crate::shown::Shown;
+use crate::starts::starts_in;
 use crate::trial::Trial;
+use crate::well_split::is_well_split;
 use canton_model::{LocalVerdict, Reason};
 use lang_eval::NativeList;
 use ledger_terms::{ActionNode, ActionNodeList, Path};
@@ -24,26 +28,28 @@ use std::alloc::{AllocError, Global};
 
 /// All that is opened to a participant, put together to the trees of a transaction.
 pub fn put_together(alloc: Global, input: &CheckInput<'_>) -> Result<ActionNodeList, AllocError>
-    ensures { IfOk result (λ roots. roots ≡ (shown_by input.now.tree).roots) }
+    ensures { IfOk result (λ roots. roots ≡ roots_shown input.now.shown) }
 {
-    roots_of(alloc, &input.tree.opened().views)
+    match &input.shown {
+        Shown::Fixed(_) => Ok(ActionNodeList::new(alloc)),
+        Shown::Open(tree) => roots_of(alloc, &tree.opened().views),
+    }
 }
 
-/// A participant's verdict on the view with this path, which is opened to it. Each reason is tried over the whole core before the
-/// next, and the action is the first in pre-order that shows it. A choice that `natives` has is asked of them in place of the language.
+/// A participant's verdict on the view with this path. Where nothing is opened it is the fixed reason, and a view that isn't among what
+/// is opened is missing. Then come whom the request is from and how the view is split. After these each reason is tried over the
+/// whole core before the next, and the action is the first in pre-order that shows it. A choice that `natives` has is asked of them in
+/// place of the language.
 pub fn check_view(
     alloc: Global,
     natives: &NativeList,
     input: &CheckInput<'_>,
     view: &Path,
 ) -> Result<LocalVerdict, AllocError>
-    requires opened { IsSome (view_at view.now input.now.tree) }
-    requires checkable { (opened : OpenedView) → view_at view.now input.now.tree ≡ Some opened
-        → CanBeChecked input.now.setup.now.checked (shown_by input.now.tree) opened }
-    ensures by_facts { IfOk result (λ verdict. (opened : OpenedView) → view_at view.now input.now.tree ≡ Some opened
-        → verdict ≡ verdict_of input.now opened) }
-    ensures at_place { IfOk result (λ verdict. (opened : OpenedView) (items : List Item) (k : ℕ) → view_at view.now input.now.tree ≡ Some opened
-        → IsAtPlace input.now items k opened → verdict ≡ verdict_at input.now items k opened) }
+    requires checkable { CanCheck input.now view.now }
+    ensures by_facts { IfOk result (λ verdict. verdict ≡ verdict_of input.now view.now) }
+    ensures at_place { IfOk result (λ verdict. (items : List Item) (k : ℕ) (offer : Offer) → IsAtPlace input.now items k view.now offer
+        → verdict ≡ verdict_at input.now items k view.now offer) }
 {
     let roots = put_together(alloc, input)?;
     check_view_among(alloc, natives, input, &roots, view)
@@ -57,46 +63,78 @@ pub fn check_view_among(
     roots: &ActionNodeList,
     view: &Path,
 ) -> Result<LocalVerdict, AllocError>
-    requires together { roots.now ≡ (shown_by input.now.tree).roots }
-    requires opened { IsSome (view_at view.now input.now.tree) }
-    requires checkable { (opened : OpenedView) → view_at view.now input.now.tree ≡ Some opened
-        → CanBeChecked input.now.setup.now.checked (shown_by input.now.tree) opened }
-    ensures by_facts { IfOk result (λ verdict. (opened : OpenedView) → view_at view.now input.now.tree ≡ Some opened
-        → verdict ≡ verdict_of input.now opened) }
-    ensures at_place { IfOk result (λ verdict. (opened : OpenedView) (items : List Item) (k : ℕ) → view_at view.now input.now.tree ≡ Some opened
-        → IsAtPlace input.now items k opened → verdict ≡ verdict_at input.now items k opened) }
+    requires together { roots.now ≡ roots_shown input.now.shown }
+    requires checkable { CanCheck input.now view.now }
+    ensures by_facts { IfOk result (λ verdict. verdict ≡ verdict_of input.now view.now) }
+    ensures at_place { IfOk result (λ verdict. (items : List Item) (k : ℕ) (offer : Offer) → IsAtPlace input.now items k view.now offer
+        → verdict ≡ verdict_at input.now items k view.now offer) }
 {
-    let nodes = nodes_of(alloc, roots)?;
-    let trees = numbered(alloc, roots, 0)?;
-    let Some(core) = core_in(alloc, input, trees.as_slice(), view)? else {
-        unreachable!()
-    };
-    verdict_on(
-        alloc,
-        natives,
-        input,
-        nodes.as_slice(),
-        core.as_slice(),
-        view.len() == 1,
-    )
+    match &input.shown {
+        Shown::Fixed(reason) => Ok(LocalVerdict::Reject {
+            reason: *reason,
+            action: 0,
+        }),
+        Shown::Open(tree) => {
+            let tree = tree.opened();
+            let opened = OpenedInput {
+                setup: input.setup,
+                me: input.me,
+                sender: input.sender,
+                time: input.time,
+                tree,
+                facts: &input.facts,
+            };
+            check_opened(alloc, natives, &opened, roots, view)
+        }
+    }
 }
 
-// The numbers of the actions in the core of a view.
-fn core_in(
+// The verdict on a view where something is opened.
+fn check_opened(
     alloc: Global,
-    input: &CheckInput<'_>,
-    trees: &[Numbered<'_>],
+    natives: &NativeList,
+    input: &OpenedInput<'_>,
+    roots: &ActionNodeList,
     view: &Path,
-) -> Result<Option<Vec<usize>>, AllocError>
-    ensures { IfOk result (λ found. option_map (λ v. v.items) found ≡ core_found_in view.now input.now.tree.views (numbered_trees trees.now)) }
+) -> Result<LocalVerdict, AllocError>
+    requires together { roots.now ≡ (shown_by input.now.tree.now).roots }
+    requires checkable { (opened : OpenedView) → view_at view.now input.now.tree.now ≡ Some opened
+        → CanBeChecked input.now.setup.now.checked (shown_by input.now.tree.now) opened }
+    ensures { IfOk result (λ verdict. verdict ≡ verdict_of_opened input.now (view_at view.now input.now.tree.now)) }
 {
-    core_at(alloc, &input.tree.opened().views, trees, view)
+    let nodes = nodes_of(alloc, roots)?;
+    let nodes = nodes.as_slice();
+    let trees = numbered(alloc, roots, 0)?;
+    let trees = trees.as_slice();
+    let Some(found) = found_at(alloc, &input.tree.views, trees, view)? else {
+        return Ok(LocalVerdict::Reject {
+            reason: Reason::ViewMissing,
+            action: 0,
+        });
+    };
+    if !is_from_sender(input) {
+        return Ok(LocalVerdict::Reject {
+            reason: Reason::WrongSender,
+            action: 0,
+        });
+    }
+    let starts = starts_in(alloc, &input.tree.views, trees, view)?;
+    let starts = starts.as_slice();
+    let is_split = is_well_split(alloc, &input.setup.checked, nodes, &found, starts)?;
+    if !is_split {
+        return Ok(LocalVerdict::Reject {
+            reason: Reason::WrongCommon,
+            action: 0,
+        });
+    }
+    let core = found.core.as_slice();
+    verdict_on(alloc, natives, input, nodes, core, view.len() == 1)
 }
 
 fn verdict_on<'a>(
     alloc: Global,
     natives: &'a NativeList,
-    input: &'a CheckInput<'_>,
+    input: &'a OpenedInput<'_>,
     nodes: &'a [&ActionNode],
     core: &'a [usize],
     is_root: bool,

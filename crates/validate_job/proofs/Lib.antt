@@ -1,2 +1,1 @@
-mod OpenedViews
 pub mod OwedAt

@@ -1,7 +1,8 @@
 //! The job of checking a request's views.
-ghost use Rattle.std.specs.Prelude.{◌≡◌, ◌+◌, ◌-◌, ◌<◌, ◌^◌, ◌∷◌, [], All, IfNone, IfOk, IfSome, OnErr, OnOk, length, min};
-ghost use Rattle.view_split.specs.Placed.{shown_by};
-ghost use Rattle.validate_job.specs.Owed.{CanCheck, owed_on};
+ghost use Rattle.std.specs.Prelude.{◌≡◌, ◌+◌, ◌-◌, ◌<◌, ◌^◌, All, IfNone, IfOk, IfSome, OnErr, OnOk, length, min};
+ghost use Rattle.confirm_reply.specs.Offered.{roots_shown};
+ghost use Rattle.confirm_reply.specs.Verdict.{CanCheck};
+ghost use Rattle.validate_job.specs.Owed.{owed_on};
 ghost use Rattle.validate_job.specs.Outcome.{IsOutcome};
 
 use crate::finished::Finished;
@@ -42,11 +43,12 @@ impl<'s> Model for ValidateJob<'s> {
 
     ghost view = { λ j. record { given = record { input = j.input; place = j.place; views = j.views }; left = length j.views - j.checked } };
 
-    ghost use Rattle.view_split.specs.Placed.{shown_by};
-    ghost use Rattle.validate_job.specs.Owed.{CanCheck, owed_on_each};
+    ghost use Rattle.confirm_reply.specs.Offered.{roots_shown};
+    ghost use Rattle.confirm_reply.specs.Verdict.{CanCheck};
+    ghost use Rattle.validate_job.specs.Owed.{owed_on_each};
 
     ghost invariant = { λ j. All (CanCheck j.input) j.views × (j.checked ≤ length j.views)
-        × (0 < j.checked → j.roots ≡ (shown_by j.input.tree).roots)
+        × (0 < j.checked → j.roots ≡ roots_shown j.input.shown)
         × (j.checked < length j.views → j.verdicts ++ owed_on_each j.input (drop j.checked j.views) ≡ owed_on_each j.input j.views) };
 }
 
@@ -57,8 +59,8 @@ fn put_once(
     checked: usize,
     roots: &mut ActionNodeList,
 ) -> Result<(), AllocError>
-    requires { 0 < checked → roots.old ≡ (shown_by input.now.tree).roots }
-    ensures ok { OnOk result (roots.new ≡ (shown_by input.now.tree).roots) }
+    requires { 0 < checked → roots.old ≡ roots_shown input.now.shown }
+    ensures ok { OnOk result (roots.new ≡ roots_shown input.now.shown) }
     ensures err { OnErr result (roots.new ≡ roots.old) }
 {
     if checked == 0 {
@@ -75,9 +77,9 @@ fn verdict_on(
     roots: &ActionNodeList,
     path: &Path,
 ) -> Result<ViewVerdict, AllocError>
-    requires together { roots.now ≡ (shown_by input.now.tree).roots }
+    requires together { roots.now ≡ roots_shown input.now.shown }
     requires checkable { CanCheck input.now path.now }
-    ensures { IfOk result (λ verdict. owed_on input.now path.now ≡ verdict ∷ []) }
+    ensures { IfOk result (λ verdict. verdict ≡ owed_on input.now path.now) }
 {
     let verdict = check_view_among(alloc, natives, input, roots, path)?;
     let view = path.copied()?;

@@ -1,7 +1,0 @@
-use Rattle.std.proofs.Common.{◌≡◌, drop}
-use Rattle.confirm_reply.specs.Located.{core_found_in}
-use Rattle.confirm_reply.specs.Numbers.{numbered_trees}
-use Rattle.confirm_reply.proofs.cores.core_at.Given as goal
-
-abbrev pub invariant-loop-at : goal.invariant-loop-at
-invariant-loop-at l = core_found_in l.path (drop l.at l.items) (numbered_trees (drop l.at l.trees)) ≡ core_found_in l.path l.views (numbered_trees l.trees)

@@ -1,0 +1,5 @@
+use Rattle.confirm_reply.proofs.StartSteps.{short_in}
+use Rattle.confirm_reply.proofs.starts.starts_in.Goals as goal
+
+pub returns-then-at-trees : goal.returns-then-at-trees
+returns-then-at-trees c = short_in _ _ _ _ _ _ c.loop-at.invariant c.if-at-trees.true
