@@ -1,5 +1,6 @@
 mod Offered
 pub mod Offers
+pub mod Opens
 mod Roots
 mod Wants
 mod Sealing
@@ -7,3 +8,4 @@ mod Machines
 mod Prepares
 mod PlainFaults
 mod Told
+pub mod Wanted

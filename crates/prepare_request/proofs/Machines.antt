@@ -1,65 +1,39 @@
 -- What is prepared makes a machine.
-use Rattle.std.proofs.Common.{◌≡◌, ℕ, Bool, true, false, ◌&&◌, if◌then◌else◌, length, List, Option, Some, None, Result, Ok, Err, refl, sym, ap, ◌∙◌}
+use Rattle.std.proofs.Common.{◌≡◌, ◌≢◌, ℕ, Bool, true, ◌&&◌, if◌then◌else◌, length, List, Option, Some, None, Result, Ok, Err, MatchResult, refl, sym, ap, ◌∙◌, subst}
 use Rattle.std.specs.Prelude.{nat_lt}
-use Rattle.std.proofs.lemmas.Bool.{lt-ltb}
+use Rattle.std.proofs.lemmas.Bool.{and_from, lt-ltb}
 use Rattle.ledger_terms.specs.declared.known.Known.{Known}
 use Rattle.ledger_terms.specs.declared.submission.Submission.{Submission}
 use Rattle.ledger_terms.specs.declared.topology.Topology.{Topology}
+use Rattle.ledger_terms.specs.declared.tx.Tx.{Tx}
 use Rattle.canton_model.specs.Inbox.{Item, inbox}
 use Rattle.canton_model.specs.declared.request.Request.{Request}
 use Rattle.world_model.specs.Machine.{IsMachine}
 use Rattle.lang_eval.specs.Found.{Packages}
-use Rattle.sealed_form.specs.Framed.{is_framed}
-use Rattle.sealed_form.specs.SealedReading.{sealed_reading}
-use Rattle.sealed_form.specs.SealedTest.{is_sealed_form}
-use Rattle.sealed_form.proofs.Sealed.{lawful}
-use Rattle.prepare_request.specs.Machine.{Offered, if_sealed, is_within, fault_in, machine_over, prepare_over, why_over}
-use Rattle.prepare_request.specs.Prepared.{prepared}
+use Rattle.sealed_form.specs.SealedForm.{CanBeSealed}
+use Rattle.sealed_form.proofs.Decided.{can_decides}
+use Rattle.framed_form.specs.Framed.{is_framed}
+use Rattle.framed_form.specs.FramedReading.{framed_reading}
+use Rattle.framed_form.proofs.Lawful.{lawful}
+use Rattle.prepare_request.specs.Machine.{Offered, can_seal, if_framed, is_within, fault_in, machine_over, prepare_over, why_over}
+use Rattle.prepare_request.specs.Prepared.{prepared, wanted_tx, whole_for}
 use Rattle.prepare_request.specs.Within.{IsWithin}
 use Rattle.prepare_request.specs.declared.submit_fault.SubmitFault.{SubmitFault}
+use Rattle.prepare_request.specs.declared.submit_fault.SubmitFault.TheVariants.{Memory}
+use Rattle.prepare_request.proofs.Wanted.{framed_if_wanted, never, prepared_if_wanted}
 use Rattle.prepare_request.proofs.Wants.{steps}
 
 module _ (topology : Topology) (packages : Packages) where
-  record Kept (answer : Result Request SubmitFault) (request : Request) : Type 0 where
-    is : answer ≡ Ok request
-    sealed : is_sealed_form topology packages request ≡ true
-    framed : is_framed topology request ≡ true
-
-  kept : (answer : Result Request SubmitFault) (request : Request) → if_sealed topology packages answer ≡ Some request → Kept answer request
-  kept (Ok q) request e = by (is_sealed_form topology packages q) (is_framed topology q) refl refl e
-    where
-      by : (s f : Bool) → is_sealed_form topology packages q ≡ s → is_framed topology q ≡ f → (if s && f then Some q else None) ≡ Some request
-          → Kept (Ok q) request
-      by true true sealed framed h =
-          let same : q ≡ request = cc in
-          record {
-            is = ap ok same;
-            sealed = ap (is_sealed_form topology packages) (sym same) ∙ sealed;
-            framed = ap (is_framed topology) (sym same) ∙ framed;
-          }
-        where
-          ok : Request → Result Request SubmitFault
-          ok r = Ok r
-      by true false sealed framed h = absurd cc
-      by false f sealed framed h = absurd cc
-  kept (Err fault) request e = absurd cc
-
-  allowed : (b : Bool) (o : Option Request) (request : Request) → (if b then o else None) ≡ Some request → o ≡ Some request
-  allowed true o request h = h
-  allowed false o request h = absurd cc
-
   pub machine : (capacity : ℕ) (offered : Offered) → IsMachine (machine_over topology packages capacity offered)
   machine capacity offered =
       record {
         is_reading = lawful topology packages;
         prepares = λ what log now request genuine e.
-            (let items = inbox (sealed_reading topology packages) what.participant log in
-            let k = kept (prepared topology packages what.participant (offered what.participant items) what now) request
-            (allowed (is_within topology packages what) _ request e) in
-            let s = steps topology packages what.participant (offered what.participant items) what now request k.is in
+            (let items = inbox (framed_reading topology packages) what.participant log in
+            let is = prepared_if_wanted topology packages offered what items now request e in
+            let s = steps topology packages what.participant (offered what.participant items) what now request is in
             record {
-              is_sealed = k.sealed;
-              is_framed = k.framed;
+              is_framed = framed_if_wanted topology packages offered what items now request e;
               sender = ap (λ (r : Request). r.sender) s.request_is;
               command = ap (λ (r : Request). r.command) s.request_is;
             });
@@ -77,17 +51,28 @@ module _ (topology : Topology) (packages : Packages) where
 
   module _ (me : ℕ) (known : List Known) (what : Submission) (now : ℕ) (within : IsWithin topology packages me known what)
       (offered : Offered) (items : List Item) (own : what.participant ≡ me) (offers : offered me items ≡ known) where
-    asked : prepare_over topology packages offered what items now ≡ if_sealed topology packages (prepared topology packages me known what now)
-    asked =
-        ap (λ b. if b then if_sealed topology packages (prepared topology packages what.participant (offered what.participant items) what now) else None)
-        (within_tests me known what own within)
-        ∙ (ap (λ p. if_sealed topology packages (prepared topology packages p (offered p items) what now)) own
-        ∙ ap (λ k. if_sealed topology packages (prepared topology packages me k what now)) offers)
+    abbrev wanted : Result Tx SubmitFault
+    wanted = wanted_tx topology packages me known what now
 
-    pub gives : (request : Request) → prepared topology packages me known what now ≡ Ok request → is_sealed_form topology packages request ≡ true
-        → is_framed topology request ≡ true → prepare_over topology packages offered what items now ≡ Some request
-    gives request e sealed framed =
-        asked ∙ (ap (if_sealed topology packages) e ∙ (λ i. if sealed i && framed i then Some request else None))
+    abbrev given : Result Tx SubmitFault → Result Request SubmitFault → Option Request
+    given w answer = if (is_within topology packages what && can_seal topology packages me w) then if_framed topology answer else None
+
+    asked : prepare_over topology packages offered what items now ≡ given wanted (prepared topology packages me known what now)
+    asked =
+        ap (λ p. if (is_within topology packages what && can_seal topology packages p (wanted_tx topology packages p (offered p items) what now))
+        then if_framed topology (prepared topology packages p (offered p items) what now) else None) own
+        ∙ ap (λ k. if (is_within topology packages what && can_seal topology packages me (wanted_tx topology packages me k what now))
+        then if_framed topology (prepared topology packages me k what now) else None) offers
+
+    pub gives : (tx : Tx) (request : Request) → wanted_tx topology packages me known what now ≡ Ok tx → CanBeSealed topology packages me (whole_for topology me tx)
+        → prepared topology packages me known what now ≡ Ok request → is_framed topology request ≡ true
+        → prepare_over topology packages offered what items now ≡ Some request
+    gives tx request is_tx can e framed =
+        let seals : can_seal topology packages me wanted ≡ true = ap (can_seal topology packages me) is_tx ∙ (can_decides topology packages me (whole_for topology me tx)).1 can in
+        asked
+        ∙ (ap (λ (b : Bool). if b then if_framed topology (prepared topology packages me known what now) else None)
+        (and_from (is_within topology packages what) (can_seal topology packages me wanted) (within_tests me known what own within) seals)
+        ∙ (ap (if_framed topology) e ∙ (λ i. if framed i then Some request else None)))
 
     pub says : (fault : SubmitFault) → prepared topology packages me known what now ≡ Err fault
         → why_over topology packages offered what items now ≡ fault
@@ -97,4 +82,15 @@ module _ (topology : Topology) (packages : Packages) where
 
     pub gives_none : (fault : SubmitFault) → prepared topology packages me known what now ≡ Err fault
         → prepare_over topology packages offered what items now ≡ None
-    gives_none fault e = asked ∙ ap (if_sealed topology packages) e
+    gives_none fault e = asked ∙ (ap (given wanted) e ∙ never topology packages (is_within topology packages what && can_seal topology packages me wanted))
+
+    -- what a refusal says of the machine
+    pub refuses : (result : Result Request SubmitFault) (fault : SubmitFault) → result ≡ Err fault
+        → (fault ≢ Memory → prepared topology packages me known what now ≡ Err fault)
+        → MatchResult result (λ request. prepare_over topology packages offered what items now ≡ Some request)
+        (λ f. f ≢ Memory → (prepare_over topology packages offered what items now ≡ None) × (why_over topology packages offered what items now ≡ f))
+    refuses result fault is exact =
+        subst
+        (λ (r : Result Request SubmitFault). MatchResult r (λ request. prepare_over topology packages offered what items now ≡ Some request)
+        (λ f. f ≢ Memory → (prepare_over topology packages offered what items now ≡ None) × (why_over topology packages offered what items now ≡ f)))
+        (sym is) (λ some. (gives_none fault (exact some), says fault (exact some)))

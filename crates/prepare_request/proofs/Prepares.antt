@@ -1,5 +1,5 @@
 -- From the steps of the call to what it gives.
-use Rattle.std.proofs.Common.{◌≡◌, ℕ, Bool, true, List, Option, None, Result, Ok, Err, refl, sym, ap, ◌∙◌, subst}
+use Rattle.std.proofs.Common.{◌≡◌, ℕ, Bool, List, Option, None, Result, Ok, Err, refl, sym, ap, ◌∙◌, subst}
 use Rattle.std.specs.Prelude.{◌≢◌, IsTrue}
 use Rattle.ledger_terms.specs.Answers.{◌>>=◌}
 use Rattle.ledger_terms.specs.Drafts.{Drafts}
@@ -18,17 +18,19 @@ use Rattle.interpret.specs.FilledTree.{IsFilled}
 use Rattle.interpret.specs.Wanted.{IsWanted}
 use Rattle.interpret.specs.declared.command_fault.CommandFault.{CommandFault}
 use Rattle.view_split.specs.Faults.{views_of_tx}
+use Rattle.view_split.specs.declared.split_fault.SplitFault.{SplitFault}
+use Rattle.view_split.specs.declared.split_fault.SplitFault.TheVariants.{NoRoles, Memory as SplitMemory}
 use Rattle.view_split.specs.declared.views.Views.{Views}
 use Rattle.blind_tree.specs.Limits.{KeepLimits}
-use Rattle.sealed_form.specs.SealedForm.{CanBeSealed}
-use Rattle.sealed_form.specs.SealedTest.{is_sealed_form}
+use Rattle.sealed_form.specs.SealedForm.{CanBeSealed, IsSealedForm}
 use Rattle.sealed_form.specs.Submission.{IsSubmittedWithin, whole_with_seed}
-use Rattle.prepare_request.specs.Prepared.{actions_for, first_unconfirmed, name_at, prepared, request_for, seed_for, sealed_if_split}
+use Rattle.prepare_request.specs.Prepared.{actions_for, first_unconfirmed, name_at, of_split, prepared, request_for, seed_for, sealed_if_split}
 use Rattle.prepare_request.specs.Prepared.{tx_for, tx_where_wanted, unless_unconfirmed, views_for, wanted_tx, where_split, whole_for}
 use Rattle.prepare_request.specs.Within.{IsWithin}
 use Rattle.prepare_request.specs.declared.submit_fault.SubmitFault.{SubmitFault}
+use Rattle.prepare_request.specs.declared.submit_fault.SubmitFault.TheVariants.{Memory}
 use Rattle.prepare_request.proofs.Roots.{root_of_split}
-use Rattle.prepare_request.proofs.Sealing.{by_what, limits, made_tests_sealed, submitted}
+use Rattle.prepare_request.proofs.Sealing.{by_what, limits, made_is_sealed, submitted}
 use Rattle.prepare_request.proofs.Wants.{all_confirmed, given_wanted, sent}
 
 -- what the test of what can be sealed says of views
@@ -53,6 +55,9 @@ SaysFilled answer views =
 abbrev made : Tx → Result Tx SubmitFault
 made tx = Ok tx
 
+abbrev refused : SubmitFault → Result Request SubmitFault
+refused fault = Err fault
+
 module _ (topology : Topology) (packages : Packages) (me : ℕ) (known : List Known) (what : Submission) (now : ℕ) where
   -- the actions of a transaction that is wanted
   record Wants (tx : Tx) : Type 0 where
@@ -66,6 +71,16 @@ module _ (topology : Topology) (packages : Packages) (me : ℕ) (known : List Kn
       by : (r : Result Actions CommandFault) → actions_for topology packages me known what ≡ r → tx_where_wanted topology me what now r ≡ made tx → Wants tx
       by (Ok roots) a h = record { roots = roots; actions = a; is = cc }
       by (Err fault) a h = absurd cc
+
+  -- where the wanted transaction has no views, or memory failed
+  pub unsplit : (tx : Tx) (fault : SubmitFault) (e : SplitFault) → first_unconfirmed topology me what.act_as ≡ None
+      → wanted_tx topology packages me known what now ≡ made tx → fault ≡ of_split e → (e ≢ SplitMemory → views_for packages tx ≡ Err e)
+      → fault ≢ Memory → prepared topology packages me known what now ≡ Err fault
+  unsplit tx fault SplitMemory confirms is_tx is none some = absurd (some is)
+  unsplit tx fault (NoRoles path) confirms is_tx is none some =
+      ap (λ (o : Option (List ℕ)). unless_unconfirmed o (wanted_tx topology packages me known what now >>= sealed_if_split topology packages me what.command)) confirms
+      ∙ (ap (λ (r : Result Tx SubmitFault). r >>= sealed_if_split topology packages me what.command) is_tx
+      ∙ (ap (λ (v : Result Views SplitFault). where_split v (request_for topology packages me what.command tx)) (none (λ memory. absurd cc)) ∙ ap refused (sym is)))
 
   module _ (valid : IsValid topology) (within : IsWithin topology packages me known what) (tx : Tx) (views : Views)
       (confirms : first_unconfirmed topology me what.act_as ≡ None) (is_tx : wanted_tx topology packages me known what now ≡ made tx)
@@ -105,13 +120,13 @@ module _ (topology : Topology) (packages : Packages) (me : ℕ) (known : List Kn
           is_split
 
       module _ (request : Request) (request_is : request ≡ request_for topology packages me what.command tx) where
-        pub sealed : is_sealed_form topology packages request ≡ true
+        pub sealed : IsSealedForm topology packages request
         sealed =
-            ap (is_sealed_form topology packages) request_is
-            ∙ (let w = wants tx is_tx in
-            subst (λ t. Sealable t → is_sealed_form topology packages (request_for topology packages me what.command t) ≡ true) w.is
+            subst (IsSealedForm topology packages) (sym request_is)
+            (let w = wants tx is_tx in
+            subst (λ t. Sealable t → IsSealedForm topology packages (request_for topology packages me what.command t)) w.is
             (λ s.
-            made_tests_sealed topology packages me what now w.roots known
+            made_is_sealed topology packages me what now w.roots known
             (given_wanted packages known (seed_for topology me what) what.act_as what.what w.roots w.actions) s.1)
             sealable)
 

@@ -1,5 +1,5 @@
 -- What is prepared within a topology can be sealed.
-use Rattle.std.proofs.Common.{◌≡◌, ℕ, zero, suc, ◌<◌, true, List, [], ◌∷◌, length, Some, refl, arith}
+use Rattle.std.proofs.Common.{◌≡◌, ℕ, zero, suc, ◌<◌, true, List, [], ◌∷◌, length, Some, refl, ap, ◌∙◌, arith}
 use Rattle.std.specs.Prelude.{slice_get}
 use Rattle.std.proofs.lemmas.Slice.Eq.{bytes_eq-Decides}
 use Rattle.ledger_terms.specs.Drafts.{Drafts}
@@ -21,14 +21,15 @@ use Rattle.interpret.specs.Wanted.{IsWanted}
 use Rattle.interpret.proofs.Rules.{keeps_rules}
 use Rattle.blind_tree.specs.Blind.{is_host_named}
 use Rattle.blind_tree.specs.Limits.{KeepLimits}
-use Rattle.sealed_form.specs.SealedForm.{CanBeSealed, IsSealedForm, whole_of}
-use Rattle.sealed_form.specs.SealedTest.{is_sealed_form}
+use Rattle.sealed_form.specs.SealedForm.{CanBeSealed, IsSealedForm, Whole}
 use Rattle.sealed_form.specs.Submission.{IsSubmittedWithin}
-use Rattle.sealed_form.proofs.Decided.{form_decides}
 use Rattle.sealed_form.proofs.FromDrafts.{filled_keeps_limits}
 use Rattle.sealed_form.proofs.FromRules.{keeps_limits, wanted_is_seeded}
-use Rattle.sealed_form.proofs.Limited.{limited_is_sealed}
-use Rattle.sealed_form.proofs.Made.{whole_is}
+use Rattle.sealed_form.proofs.Limited.{limited_is_sealed, limited_whole}
+use Rattle.framed_form.specs.Framed.{is_framed}
+use Rattle.framed_form.specs.FramedReading.{framed_reading}
+use Rattle.framed_form.proofs.Decided.{framed_decides}
+use Rattle.framed_form.proofs.SealedWhole.{read_back}
 use Rattle.prepare_request.specs.Causes.{AreWantedBy, ConfirmsRequesters}
 use Rattle.prepare_request.specs.Prepared.{name_at, name_of, request_for, seed_for, tx_for, whole_for}
 use Rattle.prepare_request.specs.Within.{IsWithin, parties_in_what}
@@ -52,16 +53,22 @@ module _ (topology : Topology) (packages : Packages) (me : ℕ) (what : Submissi
 
   module _ (known : List Known) (wanted : AreWantedBy packages known (seed_for topology me what) what.act_as what.what roots)
       (can : CanBeSealed topology packages me (whole_for topology me tx)) where
+    kept : KeepLimits roots
+    kept = limits packages known (seed_for topology me what) what.act_as what.what roots wanted
+
     pub made_is_sealed : IsSealedForm topology packages (request_for topology packages me what.command tx)
-    made_is_sealed =
-        limited_is_sealed topology packages me what.command (whole_for topology me tx) can
-        (limits packages known (seed_for topology me what) what.act_as what.what roots wanted)
+    made_is_sealed = limited_is_sealed topology packages me what.command (whole_for topology me tx) can kept
 
-    pub made_tests_sealed : is_sealed_form topology packages (request_for topology packages me what.command tx) ≡ true
-    made_tests_sealed = (form_decides topology packages (request_for topology packages me what.command tx)).1 made_is_sealed
+    made_of : made_is_sealed.whole ≡ whole_for topology me tx
+    unfolding made_is_sealed
+    made_of = limited_whole topology packages me what.command (whole_for topology me tx) can kept
 
-    pub made_is_whole : whole_of (request_for topology packages me what.command tx) ≡ Some (whole_for topology me tx)
-    made_is_whole = whole_is topology packages me what.command (whole_for topology me tx) can
+    pub made_is_whole : is_framed topology (request_for topology packages me what.command tx) ≡ true
+        → (framed_reading topology packages).whole (request_for topology packages me what.command tx) ≡ Some (whole_for topology me tx).transaction
+    made_is_whole framed =
+        read_back topology packages (request_for topology packages me what.command tx) made_is_sealed
+        ((framed_decides topology (request_for topology packages me what.command tx)).0 framed)
+        ∙ ap (λ (whole : Whole). Some whole.transaction) made_of
 
 -- What is said of interpreted commands and of filled drafts holds of what is wanted, within the topology.
 pub by_what : (P : Type 0) (topology : Topology) (packages : Packages) (me : ℕ) (known : List Known) (seed : Hash) (act_as : PartyNames) (roots : Actions)

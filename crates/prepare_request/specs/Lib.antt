@@ -3,3 +3,4 @@ pub mod Within
 pub mod Causes
 pub mod Hosted
 pub mod Machine
+pub mod Opens

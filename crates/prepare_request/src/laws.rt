@@ -20,12 +20,14 @@ ghost use Rattle.contract_store.specs.Rows.{consumed, created, row_of};
 ghost use Rattle.contract_store.specs.Written.{written};
 ghost use Rattle.contract_store.specs.declared.row.StoreRow.{StoreRow};
 ghost use Rattle.std.specs.Str.{bytes_eq};
-ghost use Rattle.sealed_form.specs.SealedForm.{CanBeSealed, IsSealedForm, whole_of};
-ghost use Rattle.sealed_form.specs.SealedReading.{sealed_reading};
+ghost use Rattle.sealed_form.specs.SealedForm.{CanBeSealed, IsSealedForm};
 ghost use Rattle.sealed_form.specs.Within.{is_hosted};
+ghost use Rattle.framed_form.specs.Framed.{is_framed};
+ghost use Rattle.framed_form.specs.FramedReading.{framed_reading};
 ghost use Rattle.prepare_request.specs.Causes.{AreWanted, HasCause, IsRequestOf};
 ghost use Rattle.prepare_request.specs.Hosted.{AreTold, TellHosted, hosted_rows, is_among};
-ghost use Rattle.prepare_request.specs.Machine.{Offered, machine_over};
+ghost use Rattle.prepare_request.specs.Machine.{Offered, machine_over, prepare_over};
+ghost use Rattle.prepare_request.specs.Opens.{OpensByRules};
 ghost use Rattle.prepare_request.specs.Prepared.{prepared, request_for, tx_for, whole_for};
 ghost use Rattle.prepare_request.specs.declared.submit_fault.SubmitFault.{SubmitFault};
 
@@ -54,17 +56,35 @@ pub fn causes_are_given()
         → prepared topology packages me known what now ≡ Err fault }
 {}
 
-/// Where the wanted transaction can be sealed its request is sealed, and is read back as that transaction.
+/// Where the wanted transaction can be sealed its request is sealed, and where that is framed it is read back as the transaction.
 pub fn prepared_requests_are_sealed()
     ensures whole { (topology : Topology) (packages : Packages) (me : ℕ) (known : List Known) (what : Submission) (now : ℕ) (roots : Actions)
         → AreWanted topology packages me known what roots
         → CanBeSealed topology packages me (whole_for topology me (tx_for topology me what now roots))
-        → whole_of (request_for topology packages me what.command (tx_for topology me what now roots))
-        ≡ Some (whole_for topology me (tx_for topology me what now roots)) }
+        → is_framed topology (request_for topology packages me what.command (tx_for topology me what now roots)) ≡ true
+        → (framed_reading topology packages).whole (request_for topology packages me what.command (tx_for topology me what now roots))
+        ≡ Some (whole_for topology me (tx_for topology me what now roots)).transaction }
     ensures sealed { (topology : Topology) (packages : Packages) (me : ℕ) (known : List Known) (what : Submission) (now : ℕ) (roots : Actions)
         → AreWanted topology packages me known what roots
         → CanBeSealed topology packages me (whole_for topology me (tx_for topology me what now roots))
         → IsSealedForm topology packages (request_for topology packages me what.command (tx_for topology me what now roots)) }
+{}
+
+/// The request that a submission wants over an inbox is prepared of what its participant offers, and is sealed and framed. Its
+/// envelopes are complete, and open what the rules ask for.
+pub fn wanted_requests_are_sealed()
+    ensures prepared { (topology : Topology) (packages : Packages) (offered : Offered) (what : Submission) (items : List Item) (now : ℕ) (request : Request)
+        → prepare_over topology packages offered what items now ≡ Some request
+        → prepared topology packages what.participant (offered what.participant items) what now ≡ Ok request }
+    ensures sealed { (topology : Topology) (packages : Packages) (offered : Offered) (what : Submission) (items : List Item) (now : ℕ) (request : Request)
+        → prepare_over topology packages offered what items now ≡ Some request
+        → IsSealedForm topology packages request }
+    ensures framed { (topology : Topology) (packages : Packages) (offered : Offered) (what : Submission) (items : List Item) (now : ℕ) (request : Request)
+        → prepare_over topology packages offered what items now ≡ Some request
+        → is_framed topology request ≡ true }
+    ensures opens { (topology : Topology) (packages : Packages) (offered : Offered) (what : Submission) (items : List Item) (now : ℕ) (request : Request)
+        → prepare_over topology packages offered what items now ≡ Some request
+        → OpensByRules topology packages request }
 {}
 
 /// Requests that are prepared are what a world asks of its machine, whatever participants offer.
@@ -83,9 +103,9 @@ pub fn offered_contracts_are_active()
 /// What a participant offers over its inbox of a genuine log names only parties of the topology.
 pub fn offered_contracts_name_parties_of_the_topology()
     ensures { (topology : Topology) (packages : Packages) (log : List Entry) (p : ParticipantId) (n : ℕ)
-        → Genuine (sealed_reading topology packages) topology.params log
+        → Genuine (framed_reading topology packages) topology.params log
         → AreKnown (is_hosted topology)
-        (parties_in_contracts (knowns (node_active (sealed_reading topology packages) p (inbox (sealed_reading topology packages) p log) n))) }
+        (parties_in_contracts (knowns (node_active (framed_reading topology packages) p (inbox (framed_reading topology packages) p log) n))) }
 {}
 
 /// Ids that tell of a store's contracts tell of them after each change of a row, where the id of a contract that had no row is put

@@ -3,12 +3,13 @@ ghost use Rattle.std.specs.Prelude.{◌≡◌, ◌≢◌, ◌<◌, List, true, N
 ghost use Rattle.ledger_terms.specs.Answers.{Follows};
 ghost use Rattle.ledger_terms.specs.Topologies.{IsValid};
 ghost use Rattle.canton_model.specs.Inbox.{Item};
-ghost use Rattle.sealed_form.specs.Framed.{is_framed};
-ghost use Rattle.sealed_form.specs.SealedTest.{is_sealed_form};
+ghost use Rattle.sealed_form.specs.SealedForm.{IsSealedForm};
+ghost use Rattle.framed_form.specs.Framed.{is_framed};
 ghost use Rattle.interpret.specs.Filled.{filling};
 ghost use Rattle.interpret.specs.Plain.{IsPlain};
 ghost use Rattle.prepare_request.specs.Causes.{HoldsNoMemory};
 ghost use Rattle.prepare_request.specs.Machine.{Offered, prepare_over, why_over};
+ghost use Rattle.prepare_request.specs.Opens.{OpensByRules};
 ghost use Rattle.prepare_request.specs.Prepared.{actions_of, first_unconfirmed, name_at, prepared, seed_for, time_or, views_for, wanted_tx};
 ghost use Rattle.prepare_request.specs.Within.{IsWithin};
 
@@ -157,7 +158,8 @@ pub fn prepare<K: KnownContracts>(
     requires valid { IsValid setup.now.topology }
     requires within { IsWithin setup.now.topology setup.now.checked me (K.rows known.now) what.now }
     ensures exact { Follows SubmitFault.Memory result (prepared setup.now.topology setup.now.checked me (K.rows known.now) what.now now) }
-    ensures sealed { IfOk result (λ request. is_sealed_form setup.now.topology setup.now.checked request ≡ true) }
+    ensures sealed { IfOk result (λ request. IsSealedForm setup.now.topology setup.now.checked request) }
+    ensures opens { IfOk result (λ request. OpensByRules setup.now.topology setup.now.checked request) }
     ensures framed { IfOk result (λ request. is_framed setup.now.topology request ≡ true) }
     ensures sender { IfOk result (λ request. request.sender ≡ me) }
     ensures command { IfOk result (λ request. request.command ≡ what.now.command) }

@@ -1,3 +1,7 @@
 pub mod Making
 pub mod SealedMade
 pub mod Told
+pub mod Named
+pub mod Seen
+pub mod Noticed
+pub mod Outlines

@@ -1,5 +1,5 @@
 -- What the mediator reads of a request, and what is opened where there is no envelope.
-use Rattle.std.proofs.Common.{◌≡◌, ℕ, true, false, List, [], Some, None, Ok, refl, sym, ap, ◌∙◌, subst}
+use Rattle.std.proofs.Common.{◌≡◌, ℕ, true, false, List, [], Option, Some, None, Ok, refl, sym, ap, ◌∙◌, subst}
 use Rattle.std.specs.Prelude.{option_and_then}
 use Rattle.std.proofs.lemmas.Option.{same_Some}
 use Rattle.sha2.specs.Sha256.{sha256}
@@ -17,15 +17,16 @@ use Rattle.blind_tree.specs.Spelling.{spell_tree}
 use Rattle.blind_tree.specs.declared.tree.Tree.{Tree}
 use Rattle.blind_tree.proofs.Blinded.{mediator_sees_none}
 use Rattle.blind_tree.proofs.OpensLaws.{tree_tells}
-use Rattle.sealed_form.specs.SealedForm.{CanBeSealed, Whole, envelope_to, found, opened_in, opened_to, request_of, split_as, tree_for, tree_in, views_by}
+use Rattle.framed_form.specs.FramedForm.{complete_in, offered_in, opened_to}
+use Rattle.sealed_form.specs.SealedForm.{CanBeSealed, Whole, envelope_to, found, request_of, split_as, tree_for, tree_in, views_by}
 use Rattle.sealed_form.proofs.Recipients.{are_reached, first_to}
 use Rattle.sealed_form.proofs.Trees.{mediators_is_tree, tree_again}
 use Rattle.proto_model.specs.RequestedViews.{ShowsNoContents, requested_views}
 
 -- ---- no envelope
 
-pub none_opened : (request : Request) (p : ℕ) → envelope_to p request.envelopes ≡ None → opened_to p request ≡ None
-none_opened request p none = ap (option_and_then opened_in) none
+pub none_opened : (topology : Topology) (request : Request) (p : ℕ) → envelope_to p request.envelopes ≡ None → opened_to topology p request ≡ None
+none_opened topology request p none = ap (λ (bytes : Option (List ℕ)). complete_in (offered_in topology p request bytes)) none
 
 module _ (topology : Topology) (packages : Packages) (sender : ℕ) (name command : List ℕ) (salts : Salts) (t : Transaction)
     (sends : is_host_named topology.hosts sender name ≡ true) where

@@ -1,3 +1,4 @@
 pub mod Made
+pub mod Notices
 pub mod RequestedViews
 pub mod SealedRequests

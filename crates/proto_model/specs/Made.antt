@@ -18,7 +18,7 @@ use Rattle.blind_tree.specs.Recipients.{is_recipient}
 use Rattle.blind_tree.specs.Spelling.{spell_tree}
 use Rattle.blind_tree.specs.declared.kept_tree.KeptTree.{KeptTree}
 use Rattle.blind_tree.specs.declared.recipient.Recipient.TheVariants.{Mediator, Participant}
-use Rattle.sealed_form.specs.Framed.{AreBytes}
+use Rattle.framed_form.specs.Framed.{AreBytes}
 use Rattle.sealed_form.specs.SealedForm.{confirming_by, request_of}
 use Rattle.sealed_form.specs.Submission.{whole_with_seed}
 

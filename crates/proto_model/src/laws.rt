@@ -8,13 +8,14 @@ ghost use Rattle.blind_tree.specs.Blind.{Salts, is_host_named};
 ghost use Rattle.blind_tree.specs.Recipients.{is_recipient};
 ghost use Rattle.blind_tree.specs.ShownViews.{roles_of_all};
 ghost use Rattle.blind_tree.specs.declared.tree.Tree.{Tree};
-ghost use Rattle.sealed_form.specs.SealedForm.{CanBeSealed, Whole, envelope_to, opened_to, request_of, tree_in, views_by};
+ghost use Rattle.sealed_form.specs.SealedForm.{CanBeSealed, Whole, envelope_to, request_of, tree_in, views_by};
+ghost use Rattle.framed_form.specs.FramedForm.{opened_to};
 ghost use Rattle.proto_model.specs.RequestedViews.{ShowsNoContents, requested_views};
 
 /// Nothing is opened to a participant without an envelope, and of a transaction's request only the sender and who sees a view
 /// gets one.
 pub fn nothing_is_opened_without_an_envelope()
-    ensures opened { (request : Request) (p : ℕ) → envelope_to p request.envelopes ≡ None → opened_to p request ≡ None }
+    ensures opened { (topology : Topology) (request : Request) (p : ℕ) → envelope_to p request.envelopes ≡ None → opened_to topology p request ≡ None }
     ensures made { (topology : Topology) (packages : Packages) (sender : ℕ) (name command : List ℕ) (salts : Salts) (t : Transaction) (p : ℕ)
         → is_host_named topology.hosts sender name ≡ true
         → is_recipient topology.hosts (views_by packages t) sender p ≡ false

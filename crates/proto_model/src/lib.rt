@@ -3,11 +3,15 @@
 
 pub mod laws;
 mod mediator_tree;
+mod naming;
+mod notice;
 mod opening;
+mod outline;
 mod participants;
 mod sealing;
+mod seeing;
 
-pub use blind_tree::{OpenedTree, RolesTree};
+pub use blind_tree::{OpenedFor, OpenedTree, RolesTree};
 pub use canton_model::{
     Decision, Entry, EntryList, Envelope, EnvelopeList, LocalVerdict, Message, Outcome, Reason,
     Request, Response, SharedBytes, Verdict, ViewVerdict, ViewVerdictList,
@@ -16,5 +20,8 @@ pub use confirm_reply::Setup;
 pub use framed_form::framed;
 pub use ledger_model::Status;
 pub use mediator_tree::requested_views;
-pub use opening::{envelope_of, opened_in, opened_of, opened_to, tree_in};
+pub use notice::{Notice, if_known, read_notice};
+pub use opening::{envelope_of, tree_in};
+pub use outline::{Outline, read_outline};
 pub use sealing::seal;
+pub use seeing::{has_root, seen_among};

@@ -10,7 +10,7 @@ ghost use Rattle.blind_tree.specs.Kept.{cut_tree};
 ghost use Rattle.blind_tree.specs.LeafBytes.{AreSpellable};
 ghost use Rattle.blind_tree.specs.Limits.{KeepLimits};
 ghost use Rattle.blind_tree.specs.Spelling.{spell_tree};
-ghost use Rattle.sealed_form.specs.Framed.{AreBytes, is_framed};
+ghost use Rattle.framed_form.specs.Framed.{AreBytes, is_framed};
 ghost use Rattle.sealed_form.specs.SealedForm.{CanBeSealed};
 ghost use Rattle.sealed_form.specs.Submission.{whole_with_seed};
 ghost use Rattle.sealed_form.specs.Within.{participants_of};

@@ -1,0 +1,45 @@
+-- What a participant reads of a request that anybody may have sent.
+use Rattle.std.specs.Prelude.{◌≡◌, ℕ, Bool, List, [], Option, Some, None, filter, map, nat_lt, length, if◌then◌else◌}
+use Rattle.std.specs.List.{list_any}
+use Rattle.ledger_terms.specs.Forest.{Forest, paths_from, preorder}
+use Rattle.ledger_terms.specs.declared.topology.Topology.{Topology}
+use Rattle.ledger_model.specs.Terms.{Name, ParticipantId, Path}
+use Rattle.canton_model.specs.Reading.{Reading, paths_confirmed, paths_seen}
+use Rattle.canton_model.specs.declared.request.Request.{Request}
+use Rattle.blind_tree.specs.Leaves.{Sets}
+use Rattle.blind_tree.specs.Opening.{view_roles}
+use Rattle.blind_tree.specs.declared.view_roles.ViewRoles.{ViewRoles}
+use Rattle.framed_form.specs.FramedForm.{offered, outline_of, root_of}
+use Rattle.proto_model.specs.declared.notice.Notice.{Notice}
+use Rattle.proto_model.specs.declared.outline.Outline.{Outline}
+
+-- the views of a forest, each with its path and before those below it
+abbrev pub listed_views : Forest Sets → List ViewRoles
+listed_views views = map (λ (view : Path × Sets). view_roles view.0 view.1) (preorder (paths_from [] 0 views))
+
+-- What the mediator's bytes tell: their tree's hash, and its views.
+pub record IsOutline (request : Request) (outline : Outline) : Type 0 where
+  pub root : outline.root ≡ root_of request
+  pub views : outline.views ≡ listed_views (outline_of request)
+
+-- the paths of those of these views that have a confirmer who is confirmed for
+abbrev pub confirmed_among : (confirms : Name → Bool) → List ViewRoles → List Path
+confirmed_among confirms views =
+    map (λ (view : ViewRoles). view.path) (filter (λ (view : ViewRoles). list_any confirms view.confirmers) views)
+
+-- how deep a view stands, where it has an informee who is hosted
+abbrev pub top_here : (hosts : Name → Bool) → ViewRoles → Option ℕ
+top_here hosts view = if list_any hosts view.informees then Some (length view.path) else None
+
+-- how deep the topmost view stands that is seen, of those at or above this one; `top` is that of the view before it, in order of path
+abbrev pub top_seen : (hosts : Name → Bool) → (top : Option ℕ) → ViewRoles → Option ℕ
+top_seen hosts None view = top_here hosts view
+top_seen hosts (Some depth) view = if nat_lt depth (length view.path) then Some depth else top_here hosts view
+
+-- What a participant reads of a request: the mediator's tree's hash, the paths of the views that it sees and of those that it
+-- confirms, and what its envelope offers it.
+pub record IsNotice (topology : Topology) (reading : Reading) (me : ParticipantId) (request : Request) (notice : Notice) : Type 0 where
+  pub root : notice.root ≡ root_of request
+  pub seen : notice.seen ≡ paths_seen reading me request
+  pub confirmed : notice.confirmed ≡ paths_confirmed reading me request
+  pub offered : notice.offered ≡ offered topology me request

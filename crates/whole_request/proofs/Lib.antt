@@ -1,0 +1,3 @@
+pub mod PutBack
+pub mod Walked
+pub mod Read
