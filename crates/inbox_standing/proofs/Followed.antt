@@ -12,7 +12,7 @@ use Rattle.canton_model.specs.declared.decision.Decision.{Decision}
 use Rattle.canton_model.specs.declared.outcome.Outcome.TheVariants as kind
 use Rattle.canton_model.specs.declared.verdict.Verdict.{Verdict}
 use Rattle.canton_model.specs.Timeline.{Moment, Decided, decision_on, verdict_on, is_past, kind_of, outcome_from, outcome_of}
-use Rattle.canton_model.specs.Inbox.{Item, moments, is_received, last_time, shown_by, verdict_in}
+use Rattle.canton_model.specs.Inbox.{Item, moments, is_received, last_time, shown_in, verdict_in}
 use Rattle.contract_store.specs.Holds.{released}
 use Rattle.contract_store.specs.Written.{written, holding}
 use Rattle.request_track.specs.CleanLaw.{is_open_at}
@@ -269,7 +269,7 @@ module _ (reading : Reading) (params : Params) (items : List Item) where
       → last_time items < x.time → IsInOrder items → Comes x mid
       → (new.store).rows ≡ (mid.store).rows
       → (new.store).holds ≡ (mid.store).holds
-      ++ map (hold_on (length items)) (map id_in (changes_of (filter reading.is_authentic (acts (roots_in (shown_by x.content))))))
+      ++ map (hold_on (length items)) (map id_in (changes_of (filter reading.is_authentic (acts (roots_in (shown_in (Some x)))))))
       → (new.tracking).pairs ≡ (mid.tracking).pairs
       → (new.tracking).cursor ≡ (mid.tracking).cursor + 1 → Follows reading params (items ++ x ∷ []) new
   follows_request x mid new got quiet' later o c rows holds pairs cursor =

@@ -10,7 +10,7 @@ use Rattle.canton_model.specs.Log.{Params}
 use Rattle.canton_model.specs.Reading.{Reading}
 use Rattle.canton_model.specs.declared.verdict.Verdict.{Verdict}
 use Rattle.canton_model.specs.Timeline.{Moment}
-use Rattle.canton_model.specs.Inbox.{Content, Item, Received, Told, Nothing, moments, is_received, is_decided_in, shown_in, shown_by, verdict_in}
+use Rattle.canton_model.specs.Inbox.{Content, Item, Received, Told, Nothing, moments, is_received, is_decided_in, notice_by, shown_in_notice, shown_in, verdict_in}
 use Rattle.contract_store.specs.Below.{at_place}
 use Rattle.contract_store.specs.Written.{Placed, written, holding}
 use Rattle.contract_store.specs.declared.hold.Hold.{Hold}
@@ -90,11 +90,11 @@ module _ (reading : Reading) where
 
   -- ---- what is held
 
-  not_received : (item : Item) → is_received item.content ≡ false → filter reading.is_authentic (acts (roots_in (shown_by item.content))) ≡ []
+  not_received : (item : Item) → is_received item.content ≡ false → filter reading.is_authentic (acts (roots_in (shown_in (Some item)))) ≡ []
   not_received item e = by item.content e
     where
-      by : (content : Content) → is_received content ≡ false → filter reading.is_authentic (acts (roots_in (shown_by content))) ≡ []
-      by (Received shown) e = absurd (cc)
+      by : (content : Content) → is_received content ≡ false → filter reading.is_authentic (acts (roots_in (shown_in_notice (notice_by content)))) ≡ []
+      by (Received notice) e = absurd (cc)
       by (Told v) e = refl
       by Nothing e = refl
 
@@ -126,14 +126,14 @@ module _ (reading : Reading) where
   pub authentic_before : (items : List Item) (x : Item) (m : ℕ) → m < length items → authentic_at reading (items ++ x ∷ []) m ≡ authentic_at reading items m
   authentic_before items x m lt = ap (λ (o : Option Item). filter reading.is_authentic (acts (roots_in (shown_in o)))) (get_before items x m lt)
 
-  pub authentic_last : (items : List Item) (x : Item) → authentic_at reading (items ++ x ∷ []) (length items) ≡ filter reading.is_authentic (acts (roots_in (shown_by x.content)))
+  pub authentic_last : (items : List Item) (x : Item) → authentic_at reading (items ++ x ∷ []) (length items) ≡ filter reading.is_authentic (acts (roots_in (shown_in (Some x))))
   authentic_last items x = ap (λ (o : Option Item). filter reading.is_authentic (acts (roots_in (shown_in o)))) (get_last items x)
 
   -- what is open below the last item, and what the last item holds
   pending_push : (params : Params) (items : List Item) (x : Item) (pairs : List Pair) → pairs ≡ pairs_in params (items ++ x ∷ [])
       → pending_changes reading params (items ++ x ∷ [])
       ≡ placed_below (is_open_at pairs) (authentic_at reading items) (length items)
-      ++ (if is_open_at pairs (length items) then map (at_place (length items)) (filter reading.is_authentic (acts (roots_in (shown_by x.content)))) else [])
+      ++ (if is_open_at pairs (length items) then map (at_place (length items)) (filter reading.is_authentic (acts (roots_in (shown_in (Some x))))) else [])
   pending_push params items x pairs e =
       pending_is_open params (items ++ x ∷ [])
       ∙ ap (λ (ps : List Pair). placed_below (is_open_at ps) (authentic_at reading (items ++ x ∷ [])) (length (items ++ x ∷ []))) (sym e)
@@ -163,10 +163,10 @@ module _ (reading : Reading) where
   pub holds_more : (params : Params) (items : List Item) (x : Item) (pairs : List Pair) (holds : List Hold) → is_open_at pairs (length items) ≡ true
       → pairs ≡ pairs_in params (items ++ x ∷ [])
       → holds ≡ holding (placed_below (is_open_at pairs) (authentic_at reading items) (length items))
-      → holds ++ map (hold_on (length items)) (map id_in (changes_of (filter reading.is_authentic (acts (roots_in (shown_by x.content))))))
+      → holds ++ map (hold_on (length items)) (map id_in (changes_of (filter reading.is_authentic (acts (roots_in (shown_in (Some x)))))))
       ≡ holding (pending_changes reading params (items ++ x ∷ []))
   holds_more params items x pairs holds here e h =
-      let new = filter reading.is_authentic (acts (roots_in (shown_by x.content))) in
+      let new = filter reading.is_authentic (acts (roots_in (shown_in (Some x)))) in
       let old = placed_below (is_open_at pairs) (authentic_at reading items) (length items) in
       ap (λ (hs : List Hold). hs ++ map (hold_on (length items)) (map id_in (changes_of new))) h
       ∙ ap (λ (hs : List Hold). holding old ++ hs) (changes_held (length items) new)

@@ -1,7 +1,6 @@
 -- An inbox is in order: its times rise, and each verdict stands behind its request.
 use Rattle.std.proofs.Common.{◌≡◌, ℕ, zero, suc, ◌<◌, ◌≤◌, Bool, true, false, List, [], ◌∷◌, ◌++◌, length, take, Option, Some, None, refl, subst, arith}
 use Rattle.std.specs.Prelude.{if◌then◌else◌}
-use Rattle.ledger_model.specs.Opening.{Shown}
 use Rattle.ledger_model.specs.Terms.{ParticipantId}
 use Rattle.canton_model.specs.Log.{request_at, FollowsTime, TimesFrom}
 use Rattle.canton_model.specs.declared.entry.Entry.{Entry}
@@ -9,7 +8,7 @@ use Rattle.canton_model.specs.declared.message.Message.{Message}
 use Rattle.canton_model.specs.declared.message.Message.TheVariants.{Request as RequestMessage, Response as ResponseMessage, Verdict as VerdictMessage, Tick}
 use Rattle.canton_model.specs.declared.request.Request.{Request}
 use Rattle.canton_model.specs.Reading.{Reading, is_recipient}
-use Rattle.canton_model.specs.Inbox.{Told, Nothing, received, verdict_content, content_of, items_after, inbox, verdict_in}
+use Rattle.canton_model.specs.Inbox.{Received, Told, Nothing, notice_of, received, verdict_content, content_of, items_after, inbox, verdict_in}
 use Rattle.inbox_standing.specs.Order.{AllLater, Rise, IsBelow, VerdictsBehind, IsInOrder}
 use Rattle.inbox_standing.proofs.Grown.{one_longer}
 
@@ -30,12 +29,15 @@ times_taken (suc n) before [] h = tt
 times_taken (suc n) before (entry ∷ log) h = (h.0, times_taken n entry.time log h.1)
 
 module _ (reading : Reading) (p : ParticipantId) where
-  none_received : (n : ℕ) (o : Option Shown) → IsBelow n (verdict_in (received o))
-  none_received n None = tt
-  none_received n (Some shown) = tt
+  none_received : (n : ℕ) (q : Request) → IsBelow n (verdict_in (received reading p q))
+  none_received n q = by (is_recipient reading p q)
+    where
+      by : (b : Bool) → IsBelow n (verdict_in (if b then Received (notice_of reading p q) else Nothing))
+      by true = tt
+      by false = tt
 
   content_below : (before : List Entry) (m : Message) → IsBelow (length before) (verdict_in (content_of reading p before m))
-  content_below before (RequestMessage q) = none_received (length before) (reading.shown p q)
+  content_below before (RequestMessage q) = none_received (length before) q
   content_below before (ResponseMessage q) = tt
   content_below before Tick = tt
   content_below before (VerdictMessage v) = by (request_at before v.request) refl

@@ -13,17 +13,17 @@ use Rattle.ledger_model.specs.Opening.{Transaction, roots_in}
 use Rattle.ledger_model.specs.Terms.{Hash, ParticipantId, id_of, is_create, creates}
 use Rattle.ledger_model.proofs.Projected.{preorder_join}
 use Rattle.canton_model.specs.Evidence.{acts_of as whole_acts_of, gather}
-use Rattle.canton_model.specs.Log.{Params, request_at, request_in}
+use Rattle.canton_model.specs.Log.{Params, request_at}
 use Rattle.canton_model.specs.declared.entry.Entry.{Entry}
 use Rattle.canton_model.specs.declared.request.Request.{Request}
-use Rattle.canton_model.specs.Ledger.{Timely, commit_of, whole_at, ledger}
+use Rattle.canton_model.specs.Ledger.{Timely, commit_of, whole_at, ledger, is_withheld}
 use Rattle.canton_model.specs.Reading.{Reading, is_recipient}
 use Rattle.canton_model.specs.declared.decision.Decision.{Decision}
 use Rattle.canton_model.specs.Timeline.{Moment, moment_of, timeline_of, or_else, decision_on, verdict_on, is_approval, is_approved_in}
-use Rattle.canton_model.specs.Inbox.{Item, inbox, moments, shown_by, shown_in, opened_at, is_informed, project_whole, OpensProjection}
+use Rattle.canton_model.specs.Inbox.{Item, inbox, moments, opened_at, is_informed, project_whole}
 use Rattle.canton_model.specs.Inbox.{active_row, authentic_below, created_at_place, created_below}
 use Rattle.canton_model.proofs.Gathered.{ledger_gathered}
-use Rattle.canton_model.proofs.InboxFacts.{mapped, item_at, none_at, content_at, shown_received, silent, same_verdicts, slice_get_take}
+use Rattle.canton_model.proofs.InboxFacts.{mapped, OpensApproved, request_same, opened_of, opened_none, silent, same_verdicts, withheld_shut}
 use Rattle.canton_model.proofs.InboxGrows.{inbox_is_mapped}
 use Rattle.contract_store.specs.ActiveLaw.{created_rows}
 use Rattle.contract_store.specs.Written.{acts_of}
@@ -157,7 +157,8 @@ module _ (c : Hash) where
       ∙ as_many_placed (length items) (created_rows (changes_in reading items)) (created_below_end reading items behind) c
       ∙ as_many_rows c (changes_in reading items)
 
-  module _ (reading : Reading) (log : List Entry) (p : ParticipantId) (n : ℕ) (opens : OpensProjection reading p log) where
+  module _ (reading : Reading) (params : Params) (log : List Entry) (p : ParticipantId) (n : ℕ) (timely : Timely params log) (within : n ≤ length log)
+      (opens : OpensApproved reading p log) where
     abbrev its : List Item
     its = mapped reading p (take n log)
 
@@ -189,27 +190,27 @@ module _ (c : Hash) where
 
     approves : (k : ℕ) (q : Request) → k < n → request_at log k ≡ Some q → is_recipient reading p q ≡ true → approved_here k ≡ true → approved k ≡ true
     approves k q lt e here h =
-        let read : request_at (take n log) k ≡ Some q = ap request_in (slice_get_take n log k lt) ∙ e in
+        let read : request_at (take n log) k ≡ Some q = request_same reading params log p n timely within k lt ∙ e in
         approved_longer k n (timeline_of log)
         (ap (λ (ms : List Moment). is_approval (verdict_on k ms)) (take-map moment_of n log)
         ∙ ap is_approval (sym (same_verdicts reading p (take n log) k q read here (take n log))) ∙ h)
 
+    -- what is opened of an approved request is part of its whole, and nothing where its place is withheld
     at_place : (k : ℕ) → k < n → (o : Option Request) → request_at log k ≡ o
         → made (if approved_here k then opened_acts k else []) ≤ made (if approved k then whole_acts k else [])
-    at_place k lt None e =
-        nothing k _ (ap (λ (o : Option Item). roots_in (shown_in o)) (item_at reading p (take n log) k)
-        ∙ ap roots_in (none_at reading p (take n log) (slice_get (take n log) k) (ap request_in (slice_get_take n log k lt) ∙ e)))
+    at_place k lt None e = nothing k _ (opened_none reading params log p n timely within k lt e)
     at_place k lt (Some q) e =
-        let there = content_at reading p (take n log) (slice_get (take n log) k) q (ap request_in (slice_get_take n log k lt) ∙ e) in
-        let opened : opened_at its k ≡ roots_in (reading.shown p q) =
-        ap (λ (o : Option Item). roots_in (shown_in o)) (item_at reading p (take n log) k ∙ there.1)
-        ∙ ap roots_in (ap shown_by there.2 ∙ shown_received (reading.shown p q)) in
+        let opened = opened_of reading params log p n timely within k q lt e in
         elim (cases_Bool (is_recipient reading p q)) [
-          | inr away ↦ nothing k _ (opened ∙ silent (reading.shown p q) away)
+          | inr away ↦ nothing k _ (opened ∙ ap roots_in (silent reading p q away))
           | inl here ↦ elim (cases_Bool (approved_here k)) [
             | inr rejected ↦ rw rejected (omega arith)
             | inl accepted ↦
-                rw (accepted, approves k q lt e here accepted, opened ∙ opens.projected k q e, e) (of_whole k (reading.whole q))
+                let ok = approves k q lt e here accepted in
+                elim (cases_Bool (is_withheld reading log p k)) [
+                  | inl held ↦ nothing k _ (opened ∙ ap roots_in (withheld_shut reading log p k q e held))
+                  | inr free ↦ rw (accepted, ok, opened ∙ opens.projected k q e ok free, e) (of_whole k (reading.whole q))
+                ]
           ]
         ]
 
@@ -239,8 +240,8 @@ module _ (c : Hash) where
               omega (arith, e, rest)
         ]
 
-    made_here : n ≤ length log → NoneAgain (ledger_acts (ledger reading log)) → made (authentic_below reading its (length its)) ≤ 1
-    made_here within once =
+    made_here : NoneAgain (ledger_acts (ledger reading log)) → made (authentic_below reading its (length its)) ≤ 1
+    made_here once =
         let as_long : length its ≡ n = length-map (take n log) _ ∙ length-take-le n log within in
         let here = up_to n (omega arith) in
         let more = further n (length log) within in
@@ -249,10 +250,10 @@ module _ (c : Hash) where
         rw as_long (omega (arith, here, more, ledger_one))
 
 pub created_once_in_inbox : (reading : Reading) (params : Params) (log : List Entry) (p : ParticipantId) (n : ℕ) → Timely params log
-    → OpensProjection reading p log → n ≤ length log → NoneAgain (ledger_acts (ledger reading log))
+    → OpensApproved reading p log → n ≤ length log → NoneAgain (ledger_acts (ledger reading log))
     → CreatedOnce (changes_in reading (inbox reading p (take n log)))
 created_once_in_inbox reading params log p n timely opens within once c =
     let here : made c (authentic_below reading (inbox reading p (take n log)) (length (inbox reading p (take n log)))) ≤ 1 =
     subst (λ (items : List Item). made c (authentic_below reading items (length items)) ≤ 1) (sym (inbox_is_mapped reading params log p n timely))
-    (made_here c reading log p n opens within once) in
+    (made_here c reading params log p n timely within opens once) in
     subst (λ (m : ℕ). m ≤ 1) (made_in c reading (inbox reading p (take n log)) (behind_after reading p [] (take n log))) here

@@ -5,6 +5,7 @@ pub mod Expiry
 pub mod Written
 pub mod Room
 pub mod Tracked
+pub mod Withheld
 pub mod Order
 pub mod Outcomes
 pub mod Grown

@@ -19,7 +19,7 @@ use Rattle.canton_model.specs.declared.decision.Decision.{Decision}
 use Rattle.canton_model.specs.declared.verdict.Verdict.{Verdict}
 use Rattle.canton_model.specs.Timeline.{Moment, decision_on, verdict_on, is_past, is_approval, is_approved_in}
 use Rattle.canton_model.specs.Inbox.{Content, Item, Received, Told, Nothing, moments, is_received, is_decided_in, decision_time_in, past_in}
-use Rattle.canton_model.specs.Inbox.{shown_by, shown_in, verdict_in, status_in_inbox, is_locked_in_inbox}
+use Rattle.canton_model.specs.Inbox.{notice_by, shown_in_notice, shown_in, verdict_in, status_in_inbox, is_locked_in_inbox}
 use Rattle.canton_model.proofs.InboxFacts.{gather_same}
 use Rattle.contract_store.specs.Below.{at_place}
 use Rattle.contract_store.specs.Rows.{status_in}
@@ -229,9 +229,9 @@ module _ (reading : Reading) (items : List Item) (x : Item) where
   acts_if_open params all m (Some item) e = of_content item.content (not (is_decided_in params all m (length all)))
     where
       of_content : (content : Content) (b : Bool)
-          → (if (is_received content && b) then filter reading.is_authentic (acts (roots_in (shown_by content))) else [])
-          ≡ (if b then filter reading.is_authentic (acts (roots_in (shown_by content))) else [])
-      of_content (Received shown) b = refl
+          → (if (is_received content && b) then filter reading.is_authentic (acts (roots_in (shown_in_notice (notice_by content)))) else [])
+          ≡ (if b then filter reading.is_authentic (acts (roots_in (shown_in_notice (notice_by content)))) else [])
+      of_content (Received notice) b = refl
       of_content (Told v) true = refl
       of_content (Told v) false = refl
       of_content Nothing true = refl

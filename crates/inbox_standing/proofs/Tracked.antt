@@ -5,13 +5,12 @@ use Rattle.std.specs.Prelude.{if◌then◌else◌, ◌&&◌, ◌||◌, not, nat_
 use Rattle.std.proofs.lemmas.Bool.{eq-eqb, ne_eqb, cases_eq}
 use Rattle.std.proofs.lemmas.List.{take_all}
 use Rattle.std.proofs.lemmas.Option.{slice_get_past}
-use Rattle.ledger_model.specs.Opening.{Shown}
 use Rattle.canton_model.specs.Log.{Params}
 use Rattle.canton_model.specs.declared.decision.Decision.{Decision}
 use Rattle.canton_model.specs.declared.outcome.Outcome.{Outcome as Kind}
 use Rattle.canton_model.specs.declared.outcome.Outcome.TheVariants as kind
 use Rattle.canton_model.specs.Timeline.{Moment, decision_on, verdict_on, is_past, kind_of, outcome_from, outcome_of}
-use Rattle.canton_model.specs.Inbox.{Content, Item, Received, Told, Nothing, moments, is_received, is_decided_in, decision_time_in, shown_in, shown_by}
+use Rattle.canton_model.specs.Inbox.{Content, Item, Received, Told, Nothing, moments, is_received, is_decided_in, decision_time_in, Notice, notice_in, notice_by}
 use Rattle.request_track.specs.CleanLaw.{is_open_at, is_open_item, Tracks}
 use Rattle.request_track.specs.Pairs.{Pair, tracked_at, outcome_at, settled, expired, expire_one, is_undecided}
 use Rattle.request_track.specs.declared.tracked.Tracked.{Tracked}
@@ -235,14 +234,14 @@ module _ (params : Params) (items : List Item) where
     where
       of_content : (item : Item) (content : Content) → slice_get items m ≡ Some item
           → option_map (λ (t : Tracked). t.outcome) (if is_received content then Some (tracked_of params (moments items) m item.time) else None)
-          ≡ option_map (λ (shown : Shown). kind_of (outcome_of (moments items) m (decision_time_in params items m))) (shown_by content)
-      of_content item (Received shown) e = rw e refl
+          ≡ option_map (λ (notice : Notice). kind_of (outcome_of (moments items) m (decision_time_in params items m))) (notice_by content)
+      of_content item (Received notice) e = rw e refl
       of_content item (Told verdict) e = refl
       of_content item Nothing e = refl
 
       by : (o : Option Item) → slice_get items m ≡ o
           → option_map (λ (t : Tracked). t.outcome) (tracked_in params (moments items) m o)
-          ≡ option_map (λ (shown : Shown). kind_of (outcome_of (moments items) m (decision_time_in params items m))) (shown_in o)
+          ≡ option_map (λ (notice : Notice). kind_of (outcome_of (moments items) m (decision_time_in params items m))) (notice_in o)
       by None e = refl
       by (Some item) e = of_content item item.content e
 

@@ -1,11 +1,11 @@
 -- What a participant tracks of the requests that it received.
-use Rattle.std.specs.Prelude.{ℕ, suc, ◌+◌, ◌-◌, ◌^◌, List, [], ◌∷◌, Option, option_map, if◌then◌else◌, min}
-use Rattle.ledger_model.specs.Opening.{Shown}
+use Rattle.std.specs.Prelude.{◌≡◌, ℕ, suc, ◌+◌, ◌-◌, ◌^◌, Bool, true, false, List, [], ◌∷◌, Option, Some, None, option_map, if◌then◌else◌, ◌&&◌, min}
 use Rattle.canton_model.specs.Log.{Params}
 use Rattle.canton_model.specs.Timeline.{Moment, kind_of, outcome_of}
-use Rattle.canton_model.specs.Inbox.{Item, moments, is_received, shown_at, outcome_in}
+use Rattle.canton_model.specs.Inbox.{Item, Notice, moments, is_received, notice_at, outcome_in, is_kept_from, is_withheld_in}
 use Rattle.canton_model.specs.declared.outcome.Outcome.{Outcome}
-use Rattle.request_track.specs.Pairs.{Pair}
+use Rattle.canton_model.specs.declared.outcome.Outcome.TheVariants.{Undecided, Approved, Rejected, TimedOut, Expired}
+use Rattle.request_track.specs.Pairs.{Pair, outcome_at}
 use Rattle.request_track.specs.declared.tracked.Tracked.{Tracked}
 
 -- a time as it can be told
@@ -34,4 +34,17 @@ pairs_in params items = pairs_from params (moments items) 0 items
 
 -- what became of the request that was received at a place
 abbrev pub outcome_received : Params → List Item → ℕ → Option Outcome
-outcome_received params items place = option_map (λ (shown : Shown). kind_of (outcome_in params items place)) (shown_at items place)
+outcome_received params items place = option_map (λ (notice : Notice). kind_of (outcome_in params items place)) (notice_at items place)
+
+abbrev pub is_approved : Option Outcome → Bool
+is_approved None = false
+is_approved (Some Undecided) = false
+is_approved (Some Approved) = true
+is_approved (Some Rejected) = false
+is_approved (Some TimedOut) = false
+is_approved (Some Expired) = false
+
+-- a place is withheld exactly where the request that is tracked there is approved, and its envelope doesn't open what is seen of it
+abbrev pub WithheldIsTracked : Type 0
+WithheldIsTracked = (params : Params) (items : List Item) (place : ℕ)
+    → is_withheld_in items place ≡ (is_approved (outcome_at (pairs_in params items) place) && is_kept_from (notice_at items place))

@@ -1,5 +1,6 @@
 //! Laws of what is kept beside an inbox.
 ghost use Rattle.inbox_standing.specs.Offered.{OfferedIsNodeActive, OfferedOfGenuineLog};
+ghost use Rattle.inbox_standing.specs.Requests.{WithheldIsTracked};
 
 /// Where no contract is created twice, the active contracts with a hosted stakeholder of a store into which an inbox's approved
 /// requests were written in the order in which their verdicts were read are the model's, in the model's order.
@@ -10,4 +11,9 @@ pub fn offered_is_node_active()
 /// After any number of entries of a genuine log without collisions no contract is created twice, so that these are the model's.
 pub fn offered_of_genuine_log()
     ensures { OfferedOfGenuineLog }
+{}
+
+/// What became of the tracked requests, with what was learnt of each, tells which places are withheld.
+pub fn withheld_is_tracked()
+    ensures { WithheldIsTracked }
 {}

@@ -2,11 +2,10 @@
 use Rattle.std.proofs.Common.{◌≡◌, ℕ, zero, suc, Bool, true, false, ◌&&◌, not, if◌then◌else◌, List, length, find, Option, Some, None, refl, ap, ◌∙◌, inl, inr}
 use Rattle.std.specs.Prelude.{is_some}
 use Rattle.std.proofs.lemmas.Bool.{cases_Bool, both_ways, and_parts}
-use Rattle.ledger_model.specs.Opening.{Shown}
 use Rattle.ledger_model.specs.Terms.{ParticipantId}
 use Rattle.canton_model.specs.Log.{Params}
 use Rattle.canton_model.specs.Reading.{Reading}
-use Rattle.canton_model.specs.Inbox.{Item, shown_at}
+use Rattle.canton_model.specs.Inbox.{Item, Notice, notice_at}
 use Rattle.world_model.specs.Machine.{confirms_some_view}
 use Rattle.world_model.specs.Places.{first_from, has_place}
 use Rattle.world_model.specs.Node.{is_claimable, is_decided_now, next_claim, owes_at}
@@ -16,14 +15,14 @@ use Rattle.node_core.specs.Participant.{is_received_decided, places_where}
 use Rattle.node_core.specs.Kept.{IsKept}
 use Rattle.node_core.proofs.DutyFacts.{false_if_not}
 
-shown_if_asked : (reading : Reading) (p : ParticipantId) (o : Option Shown) → confirms_some_view reading p o ≡ true → is_some o ≡ true
-shown_if_asked reading p None h = absurd (both_ways false refl h)
-shown_if_asked reading p (Some shown) h = refl
+received_if_asked : (o : Option Notice) → confirms_some_view o ≡ true → is_some o ≡ true
+received_if_asked None h = absurd (both_ways false refl h)
+received_if_asked (Some notice) h = refl
 
 -- of a request that it owes verdicts to it can tell whether that is decided
 pub decided_is : (reading : Reading) (params : Params) (p : ParticipantId) (items : List Item) (k : ℕ) → owes_at reading p items k ≡ true
     → is_received_decided params items k ≡ is_decided_now params items k
-decided_is reading params p items k h = rw (shown_if_asked reading p (shown_at items k) h) refl
+decided_is reading params p items k h = rw (received_if_asked (notice_at items k) h) refl
 
 -- the first free one of the owed places
 first_free : (owes decided d : ℕ → Bool) (claimed : List ℕ) → ((k : ℕ) → owes k ≡ true → decided k ≡ d k) → (start count : ℕ)

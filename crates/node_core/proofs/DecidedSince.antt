@@ -1,5 +1,5 @@
 -- Since when a request is decided.
-use Rattle.std.proofs.Common.{◌≡◌, ◌≤◌, ◌<◌, ◌+◌, ℕ, Bool, true, false, length, Option, Some, None, refl, arith}
+use Rattle.std.proofs.Common.{◌≡◌, ℕ, Bool, true, length, Option, Some, None, refl, arith}
 use Rattle.std.specs.Prelude.{unwrap_or}
 use Rattle.canton_model.specs.Inbox.{is_decided_in}
 use Rattle.world_model.specs.Places.{first_from}

@@ -5,13 +5,12 @@ use Rattle.std.specs.List.{list_any}
 use Rattle.std.proofs.lemmas.Bool.{cases_Bool, both_ways, and_parts, and_from, or_parts, or_from, or_left, or_right}
 use Rattle.std.proofs.lemmas.Option.{none-some, same_Some, slice_get_within}
 use Rattle.std.proofs.lemmas.List.Folds.{list_any-append}
-use Rattle.ledger_model.specs.Opening.{Shown}
 use Rattle.ledger_model.specs.Terms.{ParticipantId}
 use Rattle.canton_model.specs.Log.{Params}
 use Rattle.canton_model.specs.declared.decision.Decision.{Decision}
 use Rattle.canton_model.specs.Reading.{Reading}
 use Rattle.canton_model.specs.Timeline.{Moment, verdict_on, is_past, is_decided_at, or_else, decision_on}
-use Rattle.canton_model.specs.Inbox.{Item, moments, verdict_in, shown_in, shown_at, item_time, is_decided_in, decision_time_in}
+use Rattle.canton_model.specs.Inbox.{Item, moments, verdict_in, Notice, notice_in, notice_at, item_time, is_decided_in, decision_time_in}
 use Rattle.world_model.specs.Machine.{confirms_some_view}
 use Rattle.world_model.specs.Node.{owes_at}
 use Rattle.world_model.proofs.Grown.{slice_get_left}
@@ -46,23 +45,23 @@ past_stays time before after h =
     list_any-append (λ (m : Moment). nat_lt time m.time) before after ∙ or_left _ _ h
 
 module _ (items : List Item) where
-  shown_within : (k : ℕ) → is_some (shown_at items k) ≡ true → k < length items
-  shown_within k h = by (slice_get items k) refl h
+  received_within : (k : ℕ) → is_some (notice_at items k) ≡ true → k < length items
+  received_within k h = by (slice_get items k) refl h
     where
-      by : (o : Option Item) → slice_get items k ≡ o → is_some (shown_in o) ≡ true → k < length items
+      by : (o : Option Item) → slice_get items k ≡ o → is_some (notice_in o) ≡ true → k < length items
       by None e h = absurd (both_ways false refl h)
       by (Some x) e h = slice_get_within items k x e
 
   pub owes_within : (reading : Reading) (p : ParticipantId) (k : ℕ) → owes_at reading p items k ≡ true → k < length items
-  owes_within reading p k h = shown_within k (asked (shown_at items k) h)
+  owes_within reading p k h = received_within k (asked (notice_at items k) h)
     where
-      asked : (o : Option Shown) → confirms_some_view reading p o ≡ true → is_some o ≡ true
+      asked : (o : Option Notice) → confirms_some_view o ≡ true → is_some o ≡ true
       asked None h = absurd (both_ways false refl h)
-      asked (Some shown) h = refl
+      asked (Some notice) h = refl
 
 module _ (params : Params) (items : List Item) (item : Item) where
-  pub shown_stays : (k : ℕ) → k < length items → shown_at (items ++ item ∷ []) k ≡ shown_at items k
-  shown_stays k lt = ap shown_in (slice_get_left items (item ∷ []) k lt)
+  pub notice_stays : (k : ℕ) → k < length items → notice_at (items ++ item ∷ []) k ≡ notice_at items k
+  notice_stays k lt = ap notice_in (slice_get_left items (item ∷ []) k lt)
 
   time_stays : (k : ℕ) → k < length items → decision_time_in params (items ++ item ∷ []) k ≡ decision_time_in params items k
   time_stays k lt =
@@ -92,12 +91,12 @@ module _ (params : Params) (items : List Item) (item : Item) where
 
   pub received_decided_stays : (k : ℕ) → is_received_decided params items k ≡ true → is_received_decided params (items ++ item ∷ []) k ≡ true
   received_decided_stays k h =
-      let parts = and_parts (is_some (shown_at items k)) (is_decided_in params items k (length items)) h in
-      let lt = shown_within items k parts.0 in
-      and_from _ _ (ap is_some (shown_stays k lt) ∙ parts.0) (decided_stays k lt parts.1)
+      let parts = and_parts (is_some (notice_at items k)) (is_decided_in params items k (length items)) h in
+      let lt = received_within items k parts.0 in
+      and_from _ _ (ap is_some (notice_stays k lt) ∙ parts.0) (decided_stays k lt parts.1)
 
   pub owes_stays : (reading : Reading) (p : ParticipantId) (k : ℕ) → k < length items → owes_at reading p (items ++ item ∷ []) k ≡ owes_at reading p items k
-  owes_stays reading p k lt = ap (confirms_some_view reading p) (shown_stays k lt)
+  owes_stays reading p k lt = ap confirms_some_view (notice_stays k lt)
 
 -- places
 pub where_same : (f g : ℕ → Bool) (start count : ℕ) → ((k : ℕ) → k < start + count → f k ≡ g k) → places_where f start count ≡ places_where g start count

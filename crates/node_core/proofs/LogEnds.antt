@@ -39,7 +39,7 @@ module _ (reading : Reading) (p : ParticipantId) where
       → last_time (inbox reading p before) < e.time
   rises params log before e g is = rises_after 0 [] before e (subst (λ (xs : List Entry). TimesFrom 0 xs) is (g.timely).times)
 
-pub sealed_there : (reading : Reading) (params : Params) (log : List Entry) (k : ℕ) (e : Entry) → Genuine reading params log → slice_get log k ≡ Some e
-    → (q : Request) → e.message ≡ RequestMessage q → reading.is_sealed q ≡ true
-sealed_there reading params log k e g there q is =
-    (subst (λ (m : Message). FitsIfRequest reading log k m) is (g.requests k e there)).is_sealed
+pub framed_there : (reading : Reading) (params : Params) (log : List Entry) (k : ℕ) (e : Entry) → Genuine reading params log → slice_get log k ≡ Some e
+    → (q : Request) → e.message ≡ RequestMessage q → reading.is_framed q ≡ true
+framed_there reading params log k e g there q is =
+    (subst (λ (m : Message). FitsIfRequest reading log k m) is (g.requests k e there)).is_framed

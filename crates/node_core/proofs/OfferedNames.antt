@@ -8,13 +8,13 @@ use Rattle.canton_model.specs.declared.entry.Entry.{Entry}
 use Rattle.lang_eval.specs.Found.{Packages}
 use Rattle.lang_eval.specs.Named.{AreKnown}
 use Rattle.interpret.specs.NamedParties.{parties_in_contracts}
-use Rattle.sealed_form.specs.SealedReading.{sealed_reading}
+use Rattle.framed_form.specs.FramedReading.{framed_reading}
 use Rattle.sealed_form.specs.Within.{is_hosted}
 use Rattle.prepare_request.proofs.Offers.{offers_name_parties}
 use Rattle.node_core.specs.Preparing.{offered}
 
 pub offers_named : (topology : Topology) (packages : Packages) (log : List Entry) (p : ParticipantId)
-    → Genuine (sealed_reading topology packages) topology.params log
-    → AreKnown (is_hosted topology) (parties_in_contracts (offered (sealed_reading topology packages) p (inbox (sealed_reading topology packages) p log)))
+    → Genuine (framed_reading topology packages) topology.params log
+    → AreKnown (is_hosted topology) (parties_in_contracts (offered (framed_reading topology packages) p (inbox (framed_reading topology packages) p log)))
 offers_named topology packages log p genuine =
-    offers_name_parties topology packages log genuine p (length (inbox (sealed_reading topology packages) p log))
+    offers_name_parties topology packages log genuine p (length (inbox (framed_reading topology packages) p log))

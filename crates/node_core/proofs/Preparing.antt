@@ -36,6 +36,10 @@ unless_paused t u ps qs offered what items now result a b w =
     weaker (Ok request) h = h
     weaker (Err fault) h = λ memory paused. h memory
 
+-- what holds over a setup holds over an equal one
+pub over_setup : (P : Topology → Packages → Type 0) (t u : Topology) (ps qs : Packages) → t ≡ u → ps ≡ qs → P t ps → P u qs
+over_setup P t u ps qs a b h = subst (λ (x : Topology). P x qs) a (subst (P t) b h)
+
 -- what follows what is prepared follows it over an equal setup and equal contracts, where the participant isn't paused
 pub follows_awake : (topology topology' : Topology) (packages packages' : Packages) (me me' : ℕ) (known known' : List Known) (what : Submission) (now : ℕ)
     (paused : Bool) (result : Result Request SubmitFault) → topology ≡ topology' → packages ≡ packages' → me ≡ me' → known ≡ known' → paused ≡ false

@@ -10,7 +10,7 @@ use Rattle.node_inbox.specs.Entries.{item_from}
 use Rattle.node_inbox.specs.InboxState.{InboxState, params_of, reading_of, with_item}
 use Rattle.node_core.specs.Duties.{Kept, state_of}
 use Rattle.node_core.specs.Participant.{Participant, CanRead, with_state}
-use Rattle.node_core.proofs.LogEnds.{before_last, front_of, rises, sealed_there}
+use Rattle.node_core.proofs.LogEnds.{before_last, front_of, rises, framed_there}
 
 abbrev pub participant_of : InboxState → Bool → Kept → Participant
 participant_of i is_paused kept =
@@ -26,8 +26,8 @@ module _ (i : InboxState) (is_paused : Bool) (kept : Kept) (list : List Entry) (
       subst (λ (xs : List Item). last_time xs < entry.time) (sym can.before)
       (rises (reading_of i) i.me (params_of i) list (take (length i.items) list) entry can.genuine parts)
 
-  pub sealed_here : (q : Request) → entry.message ≡ RequestMessage q → (reading_of i).is_sealed q ≡ true
-  sealed_here = sealed_there (reading_of i) (params_of i) list (length i.items) entry can.genuine there
+  pub framed_here : (q : Request) → entry.message ≡ RequestMessage q → (reading_of i).is_framed q ≡ true
+  framed_here = framed_there (reading_of i) (params_of i) list (length i.items) entry can.genuine there
 
   pub inbox_is : i.items ++ item_from (reading_of i) i.me i.items entry ∷ [] ≡ inbox (reading_of i) i.me list
   inbox_is =

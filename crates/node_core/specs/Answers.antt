@@ -3,7 +3,7 @@ use Rattle.std.specs.Prelude.{◌≡◌, ℕ, Bool, List, Option, Result, length
 use Rattle.ledger_terms.specs.declared.submission.Submission.{Submission}
 use Rattle.ledger_model.specs.Terms.{ActiveRow}
 use Rattle.ledger_model.specs.declared.commit.Commit.{Commit}
-use Rattle.canton_model.specs.Inbox.{clean, clean_time, node_active, node_log, outcome_in}
+use Rattle.canton_model.specs.Inbox.{clean, clean_time, node_active, node_log, outcome_in, withheld}
 use Rattle.canton_model.specs.Timeline.{Outcome}
 use Rattle.world_model.specs.Machine.{Machine}
 use Rattle.world_model.specs.Messages.{Request, ViewVerdict}
@@ -16,6 +16,7 @@ pub record Answers : Type 0 where
   pub cursor : ℕ
   pub clean : ℕ
   pub clean_time : ℕ
+  pub withheld : List ℕ
   pub applied : List Commit
   pub active : List ActiveRow
   pub is_paused : Bool
@@ -33,6 +34,7 @@ answers_of p =
       cursor = length (items_of p);
       clean = clean (params_of p) (items_of p);
       clean_time = clean_time (params_of p) (items_of p);
+      withheld = withheld (params_of p) (items_of p);
       applied = node_log (params_of p) (items_of p);
       active = node_active (reading_of p) p.me (items_of p) (clean (params_of p) (items_of p));
       is_paused = p.state.is_paused;

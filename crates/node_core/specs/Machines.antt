@@ -7,7 +7,7 @@ use Rattle.lang_eval.specs.Found.{Packages}
 use Rattle.canton_model.specs.Inbox.{Item}
 use Rattle.world_model.specs.Messages.{Request}
 use Rattle.world_model.specs.Machine.{Machine}
-use Rattle.sealed_form.specs.SealedReading.{sealed_reading}
+use Rattle.framed_form.specs.FramedReading.{framed_reading}
 use Rattle.prepare_request.specs.Machine.{Offered, machine_over, prepare_over, why_over}
 use Rattle.prepare_request.specs.declared.submit_fault.SubmitFault.{SubmitFault}
 use Rattle.world_model.specs.Rounds.{Why}
@@ -16,13 +16,13 @@ use Rattle.node_core.specs.Preparing.{offered}
 
 -- what a participant with these items offers: its active contracts at its cursor
 abbrev pub offered_in : Topology → Packages → Offered
-offered_in topology packages p items = offered (sealed_reading topology packages) p items
+offered_in topology packages p items = offered (framed_reading topology packages) p items
 
 -- the request that a submission wants over its participant's inbox, where it wants one
 abbrev pub wanted_request : Topology → Packages → Submission → List Item → (now : ℕ) → Option Request
 wanted_request topology packages = prepare_over topology packages (offered_in topology packages)
 
--- sealed requests are read and prepared, and there is a participant for each host
+-- framed requests are read, and submissions prepared, and there is a participant for each host
 abbrev pub machine_of : Topology → Packages → (capacity : ℕ) → Machine
 machine_of topology packages capacity = machine_over topology packages capacity (offered_in topology packages)
 

@@ -5,11 +5,11 @@ use Rattle.ledger_model.specs.Terms.{ParticipantId}
 use Rattle.canton_model.specs.Log.{Params}
 use Rattle.canton_model.specs.Reading.{Reading}
 use Rattle.canton_model.specs.Genuine.{Genuine}
-use Rattle.canton_model.specs.Inbox.{Item, inbox, is_decided_in, shown_at}
+use Rattle.canton_model.specs.Inbox.{Item, inbox, is_decided_in, notice_at}
 use Rattle.world_model.specs.Node.{NodeState, new_node, next_claim, outbox_head, owed_at, owes_at, response_at, is_decided_now}
 use Rattle.world_model.specs.Messages.{Entry, Response, ViewVerdict}
 use Rattle.lang_eval.specs.Found.{Packages}
-use Rattle.sealed_form.specs.SealedReading.{sealed_reading}
+use Rattle.framed_form.specs.FramedReading.{framed_reading}
 
 -- The participants with their times, the packages, which participant it is, and its state.
 pub record Participant : Type 0 where
@@ -20,7 +20,7 @@ pub record Participant : Type 0 where
 
 -- how it reads requests
 abbrev pub reading_of : Participant → Reading
-reading_of p = sealed_reading p.topology p.packages
+reading_of p = framed_reading p.topology p.packages
 
 abbrev pub params_of : Participant → Params
 params_of p = p.topology.params
@@ -70,7 +70,7 @@ next_response p = outbox_head (params_of p) p.state
 
 -- a request was received there, and is decided at the cursor
 abbrev pub is_received_decided : Params → List Item → ℕ → Bool
-is_received_decided params items k = is_some (shown_at items k) && is_decided_in params items k (length items)
+is_received_decided params items k = is_some (notice_at items k) && is_decided_in params items k (length items)
 
 -- the places of so many that pass a test, from one on
 abbrev pub places_where : (ℕ → Bool) → (start count : ℕ) → List ℕ

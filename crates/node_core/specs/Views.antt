@@ -2,7 +2,7 @@
 use Rattle.std.specs.Prelude.{ℕ, suc, zero, List, [], ◌∷◌, map}
 use Rattle.ledger_terms.specs.declared.active_row.ActiveRow.{ActiveRow}
 use Rattle.ledger_model.specs.Terms.{ParticipantId}
-use Rattle.canton_model.specs.Inbox.{Item, clean, clean_time, inbox, node_active, node_log}
+use Rattle.canton_model.specs.Inbox.{Item, clean, clean_time, inbox, node_active, node_log, withheld}
 use Rattle.canton_model.specs.Log.{Params}
 use Rattle.canton_model.specs.Reading.{Reading}
 use Rattle.world_model.specs.Messages.{Entry}
@@ -15,6 +15,7 @@ view_over reading params p items =
     record {
       clean = clean params items;
       clean_time = clean_time params items;
+      withheld = withheld params items;
       commits = node_log params items;
       active = node_active reading p items (clean params items);
     }

@@ -3,14 +3,16 @@ ghost use Rattle.std.specs.Prelude.{◌≡◌, ◌≢◌, ◌<◌, ◌++◌, ◌
 ghost use Rattle.std.specs.Prelude.{MatchResult, IfOk, IfErr, IfSome, IfNone, OnOk, OnErr};
 ghost use Rattle.ledger_terms.specs.Answers.{Follows};
 ghost use Rattle.ledger_terms.specs.Topologies.{IsValid};
-ghost use Rattle.canton_model.specs.Inbox.{clean, clean_time, inbox, node_active, node_log, outcome_in, shown_at};
+ghost use Rattle.canton_model.specs.Inbox.{clean, clean_time, inbox, node_active, node_log, notice_at, outcome_in, withheld};
 ghost use Rattle.world_model.specs.Messages.{Entry};
 ghost use Rattle.world_model.specs.Places.{has_place};
 ghost use Rattle.world_model.specs.Node.{claim, finish, put_back, read_entry, sent, with_flag};
+ghost use Rattle.sealed_form.specs.SealedForm.{IsSealedForm};
 ghost use Rattle.validate_job.specs.Owed.{owed_on_each};
 ghost use Rattle.node_inbox.specs.InboxState.{decided_since};
 ghost use Rattle.prepare_request.specs.Causes.{HoldsNoMemory};
 ghost use Rattle.prepare_request.specs.Machine.{Offered, prepare_over, why_over};
+ghost use Rattle.prepare_request.specs.Opens.{OpensByRules};
 ghost use Rattle.prepare_request.specs.Within.{IsWithin};
 ghost use Rattle.prepare_request.specs.declared.submit_fault.SubmitFault.TheVariants as SubmitFault;
 ghost use Rattle.node_core.specs.Completion.{completion_of};
@@ -27,7 +29,7 @@ use canton_model::{Outcome, Request, Response};
 use confirm_reply::Setup;
 use lang_eval::NativeList;
 use ledger_model::CommitList;
-use ledger_terms::{ActiveRowList, ParticipantId, Submission};
+use ledger_terms::{ActiveRowList, ParticipantId, Submission, U64List};
 use log_row::Slip;
 use node_inbox::Inbox;
 use prepare_request::SubmitFault;
@@ -185,7 +187,7 @@ impl<'s> Node<'s> {
     /// The least place up to the cursor at which the request that it received at a place is decided. Goes through what was read from
     /// there on.
     pub fn decided_at(&self, place: u64) -> Option<u64>
-        requires { is_some (shown_at (items_of self.now) place) ≡ true }
+        requires { is_some (notice_at (items_of self.now) place) ≡ true }
         ensures undecided { IfNone result (is_decided_there self.now place ≡ false) }
         ensures decided { IfSome result (λ at. is_decided_there self.now place ≡ true) }
         ensures decided_at { IfSome result (λ at. at ≡ decided_since (params_of self.now) (items_of self.now) place) }
@@ -246,7 +248,8 @@ impl<'s> Node<'s> {
             (λ fault. fault ≢ SubmitFault.Memory → fault ≢ SubmitFault.Paused
             → (prepare_over self.now.topology self.now.packages offered what.now (items_of self.now) now ≡ None)
             × (why_over self.now.topology self.now.packages offered what.now (items_of self.now) now ≡ fault)) }
-        ensures sealed { IfOk result (λ request. (reading_of self.now).is_sealed request ≡ true) }
+        ensures sealed { IfOk result (λ request. IsSealedForm self.now.topology self.now.packages request) }
+        ensures opens { IfOk result (λ request. OpensByRules self.now.topology self.now.packages request) }
         ensures framed { IfOk result (λ request. (reading_of self.now).is_framed request ≡ true) }
         ensures sender { IfOk result (λ request. request.sender ≡ self.now.me) }
         ensures command { IfOk result (λ request. request.command ≡ what.now.command) }
@@ -274,6 +277,13 @@ impl<'s> Node<'s> {
         inbox.into_applied()
     }
 
+    /// The places of the approved requests before the clean place of which it sees a view and has no complete envelope.
+    pub fn withheld(&self) -> Result<U64List, AllocError>
+        ensures { IfOk result (λ places. places ≡ withheld (params_of self.now) (items_of self.now)) }
+    {
+        self.inbox.withheld()
+    }
+
     /// What it kept, when nobody asks it any more.
     pub fn into_remains(self) -> NodeRemains {
         let Node { inbox, duties, .. } = self;
@@ -290,7 +300,7 @@ impl<'s> Node<'s> {
 
     /// What became of a request that it received, over what it has read.
     pub fn completion_of(&self, place: u64) -> Result<Completion, AllocError>
-        requires { is_some (shown_at (items_of self.now) place) ≡ true }
+        requires { is_some (notice_at (items_of self.now) place) ≡ true }
         ensures { IfOk result (λ c. c ≡ completion_of (length (items_of self.now)) (outcome_in (params_of self.now) (items_of self.now) place)) }
     {
         let read_to = self.inbox.cursor();

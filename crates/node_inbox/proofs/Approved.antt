@@ -3,11 +3,11 @@ use Rattle.std.proofs.Common.{◌≡◌, ℕ, Bool, true, false, List, Option, S
 use Rattle.std.specs.Prelude.{if◌then◌else◌, option_map}
 use Rattle.ledger_terms.specs.declared.act.Act.{Act}
 use Rattle.ledger_model.specs.Forest.{Forest, NoRoots}
-use Rattle.ledger_model.specs.Opening.{Shown, roots_in}
+use Rattle.ledger_model.specs.Opening.{roots_in}
 use Rattle.canton_model.specs.declared.decision.Decision.{Decision}
 use Rattle.canton_model.specs.declared.decision.Decision.TheVariants.{Approved, Rejected, TimedOut}
 use Rattle.canton_model.specs.declared.outcome.Outcome.{Outcome as OutcomeKind}
-use Rattle.canton_model.specs.Inbox.{Item, decision_time_in, moments, opened_at, part_if, shown_at}
+use Rattle.canton_model.specs.Inbox.{Item, decision_time_in, moments, Notice, notice_at, opened_at, part_if, shown_in_notice}
 use Rattle.canton_model.specs.Log.{Params}
 use Rattle.canton_model.specs.Timeline.{is_approval, is_approved_in, is_past, kind_of, outcome_from, verdict_on}
 use Rattle.inbox_standing.specs.Requests.{outcome_received}
@@ -27,18 +27,18 @@ nothing_either_way : (b : Bool) → (if b then NoRoots else NoRoots) ≡ (let no
 nothing_either_way true = refl
 nothing_either_way false = refl
 
-by_shown : (d : Option Decision) (past : Bool) (shown : Option Shown)
-    → (if is_approved (option_map (λ (s : Shown). kind_of (outcome_from d past)) shown) then roots_in shown else NoRoots)
-    ≡ (if is_approval d then roots_in shown else NoRoots)
-by_shown d past (Some shown) = if_same _ (is_approval d) shown.roots (by_verdict d past)
-by_shown d past None = sym (nothing_either_way (is_approval d))
+by_notice : (d : Option Decision) (past : Bool) (notice : Option Notice)
+    → (if is_approved (option_map (λ (n : Notice). kind_of (outcome_from d past)) notice) then roots_in (shown_in_notice notice) else NoRoots)
+    ≡ (if is_approval d then roots_in (shown_in_notice notice) else NoRoots)
+by_notice d past (Some notice) = if_same _ (is_approval d) (roots_in (shown_in_notice (Some notice))) (by_verdict d past)
+by_notice d past None = sym (nothing_either_way (is_approval d))
 
 -- what is told of a request tells whether it is approved
 pub approved_is_told : (params : Params) (items : List Item) (k : ℕ) (told : Option OutcomeKind) → told ≡ outcome_received params items k
     → (if is_approved told then opened_at items k else NoRoots) ≡ approved_at items k
 approved_is_told params items k told is =
     ap (λ (o : Option OutcomeKind). if is_approved o then opened_at items k else NoRoots) is
-    ∙ by_shown (verdict_on k (moments items)) (is_past (decision_time_in params items k) (moments items)) (shown_at items k)
+    ∙ by_notice (verdict_on k (moments items)) (is_past (decision_time_in params items k) (moments items)) (notice_at items k)
 
 -- a part of what is approved
 pub part_of_approved : (items : List Item) (k : ℕ) → part_if true k (approved_at items k) ≡ part_if (is_approved_in k (moments items)) k (opened_at items k)

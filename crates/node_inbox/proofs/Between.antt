@@ -1,6 +1,6 @@
 -- The active contracts at a place, from those at an earlier one and what approved requests write from there on.
-use Rattle.std.proofs.Common.{◌≡◌, ℕ, zero, suc, ◌+◌, ◌<◌, ◌≤◌, Bool, true, false, cond, List, [], ◌∷◌, ◌++◌, length, map, filter, refl, sym, ap, ◌∙◌, subst, inl, inr, arith, append_assoc, append-nil}
-use Rattle.std.specs.Prelude.{if◌then◌else◌, ◌||◌, ◌&&◌, nat_le, not}
+use Rattle.std.proofs.Common.{◌≡◌, ℕ, zero, suc, ◌≤◌, Bool, true, false, cond, List, [], ◌∷◌, ◌++◌, map, filter, refl, sym, ap, ◌∙◌, subst, inl, inr, arith, append_assoc, append-nil}
+use Rattle.std.specs.Prelude.{if◌then◌else◌, ◌||◌, ◌&&◌, not}
 use Rattle.std.specs.List.{list_any}
 use Rattle.std.specs.Str.{bytes_eq}
 use Rattle.std.proofs.lemmas.Bool.{cases_Bool, cases_lt, le-leb, lt-leb, or_parts}
@@ -14,12 +14,10 @@ use Rattle.ledger_model.specs.Terms.{Hash, ParticipantId, consumes, creates, id_
 use Rattle.ledger_model.specs.declared.status.Status.TheVariants.{Unknown, Active, Consumed}
 use Rattle.canton_model.specs.Inbox.{Item, authentic_below, first_of_each, is_active_row, is_stakeholder_hosted, node_active}
 use Rattle.canton_model.specs.Reading.{Reading}
-use Rattle.contract_store.specs.Active.{active_rows}
 use Rattle.contract_store.specs.ActiveLaw.{InOrder, created_rows, is_creation, row_for}
 use Rattle.contract_store.specs.Below.{at_place, placed_below, writes_of}
 use Rattle.contract_store.specs.Rows.{status_in}
 use Rattle.contract_store.specs.Written.{Placed, acts_of, written}
-use Rattle.contract_store.specs.declared.row.StoreRow.{StoreRow}
 use Rattle.contract_store.proofs.Following.{status_follows}
 use Rattle.contract_store.proofs.Maps.{equal_bytes, same_bytes}
 use Rattle.contract_store.proofs.Ordered.{hosted_is_active}

@@ -1,31 +1,46 @@
--- How few actions the views have that a short tree shows: each of them takes 64 bytes of it at least.
-use Rattle.std.proofs.Common.{◌≡◌, ◌≤◌, ◌*◌, ℕ, suc, Bool, true, false, List, [], ◌∷◌, ◌++◌, length, map, refl, sym, ap, subst, inl, inr, arith}
+-- How few actions the views have that a short tree opens: each of them takes 64 bytes of it at least.
+use Rattle.std.proofs.Common.{◌≡◌, ◌≤◌, ◌*◌, ℕ, suc, Bool, List, [], ◌∷◌, ◌++◌, length, map, Ok, refl, sym, ap, subst, inl, inr, arith}
+use Rattle.std.specs.Prelude.{if◌then◌else◌}
 use Rattle.std.specs.Int.{w16, w32, to_be_bytes}
 use Rattle.std.proofs.lemmas.Bool.{cases_Bool}
 use Rattle.std.proofs.lemmas.List.{length-append}
 use Rattle.ledger_terms.specs.declared.act.Act.{Act}
 use Rattle.ledger_terms.specs.declared.action.Action.{Action}
 use Rattle.ledger_terms.specs.declared.action.Action.TheVariants.{Create, Exercise, Fetch}
-use Rattle.ledger_terms.specs.Forest.{Forest, NoRoots, Root, join, paths_from, preorder, project}
+use Rattle.ledger_terms.specs.Forest.{Forest, NoRoots, Root, join, preorder}
+use Rattle.ledger_terms.specs.Grown.{tree_of}
 use Rattle.ledger_model.specs.Opening.{OpenedView}
 use Rattle.ledger_model.specs.Terms.{Path}
 use Rattle.ledger_model.proofs.Lists.{In, in_append_cases}
 use Rattle.wire_form.specs.InRange.{IsAction, IsHash}
 use Rattle.wire_form.specs.Spelling.{spell_action, spell_instance, spell_name, spell_values, spell_parties, spell_truth, spell_value}
+use Rattle.wire_form.proofs.FormatLaws.{IsBytes}
+use Rattle.view_split.specs.CoreLists.{act_of}
 use Rattle.view_split.specs.Holed.{Holed, NoMore, Inner, Hole, inner, width}
 use Rattle.view_split.specs.Numbered.{core_in, held_in, map_forest, with_cores}
-use Rattle.view_split.specs.Placed.{placed_forest, tops}
-use Rattle.view_split.specs.SeenViews.{is_sight, opened_as}
+use Rattle.view_split.specs.Placed.{placed_forest}
+use Rattle.view_split.specs.SeenViews.{opened_as}
+use Rattle.view_split.specs.ViewTrees.{View}
+use Rattle.view_split.specs.declared.core_node.CoreNode.{CoreNode}
+use Rattle.view_split.specs.declared.opened_tree.OpenedTree.{OpenedTree}
+use Rattle.view_split.specs.declared.placed_view.PlacedView.{PlacedView}
 use Rattle.view_split.specs.declared.split_view.SplitView.{SplitView}
-use Rattle.blind_tree.specs.Blind.{has_sight, leaf_of, salt_of, shown_to, vertices_shown}
-use Rattle.blind_tree.specs.Cores.{spell_children, spell_core}
-use Rattle.blind_tree.specs.LeafBytes.{core_bytes, roles_bytes}
-use Rattle.blind_tree.specs.ShownViews.{AreChildren, AreViews, IsCore}
+use Rattle.view_split.proofs.Sight.{without_paths}
+use Rattle.blind_tree.specs.CoreReading.{core_at}
+use Rattle.blind_tree.specs.Cores.{spell_children, spell_core, spell_node}
+use Rattle.blind_tree.specs.Leaves.{IsNode}
+use Rattle.blind_tree.specs.OpenedFor.{are_listed, is_listed, missing, views_listed}
+use Rattle.blind_tree.specs.Opening.{ViewParts, parts_read, placed, read_leaf, view_of, view_read, views_read, with_read}
+use Rattle.blind_tree.specs.ShownViews.{AreChildren, IsCore}
 use Rattle.blind_tree.specs.Spelling.{spell_each, spell_leaf, spell_bytes}
-use Rattle.blind_tree.specs.TreeHashes.{Hashing}
-use Rattle.blind_tree.specs.Vertices.{Vertices, count}
-use Rattle.blind_tree.proofs.Blinded.{none_seen}
-use Rattle.blind_tree.proofs.OpensLaws.{paths_bare}
+use Rattle.blind_tree.specs.Vertices.{Vertices, NoVertices, BlindVertex, InnerVertex, count}
+use Rattle.blind_tree.specs.declared.leaf.Leaf.{Leaf}
+use Rattle.blind_tree.specs.declared.leaf.Leaf.TheVariants.{Blind, Plain}
+use Rattle.blind_tree.specs.declared.tree.Tree.{Tree}
+use Rattle.blind_tree.proofs.AllLaws.{all_found}
+use Rattle.blind_tree.proofs.CoreLaws.{core_reads}
+use Rattle.framed_form.proofs.Lying.{done, if_there, parts_said, read_ok, same_ok}
+use Rattle.framed_form.proofs.Wholes.{Opens}
 
 -- ---- the bytes of a core
 
@@ -90,10 +105,6 @@ Fit n NoRoots = Unit {0}
 Fit n (Root view subviews others) =
     (IsCore view.first view.below × (64 * suc (length (inner view.below)) ≤ n)) × Fit n subviews × Fit n others
 
-fit_join : (n : ℕ) (f g : Forest SplitView) → Fit n f → Fit n g → Fit n (join f g)
-fit_join n NoRoots g a b = b
-fit_join n (Root view subviews others) g a b = (a.0, a.1, fit_join n others g a.2 b)
-
 plain_length : (salt bytes : List ℕ) → length bytes ≤ length (1 ∷ (salt ++ spell_bytes bytes))
 plain_length salt bytes =
     omega (arith, length-append salt (spell_bytes bytes), length-append (to_be_bytes w32 (length bytes)) bytes)
@@ -117,97 +128,128 @@ parts_within informees contents counted below after =
       after_within = omega (arith, all, one, two, three);
     }
 
-after_length : (hash after : List ℕ) → length after ≤ length ((0 ∷ hash) ++ after)
-after_length hash after = omega (arith, length-append (0 ∷ hash) after)
-
 no_less : (a b c : ℕ) → a ≤ b → b ≤ c → a ≤ c
 no_less a b c h k = omega (arith, h, k)
-
-abbrev keeps : (List ℕ → Bool) → Path × SplitView → Bool
-keeps hosts v = is_sight hosts v.1
 
 abbrev pub bare : Forest (Path × SplitView) → Forest SplitView
 bare f = map_forest (λ (v : Path × SplitView). v.1) f
 
-bare_join : (f g : Forest (Path × SplitView)) → bare (join f g) ≡ join (bare f) (bare g)
-bare_join NoRoots g = refl
-bare_join (Root v below others) g = ap (λ (rest : Forest SplitView). Root v.1 (bare below) rest) (bare_join others g)
+-- the leaves of vertices are bytes
+abbrev LeafFits : Leaf → Type 0
+LeafFits (Blind hash) = Unit {0}
+LeafFits (Plain salt bytes) = IsBytes bytes
 
-unseen : (hosts : List ℕ → Bool) (above : List ℕ) (k : ℕ) (f : Forest SplitView) → has_sight hosts f ≡ false → project (keeps hosts) (paths_from above k f) ≡ NoRoots
-unseen hosts above k NoRoots none = refl
-unseen hosts above k (Root view subviews others) none =
-    let n = none_seen hosts view subviews others none in
-    rw (n.0, unseen hosts (above ++ k ∷ []) 0 subviews n.1) (unseen hosts above (suc k) others n.2)
+abbrev VerticesFit : Vertices → Type 0
+VerticesFit NoVertices = Unit {0}
+VerticesFit (BlindVertex hash others) = VerticesFit others
+VerticesFit (InnerVertex informees contents subviews others) = LeafFits informees × LeafFits contents × VerticesFit subviews × VerticesFit others
 
-module _ (sha : Hashing) (n : ℕ) where
-  abbrev vertices : (List ℕ → Bool) → Bool → Forest SplitView → Vertices
-  vertices hosts sees f = vertices_shown sha (shown_to hosts sees f)
+module _ (n : ℕ) where
+  abbrev FitsCore : Act → Holed Act → Type 0
+  FitsCore act below = IsCore act below × (64 * suc (length (inner below)) ≤ n)
 
-  abbrev bytes : (List ℕ → Bool) → Bool → Forest SplitView → List ℕ
-  bytes hosts sees f = spell_each (vertices hosts sees f)
+  -- a core that is read of a leaf
+  core_fits : (contents : Leaf) (core : CoreNode) → LeafFits contents → length (spell_leaf contents) ≤ n → read_leaf core_at contents ≡ Ok core
+      → FitsCore (act_of core) core.children
+  core_fits (Blind hash) core fits room e = absurd cc
+  core_fits (Plain salt bytes) core fits room e =
+      let found = all_found spell_node IsNode core_at core_reads bytes (Ok core) fits (λ other. sym e) in
+      let long : length bytes ≤ n = no_less _ _ n (plain_length salt bytes) room in
+      (found.0, no_less _ _ n (core_length (act_of core) core.children found.0) (subst (λ (k : List ℕ). length k ≤ n) found.1 long))
 
-  abbrev contents : SplitView → List ℕ
-  contents view = spell_leaf (leaf_of sha true 4 (view.first).seed (core_bytes view))
+  parts_fit : (i c : Leaf) (holes : ℕ) (parts : ViewParts) → LeafFits c → length (spell_leaf c) ≤ n → parts_read i c holes ≡ Ok parts
+      → FitsCore (act_of parts.1) (parts.1).children
+  parts_fit i c holes parts fits room e = core_fits c parts.1 fits room (parts_said i c holes parts e).1
 
-  abbrev head : Bool → SplitView → List ℕ
-  head shows view = spell_leaf (leaf_of sha shows 3 (view.first).seed (roles_bytes view))
+  -- the vertices of an inner one
+  abbrev inner_bytes : Leaf → Leaf → Vertices → Vertices → List ℕ
+  inner_bytes i c s o = (1 ∷ (spell_leaf i ++ spell_leaf c ++ (to_be_bytes w16 (count s) ++ spell_each s))) ++ spell_each o
 
-  -- a view that is seen
-  core_fits : (view : SplitView) → IsCore view.first view.below → length (contents view) ≤ n
-      → IsCore view.first view.below × (64 * suc (length (inner view.below)) ≤ n)
-  core_fits view core room =
-      (core, no_less _ _ n (core_length view.first view.below core) (no_less _ _ n (plain_length (salt_of sha 4 (view.first).seed) (core_bytes view)) room))
+  within : (i c : Leaf) (s o : Vertices) → IsWithin (length (spell_leaf c)) (length (spell_each s)) (length (spell_each o)) (length (inner_bytes i c s o))
+  within i c s o = parts_within (spell_leaf i) (spell_leaf c) (to_be_bytes w16 (count s)) (spell_each s) (spell_each o)
 
-  -- below a view that is seen all is
-  all_fit : (hosts : List ℕ → Bool) (f : Forest SplitView) → AreViews f → length (bytes hosts true f) ≤ n → Fit n f
-  all_fit hosts NoRoots r room = tt
-  all_fit hosts (Root view subviews others) r room =
-      let counted = to_be_bytes w16 (count (vertices hosts true subviews)) in
-      let w = parts_within (head true view) (contents view) counted (bytes hosts true subviews) (bytes hosts true others) in
-      let all = length ((1 ∷ (head true view ++ contents view ++ (counted ++ bytes hosts true subviews))) ++ bytes hosts true others) in (
-        core_fits view (r.0).core (no_less (length (contents view)) all n w.contents_within room),
-        all_fit hosts subviews r.1 (no_less _ all n w.below_within room),
-        all_fit hosts others r.2 (no_less _ all n w.after_within room),
+  views_fit : (v : Vertices) (f : Forest SplitView) → VerticesFit v → length (spell_each v) ≤ n → views_read v ≡ Ok f → Fit n f
+  views_fit NoVertices f fits room e = subst (Fit n) (same_ok NoRoots f e) tt
+  views_fit (BlindVertex hash others) f fits room e = absurd cc
+  views_fit (InnerVertex i c s o) f fits room e =
+      let parts = read_ok (parts_read i c (count s)) _ f e in
+      let under = read_ok (views_read s) _ f parts.2 in
+      let after = read_ok (views_read o) _ f under.2 in
+      let w = within i c s o in
+      let all = length (inner_bytes i c s o) in
+      subst (Fit n) (same_ok (join (tree_of (view_of parts.0 under.0)) after.0) f after.2) (
+        parts_fit i c (count s) parts.0 fits.1 (no_less _ all n w.contents_within room) parts.1,
+        views_fit s under.0 fits.2 (no_less _ all n w.below_within room) under.1,
+        views_fit o after.0 fits.3 (no_less _ all n w.after_within room) after.1,
       )
 
-  pub seen_fit : (hosts : List ℕ → Bool) (above : List ℕ) (k : ℕ) (f : Forest SplitView) → AreViews f → length (bytes hosts false f) ≤ n
-      → Fit n (bare (project (keeps hosts) (paths_from above k f)))
-  seen_fit hosts above k NoRoots r room = tt
-  seen_fit hosts above k (Root view subviews others) r room =
+  view_fit : (i c : Leaf) (s o : Vertices) (view : View) → VerticesFit (InnerVertex i c s o) → length (inner_bytes i c s o) ≤ n → view_read i c s ≡ Ok view
+      → Fit n (tree_of view)
+  view_fit i c s o view fits room e =
+      let parts = read_ok (parts_read i c (count s)) _ view e in
+      let under = read_ok (views_read s) _ view parts.2 in
+      let w = within i c s o in
+      let all = length (inner_bytes i c s o) in
+      subst (λ (v : View). Fit n (tree_of v)) (same_ok (view_of parts.0 under.0) view under.2) (
+        parts_fit i c (count s) parts.0 fits.1 (no_less _ all n w.contents_within room) parts.1,
+        views_fit s under.0 fits.2 (no_less _ all n w.below_within room) under.1,
+        tt,
+      )
+
+  abbrev AllFit : List PlacedView → Type 0
+  AllFit [] = Unit {0}
+  AllFit (p ∷ ps) = Fit n (tree_of p.view) × AllFit ps
+
+  all_append : (ps qs : List PlacedView) → AllFit ps → AllFit qs → AllFit (ps ++ qs)
+  all_append [] qs h i = i
+  all_append (p ∷ ps) qs h i = (h.0, all_append ps qs h.1 i)
+
+  listed_fit : (listed : List ℕ → Bool) (above : List ℕ) (k : ℕ) (v : Vertices) (ps : List PlacedView) → VerticesFit v → length (spell_each v) ≤ n
+      → views_listed listed above k v ≡ Ok ps → AllFit ps
+  listed_fit listed above k NoVertices ps fits room e = subst AllFit (same_ok [] ps e) tt
+  listed_fit listed above k (BlindVertex hash others) ps fits room e =
+      elim (cases_Bool (listed (above ++ k ∷ []))) [
+        | inl is ↦ (let none : missing ≡ done ps = rw is at e in absurd (not_there ps none))
+        | inr out ↦
+            (let more : views_listed listed above (suc k) others ≡ Ok ps = rw out at e in
+            let short : length (spell_each others) ≤ length ((0 ∷ hash) ++ spell_each others) = omega (arith, length-append (0 ∷ hash) (spell_each others)) in
+            listed_fit listed above (suc k) others ps fits (no_less _ _ n short room) more)
+      ]
+    where
+      not_there : {A : Type 0} (x : A) → missing ≡ done x → ⊥
+      not_there x h = cc
+  listed_fit listed above k (InnerVertex i c s o) ps fits room e =
       let path = above ++ k ∷ [] in
-      elim (cases_Bool (is_sight hosts view)) [
-        | inl sees ↦
-            let counted = to_be_bytes w16 (count (vertices hosts true subviews)) in
-            let w = parts_within (head true view) (contents view) counted (bytes hosts true subviews) (bytes hosts false others) in
-            let all = length ((1 ∷ (head true view ++ contents view ++ (counted ++ bytes hosts true subviews))) ++ bytes hosts false others) in
-            let here : all ≤ n = rw sees at room in
-            rw sees (
-              core_fits view (r.0).core (no_less (length (contents view)) all n w.contents_within here),
-              subst (Fit n) (sym (paths_bare path 0 subviews)) (all_fit hosts subviews r.1 (no_less _ all n w.below_within here)),
-              seen_fit hosts above (suc k) others r.2 (no_less _ all n w.after_within here),
-            )
-        | inr not_here ↦ elim (cases_Bool (has_sight hosts subviews)) [
-          | inl some ↦
-              let dark = spell_leaf (leaf_of sha false 4 (view.first).seed (core_bytes view)) in
-              let counted = to_be_bytes w16 (count (vertices hosts false subviews)) in
-              let w = parts_within (head false view) dark counted (bytes hosts false subviews) (bytes hosts false others) in
-              let all = length ((1 ∷ (head false view ++ dark ++ (counted ++ bytes hosts false subviews))) ++ bytes hosts false others) in
-              let here : all ≤ n = rw (not_here, some) at room in
-              rw not_here
-              (subst (Fit n) (sym (bare_join (project (keeps hosts) (paths_from path 0 subviews)) (project (keeps hosts) (paths_from above (suc k) others))))
-              (fit_join n _ _ (seen_fit hosts path 0 subviews r.1 (no_less _ all n w.below_within here))
-              (seen_fit hosts above (suc k) others r.2 (no_less _ all n w.after_within here))))
-          | inr none ↦
-              rw (not_here, unseen hosts path 0 subviews none)
-              (seen_fit hosts above (suc k) others r.2 (no_less _ _ n (after_length _ (bytes hosts false others)) (rw (not_here, none) at room)))
-        ]
+      let w = within i c s o in
+      let all_bytes = length (inner_bytes i c s o) in
+      elim (cases_Bool (listed path)) [
+        | inl is ↦
+            (let e1 : (if are_listed listed path 0 s then with_read (view_read i c s) (λ (view : View). with_read (views_listed listed above (suc k) o) (λ (more : List PlacedView). done (placed path view ∷ more))) else missing) ≡ Ok ps = rw is at e in
+            let all = if_there (are_listed listed path 0 s) _ ps e1 in
+            let view = read_ok (view_read i c s) _ ps all.1 in
+            let more = read_ok (views_listed listed above (suc k) o) _ ps view.2 in
+            subst AllFit (same_ok (placed path view.0 ∷ more.0) ps more.2)
+            (view_fit i c s o view.0 fits room view.1, listed_fit listed above (suc k) o more.0 fits.3 (no_less _ all_bytes n w.after_within room) more.1))
+        | inr out ↦
+            (let e1 : with_read (views_listed listed path 0 s) (λ (first : List PlacedView). with_read (views_listed listed above (suc k) o) (λ (more : List PlacedView). done (first ++ more))) ≡ Ok ps = rw out at e in
+            let first = read_ok (views_listed listed path 0 s) _ ps e1 in
+            let more = read_ok (views_listed listed above (suc k) o) _ ps first.2 in
+            subst AllFit (same_ok (first.0 ++ more.0) ps more.2)
+            (all_append first.0 more.0 (listed_fit listed path 0 s first.0 fits.2 (no_less _ all_bytes n w.below_within room) first.1)
+            (listed_fit listed above (suc k) o more.0 fits.3 (no_less _ all_bytes n w.after_within room) more.1)))
       ]
 
--- ---- opened views
+  placed_fit : (ps : List PlacedView) → AllFit ps → Fit n (bare (placed_forest ps))
+  placed_fit [] h = tt
+  placed_fit (p ∷ ps) h = (h.0.0, subst (Fit n) (sym (without_paths p.path 0 (p.view).below)) h.0.1, placed_fit ps h.1)
 
-pub placed_bare : (f : Forest (Path × SplitView)) → bare (placed_forest (tops f)) ≡ bare f
-placed_bare NoRoots = refl
-placed_bare (Root v below others) = λ i. Root v.1 (paths_bare v.0 0 (bare below) i) (placed_bare others i)
+  -- what a tree that has so many bytes at most opens
+  pub opened_fit : (seen : List (List ℕ)) (wanted : Bool) (t : Tree) (opened : OpenedTree) → VerticesFit t.views → length (spell_each t.views) ≤ n
+      → Opens seen wanted t opened → Fit n (bare (placed_forest opened.views))
+  opened_fit seen wanted t opened fits room opens =
+      placed_fit opened.views (listed_fit (is_listed seen) [] 0 t.views opened.views fits room opens.views)
+
+-- ---- opened views
 
 core_count : {B : Type 0} (h : Holed Act) (trees : Forest B) → length (core_in h trees) ≤ length (inner h)
 core_count NoMore trees = omega arith

@@ -1,5 +1,5 @@
 -- Verdicts stand behind their requests.
-use Rattle.std.proofs.Common.{◌≡◌, ℕ, zero, suc, ◌+◌, ◌<◌, ◌≤◌, List, [], ◌∷◌, Option, Some, None, drop, refl, sym, ap, ◌∙◌, arith, inl, inr}
+use Rattle.std.proofs.Common.{◌≡◌, ℕ, zero, suc, ◌+◌, ◌≤◌, List, [], ◌∷◌, Option, Some, None, drop, refl, sym, ap, ◌∙◌, arith, inl, inr}
 use Rattle.std.specs.Prelude.{nat_eq}
 use Rattle.std.proofs.lemmas.Bool.{cases_Bool, eqb-true}
 use Rattle.canton_model.specs.declared.decision.Decision.{Decision}
@@ -7,7 +7,7 @@ use Rattle.canton_model.specs.declared.verdict.Verdict.{Verdict}
 use Rattle.canton_model.specs.Timeline.{decision_on, or_else, verdict_on}
 use Rattle.canton_model.specs.Inbox.{Item, moments, verdict_in}
 use Rattle.inbox_standing.specs.Order.{IsBelow, VerdictsBehind}
-use Rattle.node_inbox.specs.Items.{model_item, model_items}
+use Rattle.node_inbox.specs.Items.{model_items}
 use Rattle.node_inbox.specs.declared.kept_item.KeptItem.{KeptItem}
 
 not_yet : (k j : ℕ) (o : Option Verdict) → j ≤ k → IsBelow j o → decision_on k o ≡ None

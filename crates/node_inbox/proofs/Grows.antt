@@ -9,41 +9,39 @@ use Rattle.canton_model.specs.declared.message.Message.TheVariants.{Request as R
 use Rattle.canton_model.specs.declared.entry.Entry.{Entry}
 use Rattle.ledger_model.specs.Terms.{ParticipantId}
 use Rattle.canton_model.specs.Log.{request_of, request_at}
-use Rattle.ledger_model.specs.Opening.{Shown}
 use Rattle.canton_model.specs.Reading.{Reading, is_recipient}
-use Rattle.canton_model.specs.Inbox.{Content, Told, Nothing, Item, received, verdict_content, content_of, item_after, items_after, inbox, shown_by, shown_at}
+use Rattle.canton_model.specs.Inbox.{Content, Told, Nothing, Item, received, verdict_content, content_of, item_after, items_after, inbox, notice_by, notice_at}
 use Rattle.canton_model.proofs.InboxGrows.{items_push}
 use Rattle.node_inbox.specs.Entries.{content_from, item_from}
 
 module _ (reading : Reading) (p : ParticipantId) where
-  abbrev is_shown : Option Request → Bool
-  is_shown None = false
-  is_shown (Some request) = is_recipient reading p request
+  abbrev is_to : Option Request → Bool
+  is_to None = false
+  is_to (Some request) = is_recipient reading p request
 
-  some_received : (o : Option Shown) → is_some (shown_by (received o)) ≡ is_some o
-  some_received None = refl
-  some_received (Some shown) = refl
+  some_received : (q : Request) → is_some (notice_by (received reading p q)) ≡ is_recipient reading p q
+  some_received q = elim (cases_Bool (is_recipient reading p q)) [ inl b ↦ rw b refl | inr b ↦ rw b refl ]
 
-  told_shows_none : (v : Verdict) (o : Option Request) → is_some (shown_by (verdict_content reading p v o)) ≡ false
+  told_shows_none : (v : Verdict) (o : Option Request) → is_some (notice_by (verdict_content reading p v o)) ≡ false
   told_shows_none v None = refl
   told_shows_none v (Some q) = elim (cases_Bool (is_recipient reading p q)) [ inl b ↦ rw b refl | inr b ↦ rw b refl ]
 
-  received_here : (before : List Entry) (m : Message) → is_some (shown_by (content_of reading p before m)) ≡ is_shown (request_of m)
-  received_here before (RequestMessage q) = some_received (reading.shown p q)
+  received_here : (before : List Entry) (m : Message) → is_some (notice_by (content_of reading p before m)) ≡ is_to (request_of m)
+  received_here before (RequestMessage q) = some_received q
   received_here before (ResponseMessage r) = refl
   received_here before Tick = refl
   received_here before (VerdictMessage v) = told_shows_none v (request_at before v.request)
 
-  received_at : (before xs : List Entry) (k : ℕ) → is_some (shown_at (items_after reading p before xs) k) ≡ is_shown (request_at xs k)
+  received_at : (before xs : List Entry) (k : ℕ) → is_some (notice_at (items_after reading p before xs) k) ≡ is_to (request_at xs k)
   received_at before [] k = refl
   received_at before (x ∷ xs) zero = received_here before x.message
   received_at before (x ∷ xs) (suc k) = received_at (before ++ x ∷ []) xs k
 
-  told_same : (v : Verdict) (o : Option Request) → (if is_shown o then Told v else Nothing) ≡ verdict_content reading p v o
+  told_same : (v : Verdict) (o : Option Request) → (if is_to o then Told v else Nothing) ≡ verdict_content reading p v o
   told_same v None = refl
   told_same v (Some q) = refl
 
-  same_content : (before : List Entry) (m : Message) → content_from (reading.shown p) (inbox reading p before) m ≡ content_of reading p before m
+  same_content : (before : List Entry) (m : Message) → content_from (received reading p) (inbox reading p before) m ≡ content_of reading p before m
   same_content before (RequestMessage q) = refl
   same_content before (ResponseMessage r) = refl
   same_content before Tick = refl

@@ -1,49 +1,57 @@
 -- A kept request has what its check goes by.
-use Rattle.std.proofs.Common.{◌≡◌, ◌<◌, ℕ, suc, Bool, true, List, [], ◌∷◌, length, map, filter, take, Option, Some, refl, sym, ap, subst, ◌∙◌, inl, inr, arith}
+use Rattle.std.proofs.Common.{◌≡◌, ◌<◌, ℕ, suc, true, List, [], ◌∷◌, length, map, take, Option, Some, None, refl, sym, ap, subst, ◌∙◌, inl, inr, arith}
 use Rattle.std.specs.Borrow.{Bor}
 use Rattle.std.specs.Prelude.{All, Contains, IsSome, slice_get}
-use Rattle.std.specs.List.{list_any}
 use Rattle.std.specs.Str.{bytes_eq}
 use Rattle.std.proofs.lemmas.Bool.{cases_Bool}
-use Rattle.std.proofs.lemmas.List.Elements.{All-contains}
 use Rattle.std.proofs.lemmas.Slice.Eq.{bytes_eq-Decides}
 use Rattle.ledger_terms.specs.declared.act.Act.{Act}
+use Rattle.ledger_terms.specs.declared.host.Host.{Host}
 use Rattle.ledger_terms.specs.declared.topology.Topology.{Topology}
 use Rattle.ledger_model.specs.Forest.{acts, trees_of}
-use Rattle.ledger_model.specs.Opening.{OpenedView, Shown, views_in}
+use Rattle.ledger_model.specs.Opening.{OpenedView}
 use Rattle.ledger_model.specs.Terms.{Hash, Path, id_of}
 use Rattle.ledger_model.proofs.Lists.{In, in_from_Contains, in_map}
-use Rattle.canton_model.specs.Checks.{is_confirmed_by}
-use Rattle.canton_model.specs.Inbox.{Item, item_time, shown_at, shown_in}
-use Rattle.canton_model.specs.Reading.{Reading}
+use Rattle.canton_model.specs.Inbox.{Item, item_time, notice_at, notice_in}
+use Rattle.canton_model.specs.Reading.{Reading, is_some_path}
 use Rattle.canton_model.proofs.InboxFacts.{slice_get_take}
 use Rattle.world_model.specs.Node.{owed_at, owes_at}
 use Rattle.lang_eval.specs.Found.{Packages}
 use Rattle.view_split.specs.Placed.{shown_by as shown_of_tree}
 use Rattle.view_split.specs.declared.opened_tree.OpenedTree.{OpenedTree}
-use Rattle.sealed_form.specs.SealedForm.{IsSealedForm}
-use Rattle.sealed_form.specs.SealedReading.{sealed_reading}
-use Rattle.sealed_form.proofs.Decided.{form_decides}
+use Rattle.blind_tree.specs.Blind.{has_name as host_has_name, is_host_named}
+use Rattle.blind_tree.specs.declared.shown_for.OpenedFor.TheVariants as opened
+use Rattle.framed_form.specs.Framed.{IsFramed}
+use Rattle.framed_form.specs.FramedForm.{offered}
+use Rattle.framed_form.specs.FramedReading.{framed_reading}
+use Rattle.framed_form.proofs.Decided.{framed_decides}
 use Rattle.confirm_reply.specs.Facts.{AreAsAt, fact_on}
+use Rattle.confirm_reply.specs.LocalReading.{has_name as local_has_name, is_named_at, local_reading}
+use Rattle.confirm_reply.specs.Offered.{IsGivenBy}
 use Rattle.confirm_reply.specs.Opened.{CanBeChecked}
+use Rattle.confirm_reply.specs.Verdict.{CanCheck}
 use Rattle.confirm_reply.specs.declared.check_input.CheckInput.{CheckInput}
 use Rattle.confirm_reply.specs.declared.id_facts.IdFacts.{IdFacts}
 use Rattle.confirm_reply.specs.declared.setup.Setup.{Setup}
+use Rattle.confirm_reply.specs.declared.shown.Shown.TheVariants.{Open as ShownOpen}
 use Rattle.confirm_reply.proofs.Checkable.{in_from_get, tree_of_in}
-use Rattle.confirm_reply.proofs.Checked.{core_in_place}
+use Rattle.confirm_reply.proofs.Checked.{core_in_place, found_in}
 use Rattle.confirm_reply.proofs.FactsAt.{as_at}
 use Rattle.confirm_reply.proofs.Placed.{EachIn, StandsIn}
-use Rattle.validate_job.specs.Owed.{CanCheck, owed_on_each}
-use Rattle.validate_job.specs.OwedAt.{IsInputAt, confirmed_paths}
-use Rattle.validate_job.proofs.OwedAt.{can_check_confirmed, owed_is}
-use Rattle.node_inbox.specs.Items.{model_items}
-use Rattle.node_inbox.specs.JobInput.{input_of}
+use Rattle.validate_job.specs.Owed.{owed_on_each}
+use Rattle.validate_job.specs.OwedAt.{IsInputAt, without_requests}
+use Rattle.validate_job.proofs.OwedAt.{can_check_each, owed_is}
+use Rattle.node_inbox.specs.Items.{model_items, notice_of}
+use Rattle.node_inbox.specs.JobInput.{input_of, shown_for}
 use Rattle.node_inbox.specs.Kept.{AreKept, IsKept, kept_at}
+use Rattle.node_inbox.specs.Offers.{as_offered, model_offer, opened_ids}
 use Rattle.node_inbox.specs.declared.kept_item.KeptItem.{KeptItem}
 use Rattle.node_inbox.specs.declared.kept_item.KeptRequest.{KeptRequest}
-use Rattle.node_inbox.proofs.Checkable.{are_filled, can_be_checked, in_path_order}
-use Rattle.node_inbox.proofs.Laid.{paths_are}
-use Rattle.node_inbox.proofs.Seen.{found_at, shown_tree}
+use Rattle.node_inbox.specs.declared.kept_offer.KeptOffer.{KeptOffer}
+use Rattle.node_inbox.specs.declared.kept_offer.KeptOffer.TheVariants.{Mismatch, Missing, Open}
+use Rattle.node_inbox.proofs.Checkable.{can_be_checked}
+use Rattle.node_inbox.proofs.Owes.{owes_is}
+use Rattle.node_inbox.proofs.Seen.{found_at, noticed}
 
 -- ---- facts on contracts
 
@@ -68,16 +76,36 @@ in_roots tree view there a i =
     let s = each_of (StandsIn (trees_of roots)) view.core (core_in_place tree view there) a i in
     (tree_of_in roots (a.1, s.0) (in_from_get (trees_of roots) a.0 (a.1, s.0) s.1)).act
 
+-- ---- what is shown
+
+given_as : (offer : KeptOffer) → IsGivenBy (model_offer offer) (shown_for offer)
+given_as Mismatch = refl
+given_as Missing = refl
+given_as (Open tree) = refl
+
+-- what is shown as open is offered
+shown_open : (offer : KeptOffer) (tree : OpenedTree) → shown_for offer ≡ ShownOpen tree → offer ≡ Open tree
+shown_open Mismatch tree e = absurd cc
+shown_open Missing tree e = absurd cc
+shown_open (Open other) tree e = cc
+
+-- ---- whose checks these are
+
+named_alike : (hosts : List Host) (p : ℕ) (name : List ℕ) → is_host_named hosts p name ≡ is_named_at hosts p name
+named_alike hosts p name = by (slice_get hosts p)
+  where
+    by : (o : Option Host) → host_has_name o name ≡ local_has_name o name
+    by None = refl
+    by (Some host) = refl
+
+same_rules : (topology : Topology) (packages : Packages) → without_requests (framed_reading topology packages) ≡ local_reading topology packages
+same_rules topology packages = λ i. record (local_reading topology packages) { is_named = λ p name. named_alike topology.hosts p name i }
+
 -- ---- the request at a place
 
-some_path : (test : OpenedView → Bool) (views : List OpenedView) → list_any test views ≡ true
-    → 0 < length (map (λ (view : OpenedView). view.path) (filter test views))
-some_path test [] any = cc
-some_path test (view ∷ views) any =
-    elim (cases_Bool (test view)) [
-      | inl passes ↦ rw passes (omega arith)
-      | inr fails ↦ rw fails (some_path test views (rw fails at any))
-    ]
+some_path : (paths : List Path) → is_some_path paths ≡ true → 0 < length paths
+some_path [] any = cc
+some_path (path ∷ paths) any = omega arith
 
 module _ (s : Bor Setup) (me : ℕ) (items : List KeptItem) (k : ℕ) (request : KeptRequest)
     (are : AreKept s.now.topology s.now.checked me items)
@@ -89,7 +117,7 @@ module _ (s : Bor Setup) (me : ℕ) (items : List KeptItem) (k : ℕ) (request :
   packages = s.now.checked
 
   abbrev reading : Reading
-  reading = sealed_reading topology packages
+  reading = framed_reading topology packages
 
   -- the inbox as it stood when the request was read
   abbrev then_read : List Item
@@ -98,65 +126,67 @@ module _ (s : Bor Setup) (me : ℕ) (items : List KeptItem) (k : ℕ) (request :
   abbrev is_kept : IsKept topology packages me then_read k request
   is_kept = found_at topology packages me items are k request at
 
-  abbrev tree : OpenedTree
-  tree = request.tree
-
-  sealed : IsSealedForm topology packages (is_kept.came).request
-  sealed = (form_decides topology packages (is_kept.came).request).0 (is_kept.came).is_sealed
+  framed : IsFramed topology (is_kept.came).request
+  framed = (framed_decides topology (is_kept.came).request).0 (is_kept.came).is_framed
 
   at_end : slice_get then_read k ≡ slice_get (model_items items) k
   at_end = slice_get_take (suc k) (model_items items) k (omega arith)
 
-  is_shown : shown_at (model_items items) k ≡ Some (shown_of_tree tree)
-  is_shown = shown_tree topology packages me items are k request at
-
-  are_confirmed : request.views ≡ confirmed_paths reading me (shown_of_tree tree)
-  are_confirmed = is_kept.views
-      ∙ paths_are reading topology me tree refl (are_filled topology packages (is_kept.came).request me sealed tree (is_kept.came).is_to)
+  is_noticed : notice_at (model_items items) k ≡ Some (notice_of request)
+  is_noticed = noticed topology packages me items are k request at
 
   -- the participant owes verdicts, so it confirms some view
-  pub some_views : owes_at reading me (model_items items) k ≡ true → 0 < length request.views
-  some_views owes =
-      let any : list_any (is_confirmed_by reading me) (shown_of_tree tree).views ≡ true =
-      ap (λ (o : Option Shown). list_any (is_confirmed_by reading me) (views_in o)) (sym is_shown) ∙ owes in
-      subst (λ (paths : List Path). 0 < length paths) (sym are_confirmed) (some_path (is_confirmed_by reading me) (shown_of_tree tree).views any)
+  pub some_views : owes_at reading me (model_items items) k ≡ true → 0 < length request.confirmed
+  some_views owes = some_path request.confirmed (sym (owes_is topology packages me items are k request at) ∙ owes)
+
+  -- what is open was offered
+  open_offered : (tree : OpenedTree) → request.offer ≡ Open tree → offered topology me (is_kept.came).request ≡ opened.Open tree
+  open_offered tree is = sym (is_kept.came).offer_is ∙ ap as_offered is
 
   module _ (time : ℕ) (is_time : time ≡ item_time (slice_get (model_items items) k)) where
     abbrev made : CheckInput
     made = input_of s me time request
 
-    core_known : (view : OpenedView) → Contains (shown_of_tree tree).views view → (a : ℕ × Act) → Contains view.core a → IsSome (fact_on request.facts (id_of (a.1).action))
-    core_known view there a i =
+    core_known : (tree : OpenedTree) → request.offer ≡ Open tree → (view : OpenedView) → In view (shown_of_tree tree).views
+        → (a : ℕ × Act) → Contains view.core a → IsSome (fact_on request.facts (id_of (a.1).action))
+    core_known tree is view there a i =
+        let ids : map (λ (fact : IdFacts). fact.id) request.facts ≡ opened_ids (Open tree) = is_kept.all_ids ∙ ap opened_ids is in
         fact_found request.facts (id_of (a.1).action)
-        (subst (λ (ids : List Hash). In (id_of (a.1).action) ids) (sym is_kept.all_ids)
+        (subst (λ (ids : List Hash). In (id_of (a.1).action) ids) (sym ids)
         (in_map (λ (act : Act). id_of act.action) (acts (shown_of_tree tree).roots) a.1
-        (in_roots tree view (in_from_Contains (shown_of_tree tree).views view there) a (in_from_Contains view.core a i))))
+        (in_roots tree view there a (in_from_Contains view.core a i))))
 
-    known_at : (view : OpenedView) → Contains (shown_of_tree tree).views view → AreAsAt reading topology.params me then_read k request.facts view.core
-    known_at view there = as_at reading topology.params me then_read k request.facts is_kept.facts view.core (λ a i hosted. core_known view there a i)
+    known_at : (tree : OpenedTree) (view : OpenedView) → request.offer ≡ Open tree → In view (shown_of_tree tree).views
+        → AreAsAt reading topology.params me then_read k request.facts view.core
+    known_at tree view is there =
+        as_at reading topology.params me then_read k request.facts is_kept.facts view.core (λ a i roles hosted. core_known tree is view there a i)
 
-    fits : IsInputAt reading then_read k made
+    fits : IsInputAt reading then_read k (notice_of request) made
     fits =
         record {
-          rules = refl;
-          shown = ap shown_in at_end ∙ is_shown;
-          path_order = in_path_order topology packages (is_kept.came).request me sealed tree (is_kept.came).is_to;
-          places = λ view there confirms. record {
+          rules = same_rules topology packages;
+          received = ap notice_in at_end ∙ is_noticed;
+          sender = refl;
+          places = λ path there. record {
             time = is_time ∙ ap item_time (sym at_end);
-            facts = record { status = (known_at view there).status; locked = (known_at view there).locked };
+            given = given_as request.offer;
+            facts = λ tree view shown found.
+                let is = shown_open request.offer tree shown in
+                let known = known_at tree view is (found_in (λ (v : OpenedView). bytes_eq path v.path) (shown_of_tree tree).views view found).1 in
+                record { status = known.status; locked = known.locked };
           };
         }
 
     pub are_owed : (input : CheckInput) → input ≡ input_of s me time request
-        → owed_on_each input request.views ≡ owed_at reading topology.params me (model_items items) k
+        → owed_on_each input request.confirmed ≡ owed_at reading topology.params me (model_items items) k
     are_owed input is =
-        ap (λ (i : CheckInput). owed_on_each i request.views) is
-        ∙ (ap (owed_on_each made) are_confirmed ∙ owed_is reading then_read k made fits)
+        ap (λ (i : CheckInput). owed_on_each i request.confirmed) is
+        ∙ owed_is reading then_read k (notice_of request) made fits
 
-    pub can_check : (input : CheckInput) → input ≡ input_of s me time request → All (CanCheck input) request.views
-    can_check input is =
-        subst (λ (i : CheckInput). All (CanCheck i) request.views) (sym is)
-        (subst (All (CanCheck made)) (sym are_confirmed)
-        (can_check_confirmed reading made (λ view there.
-        All-contains (CanBeChecked packages (shown_of_tree tree)) (shown_of_tree tree).views view
-        (can_be_checked topology packages (is_kept.came).request me sealed tree (is_kept.came).is_to) there)))
+    checkable : (tree : OpenedTree) (view : OpenedView) → made.shown ≡ ShownOpen tree → Contains (shown_of_tree tree).views view
+        → CanBeChecked packages (shown_of_tree tree) view
+    checkable tree view shown there =
+        can_be_checked topology (is_kept.came).request me framed tree (open_offered tree (shown_open request.offer tree shown)) packages view there
+
+    pub can_check : (input : CheckInput) → input ≡ input_of s me time request → All (CanCheck input) request.confirmed
+    can_check input is = subst (λ (i : CheckInput). All (CanCheck i) request.confirmed) (sym is) (can_check_each made checkable request.confirmed)

@@ -1,7 +1,7 @@
 -- What an inbox keeps of its answers, one item more.
-use Rattle.std.proofs.Common.{◌≡◌, ℕ, ◌<◌, ◌≤◌, Bool, true, false, List, [], ◌∷◌, ◌++◌, length, Option, Some, None, is_some, refl, sym, ap, ◌∙◌, subst, inl, inr, arith}
+use Rattle.std.proofs.Common.{◌≡◌, ℕ, ◌<◌, ◌≤◌, Bool, true, false, List, [], ◌∷◌, ◌++◌, length, Some, None, refl, sym, ap, ◌∙◌, subst, arith}
 use Rattle.std.specs.Prelude.{Result, Ok, Err, OnOk, OnErr, nat_le, ◌&&◌, if◌then◌else◌}
-use Rattle.std.proofs.lemmas.Bool.{and_parts, cases_Bool, leb-true, ne_eqb}
+use Rattle.std.proofs.lemmas.Bool.{and_parts, leb-true, ne_eqb}
 use Rattle.std.proofs.lemmas.Option.{none-some, same_Some}
 use Rattle.ledger_terms.specs.declared.act.Act.{Act}
 use Rattle.ledger_terms.specs.declared.topology.Topology.{Topology}
@@ -16,7 +16,7 @@ use Rattle.lang_eval.specs.Found.{Packages}
 use Rattle.contract_store.specs.Below.{writes_of}
 use Rattle.contract_store.specs.Written.{written}
 use Rattle.contract_store.specs.declared.row.StoreRow.{StoreRow}
-use Rattle.sealed_form.specs.SealedReading.{sealed_reading}
+use Rattle.framed_form.specs.FramedReading.{framed_reading}
 use Rattle.inbox_standing.specs.ChangeLists.{changes_of}
 use Rattle.inbox_standing.specs.Changes.{acts_of_verdict, changes_in}
 use Rattle.inbox_standing.specs.Order.{IsInOrder}
@@ -28,7 +28,7 @@ use Rattle.node_inbox.specs.Coming.{IsTelling}
 use Rattle.node_inbox.specs.Items.{model_items}
 use Rattle.node_inbox.specs.Kept.{IsInbox}
 use Rattle.node_inbox.specs.KeptActive.{AreActive, AreFresh, CreateOnly, IsKeptIf}
-use Rattle.node_inbox.specs.Places.{AreApproved, AreKeptIf, parts_at}
+use Rattle.node_inbox.specs.Places.{AreApproved, AreKeptIf, approved_below, parts_at}
 use Rattle.node_inbox.specs.Reads.{HasRead, IsUnread, item_with}
 use Rattle.node_inbox.specs.declared.approved_places.ApprovedPlaces.{ApprovedPlaces}
 use Rattle.node_inbox.specs.declared.kept_active.KeptActive.{KeptActive}
@@ -94,7 +94,7 @@ module _ (reading : Reading) (p : ParticipantId) (items : List Item) (x : Item) 
 module _ (topology : Topology) (packages : Packages) (me : ParticipantId) (old new : List KeptItem) (stands stands' : Stands)
     (i : IsInbox topology packages me old stands) (approved : ApprovedPlaces) (active : KeptActive) where
   abbrev reading : Reading
-  reading = sealed_reading topology packages
+  reading = framed_reading topology packages
 
   abbrev pub KeepBoth : List KeptItem → ApprovedPlaces → KeptActive → Type 0
   KeepBoth items as' cs = AreApproved topology.params (model_items items) as' × AreActive reading me (model_items items) cs
@@ -147,23 +147,26 @@ module _ (topology : Topology) (packages : Packages) (me : ParticipantId) (old n
 
 module _ (params : Params) (items : List Item) (approved none : ApprovedPlaces) (end : ℕ) (are : AreApproved params items approved)
     (first : none.below ≡ 0) (empty : none.places ≡ []) where
-  pub not_behind_are : (known : ApprovedPlaces) → known ≡ (if nat_le approved.below end then approved else none)
-      → (parts_at items known.places ≡ parts_below items known.below) × (known.below ≤ end)
-  not_behind_are known is = by (nat_le approved.below end) refl is
+  pub not_behind_places : (known : ApprovedPlaces) → known ≡ (if nat_le approved.below end then approved else none)
+      → (known.places ≡ approved_below params items known.below) × (known.below ≤ end)
+  not_behind_places known is = by (nat_le approved.below end) refl is
     where
-      said : AreApproved params items known → parts_at items known.places ≡ parts_below items known.below
-      said a = ap (parts_at items) a.places ∙ parts_are params items known.below
-
       by : (b : Bool) → nat_le approved.below end ≡ b → known ≡ (if b then approved else none)
-          → (parts_at items known.places ≡ parts_below items known.below) × (known.below ≤ end)
+          → (known.places ≡ approved_below params items known.below) × (known.below ≤ end)
       by true le same = (
-        said (subst (AreApproved params items) (sym same) are),
+        (subst (AreApproved params items) (sym same) are).places,
         (let w : approved.below ≤ end = leb-true approved.below end le in subst (λ (a : ApprovedPlaces). a.below ≤ end) (sym same) w),
       )
       by false le same = (
-        said (subst (AreApproved params items) (sym same) (none_approved params items none first empty)),
+        (subst (AreApproved params items) (sym same) (none_approved params items none first empty)).places,
         (let w : none.below ≤ end = omega (arith, first) in subst (λ (a : ApprovedPlaces). a.below ≤ end) (sym same) w),
       )
+
+  -- what they open
+  pub not_behind_are : (known : ApprovedPlaces) → known ≡ (if nat_le approved.below end then approved else none)
+      → (parts_at items known.places ≡ parts_below items known.below) × (known.below ≤ end)
+  not_behind_are known is =
+      let are = not_behind_places known is in (ap (parts_at items) are.0 ∙ parts_are params items known.below, are.1)
 
 module _ (reading : Reading) (p : ParticipantId) (items : List Item) (kept none : KeptActive) (end : ℕ) (are : AreActive reading p items kept)
     (first : none.place ≡ 0) (empty : none.rows ≡ []) where

@@ -1,6 +1,6 @@
 -- What approved requests write below a place, one item more.
 use Rattle.std.proofs.Common.{◌≡◌, ◌⊎◌, ℕ, zero, suc, ◌+◌, ◌<◌, ◌≤◌, Bool, true, false, List, [], ◌∷◌, ◌++◌, length, map, filter, Option, Some, None, is_some, refl, sym, ap, ◌∙◌, subst, inl, inr, arith}
-use Rattle.std.specs.Prelude.{if◌then◌else◌, ◌||◌, ◌&&◌, nat_eq, not}
+use Rattle.std.specs.Prelude.{if◌then◌else◌, ◌&&◌, nat_eq, not}
 use Rattle.std.specs.List.{list_any}
 use Rattle.std.proofs.lemmas.Bool.{cases_Bool, cases_lt, eq-eqb, eqb-true, ne_eqb, or_parts}
 use Rattle.std.proofs.lemmas.Option.{none-some}
@@ -8,7 +8,7 @@ use Rattle.std.proofs.lemmas.List.Folds.{list_any-append}
 use Rattle.ledger_terms.specs.declared.act.Act.{Act}
 use Rattle.ledger_terms.specs.declared.active_row.ActiveRow.{ActiveRow}
 use Rattle.ledger_model.specs.Status.{status_after}
-use Rattle.ledger_model.specs.Terms.{Hash, ParticipantId, consumes, creates, id_of, is_create}
+use Rattle.ledger_model.specs.Terms.{Hash, ParticipantId, consumes, creates, id_of}
 use Rattle.ledger_model.specs.declared.status.Status.TheVariants.{Unknown, Active, Consumed}
 use Rattle.canton_model.specs.Evidence.{gather}
 use Rattle.canton_model.specs.Inbox.{Item, authentic_below, is_stakeholder_hosted, moments, node_active, verdict_in}
@@ -25,10 +25,10 @@ use Rattle.contract_store.proofs.Following.{status_follows}
 use Rattle.contract_store.proofs.PlacedBelow.{active_is_node_active}
 use Rattle.inbox_standing.specs.Changes.{acts_of_verdict, authentic_at, changes_in}
 use Rattle.inbox_standing.specs.Order.{IsBelow, IsInOrder, VerdictsBehind}
-use Rattle.inbox_standing.proofs.Grown.{authentic_before, moments_push, one_longer}
+use Rattle.inbox_standing.proofs.Grown.{authentic_before, moments_push}
 use Rattle.inbox_standing.proofs.Order.{below_end, no_verdict_yet}
 use Rattle.inbox_standing.proofs.Outcomes.{verdict_first, verdict_new, verdict_same}
-use Rattle.inbox_standing.proofs.Told.{any_in, approved_acts}
+use Rattle.inbox_standing.proofs.Told.{any_in}
 use Rattle.node_inbox.specs.AddedIds.{is_unknown}
 use Rattle.node_inbox.specs.KeptActive.{AreFresh, CreateOnly}
 

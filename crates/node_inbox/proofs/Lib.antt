@@ -3,15 +3,14 @@ pub mod ActFacts
 pub mod Put
 pub mod PutRequest
 pub mod PutVerdict
-pub mod Confirming
 pub mod Came
-pub mod Laid
 pub mod Seen
 pub mod Owes
 pub mod CoreLengths
 pub mod OpenedActions
 pub mod Checkable
 pub mod Jobs
+pub mod WithheldPlaces
 pub mod DecidedSince
 pub mod Approved
 pub mod Places

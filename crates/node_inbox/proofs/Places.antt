@@ -2,14 +2,12 @@
 use Rattle.std.proofs.Common.{◌≡◌, ℕ, zero, suc, ◌+◌, ◌<◌, ◌≤◌, Bool, true, false, List, [], ◌∷◌, ◌++◌, length, Option, Some, None, is_some, refl, sym, ap, ◌∙◌, arith, append_assoc, append-nil}
 use Rattle.std.specs.Prelude.{◌&&◌, option_map}
 use Rattle.std.proofs.lemmas.Bool.{ne_eqb}
-use Rattle.ledger_terms.specs.declared.act.Act.{Act}
-use Rattle.ledger_model.specs.Forest.{Forest, NoRoots}
-use Rattle.ledger_model.specs.Opening.{Shown, roots_in}
+use Rattle.ledger_model.specs.Forest.{NoRoots}
+use Rattle.ledger_model.specs.Opening.{roots_in}
 use Rattle.ledger_model.specs.declared.commit.Commit.{Commit}
 use Rattle.canton_model.specs.declared.decision.Decision.{Decision}
-use Rattle.canton_model.specs.declared.decision.Decision.TheVariants.{Approved, Rejected, TimedOut}
 use Rattle.canton_model.specs.declared.verdict.Verdict.{Verdict}
-use Rattle.canton_model.specs.Inbox.{Item, decision_time_in, moments, opened_at, part_if, parts_below, shown_at, shown_in, verdict_in}
+use Rattle.canton_model.specs.Inbox.{Item, decision_time_in, moments, opened_at, Notice, notice_at, notice_in, part_if, parts_below, shown_in_notice, verdict_in}
 use Rattle.canton_model.specs.Log.{Params}
 use Rattle.canton_model.specs.Timeline.{decision_on, is_approval, is_approved_in, is_past, kind_of, outcome_from, verdict_on}
 use Rattle.request_track.specs.Pairs.{Pair, outcome_at}
@@ -42,7 +40,7 @@ no_part false k = refl
 told_part : (params : Params) (items : List Item) (k : ℕ)
     → parts_at items (place_if (is_approved (outcome_received params items k)) k) ≡ part_if (is_approved_in k (moments items)) k (opened_at items k)
 told_part params items k =
-    chosen (is_approved (outcome_received params items k)) ∙ by (verdict_on k (moments items)) (shown_at items k)
+    chosen (is_approved (outcome_received params items k)) ∙ by (verdict_on k (moments items)) (notice_at items k)
   where
     past : Bool
     past = is_past (decision_time_in params items k) (moments items)
@@ -51,10 +49,10 @@ told_part params items k =
     chosen true = append-nil (part_if true k (opened_at items k))
     chosen false = refl
 
-    by : (d : Option Decision) (shown : Option Shown)
-        → part_if (is_approved (option_map (λ (s : Shown). kind_of (outcome_from d past)) shown)) k (roots_in shown)
-        ≡ part_if (is_approval d) k (roots_in shown)
-    by d (Some shown) = ap (λ (b : Bool). part_if b k shown.roots) (by_verdict d past)
+    by : (d : Option Decision) (notice : Option Notice)
+        → part_if (is_approved (option_map (λ (n : Notice). kind_of (outcome_from d past)) notice)) k (roots_in (shown_in_notice notice))
+        ≡ part_if (is_approval d) k (roots_in (shown_in_notice notice))
+    by d (Some notice) = ap (λ (b : Bool). part_if b k (roots_in (shown_in_notice (Some notice)))) (by_verdict d past)
     by d None = sym (no_part (is_approval d) k)
 
 -- what the approved requests below a place open
@@ -69,15 +67,15 @@ parts_are params items (suc k) =
 told_stays : (params : Params) (items : List Item) (x : Item) (k : ℕ) → k < length items → decision_on k (verdict_in x.content) ≡ None
     → is_approved (outcome_received params (items ++ x ∷ []) k) ≡ is_approved (outcome_received params items k)
 told_stays params items x k lt none =
-    told (verdict_on k (moments (items ++ x ∷ []))) (is_past (decision_time_in params (items ++ x ∷ []) k) (moments (items ++ x ∷ []))) (shown_at (items ++ x ∷ []) k)
-    ∙ (ap (λ (o : Option Shown). is_some o && is_approval (verdict_on k (moments (items ++ x ∷ [])))) (ap shown_in (get_before items x k lt))
-    ∙ (ap (λ (d : Option Decision). is_some (shown_at items k) && is_approval d)
+    told (verdict_on k (moments (items ++ x ∷ []))) (is_past (decision_time_in params (items ++ x ∷ []) k) (moments (items ++ x ∷ []))) (notice_at (items ++ x ∷ []) k)
+    ∙ (ap (λ (o : Option Notice). is_some o && is_approval (verdict_on k (moments (items ++ x ∷ [])))) (ap notice_in (get_before items x k lt))
+    ∙ (ap (λ (d : Option Decision). is_some (notice_at items k) && is_approval d)
     (ap (verdict_on k) (moments_push items x) ∙ verdict_same k (moments items) (record { time = x.time; verdict = verdict_in x.content }) none)
-    ∙ sym (told (verdict_on k (moments items)) (is_past (decision_time_in params items k) (moments items)) (shown_at items k))))
+    ∙ sym (told (verdict_on k (moments items)) (is_past (decision_time_in params items k) (moments items)) (notice_at items k))))
   where
-    told : (d : Option Decision) (past : Bool) (shown : Option Shown)
-        → is_approved (option_map (λ (s : Shown). kind_of (outcome_from d past)) shown) ≡ (is_some shown && is_approval d)
-    told d past (Some shown) = by_verdict d past
+    told : (d : Option Decision) (past : Bool) (notice : Option Notice)
+        → is_approved (option_map (λ (n : Notice). kind_of (outcome_from d past)) notice) ≡ (is_some notice && is_approval d)
+    told d past (Some notice) = by_verdict d past
     told d past None = refl
 
 pub places_stay : (params : Params) (items : List Item) (x : Item) (n : ℕ) → n ≤ length items

@@ -11,7 +11,7 @@ use Rattle.canton_model.specs.Inbox.{Item, Nothing, last_time, verdict_in}
 use Rattle.lang_eval.specs.Found.{Packages}
 use Rattle.contract_store.specs.Stored.{Stored}
 use Rattle.request_track.specs.Pairs.{expired}
-use Rattle.sealed_form.specs.SealedReading.{sealed_reading}
+use Rattle.framed_form.specs.FramedReading.{framed_reading}
 use Rattle.inbox_standing.specs.Order.{IsBelow}
 use Rattle.inbox_standing.specs.Standing.{Follows, Stands}
 use Rattle.inbox_standing.specs.Steps.{HoldsFollow, InStep}
@@ -95,7 +95,7 @@ module _ (topology : Topology) (packages : Packages) (me : ParticipantId) where
   pub has_read : (old new : List KeptItem) (y : KeptItem) (stands stands' : Stands) → IsInbox topology packages me old stands
       → last_time (model_items old) < y.time → IsBelow (length (model_items old)) (verdict_in (model_item y).content)
       → IsKeptContent topology packages me (model_items old ++ model_item y ∷ []) (length old) y.content
-      → Follows (sealed_reading topology packages) topology.params (model_items old ++ model_item y ∷ []) stands'
+      → Follows (framed_reading topology packages) topology.params (model_items old ++ model_item y ∷ []) stands'
       → new ≡ old ++ y ∷ []
       → HasRead topology packages me old new stands' (model_item y)
   has_read old new y stands stands' i later below kept' follows put =
@@ -122,7 +122,7 @@ module _ (topology : Topology) (packages : Packages) (me : ParticipantId) where
       → HasRead topology packages me old new stands' (item_with time Nothing)
   read_nothing old new time stands mid stands' i later fits rows pairs holds cursor store' pairs' cursor' put =
       has_read old new (record { time = time; content = kept.Nothing }) stands stands' i later tt tt
-      (follows_nothing (sealed_reading topology packages) topology.params (model_items old) (item_with time Nothing) stands stands' refl refl fits i.follows
+      (follows_nothing (framed_reading topology packages) topology.params (model_items old) (item_with time Nothing) stands stands' refl refl fits i.follows
       (ap (λ (s : Stored). s.rows) store' ∙ rows) (pairs' ∙ pairs)
       (λ f n e. ap (λ (s : Stored). s.holds) store' ∙ held f n e)
       (cursor' ∙ ap (λ (n : ℕ). n + 1) cursor)) put

@@ -1,26 +1,22 @@
 -- A request is put behind the items that were read.
-use Rattle.std.proofs.Common.{◌≡◌, ℕ, ◌+◌, ◌-◌, ◌^◌, ◌<◌, ◌≤◌, Bool, true, List, [], ◌∷◌, ◌++◌, length, map, filter, None, refl, sym, ap, ◌∙◌, subst, arith}
+use Rattle.std.proofs.Common.{◌≡◌, ℕ, ◌+◌, ◌-◌, ◌^◌, ◌<◌, ◌≤◌, Bool, true, List, [], ◌∷◌, ◌++◌, length, map, None, refl, sym, ap, ◌∙◌, subst, arith}
 use Rattle.std.specs.Prelude.{All, if◌then◌else◌}
 use Rattle.std.proofs.lemmas.List.Elements.{All-cons, All-nil}
 use Rattle.ledger_terms.specs.declared.act.Act.{Act}
 use Rattle.ledger_terms.specs.declared.topology.Topology.{Topology}
 use Rattle.ledger_model.specs.Forest.{acts}
-use Rattle.ledger_model.specs.Opening.{roots_in}
 use Rattle.ledger_model.specs.Terms.{Hash, ParticipantId, id_of}
 use Rattle.canton_model.specs.declared.outcome.Outcome.TheVariants as kind
-use Rattle.canton_model.specs.Inbox.{Item, Received, is_received, last_time, moments, shown_by, verdict_in}
+use Rattle.canton_model.specs.Inbox.{Item, Received, is_received, last_time, moments, verdict_in}
 use Rattle.canton_model.specs.Reading.{Reading}
 use Rattle.lang_eval.specs.Found.{Packages}
 use Rattle.contract_store.specs.Stored.{Stored}
 use Rattle.request_track.specs.Pairs.{Pair, expired, tracked_at}
 use Rattle.request_track.specs.declared.tracked.Tracked.{Tracked}
-use Rattle.interpret.specs.Ids.{is_authentic}
-use Rattle.sealed_form.specs.SealedReading.{sealed_reading}
-use Rattle.view_split.specs.Placed.{shown_by as shown_by_tree}
-use Rattle.view_split.specs.declared.opened_tree.OpenedTree.{OpenedTree}
+use Rattle.framed_form.specs.FramedReading.{framed_reading}
 use Rattle.confirm_reply.specs.Facts.{IsFactAt}
 use Rattle.confirm_reply.specs.declared.id_facts.IdFacts.{IdFacts}
-use Rattle.inbox_standing.specs.ChangeLists.{changes_of, hold_on, id_in}
+use Rattle.inbox_standing.specs.ChangeLists.{hold_on, id_in}
 use Rattle.inbox_standing.specs.Order.{IsBelow}
 use Rattle.inbox_standing.specs.Requests.{decision_after, pairs_from, pairs_in, told_time, tracked_of}
 use Rattle.inbox_standing.specs.Standing.{Stands}
@@ -31,8 +27,9 @@ use Rattle.inbox_standing.proofs.Told.{locked_told, status_told}
 use Rattle.inbox_standing.proofs.Tracked.{in_step_from, none_at_end, pairs_push}
 use Rattle.node_inbox.specs.Acts.{blank_fact, fact_in}
 use Rattle.node_inbox.specs.Coming.{IsComing}
-use Rattle.node_inbox.specs.Items.{model_content, model_items, shown_of}
+use Rattle.node_inbox.specs.Items.{model_content, model_items, notice_of}
 use Rattle.node_inbox.specs.Kept.{IsInbox, IsKept}
+use Rattle.node_inbox.specs.Offers.{opened_changes, roots_offered}
 use Rattle.node_inbox.specs.Reads.{HasRead, item_with, kept_with}
 use Rattle.node_inbox.specs.declared.coming.ComingRequest.{ComingRequest}
 use Rattle.node_inbox.specs.declared.kept_item.KeptContent.TheVariants as kept
@@ -63,13 +60,10 @@ last_other (p ∷ ps) n t u e s = (after_other p ps n t u e s.0, last_other ps n
 module _ (topology : Topology) (packages : Packages) (me : ParticipantId) (old : List KeptItem) (coming : ComingRequest) (time : ℕ)
     (comes : IsComing topology packages me coming) where
   abbrev reading : Reading
-  reading = sealed_reading topology packages
+  reading = framed_reading topology packages
 
   abbrev x : Item
-  x = item_with time (Received (shown_of coming.kept))
-
-  abbrev tree : OpenedTree
-  tree = (coming.kept).tree
+  x = item_with time (Received (notice_of coming.kept))
 
   got : is_received x.content ≡ true
   got = refl
@@ -92,16 +86,18 @@ module _ (topology : Topology) (packages : Packages) (me : ParticipantId) (old :
     kept_is = record {
       came = record {
         request = comes.came.request;
-        is_sealed = comes.came.is_sealed;
+        is_framed = comes.came.is_framed;
         is_to = comes.came.is_to;
-        root_is = comes.came.root_is;
         sender_is = comes.came.sender_is;
         command_is = comes.came.command_is;
+        root_is = comes.came.root_is;
+        seen_is = comes.came.seen_is;
+        confirmed_is = comes.came.confirmed_is;
+        offer_is = comes.came.offer_is;
       };
       changes = comes.parts.changes_are;
-      views = comes.views;
       facts = all_mapped (IsFactAt reading topology.params (model_items old ++ x ∷ []) (length old)) (fact_in mid.store) (coming.kept).facts fact_is;
-      all_ids = same_ids mid.store (coming.kept).facts ∙ ap (map (λ (fact : IdFacts). fact.id)) comes.parts.facts_are ∙ blank_ids (acts (shown_by_tree tree).roots);
+      all_ids = same_ids mid.store (coming.kept).facts ∙ ap (map (λ (fact : IdFacts). fact.id)) comes.parts.facts_are ∙ blank_ids (acts (roots_offered (coming.kept).offer));
     }
 
   pub read_request : (new : List KeptItem) (place : ℕ) (stands begun mid stands' : Stands) → IsInbox topology packages me old stands
@@ -120,7 +116,7 @@ module _ (topology : Topology) (packages : Packages) (me : ParticipantId) (old :
   read_request new place stands begun mid stands' i later fits rows holds pairs cursor at rows2 pairs2 holds2 cursor2 rows3 holds3 pairs3 cursor3 put =
       let c = request_comes reading topology.params (model_items old) x stands begun mid got quiet fits later i.order i.follows rows holds pairs cursor rows2 pairs2 holds2 cursor2 in
       let here : place ≡ length (model_items old) = at ∙ cursor ∙ i.follows.cursor in
-      let ids : coming.ids ≡ map id_in (changes_of (filter is_authentic (acts (roots_in (shown_by x.content))))) =
+      let ids : coming.ids ≡ map id_in (opened_changes (coming.kept).offer) =
       comes.ids ∙ ap (map id_in) comes.parts.changes_are in
       has_read topology packages me old new (record { time = time; content = kept.Received (kept_with coming.kept mid.store) }) stands stands' i later below
       (kept_is stands mid i c)

@@ -9,11 +9,11 @@ use Rattle.canton_model.specs.declared.decision.Decision.{Decision}
 use Rattle.canton_model.specs.declared.outcome.Outcome.{Outcome as Kind}
 use Rattle.canton_model.specs.declared.verdict.Verdict.{Verdict}
 use Rattle.canton_model.specs.Timeline.{Decided, kind_of, verdict_on}
-use Rattle.canton_model.specs.Inbox.{Item, Told, last_time, moments, shown_at, shown_in}
+use Rattle.canton_model.specs.Inbox.{Item, Told, last_time, moments, notice_at, notice_in}
 use Rattle.canton_model.specs.Reading.{Reading}
 use Rattle.lang_eval.specs.Found.{Packages}
 use Rattle.request_track.specs.Pairs.{expired}
-use Rattle.sealed_form.specs.SealedReading.{sealed_reading}
+use Rattle.framed_form.specs.FramedReading.{framed_reading}
 use Rattle.inbox_standing.specs.ChangeLists.{write_changes}
 use Rattle.inbox_standing.specs.Standing.{Follows, Stands}
 use Rattle.inbox_standing.specs.Steps.{HoldsFollow}
@@ -32,18 +32,18 @@ pub on_err : {X E P : Type 0} (r : Result X E) → P → OnErr r P
 on_err (Ok x) p = tt
 on_err (Err e) p = p
 
--- what is shown stands within the inbox
-pub shown_within : (items : List Item) (k : ℕ) → is_some (shown_at items k) ≡ true → k < length items
-shown_within items k e = elim (cases_lt k (length items)) [
+-- what is received stands within the inbox
+pub received_within : (items : List Item) (k : ℕ) → is_some (notice_at items k) ≡ true → k < length items
+received_within items k e = elim (cases_lt k (length items)) [
   | inl lt ↦ lt
-  | inr past ↦ absurd (let none : is_some (shown_at items k) ≡ false = ap (λ (o : Option Item). is_some (shown_in o)) (slice_get_past items k past) in
+  | inr past ↦ absurd (let none : is_some (notice_at items k) ≡ false = ap (λ (o : Option Item). is_some (notice_in o)) (slice_get_past items k past) in
       let no : true ≡ false = sym e ∙ none in cc)
 ]
 
 module _ (topology : Topology) (packages : Packages) (me : ParticipantId) (old : List KeptItem) (coming : ComingVerdict) (time : ℕ)
-    (tells : IsTelling (sealed_reading topology packages) (model_items old) coming.verdict coming) where
+    (tells : IsTelling (framed_reading topology packages) (model_items old) coming.verdict coming) where
   abbrev reading : Reading
-  reading = sealed_reading topology packages
+  reading = framed_reading topology packages
 
   abbrev v : Verdict
   v = coming.verdict
@@ -89,7 +89,7 @@ module _ (topology : Topology) (packages : Packages) (me : ParticipantId) (old :
       → HasRead topology packages me old new stands' (item_with time (Told coming.verdict))
   read_verdict new stands mid after stands' i later fits rows pairs holds cursor store' pairs' cursor' some none put =
       has_read topology packages me old new (record { time = time; content = kept.Told coming.verdict }) stands stands' i later
-      (shown_within (model_items old) v.request tells.received) tt
+      (received_within (model_items old) v.request tells.received) tt
       (follows stands mid after stands' i fits rows pairs holds cursor store' pairs' cursor' (verdict_on v.request (moments (model_items old))) refl
       (subst (λ (w : Option Kind). IfSome w (λ o. IsSettled mid after v.request o coming.changes.items)) tells.first_is some)
       (subst (λ (w : Option Kind). IfNone w (after ≡ mid)) tells.first_is none)) put

@@ -6,30 +6,31 @@ use Rattle.std.proofs.lemmas.List.{take_all}
 use Rattle.std.proofs.lemmas.Option.{none-some, same_Some}
 use Rattle.ledger_terms.specs.declared.topology.Topology.{Topology}
 use Rattle.ledger_model.specs.Forest.{acts}
-use Rattle.ledger_model.specs.Opening.{Shown, roots_in}
+use Rattle.ledger_model.specs.Opening.{roots_in}
 use Rattle.ledger_model.specs.Terms.{ParticipantId}
 use Rattle.canton_model.specs.Log.{Params}
 use Rattle.canton_model.specs.declared.decision.Decision.{Decision}
 use Rattle.canton_model.specs.declared.decision.Decision.TheVariants.{Approved, Rejected, TimedOut}
 use Rattle.canton_model.specs.declared.verdict.Verdict.{Verdict}
 use Rattle.canton_model.specs.Timeline.{Decided, is_approval, kind_of, outcome_from, outcome_of, verdict_on, is_past}
-use Rattle.canton_model.specs.Inbox.{Item, clean, clean_time, decision_time_in, is_decided_in, item_time, last_time, moments, opened_at, shown_at, shown_by, shown_in}
+use Rattle.canton_model.specs.Inbox.{Item, clean, clean_time, decision_time_in, is_decided_in, item_time, last_time, moments, Notice, notice_at, notice_by, notice_in, opened_at, shown_in_notice}
 use Rattle.lang_eval.specs.Found.{Packages}
 use Rattle.interpret.specs.Ids.{is_authentic}
 use Rattle.request_track.specs.Pairs.{Pair, clean_of, outcome_at}
 use Rattle.request_track.proofs.CleanSame.{clean_same}
 use Rattle.canton_model.proofs.InboxFacts.{clean_is_clean}
-use Rattle.sealed_form.specs.SealedReading.{sealed_reading}
+use Rattle.framed_form.specs.FramedReading.{framed_reading}
 use Rattle.inbox_standing.specs.ChangeLists.{changes_of}
 use Rattle.inbox_standing.specs.Changes.{authentic_at}
 use Rattle.inbox_standing.specs.Requests.{outcome_received, pairs_in}
 use Rattle.inbox_standing.specs.Standing.{Stands}
 use Rattle.inbox_standing.proofs.Tracked.{as_many_moments, outcome_is, tracks}
-use Rattle.node_inbox.specs.Approved.{KeepChanges}
+use Rattle.node_inbox.specs.Approved.{KeepChanges, roots_kept}
 use Rattle.node_inbox.specs.Coming.{IsTelling, is_told}
 use Rattle.node_inbox.specs.Decided.{is_closed, is_without_verdict}
-use Rattle.node_inbox.specs.Items.{model_content, model_item, model_items, shown_of}
-use Rattle.node_inbox.specs.Kept.{AreKept, IsInbox, IsKept, kept_at, opened_changes, request_in, request_in_item}
+use Rattle.node_inbox.specs.Items.{model_content, model_item, model_items, notice_of}
+use Rattle.node_inbox.specs.Kept.{AreKept, IsInbox, IsKept, kept_at, request_in, request_in_item}
+use Rattle.node_inbox.specs.Offers.{opened_changes}
 use Rattle.node_inbox.specs.declared.kept_item.KeptContent.{KeptContent}
 use Rattle.node_inbox.specs.declared.kept_item.KeptContent.TheVariants as kept
 use Rattle.node_inbox.specs.declared.kept_item.KeptItem.{KeptItem}
@@ -48,24 +49,29 @@ item_of (kept.Received x) r e = ap kept.Received (same_Some x r e)
 item_of (kept.Told v) r e = absurd (none-some r e)
 item_of kept.Nothing r e = absurd (none-some r e)
 
--- what is shown of what is kept
-kept_shown : (items : List KeptItem) (k : ℕ) → shown_at (model_items items) k ≡ option_map shown_of (kept_at items k)
-kept_shown items k = ap shown_in (model_get items k) ∙ by (slice_get items k)
+-- what is learnt of what is kept
+pub kept_notice : (items : List KeptItem) (k : ℕ) → notice_at (model_items items) k ≡ option_map notice_of (kept_at items k)
+kept_notice items k = ap notice_in (model_get items k) ∙ by (slice_get items k)
   where
-    of_content : (content : KeptContent) → shown_by (model_content content) ≡ option_map shown_of (request_in content)
+    of_content : (content : KeptContent) → notice_by (model_content content) ≡ option_map notice_of (request_in content)
     of_content (kept.Received x) = refl
     of_content (kept.Told v) = refl
     of_content kept.Nothing = refl
 
-    by : (o : Option KeptItem) → shown_in (option_map model_item o) ≡ option_map shown_of (request_in_item o)
+    by : (o : Option KeptItem) → notice_in (option_map model_item o) ≡ option_map notice_of (request_in_item o)
     by None = refl
     by (Some item) = of_content item.content
 
-pub opened_is : (items : List KeptItem) (k : ℕ) → roots_in (option_map shown_of (kept_at items k)) ≡ opened_at (model_items items) k
-opened_is items k = ap roots_in (sym (kept_shown items k))
+-- what is opened of it
+pub opened_is : (items : List KeptItem) (k : ℕ) → roots_kept (kept_at items k) ≡ opened_at (model_items items) k
+opened_is items k = by (kept_at items k) ∙ ap (λ (o : Option Notice). roots_in (shown_in_notice o)) (sym (kept_notice items k))
+  where
+    by : (o : Option KeptRequest) → roots_kept o ≡ roots_in (shown_in_notice (option_map notice_of o))
+    by None = refl
+    by (Some r) = refl
 
 pub with_changes : (items : List KeptItem) (k : ℕ) (o : Option (Bor KeptRequest)) → KeepChanges items → option_copied o ≡ kept_at items k
-    → IfSome o (λ (r : Bor KeptRequest). (r.now.changes).items ≡ opened_changes r.now.tree)
+    → IfSome o (λ (r : Bor KeptRequest). (r.now.changes).items ≡ opened_changes r.now.offer)
 with_changes items k None keep at = tt
 with_changes items k (Some r) keep at = keep k r.now (sym at)
 
@@ -89,12 +95,12 @@ module _ (topology : Topology) (packages : Packages) (me : ParticipantId) (items
           of_content (kept.Told v) i e = absurd (none-some r e)
           of_content kept.Nothing i e = absurd (none-some r e)
 
-  -- what is shown of it
-  pub shown_tree : (k : ℕ) (r : KeptRequest) → kept_at items k ≡ Some r → shown_at (model_items items) k ≡ Some (shown_of r)
-  shown_tree k r e = kept_shown items k ∙ ap (λ (o : Option KeptRequest). option_map shown_of o) e
+  -- what is learnt of it
+  pub noticed : (k : ℕ) (r : KeptRequest) → kept_at items k ≡ Some r → notice_at (model_items items) k ≡ Some (notice_of r)
+  noticed k r e = kept_notice items k ∙ ap (λ (o : Option KeptRequest). option_map notice_of o) e
 
-  pub none_shown : (k : ℕ) → kept_at items k ≡ None → shown_at (model_items items) k ≡ None
-  none_shown k e = kept_shown items k ∙ ap (λ (o : Option KeptRequest). option_map shown_of o) e
+  pub none_noticed : (k : ℕ) → kept_at items k ≡ None → notice_at (model_items items) k ≡ None
+  none_noticed k e = kept_notice items k ∙ ap (λ (o : Option KeptRequest). option_map notice_of o) e
 
   -- what it changes
   pub keep_changes : KeepChanges items
@@ -117,16 +123,16 @@ closed_kind (Some (Rejected from view reason)) b = refl
 closed_kind (Some (TimedOut missing)) b = refl
 
 -- whether a verdict was told of a request that was received
-pub told_before : (params : Params) (items : List Item) (m : ℕ) (shown : Shown) → shown_at items m ≡ Some shown
+pub told_before : (params : Params) (items : List Item) (m : ℕ) (notice : Notice) → notice_at items m ≡ Some notice
     → is_told (outcome_received params items m) ≡ is_some (verdict_on m (moments items))
-told_before params items m shown e =
-    ap (λ (o : Option Shown). is_told (option_map (λ (s : Shown). kind_of (outcome_of (moments items) m (decision_time_in params items m))) o)) e
+told_before params items m notice e =
+    ap (λ (o : Option Notice). is_told (option_map (λ (n : Notice). kind_of (outcome_of (moments items) m (decision_time_in params items m))) o)) e
     ∙ told_kind (verdict_on m (moments items)) (is_past (decision_time_in params items m) (moments items))
 
 -- whether it is decided
 pub closed_is : (params : Params) (items : List Item) (m : ℕ)
-    → is_closed (outcome_received params items m) ≡ (is_some (shown_at items m) && is_decided_in params items m (length items))
-closed_is params items m = by (shown_at items m)
+    → is_closed (outcome_received params items m) ≡ (is_some (notice_at items m) && is_decided_in params items m (length items))
+closed_is params items m = by (notice_at items m)
   where
     over : is_decided_in params items m (length items) ≡ (is_some (verdict_on m (moments items)) || is_past (decision_time_in params items m) (moments items))
     over =
@@ -135,25 +141,25 @@ closed_is params items m = by (shown_at items m)
           take_all (length items + 1) (moments items) (omega (arith, as_many_moments items)),
         ) refl
 
-    by : (o : Option Shown)
-        → is_closed (option_map (λ (s : Shown). kind_of (outcome_of (moments items) m (decision_time_in params items m))) o)
+    by : (o : Option Notice)
+        → is_closed (option_map (λ (n : Notice). kind_of (outcome_of (moments items) m (decision_time_in params items m))) o)
         ≡ (is_some o && is_decided_in params items m (length items))
     by None = refl
-    by (Some shown) = closed_kind (verdict_on m (moments items)) (is_past (decision_time_in params items m) (moments items)) ∙ sym over
+    by (Some notice) = closed_kind (verdict_on m (moments items)) (is_past (decision_time_in params items m) (moments items)) ∙ sym over
 
 -- no verdict was told of it
 pub none_told : (params : Params) (items : List Item) (m : ℕ) → is_without_verdict (outcome_received params items m) ≡ true → verdict_on m (moments items) ≡ None
-none_told params items m e = by (shown_at items m) (verdict_on m (moments items)) e
+none_told params items m e = by (notice_at items m) (verdict_on m (moments items)) e
   where
     past : Bool
     past = is_past (decision_time_in params items m) (moments items)
 
-    by : (o : Option Shown) (d : Option Decision) → is_without_verdict (option_map (λ (s : Shown). kind_of (outcome_from d past)) o) ≡ true → d ≡ None
+    by : (o : Option Notice) (d : Option Decision) → is_without_verdict (option_map (λ (n : Notice). kind_of (outcome_from d past)) o) ≡ true → d ≡ None
     by None d e = absurd (cc)
-    by (Some shown) None e = refl
-    by (Some shown) (Some Approved) e = absurd (cc)
-    by (Some shown) (Some (Rejected from view reason)) e = absurd (cc)
-    by (Some shown) (Some (TimedOut missing)) e = absurd (cc)
+    by (Some notice) None e = refl
+    by (Some notice) (Some Approved) e = absurd (cc)
+    by (Some notice) (Some (Rejected from view reason)) e = absurd (cc)
+    by (Some notice) (Some (TimedOut missing)) e = absurd (cc)
 
 -- ---- questions
 
@@ -169,42 +175,42 @@ module _ (topology : Topology) (packages : Packages) (me : ParticipantId) (items
 
   -- what a verdict on a request that is kept brings
   changes_at : (k : ℕ) (r : KeptRequest) → kept_at items k ≡ Some r
-      → r.changes.items ≡ changes_of (authentic_at (sealed_reading topology packages) (model_items items) k)
+      → r.changes.items ≡ changes_of (authentic_at (framed_reading topology packages) (model_items items) k)
   changes_at k r e =
       (found_at topology packages me items i.each k r e).changes
-      ∙ ap (λ (o : Option Shown). changes_of (filter is_authentic (acts (roots_in o)))) (sym (shown_tree topology packages me items i.each k r e))
+      ∙ ap (λ (o : Option Notice). changes_of (filter is_authentic (acts (roots_in (shown_in_notice o))))) (sym (noticed topology packages me items i.each k r e))
 
   pub tells_first : (v : Verdict) (r : KeptRequest) (coming : ComingVerdict) → kept_at items v.request ≡ Some r
       → is_told (outcome_at (stands.tracking).pairs v.request) ≡ false
       → coming.verdict ≡ v → coming.first ≡ Some (kind_of (Decided v.decision))
       → coming.changes.items ≡ (if is_approval (Some v.decision) then r.changes.items else [])
-      → IsTelling (sealed_reading topology packages) (model_items items) v coming
+      → IsTelling (framed_reading topology packages) (model_items items) v coming
   tells_first v r coming e told is first changes =
-      let shown = shown_tree topology packages me items i.each v.request r e in
+      let notice = noticed topology packages me items i.each v.request r e in
       let none : is_some (verdict_on v.request (moments (model_items items))) ≡ false =
-      sym (told_before topology.params (model_items items) v.request (shown_of r) shown) ∙ ap is_told (sym (outcome_at_is v.request)) ∙ told in
+      sym (told_before topology.params (model_items items) v.request (notice_of r) notice) ∙ ap is_told (sym (outcome_at_is v.request)) ∙ told in
       record {
-        received = ap is_some shown;
+        received = ap is_some notice;
         verdict_is = is;
         first_is = rw none first;
         changes_are = rw none (changes ∙ by (is_approval (Some v.decision)));
       }
     where
       by : (b : Bool) → (if b then r.changes.items else [])
-          ≡ changes_of (if b then authentic_at (sealed_reading topology packages) (model_items items) v.request else [])
+          ≡ changes_of (if b then authentic_at (framed_reading topology packages) (model_items items) v.request else [])
       by true = changes_at v.request r e
       by false = refl
 
   pub tells_later : (v : Verdict) (r : KeptRequest) (coming : ComingVerdict) → kept_at items v.request ≡ Some r
       → is_told (outcome_at (stands.tracking).pairs v.request) ≡ true
       → coming.verdict ≡ v → coming.first ≡ None → coming.changes.items ≡ []
-      → IsTelling (sealed_reading topology packages) (model_items items) v coming
+      → IsTelling (framed_reading topology packages) (model_items items) v coming
   tells_later v r coming e told is first changes =
-      let shown = shown_tree topology packages me items i.each v.request r e in
+      let notice = noticed topology packages me items i.each v.request r e in
       let some : is_some (verdict_on v.request (moments (model_items items))) ≡ true =
-      sym (told_before topology.params (model_items items) v.request (shown_of r) shown) ∙ ap is_told (sym (outcome_at_is v.request)) ∙ told in
+      sym (told_before topology.params (model_items items) v.request (notice_of r) notice) ∙ ap is_told (sym (outcome_at_is v.request)) ∙ told in
       record {
-        received = ap is_some shown;
+        received = ap is_some notice;
         verdict_is = is;
         first_is = rw some first;
         changes_are = rw some changes;

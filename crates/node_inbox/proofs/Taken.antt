@@ -10,7 +10,7 @@ use Rattle.ledger_terms.specs.Trees.{Actions}
 use Rattle.ledger_terms.proofs.Grow.{join-end}
 use Rattle.ledger_model.specs.Opening.{roots_in}
 use Rattle.ledger_model.specs.declared.commit.Commit.{Commit}
-use Rattle.canton_model.specs.Inbox.{Item, moments, opened_at, part_if, parts_below, shown_by, shown_in}
+use Rattle.canton_model.specs.Inbox.{Item, moments, opened_at, notice_by, part_if, parts_below, shown_in, shown_in_notice}
 use Rattle.canton_model.specs.Log.{Params}
 use Rattle.canton_model.specs.Timeline.{is_approved_in}
 use Rattle.canton_model.specs.declared.outcome.Outcome.{Outcome}
@@ -62,7 +62,7 @@ none_left (x ∷ xs) zero e = absurd (omega (arith, ap length e))
 none_left (x ∷ xs) (suc k) e = omega (arith, none_left xs k e)
 
 opened_of : (items : List KeptItem) (k : ℕ) (item : KeptItem) → slice_get items k ≡ Some item
-    → opened_at (model_items items) k ≡ roots_in (shown_by (model_content item.content))
+    → opened_at (model_items items) k ≡ roots_in (shown_in_notice (notice_by (model_content item.content)))
 opened_of items k item found = ap (λ (o : Option Item). roots_in (shown_in o)) (model_get items k ∙ ap (λ (o : Option KeptItem). option_map model_item o) found)
 
 no_part : (b : Bool) (k : ℕ) → part_if b k NoRoots ≡ []
@@ -70,7 +70,7 @@ no_part true k = refl
 no_part false k = refl
 
 part_is : (params : Params) (ms : List Item) (k : ℕ) (told : Option Outcome) (content : KeptContent)
-    → told ≡ outcome_received params ms k → opened_at ms k ≡ roots_in (shown_by (model_content content))
+    → told ≡ outcome_received params ms k → opened_at ms k ≡ roots_in (shown_in_notice (notice_by (model_content content)))
     → part_of (is_approved told) k content ≡ part_if (is_approved_in k (moments ms)) k (opened_at ms k)
 part_is params ms k told (Received kept) is opens =
     ap (λ (f : Forest Act). part_if true k (if is_approved told then f else NoRoots)) (sym opens)

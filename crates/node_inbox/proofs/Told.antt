@@ -14,7 +14,7 @@ use Rattle.contract_store.specs.Active.{active, active_rows, in_order, in_order_
 use Rattle.contract_store.specs.Rows.{row_of}
 use Rattle.contract_store.specs.Written.{written}
 use Rattle.contract_store.specs.declared.row.StoreRow.{StoreRow}
-use Rattle.sealed_form.specs.SealedReading.{sealed_reading}
+use Rattle.framed_form.specs.FramedReading.{framed_reading}
 use Rattle.inbox_standing.specs.ChangeLists.{changes_of, write_changes}
 use Rattle.inbox_standing.specs.Changes.{acts_of_verdict, changes_in}
 use Rattle.inbox_standing.specs.Offered.{CreatedOnce}
@@ -37,7 +37,7 @@ use Rattle.node_inbox.proofs.NewContracts.{once_same, once_told}
 module _ (topology : Topology) (packages : Packages) (me : ParticipantId) (old new : List KeptItem) (stands stands' : Stands)
     (i : IsInbox topology packages me old stands) (ids : List Hash) where
   abbrev reading : Reading
-  reading = sealed_reading topology packages
+  reading = framed_reading topology packages
 
   abbrev at_rows : List Hash → Stands → Type 0
   at_rows known s = AreTold reading me known (s.store).rows

@@ -1,18 +1,17 @@
 -- What the approved requests of an inbox open.
-use Rattle.std.specs.Prelude.{◌≡◌, ℕ, Bool, true, false, List, [], Option, Some, None, if◌then◌else◌}
+use Rattle.std.specs.Prelude.{◌≡◌, ℕ, Bool, true, List, [], Option, Some, None, if◌then◌else◌}
 use Rattle.ledger_model.specs.Forest.{Forest, NoRoots}
 use Rattle.ledger_terms.specs.declared.act.Act.{Act}
 use Rattle.ledger_model.specs.declared.commit.Commit.{Commit}
 use Rattle.canton_model.specs.Inbox.{Item, moments, opened_at, part_if}
 use Rattle.canton_model.specs.Log.{Params}
 use Rattle.canton_model.specs.Timeline.{is_approved_in}
-use Rattle.canton_model.specs.declared.outcome.Outcome.{Outcome}
-use Rattle.canton_model.specs.declared.outcome.Outcome.TheVariants.{Undecided, Approved, Rejected, TimedOut, Expired}
 use Rattle.request_track.specs.Pairs.{outcome_at}
+pub use Rattle.inbox_standing.specs.Requests.{is_approved}
 use Rattle.inbox_standing.specs.Requests.{outcome_received}
 use Rattle.inbox_standing.specs.Standing.{Stands}
-use Rattle.node_inbox.specs.Items.{shown_of}
-use Rattle.node_inbox.specs.Kept.{kept_at, opened_changes}
+use Rattle.node_inbox.specs.Kept.{kept_at}
+use Rattle.node_inbox.specs.Offers.{opened_changes, roots_offered}
 use Rattle.node_inbox.specs.declared.kept_item.KeptContent.{KeptContent}
 use Rattle.node_inbox.specs.declared.kept_item.KeptContent.TheVariants.{Received, Told, Nothing}
 use Rattle.node_inbox.specs.declared.kept_item.KeptItem.{KeptItem}
@@ -24,15 +23,12 @@ TellsOutcomes params items stands = (k : ℕ) → outcome_at (stands.tracking).p
 
 -- each request that is kept has the changes of what is opened of it
 abbrev pub KeepChanges : List KeptItem → Type 0
-KeepChanges items = (k : ℕ) (request : KeptRequest) → kept_at items k ≡ Some request → (request.changes).items ≡ opened_changes request.tree
+KeepChanges items = (k : ℕ) (request : KeptRequest) → kept_at items k ≡ Some request → (request.changes).items ≡ opened_changes request.offer
 
-abbrev pub is_approved : Option Outcome → Bool
-is_approved None = false
-is_approved (Some Undecided) = false
-is_approved (Some Approved) = true
-is_approved (Some Rejected) = false
-is_approved (Some TimedOut) = false
-is_approved (Some Expired) = false
+-- what is opened of a request, where there is one
+abbrev pub roots_kept : Option KeptRequest → Forest Act
+roots_kept None = NoRoots
+roots_kept (Some kept) = roots_offered kept.offer
 
 -- the trees of the request at a place, where it is approved
 abbrev pub approved_at : List Item → ℕ → Forest Act
@@ -40,6 +36,6 @@ approved_at items k = if is_approved_in k (moments items) then opened_at items k
 
 -- the part of an item at a place, by whether the request there is approved
 abbrev pub part_of : Bool → ℕ → KeptContent → List Commit
-part_of approved place (Received kept) = part_if true place (if approved then (shown_of kept).roots else NoRoots)
+part_of approved place (Received kept) = part_if true place (if approved then roots_offered kept.offer else NoRoots)
 part_of approved place (Told verdict) = []
 part_of approved place Nothing = []

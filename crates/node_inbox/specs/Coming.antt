@@ -3,34 +3,45 @@ use Rattle.std.specs.Prelude.{◌≡◌, Bool, true, false, List, Option, Some, 
 use Rattle.ledger_terms.specs.declared.topology.Topology.{Topology}
 use Rattle.ledger_model.specs.Forest.{acts}
 use Rattle.ledger_model.specs.Terms.{ParticipantId}
+use Rattle.canton_model.specs.declared.request.Request.{Request}
 use Rattle.canton_model.specs.declared.verdict.Verdict.{Verdict}
 use Rattle.canton_model.specs.declared.outcome.Outcome.{Outcome as Kind}
 use Rattle.canton_model.specs.declared.outcome.Outcome.TheVariants as kind
-use Rattle.canton_model.specs.Inbox.{Item, moments, shown_at}
+use Rattle.canton_model.specs.Inbox.{Item, moments, notice_at}
 use Rattle.canton_model.specs.Timeline.{Decided, kind_of, verdict_on}
 use Rattle.canton_model.specs.Reading.{Reading}
 use Rattle.lang_eval.specs.Found.{Packages}
-use Rattle.view_split.specs.Placed.{shown_by}
-use Rattle.view_split.specs.declared.opened_tree.OpenedTree.{OpenedTree}
 use Rattle.confirm_reply.specs.declared.id_facts.IdFacts.{IdFacts}
 use Rattle.inbox_standing.specs.ChangeLists.{changes_of, id_in}
 use Rattle.inbox_standing.specs.Changes.{acts_of_verdict}
 use Rattle.inbox_standing.specs.declared.change.Change.{Change}
+use Rattle.proto_model.specs.declared.notice.Notice.{Notice}
 use Rattle.node_inbox.specs.Acts.{blank_fact}
-use Rattle.node_inbox.specs.Kept.{Came, confirmed_paths, opened_changes}
+use Rattle.node_inbox.specs.Kept.{Came}
+use Rattle.node_inbox.specs.Offers.{as_offered, opened_changes, roots_offered}
 use Rattle.node_inbox.specs.declared.coming.ComingRequest.{ComingRequest}
+use Rattle.node_inbox.specs.declared.kept_item.KeptRequest.{KeptRequest}
+use Rattle.node_inbox.specs.declared.kept_offer.KeptOffer.{KeptOffer}
 use Rattle.node_inbox.specs.declared.telling.ComingVerdict.{ComingVerdict}
 
--- the contracts of what a tree opens, with nothing known of them, and its changes
-pub record AreParts (tree : OpenedTree) (facts : List IdFacts) (changes : List Change) : Type 0 where
-  pub facts_are : facts ≡ map blank_fact (acts (shown_by tree).roots)
-  pub changes_are : changes ≡ opened_changes tree
+-- the contracts of what is opened, with nothing known of them, and its changes
+pub record AreParts (offer : KeptOffer) (facts : List IdFacts) (changes : List Change) : Type 0 where
+  pub facts_are : facts ≡ map blank_fact (acts (roots_offered offer))
+  pub changes_are : changes ≡ opened_changes offer
+
+-- What is kept of a request is what a notice has of it.
+pub record IsKeptOf (request : Request) (notice : Notice) (kept : KeptRequest) : Type 0 where
+  pub sender : kept.sender ≡ request.sender
+  pub command : kept.command ≡ request.command
+  pub root : kept.root ≡ notice.root
+  pub seen : kept.seen ≡ notice.seen
+  pub confirmed : kept.confirmed ≡ notice.confirmed
+  pub offer : as_offered kept.offer ≡ notice.offered
 
 -- a request that comes
 pub record IsComing (topology : Topology) (packages : Packages) (me : ParticipantId) (coming : ComingRequest) : Type 0 where
   pub came : Came topology packages me coming.kept
-  pub views : (coming.kept).views ≡ confirmed_paths topology me (coming.kept).tree
-  pub parts : AreParts (coming.kept).tree (coming.kept).facts ((coming.kept).changes).items
+  pub parts : AreParts (coming.kept).offer (coming.kept).facts ((coming.kept).changes).items
   pub ids : coming.ids ≡ map id_in ((coming.kept).changes).items
 
 -- the outcome by a verdict, where it is the first on its request
@@ -48,7 +59,7 @@ is_told (Some kind.Expired) = false
 
 -- a verdict that comes on a request that was received
 pub record IsTelling (reading : Reading) (items : List Item) (verdict : Verdict) (coming : ComingVerdict) : Type 0 where
-  pub received : is_some (shown_at items verdict.request) ≡ true
+  pub received : is_some (notice_at items verdict.request) ≡ true
   pub verdict_is : coming.verdict ≡ verdict
   pub first_is : coming.first ≡ first_outcome items verdict
   pub changes_are : coming.changes.items ≡ changes_of (acts_of_verdict reading items verdict)

@@ -7,7 +7,7 @@ use Rattle.ledger_model.specs.Terms.{ParticipantId}
 use Rattle.canton_model.specs.Inbox.{is_stakeholder_hosted}
 use Rattle.canton_model.specs.Reading.{Reading}
 use Rattle.lang_eval.specs.Found.{Packages}
-use Rattle.sealed_form.specs.SealedReading.{sealed_reading}
+use Rattle.framed_form.specs.FramedReading.{framed_reading}
 
 -- The participants, the packages, and which participant it is.
 pub record Host : Type 0 where
@@ -19,7 +19,7 @@ abbrev pub host_of : Topology → Packages → ParticipantId → Host
 host_of topology packages me = record { topology = topology; packages = packages; me = me }
 
 abbrev pub reading_by : Host → Reading
-reading_by host = sealed_reading host.topology host.packages
+reading_by host = framed_reading host.topology host.packages
 
 -- each of these contracts has a hosted stakeholder
 abbrev pub AreHosted : Reading → ParticipantId → List Known → Type 0

@@ -7,7 +7,7 @@ use Rattle.canton_model.specs.Reading.{Reading}
 use Rattle.canton_model.specs.Inbox.{Item, is_decided_in}
 use Rattle.world_model.specs.Places.{first_from}
 use Rattle.lang_eval.specs.Found.{Packages}
-use Rattle.sealed_form.specs.SealedReading.{sealed_reading}
+use Rattle.framed_form.specs.FramedReading.{framed_reading}
 
 -- The participants with their times, the packages, which participant it is, and its items.
 pub record InboxState : Type 0 where
@@ -18,7 +18,7 @@ pub record InboxState : Type 0 where
 
 -- how it reads requests
 abbrev pub reading_of : InboxState → Reading
-reading_of state = sealed_reading state.topology state.packages
+reading_of state = framed_reading state.topology state.packages
 
 abbrev pub params_of : InboxState → Params
 params_of state = state.topology.params

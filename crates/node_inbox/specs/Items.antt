@@ -1,19 +1,18 @@
--- The items of an inbox, as the definitions of the ledger model see them.
+-- The items of an inbox, as the definitions of the protocol see them.
 use Rattle.std.specs.Prelude.{List, map}
-use Rattle.ledger_model.specs.Opening.{Shown}
-use Rattle.canton_model.specs.Inbox.{Content, Item, Received, Told, Nothing}
-use Rattle.view_split.specs.Placed.{shown_by}
+use Rattle.canton_model.specs.Inbox.{Content, Item, Notice, Received, Told, Nothing}
+use Rattle.node_inbox.specs.Offers.{model_offer}
 use Rattle.node_inbox.specs.declared.kept_item.KeptItem.{KeptItem}
 use Rattle.node_inbox.specs.declared.kept_item.KeptRequest.{KeptRequest}
 use Rattle.node_inbox.specs.declared.kept_item.KeptContent.{KeptContent}
 use Rattle.node_inbox.specs.declared.kept_item.KeptContent.TheVariants.{Received as KeptReceived, Told as KeptTold, Nothing as KeptNothing}
 
--- what is opened of a request
-abbrev pub shown_of : KeptRequest → Shown
-shown_of request = shown_by request.tree
+-- what is learnt of a request
+abbrev pub notice_of : KeptRequest → Notice
+notice_of kept = record { sender = kept.sender; seen = kept.seen; confirmed = kept.confirmed; offer = model_offer kept.offer }
 
 abbrev pub model_content : KeptContent → Content
-model_content (KeptReceived kept) = Received (shown_of kept)
+model_content (KeptReceived kept) = Received (notice_of kept)
 model_content (KeptTold verdict) = Told verdict
 model_content KeptNothing = Nothing
 

@@ -1,3 +1,4 @@
+pub mod Offers
 pub mod InboxState
 pub mod Entries
 pub mod Items
@@ -6,7 +7,6 @@ pub mod Acts
 pub mod Coming
 pub mod Decided
 pub mod Reads
-pub mod Confirmed
 pub mod JobInput
 pub mod Approved
 pub mod Places

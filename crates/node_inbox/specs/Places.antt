@@ -1,7 +1,7 @@
 -- The places of the approved requests.
 use Rattle.std.specs.Prelude.{◌≡◌, ◌≤◌, ℕ, zero, suc, Bool, true, false, List, [], ◌∷◌, ◌++◌, if◌then◌else◌, length}
 use Rattle.ledger_model.specs.declared.commit.Commit.{Commit}
-use Rattle.canton_model.specs.Inbox.{Item, opened_at, part_if}
+use Rattle.canton_model.specs.Inbox.{Item, is_kept_from, notice_at, opened_at, part_if}
 use Rattle.canton_model.specs.Log.{Params}
 use Rattle.request_track.specs.Pairs.{Pair, outcome_at}
 use Rattle.inbox_standing.specs.Requests.{outcome_received}
@@ -28,6 +28,10 @@ approved_below params items n = places_below (λ k. is_approved (outcome_receive
 abbrev pub parts_at : List Item → List ℕ → List Commit
 parts_at items [] = []
 parts_at items (k ∷ ks) = part_if true k (opened_at items k) ++ parts_at items ks
+
+-- a view of the request at a place is seen, and its envelope isn't complete
+abbrev pub is_kept_from_at : List Item → ℕ → Bool
+is_kept_from_at items k = is_kept_from (notice_at items k)
 
 -- they are those of the approved requests of the inbox below a place in it
 pub record AreApproved (params : Params) (items : List Item) (approved : ApprovedPlaces) : Type 0 where

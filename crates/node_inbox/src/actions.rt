@@ -1,6 +1,7 @@
 //! The actions of what is opened.
 ghost use Rattle.std.specs.Prelude.{◌≡◌, ◌++◌, ◌∷◌, [], All, IfOk, OnOk, map, filter};
 ghost use Rattle.ledger_terms.specs.declared.act.Act.{Act};
+ghost use Rattle.ledger_model.specs.Forest.{acts};
 ghost use Rattle.ledger_model.specs.Terms.{id_of, instance_of};
 ghost use Rattle.contract_store.specs.Written.{contract_of, is_change, salt_in};
 ghost use Rattle.wire_form.specs.Spellable.{IsSpellableInstance};
@@ -9,7 +10,9 @@ ghost use Rattle.view_split.specs.Placed.{placed_forest};
 ghost use Rattle.view_split.specs.SeenViews.{put_back};
 ghost use Rattle.inbox_standing.specs.ChangeLists.{change_of, changes_of};
 ghost use Rattle.node_inbox.specs.Acts.{blank_fact, is_authentic_change};
+ghost use Rattle.node_inbox.specs.Offers.{roots_offered};
 
+use crate::kept_offer::KeptOffer;
 use blind_tree::PlacedViewList;
 use confirm_reply::{IdFacts, IdFactsList};
 use inbox_standing::Change;
@@ -17,7 +20,7 @@ use interpret::is_authentic;
 use ledger_model::Status;
 use ledger_terms::{Action, ActionNodeList, Exact, Hash, Known, push_closely};
 use std::alloc::{AllocError, Global};
-use view_split::{ActRef, assemble};
+use view_split::{ActRef, acts_in_views, assemble};
 
 /// The trees of all views that are opened.
 pub fn roots_of(alloc: Global, views: &PlacedViewList) -> Result<ActionNodeList, AllocError>
@@ -28,6 +31,28 @@ pub fn roots_of(alloc: Global, views: &PlacedViewList) -> Result<ActionNodeList,
         roots.push(assemble(alloc, &placed.view)?)?;
     }
     Ok(roots)
+}
+
+/// The trees that an offer opens.
+pub fn roots_offered(alloc: Global, offer: &KeptOffer) -> Result<ActionNodeList, AllocError>
+    ensures { IfOk result (λ roots. roots ≡ roots_offered offer.now) }
+{
+    match offer {
+        KeptOffer::Mismatch => Ok(ActionNodeList::new(alloc)),
+        KeptOffer::Missing => Ok(ActionNodeList::new(alloc)),
+        KeptOffer::Open(tree) => roots_of(alloc, &tree.opened().views),
+    }
+}
+
+/// The actions in these trees, each before those below it.
+pub fn acts_offered<'a>(alloc: Global, offer: &'a KeptOffer) -> Result<Vec<ActRef<'a>>, AllocError>
+    ensures { IfOk result (λ found. found.items ≡ acts (roots_offered offer.now)) }
+{
+    match offer {
+        KeptOffer::Mismatch => Ok(Vec::new(alloc)),
+        KeptOffer::Missing => Ok(Vec::new(alloc)),
+        KeptOffer::Open(tree) => acts_in_views(alloc, &tree.opened().views),
+    }
 }
 
 fn salt_of(act: &ActRef<'_>) -> Hash

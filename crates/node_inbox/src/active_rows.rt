@@ -4,7 +4,7 @@ ghost use Rattle.ledger_model.specs.Forest.{acts};
 ghost use Rattle.canton_model.specs.Inbox.{node_active};
 ghost use Rattle.interpret.specs.Ids.{is_authentic};
 ghost use Rattle.contract_store.specs.Written.{written};
-ghost use Rattle.sealed_form.specs.SealedReading.{sealed_reading};
+ghost use Rattle.framed_form.specs.FramedReading.{framed_reading};
 ghost use Rattle.inbox_standing.specs.ChangeLists.{changes_of, write_changes};
 ghost use Rattle.node_inbox.specs.Approved.{KeepChanges, TellsOutcomes, approved_at};
 ghost use Rattle.node_inbox.specs.Hosts.{reading_by};
@@ -65,7 +65,7 @@ fn live_between<'k>(
     requires told { TellsOutcomes setup.now.topology.params (model_items items.now) standing.now }
     requires kept { KeepChanges items.now }
     ensures { IfOk result (λ live. live
-        ≡ written (placed_between (sealed_reading setup.now.topology setup.now.checked) (model_items items.now) start end) []) }
+        ≡ written (placed_between (framed_reading setup.now.topology setup.now.checked) (model_items items.now) start end) []) }
 {
     let mut live = LiveRows::new(alloc);
     'places: for place in start..end {

@@ -5,7 +5,7 @@ ghost use Rattle.std.specs.Str.{bytes_eq};
 ghost use Rattle.indexmap.specs.IndexMap.{keys};
 ghost use Rattle.contract_store.specs.Rows.{status_in};
 ghost use Rattle.prepare_request.specs.Hosted.{is_among};
-ghost use Rattle.sealed_form.specs.SealedReading.{sealed_reading};
+ghost use Rattle.framed_form.specs.FramedReading.{framed_reading};
 ghost use Rattle.inbox_standing.specs.ChangeLists.{id_in};
 ghost use Rattle.node_inbox.specs.AddedIds.{added_behind, added_if, are_new, is_new, is_on, is_unheard, is_unknown};
 
@@ -66,7 +66,7 @@ fn add_if(
     ids: &mut HashList,
 ) -> Result<(), AllocError>
     ensures { OnOk result (ids.new ≡ ids.old
-        ++ added_if (sealed_reading setup.now.topology setup.now.checked) me is_new change.now) }
+        ++ added_if (framed_reading setup.now.topology setup.now.checked) me is_new change.now) }
 {
     if is_new && has_hosted_stakeholder(*ids.allocator(), setup, me, &change.known.instance)? {
         ids.push(change.known.id)?;
@@ -109,7 +109,7 @@ pub fn added_ids(
     store: &Store,
     changes: &[Change],
 ) -> Result<(HashList, bool), AllocError>
-    ensures ids { IfOk result (λ added. added.0 ≡ added_behind (sealed_reading setup.now.topology setup.now.checked) me store.now.rows [] changes.now) }
+    ensures ids { IfOk result (λ added. added.0 ≡ added_behind (framed_reading setup.now.topology setup.now.checked) me store.now.rows [] changes.now) }
     ensures new { IfOk result (λ added. added.1 ≡ are_new store.now.rows [] changes.now) }
 {
     let mut ids = HashList::new(alloc);

@@ -1,15 +1,14 @@
 //! What the approved requests open.
-ghost use Rattle.std.specs.Prelude.{◌≡◌, ◌++◌, true, if◌then◌else◌, nat_le, IfOk, IfSome, OnOk, option_copied, option_map};
-ghost use Rattle.ledger_model.specs.Opening.{roots_in};
+ghost use Rattle.std.specs.Prelude.{◌≡◌, ◌++◌, true, IfOk, IfSome, OnOk, option_copied};
 ghost use Rattle.canton_model.specs.Inbox.{moments, opened_at, part_if, parts_below};
 ghost use Rattle.canton_model.specs.Timeline.{is_approved_in};
 ghost use Rattle.request_track.specs.Pairs.{outcome_at};
-ghost use Rattle.node_inbox.specs.Approved.{KeepChanges, TellsOutcomes, approved_at, is_approved};
-ghost use Rattle.node_inbox.specs.Items.{model_items, shown_of};
-ghost use Rattle.node_inbox.specs.Kept.{opened_changes};
+ghost use Rattle.node_inbox.specs.Approved.{KeepChanges, TellsOutcomes, approved_at, is_approved, roots_kept};
+ghost use Rattle.node_inbox.specs.Items.{model_items};
+ghost use Rattle.node_inbox.specs.Offers.{opened_changes};
 ghost use Rattle.node_inbox.specs.Places.{AreApproved, parts_at};
 
-use crate::actions::roots_of;
+use crate::actions::roots_offered;
 use crate::approved_places::ApprovedPlaces;
 use crate::items::request_at;
 use crate::kept_item::{KeptItem, KeptRequest};
@@ -34,11 +33,11 @@ pub fn is_approved(standing: &Standing, place: u64) -> bool
     }
 }
 
-// The request at a place, of which something is opened.
+// The request that was received at a place.
 fn opened_at(items: &[KeptItem], place: u64) -> Option<&KeptRequest>
     requires { KeepChanges items.now }
-    ensures exact { roots_in (option_map shown_of (option_copied result)) ≡ opened_at (model_items items.now) place }
-    ensures changes { IfSome result (λ kept. kept.now.changes.items ≡ opened_changes kept.now.tree) }
+    ensures exact { roots_kept (option_copied result) ≡ opened_at (model_items items.now) place }
+    ensures changes { IfSome result (λ kept. kept.now.changes.items ≡ opened_changes kept.now.offer) }
 {
     request_at(items, place)
 }
@@ -52,8 +51,8 @@ pub fn approved_at<'i>(
 ) -> Option<&'i KeptRequest>
     requires told { TellsOutcomes setup.now.topology.params (model_items items.now) standing.now }
     requires kept { KeepChanges items.now }
-    ensures exact { roots_in (option_map shown_of (option_copied result)) ≡ approved_at (model_items items.now) place }
-    ensures changes { IfSome result (λ kept. kept.now.changes.items ≡ opened_changes kept.now.tree) }
+    ensures exact { roots_kept (option_copied result) ≡ approved_at (model_items items.now) place }
+    ensures changes { IfSome result (λ kept. kept.now.changes.items ≡ opened_changes kept.now.offer) }
 {
     // most places have no request, and an item is found sooner than an outcome
     let kept = opened_at(items, place)?;
@@ -93,7 +92,7 @@ fn push_approved(
 {
     match approved_at(setup, items, standing, place) {
         Some(kept) => {
-            let roots = roots_of(*commits.allocator(), &kept.tree.opened().views)?;
+            let roots = roots_offered(*commits.allocator(), &kept.offer)?;
             push_commit(place, roots, commits)
         }
         None => Ok(()),
@@ -107,7 +106,7 @@ fn push_opened(items: &[KeptItem], place: u64, commits: &mut CommitList) -> Resu
 {
     match opened_at(items, place) {
         Some(kept) => {
-            let roots = roots_of(*commits.allocator(), &kept.tree.opened().views)?;
+            let roots = roots_offered(*commits.allocator(), &kept.offer)?;
             push_commit(place, roots, commits)
         }
         None => Ok(()),
@@ -126,21 +125,6 @@ fn opened_of(alloc: Global, items: &[KeptItem], places: &[u64]) -> Result<Commit
     Ok(commits)
 }
 
-// The places of the approved requests below a place that isn't behind another, and else those below the first.
-fn not_behind<'a>(
-    approved: &'a ApprovedPlaces,
-    none: &'a ApprovedPlaces,
-    end: u64,
-) -> &'a ApprovedPlaces
-    ensures { result.now ≡ (if nat_le approved.now.below end then approved.now else none.now) }
-{
-    if approved.below <= end {
-        approved
-    } else {
-        none
-    }
-}
-
 /// The approved requests below a place, as they are opened. Goes through the places that are known, and on from there.
 pub fn applied(
     alloc: Global,
@@ -156,7 +140,7 @@ pub fn applied(
     ensures { IfOk result (λ commits. commits ≡ parts_below (model_items items.now) end) }
 {
     let none = ApprovedPlaces::new(alloc);
-    let known = not_behind(approved, &none, end);
+    let known = approved.not_behind(&none, end);
     let mut commits = opened_of(alloc, items, known.places.as_slice())?;
     'places: for place in known.below..end {
         push_approved(setup, items, standing, place, &mut commits)?;

@@ -1,5 +1,5 @@
 //! The places of approved requests.
-ghost use Rattle.std.specs.Prelude.{◌≡◌, ◌++◌, ◌∷◌, ◌+◌, ◌<◌, ◌≤◌, ◌^◌, ℕ, [], if◌then◌else◌, OnErr, OnOk};
+ghost use Rattle.std.specs.Prelude.{◌≡◌, ◌++◌, ◌∷◌, ◌+◌, ◌<◌, ◌≤◌, ◌^◌, ℕ, [], if◌then◌else◌, nat_le, OnErr, OnOk};
 ghost use Rattle.request_track.specs.Pairs.{outcome_at};
 ghost use Rattle.node_inbox.specs.Approved.{is_approved};
 ghost use Rattle.node_inbox.specs.Places.{AreKeptIf, place_if, tracked_below};
@@ -35,6 +35,13 @@ impl ApprovedPlaces {
         if !kept {
             *self = ApprovedPlaces::new(*self.places.allocator());
         }
+    }
+
+    /// Those below a place that isn't behind another, and else those below the first.
+    pub fn not_behind<'a>(&'a self, none: &'a ApprovedPlaces, end: u64) -> &'a ApprovedPlaces
+        ensures { result.now ≡ (if nat_le self.now.below end then self.now else none.now) }
+    {
+        if self.below <= end { self } else { none }
     }
 
     // Those below the place behind.

@@ -1,28 +1,27 @@
 //! What comes of an entry before it is read: all that takes memory.
-ghost use Rattle.std.specs.Prelude.{◌≡◌, true, All, None, Some, IfNone, IfOk, IfSome};
+ghost use Rattle.std.specs.Prelude.{◌≡◌, false, true, All, IfNone, IfOk, IfSome};
 ghost use Rattle.ledger_terms.specs.declared.act.Act.{Act};
 ghost use Rattle.ledger_model.specs.Forest.{acts};
 ghost use Rattle.ledger_model.specs.Terms.{instance_of};
+ghost use Rattle.canton_model.specs.Inbox.{Received, received};
+ghost use Rattle.canton_model.specs.Reading.{is_recipient};
 ghost use Rattle.wire_form.specs.Spellable.{IsSpellableInstance};
-ghost use Rattle.view_split.specs.Placed.{shown_by};
-ghost use Rattle.sealed_form.specs.SealedForm.{opened_to};
-ghost use Rattle.sealed_form.specs.SealedReading.{sealed_reading};
-ghost use Rattle.node_inbox.specs.Coming.{AreParts, IsComing};
+ghost use Rattle.framed_form.specs.FramedReading.{framed_reading};
+ghost use Rattle.node_inbox.specs.Coming.{AreParts, IsComing, IsKeptOf};
+ghost use Rattle.node_inbox.specs.Items.{notice_of};
+ghost use Rattle.node_inbox.specs.Offers.{roots_offered, roots_opened};
 
-use crate::actions::{blank_facts, changes_of};
+use crate::actions::{acts_offered, blank_facts, changes_of};
 use crate::boxed_request::BoxedRequest;
 use crate::change_lists::ids_of;
-use crate::confirmed::confirmed;
 use crate::kept_item::KeptRequest;
-use crate::opening::hash_of;
-use blind_tree::OpenedTree;
+use crate::kept_offer::KeptOffer;
 use canton_model::Request;
-use confirm_reply::{IdFactsList, Setup, SharedTree};
+use confirm_reply::{IdFactsList, Setup};
 use inbox_standing::Change;
 use ledger_terms::{HashList, ParticipantId};
-use proto_model::{envelope_of, opened_of, tree_in};
+use proto_model::{Notice, read_notice, read_outline};
 use std::alloc::{AllocError, Global};
-use view_split::acts_in_views;
 
 /// A request that comes, with the contracts that it will hold.
 #[derive(Drop)]
@@ -32,51 +31,64 @@ pub struct ComingRequest {
 }
 
 // What is made of what is opened.
-fn parts_of(alloc: Global, tree: &OpenedTree) -> Result<(IdFactsList, Vec<Change>), AllocError>
-    requires { All (λ (act : Act). IsSpellableInstance (instance_of act.action)) (acts (shown_by tree.now).roots) }
-    ensures { IfOk result (λ parts. AreParts tree.now parts.0 (parts.1).items) }
+fn parts_of(alloc: Global, offer: &KeptOffer) -> Result<(IdFactsList, Vec<Change>), AllocError>
+    requires { All (λ (act : Act). IsSpellableInstance (instance_of act.action)) (acts (roots_offered offer.now)) }
+    ensures { IfOk result (λ parts. AreParts offer.now parts.0 (parts.1).items) }
 {
-    let found = acts_in_views(alloc, &tree.views)?;
+    let found = acts_offered(alloc, offer)?;
     let facts = blank_facts(alloc, found.as_slice())?;
     let changes = changes_of(alloc, found.as_slice())?;
     Ok((facts, changes))
 }
 
-/// What comes of a request, and none exactly where nothing is opened to the participant.
+// What is kept of a request, by what is read of it.
+fn kept_of(alloc: Global, request: &Request, notice: Notice) -> Result<KeptRequest, AllocError>
+    requires { All (λ (act : Act). IsSpellableInstance (instance_of act.action)) (acts (roots_opened notice.offered)) }
+    ensures kept { IfOk result (λ kept. IsKeptOf request.now notice kept) }
+    ensures parts { IfOk result (λ kept. AreParts kept.offer kept.facts kept.changes.items) }
+{
+    let Notice {
+        root,
+        seen,
+        confirmed,
+        offered,
+    } = notice;
+    let offer = KeptOffer::of(alloc, offered)?;
+    let (facts, changes) = parts_of(alloc, &offer)?;
+    Ok(KeptRequest {
+        sender: request.sender,
+        command: request.command,
+        root,
+        seen,
+        confirmed,
+        offer,
+        changes,
+        facts,
+    })
+}
+
+/// What comes of a framed request, and none exactly where the participant isn't a recipient. The mediator's bytes and the envelope
+/// are read once each.
 pub fn coming(
     alloc: Global,
     setup: &Setup,
     me: ParticipantId,
     request: &Request,
 ) -> Result<Option<ComingRequest>, AllocError>
-    requires { (sealed_reading setup.now.topology setup.now.checked).is_sealed request.now ≡ true }
-    ensures none { IfOk result (λ o. IfNone o (opened_to me request.now ≡ None)) }
+    requires { (framed_reading setup.now.topology setup.now.checked).is_framed request.now ≡ true }
+    ensures none { IfOk result (λ o. IfNone o (is_recipient (framed_reading setup.now.topology setup.now.checked) me request.now ≡ false)) }
     ensures some { IfOk result (λ o. IfSome o (λ coming. IsComing setup.now.topology setup.now.checked me coming)) }
-    ensures shown { IfOk result (λ o. IfSome o (λ coming. opened_to me request.now ≡ Some (coming.kept).tree)) }
+    ensures received { IfOk result (λ o. IfSome o (λ coming.
+        received (framed_reading setup.now.topology setup.now.checked) me request.now ≡ Received (notice_of coming.kept))) }
 {
-    let Some(envelope) = envelope_of(request, me) else {
+    let Some(outline) = read_outline(alloc, request)? else {
+        unreachable!()
+    };
+    let Some(notice) = read_notice(alloc, &setup.topology, me, request, &outline)? else {
         return Ok(None);
     };
-    let Some(tree) = tree_in(alloc, envelope.as_slice())? else {
-        return Ok(None);
-    };
-    let Some(opened) = opened_of(alloc, &tree)? else {
-        return Ok(None);
-    };
-    let root = hash_of(alloc, &tree)?;
-    let views = confirmed(alloc, &setup.topology, me, &opened)?;
-    let (facts, changes) = parts_of(alloc, &opened)?;
-    let ids = ids_of(alloc, changes.as_slice())?;
-    let shared = SharedTree::new(alloc, opened)?;
-    let kept = KeptRequest {
-        sender: request.sender,
-        command: request.command,
-        root,
-        tree: shared,
-        changes,
-        views,
-        facts,
-    };
+    let kept = kept_of(alloc, request, notice)?;
+    let ids = ids_of(alloc, kept.changes.as_slice())?;
     let kept = BoxedRequest::new(alloc, kept)?;
     Ok(Some(ComingRequest { kept, ids }))
 }

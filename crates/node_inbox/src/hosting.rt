@@ -2,7 +2,7 @@
 ghost use Rattle.std.specs.Prelude.{◌≡◌, option_copied, IfOk};
 ghost use Rattle.canton_model.specs.Inbox.{is_stakeholder_hosted};
 ghost use Rattle.prepare_request.specs.Hosted.{hosted_rows};
-ghost use Rattle.sealed_form.specs.SealedReading.{sealed_reading};
+ghost use Rattle.framed_form.specs.FramedReading.{framed_reading};
 ghost use Rattle.node_inbox.specs.Hosts.{AreHosted, host_of, reading_by, says_same};
 
 use confirm_reply::{Setup, has_hosted_stakeholder};
@@ -25,7 +25,7 @@ impl<'i> Model for Hosting<'i> {
     ghost use Rattle.ledger_terms.specs.Packages.{coded_package};
     ghost use Rattle.std.specs.Coded.{codes};
     ghost use Rattle.prepare_request.specs.Hosted.{hosted_rows};
-    ghost use Rattle.sealed_form.specs.SealedReading.{sealed_reading};
+    ghost use Rattle.framed_form.specs.FramedReading.{framed_reading};
     ghost use Rattle.node_inbox.specs.Hosts.{AreHosted, Host, host_of};
 
     ghost Value = { Host };
@@ -34,7 +34,7 @@ impl<'i> Model for Hosting<'i> {
 
     ghost view = { λ s. host_of s.setup.now.topology s.setup.now.checked s.me };
 
-    ghost invariant = { λ s. AreHosted (sealed_reading s.setup.now.topology s.setup.now.checked) s.me
+    ghost invariant = { λ s. AreHosted (framed_reading s.setup.now.topology s.setup.now.checked) s.me
         (hosted_rows s.known.hosted.now.ids s.known.store.now.rows) };
 }
 
@@ -50,7 +50,7 @@ fn says_same(found: Option<&Known>, known: &Known) -> bool
 impl<'i> Hosting<'i> {
     /// A participant with such contracts.
     pub fn new(setup: &'i Setup, me: ParticipantId, known: HostedContracts<'i>) -> Hosting<'i>
-        requires { AreHosted (sealed_reading setup.now.topology setup.now.checked) me (hosted_rows known.hosted.now.ids known.store.now.rows) }
+        requires { AreHosted (framed_reading setup.now.topology setup.now.checked) me (hosted_rows known.hosted.now.ids known.store.now.rows) }
         ensures { result ≡ host_of setup.now.topology setup.now.checked me }
     {
         Hosting { setup, me, known }

@@ -3,7 +3,7 @@ ghost use Rattle.std.specs.Prelude.{◌≡◌, ◌<◌, ◌^◌, ◌&&◌, ℕ, 
 ghost use Rattle.canton_model.specs.declared.request.Request.{Request as RequestValue};
 ghost use Rattle.canton_model.specs.declared.message.Message.TheVariants.{Request as RequestMessage};
 ghost use Rattle.canton_model.specs.Inbox.{Nothing, Told, clean, clean_time, is_decided_in, last_time, moments, node_active, node_log};
-ghost use Rattle.canton_model.specs.Inbox.{received, shown_at};
+ghost use Rattle.canton_model.specs.Inbox.{notice_at, received, withheld};
 ghost use Rattle.canton_model.specs.Timeline.{verdict_on};
 ghost use Rattle.world_model.specs.Node.{owed_at, owes_at};
 ghost use Rattle.contract_store.specs.Active.{knowns};
@@ -16,7 +16,6 @@ ghost use Rattle.inbox_standing.specs.Requests.{outcome_received};
 ghost use Rattle.validate_job.specs.Owed.{owed_on_each};
 ghost use Rattle.prepare_request.specs.Hosted.{hosted_rows};
 ghost use Rattle.node_inbox.specs.Coming.{IsTelling};
-ghost use Rattle.node_inbox.specs.Decided.{is_closed, is_without_verdict};
 ghost use Rattle.node_inbox.specs.Entries.{item_from, told_if_received};
 ghost use Rattle.node_inbox.specs.InboxState.{begun, decided_since, params_of, reading_of, with_item};
 ghost use Rattle.node_inbox.specs.Offered.{offered};
@@ -35,17 +34,18 @@ use crate::job::job;
 use crate::kept_active::KeptActive;
 use crate::kept_item::KeptItem;
 use crate::offered_contracts::OfferedContracts;
+use crate::outcomes::{is_decided, is_without_verdict};
 use crate::putting::{put_nothing, put_request, put_verdict};
 use crate::remains::InboxRemains;
 use crate::taking::into_applied;
 use crate::telling::{ComingVerdict, telling};
-use blind_tree::laws::opened_views_are_filled;
+use crate::withheld::withheld;
 use canton_model::{Decision, Entry, Message, Outcome, Request, Verdict};
 use confirm_reply::Setup;
 use contract_store::Store;
 use inbox_standing::Standing;
 use ledger_model::CommitList;
-use ledger_terms::{ActiveRowList, Exact, KnownList, ParticipantId};
+use ledger_terms::{ActiveRowList, Exact, KnownList, ParticipantId, U64List};
 use prepare_request::laws::ids_tell_after_each_change;
 use prepare_request::{HostedContracts, HostedIds};
 use std::alloc::{AllocError, Global};
@@ -87,17 +87,17 @@ impl<'s> Model for Inbox<'s> {
     } };
 
     ghost use Rattle.node_inbox.specs.Kept.{IsInbox};
-    ghost use Rattle.sealed_form.specs.SealedReading.{sealed_reading};
+    ghost use Rattle.framed_form.specs.FramedReading.{framed_reading};
     ghost use Rattle.prepare_request.specs.Hosted.{AreTold};
     ghost use Rattle.node_inbox.specs.Offered.{AreOnceIf};
     ghost use Rattle.node_inbox.specs.Places.{AreApproved};
     ghost use Rattle.node_inbox.specs.KeptActive.{AreActive};
 
     ghost invariant = { λ i. IsInbox i.setup.now.topology i.setup.now.checked i.me i.items.items i.standing
-        × AreTold (sealed_reading i.setup.now.topology i.setup.now.checked) i.me i.hosted.ids i.standing.store.rows
-        × AreOnceIf i.is_once (sealed_reading i.setup.now.topology i.setup.now.checked) (model_items i.items.items)
+        × AreTold (framed_reading i.setup.now.topology i.setup.now.checked) i.me i.hosted.ids i.standing.store.rows
+        × AreOnceIf i.is_once (framed_reading i.setup.now.topology i.setup.now.checked) (model_items i.items.items)
         × AreApproved i.setup.now.topology.params (model_items i.items.items) i.approved
-        × AreActive (sealed_reading i.setup.now.topology i.setup.now.checked) i.me (model_items i.items.items) i.active };
+        × AreActive (framed_reading i.setup.now.topology i.setup.now.checked) i.me (model_items i.items.items) i.active };
 }
 
 impl<'s> Inbox<'s> {
@@ -142,8 +142,8 @@ impl<'s> Inbox<'s> {
     fn read_request(&mut self, time: u64, request: &Request) -> Result<(), AllocError>
         requires few { length self.old.items < 2 ^ 63 }
         requires rises { last_time self.old.items < time }
-        requires sealed { (reading_of self.old).is_sealed request.now ≡ true }
-        ensures ok { OnOk result (self.new ≡ with_item self.old (item_with time (received ((reading_of self.old).shown self.old.me request.now)))) }
+        requires framed { (reading_of self.old).is_framed request.now ≡ true }
+        ensures ok { OnOk result (self.new ≡ with_item self.old (item_with time (received (reading_of self.old) self.old.me request.now))) }
         ensures err { OnErr result (self.new ≡ self.old) }
     {
         let alloc = *self.items.allocator();
@@ -241,7 +241,7 @@ impl<'s> Inbox<'s> {
     pub fn read(&mut self, entry: &Entry) -> Result<(), AllocError>
         requires few { length self.old.items < 2 ^ 63 }
         requires rises { last_time self.old.items < entry.now.time }
-        requires sealed { (q : RequestValue) → entry.now.message ≡ RequestMessage q → (reading_of self.old).is_sealed q ≡ true }
+        requires framed { (q : RequestValue) → entry.now.message ≡ RequestMessage q → (reading_of self.old).is_framed q ≡ true }
         ensures ok { OnOk result (self.new ≡ with_item self.old (item_from (reading_of self.old) self.old.me self.old.items entry.now)) }
         ensures err { OnErr result (self.new ≡ self.old) }
     {
@@ -293,7 +293,7 @@ impl<'s> Inbox<'s> {
 
     /// Whether a request was received at a place and is decided at the cursor.
     pub fn is_decided(&self, place: u64) -> bool
-        ensures { result ≡ (is_some (shown_at self.now.items place)
+        ensures { result ≡ (is_some (notice_at self.now.items place)
             && is_decided_in (params_of self.now) self.now.items place (length self.now.items)) }
     {
         is_decided(self.outcome(place))
@@ -303,9 +303,8 @@ impl<'s> Inbox<'s> {
     pub fn owes(&self, place: u64) -> bool
         ensures { result ≡ owes_at (reading_of self.now) self.now.me self.now.items place }
     {
-        opened_views_are_filled();
         match request_at(self.items.as_slice(), place) {
-            Some(kept) => !kept.views.is_empty(),
+            Some(kept) => !kept.confirmed.is_empty(),
             None => false,
         }
     }
@@ -426,6 +425,20 @@ impl<'s> Inbox<'s> {
         into_applied(setup, items, &standing, end)
     }
 
+    /// The places of the approved requests before the clean place of which the participant sees a view and has no complete envelope.
+    pub fn withheld(&self) -> Result<U64List, AllocError>
+        ensures { IfOk result (λ places. places ≡ withheld (params_of self.now) self.now.items) }
+    {
+        withheld(
+            *self.items.allocator(),
+            self.setup,
+            self.items.as_slice(),
+            &self.standing,
+            &self.approved,
+            self.clean(),
+        )
+    }
+
     /// What it kept, when nobody asks it any more.
     pub fn into_remains(self) -> InboxRemains {
         let Inbox {
@@ -462,32 +475,4 @@ fn knowns_of(alloc: Global, rows: &ActiveRowList) -> Result<KnownList, AllocErro
         known.push(row.known.copied()?)?;
     }
     Ok(known)
-}
-
-// Whether an outcome is one of a request that is decided.
-fn is_decided(outcome: Option<Outcome>) -> bool
-    ensures { result ≡ is_closed outcome }
-{
-    match outcome {
-        Some(Outcome::Undecided) => false,
-        Some(Outcome::Approved) => true,
-        Some(Outcome::Rejected) => true,
-        Some(Outcome::TimedOut) => true,
-        Some(Outcome::Expired) => true,
-        None => false,
-    }
-}
-
-// Whether an outcome is one of a request without a verdict.
-fn is_without_verdict(outcome: Option<Outcome>) -> bool
-    ensures { result ≡ is_without_verdict outcome }
-{
-    match outcome {
-        Some(Outcome::Undecided) => true,
-        Some(Outcome::Approved) => false,
-        Some(Outcome::Rejected) => false,
-        Some(Outcome::TimedOut) => false,
-        Some(Outcome::Expired) => true,
-        None => false,
-    }
 }

@@ -1,6 +1,6 @@
 //! The check that a participant owes to a request.
 ghost use Rattle.std.specs.Prelude.{◌≡◌, ◌<◌, true, IfOk, length};
-ghost use Rattle.sealed_form.specs.SealedReading.{sealed_reading};
+ghost use Rattle.framed_form.specs.FramedReading.{framed_reading};
 ghost use Rattle.world_model.specs.Node.{owed_at, owes_at};
 ghost use Rattle.validate_job.specs.Owed.{owed_on_each};
 ghost use Rattle.node_inbox.specs.Items.{model_items};
@@ -34,13 +34,14 @@ fn input_of<'s>(
 ) -> Result<CheckInput<'s>, AllocError>
     ensures { IfOk result (λ input. input ≡ input_of setup.entry me time kept.now) }
 {
-    let tree = kept.tree.shared()?;
+    let shown = kept.offer.shown()?;
     let facts = copy_facts(alloc, &kept.facts)?;
     Ok(CheckInput {
         setup,
         me,
+        sender: kept.sender,
         time,
-        tree,
+        shown,
         facts,
     })
 }
@@ -54,17 +55,17 @@ pub fn job<'s>(
     place: u64,
 ) -> Result<ValidateJob<'s>, AllocError>
     requires kept { AreKept setup.now.topology setup.now.checked me items.now }
-    requires owes { owes_at (sealed_reading setup.now.topology setup.now.checked) me (model_items items.now) place ≡ true }
+    requires owes { owes_at (framed_reading setup.now.topology setup.now.checked) me (model_items items.now) place ≡ true }
     ensures place { IfOk result (λ job. job.given.place ≡ place) }
     ensures left { IfOk result (λ job. job.left ≡ length job.given.views) }
     ensures some { IfOk result (λ job. 0 < job.left) }
     ensures owed { IfOk result (λ job. owed_on_each job.given.input job.given.views
-        ≡ owed_at (sealed_reading setup.now.topology setup.now.checked) setup.now.topology.params me (model_items items.now) place) }
+        ≡ owed_at (framed_reading setup.now.topology setup.now.checked) setup.now.topology.params me (model_items items.now) place) }
 {
     let Some(kept) = request_at(items, place) else {
         unreachable!()
     };
     let input = input_of(alloc, setup, me, time_at(items, place), kept)?;
-    let views = kept.views.copied()?;
+    let views = kept.confirmed.copied()?;
     Ok(ValidateJob::new(input, place, views))
 }

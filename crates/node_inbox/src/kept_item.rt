@@ -1,22 +1,24 @@
 //! The items of an inbox.
 use crate::boxed_request::BoxedRequest;
+use crate::kept_offer::KeptOffer;
 use canton_model::Verdict;
-use confirm_reply::{IdFactsList, SharedTree};
+use confirm_reply::IdFactsList;
 use inbox_standing::Change;
 use ledger_terms::{Hash, Name, ParticipantId, PathList};
 
-/// What a participant keeps of a request that it received: who sent it, the name that the sender gave the command, the hash of its
-/// tree, what is opened of it and the changes among the authentic actions in that, so that nothing is opened or hashed again. Beside
-/// these are the paths of the views that the participant confirms, and what it knew of the contracts in what is opened when it had
-/// read the request.
+/// What a participant keeps of a request of which it is a recipient: who sent it, the name that the sender gave the command, the hash
+/// of the mediator's tree, the paths of the views that the participant sees and of those that it confirms, and what its envelope
+/// offers. Beside these are the changes among the authentic actions in what is opened, so that nothing is read or hashed again, and
+/// what it knew of the contracts in that when it had read the request.
 #[derive(Drop)]
 pub struct KeptRequest {
     pub sender: ParticipantId,
     pub command: Name,
     pub root: Hash,
-    pub tree: SharedTree,
+    pub seen: PathList,
+    pub confirmed: PathList,
+    pub offer: KeptOffer,
     pub changes: Vec<Change>,
-    pub views: PathList,
     pub facts: IdFactsList,
 }
 

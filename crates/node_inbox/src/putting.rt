@@ -8,7 +8,7 @@ ghost use Rattle.node_inbox.specs.Kept.{IsInbox};
 ghost use Rattle.inbox_standing.specs.Room.{HasRoom};
 ghost use Rattle.node_inbox.specs.Reads.{HasRead, IsSettled, IsUnread, item_with};
 ghost use Rattle.node_inbox.specs.declared.kept_item.KeptContent.TheVariants as Content;
-ghost use Rattle.sealed_form.specs.SealedReading.{sealed_reading};
+ghost use Rattle.framed_form.specs.FramedReading.{framed_reading};
 
 use crate::coming::ComingRequest;
 use crate::kept_item::{KeptContent, KeptItem};
@@ -109,7 +109,7 @@ pub fn put_verdict(
     requires few { length items.old.items < 2 ^ 63 }
     requires rises { last_time (model_items items.old.items) < time }
     requires inbox { IsInbox setup.now.topology setup.now.checked me items.old.items standing.old }
-    requires coming { IsTelling (sealed_reading setup.now.topology setup.now.checked) (model_items items.old.items) coming.verdict coming }
+    requires coming { IsTelling (framed_reading setup.now.topology setup.now.checked) (model_items items.old.items) coming.verdict coming }
     ensures ok { OnOk result (HasRead setup.now.topology setup.now.checked me items.old.items items.new.items standing.new
         (item_with time (Told coming.verdict))) }
     ensures err { OnErr result (IsUnread setup.now.topology setup.now.checked me items.old.items items.new.items standing.new) }

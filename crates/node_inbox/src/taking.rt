@@ -6,10 +6,12 @@ ghost use Rattle.view_split.specs.Placed.{placed_forest};
 ghost use Rattle.view_split.specs.SeenViews.{put_back};
 ghost use Rattle.node_inbox.specs.Approved.{TellsOutcomes, is_approved, part_of};
 ghost use Rattle.node_inbox.specs.Items.{model_items};
+ghost use Rattle.node_inbox.specs.Offers.{roots_offered};
 
 use crate::actions::roots_of;
 use crate::applied::{is_approved, push_commit};
 use crate::kept_item::{KeptContent, KeptItem, KeptRequest};
+use crate::kept_offer::KeptOffer;
 use blind_tree::PlacedViewList;
 use confirm_reply::{Setup, SharedTree};
 use inbox_standing::Standing;
@@ -39,6 +41,17 @@ fn roots_taken(alloc: Global, tree: SharedTree) -> Result<ActionNodeList, AllocE
     }
 }
 
+// The trees that an offer opens, out of the offer.
+fn offer_taken(alloc: Global, offer: KeptOffer) -> Result<ActionNodeList, AllocError>
+    ensures { IfOk result (λ roots. roots ≡ roots_offered offer) }
+{
+    match offer {
+        KeptOffer::Mismatch => Ok(ActionNodeList::new(alloc)),
+        KeptOffer::Missing => Ok(ActionNodeList::new(alloc)),
+        KeptOffer::Open(tree) => roots_taken(alloc, tree),
+    }
+}
+
 // What an item opens, where it is a request that is approved.
 fn push_taken(
     standing: &Standing,
@@ -53,8 +66,8 @@ fn push_taken(
             if !is_approved(standing, place) {
                 return Ok(());
             }
-            let KeptRequest { tree, .. } = kept.into_request();
-            let roots = roots_taken(*commits.allocator(), tree)?;
+            let KeptRequest { offer, .. } = kept.into_request();
+            let roots = offer_taken(*commits.allocator(), offer)?;
             push_commit(place, roots, commits)
         }
         KeptContent::Told(_) => Ok(()),

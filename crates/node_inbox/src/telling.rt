@@ -1,8 +1,8 @@
 //! What comes of a verdict before it is read.
 ghost use Rattle.std.specs.Prelude.{◌≡◌, IfOk, IfNone, IfSome, None, Some, [], if◌then◌else◌};
-ghost use Rattle.canton_model.specs.Inbox.{shown_at};
+ghost use Rattle.canton_model.specs.Inbox.{notice_at};
 ghost use Rattle.canton_model.specs.Timeline.{is_approval, Decided, kind_of};
-ghost use Rattle.sealed_form.specs.SealedReading.{sealed_reading};
+ghost use Rattle.framed_form.specs.FramedReading.{framed_reading};
 ghost use Rattle.node_inbox.specs.Coming.{IsTelling, is_told};
 ghost use Rattle.node_inbox.specs.Items.{model_items};
 ghost use Rattle.node_inbox.specs.Kept.{IsInbox};
@@ -91,9 +91,9 @@ pub fn telling(
     verdict: &Verdict,
 ) -> Result<Option<ComingVerdict>, AllocError>
     requires { IsInbox setup.now.topology setup.now.checked me items.now standing.now }
-    ensures none { IfOk result (λ o. IfNone o (shown_at (model_items items.now) verdict.now.request ≡ None)) }
+    ensures none { IfOk result (λ o. IfNone o (notice_at (model_items items.now) verdict.now.request ≡ None)) }
     ensures some { IfOk result (λ o. IfSome o (λ coming.
-        IsTelling (sealed_reading setup.now.topology setup.now.checked) (model_items items.now) verdict.now coming)) }
+        IsTelling (framed_reading setup.now.topology setup.now.checked) (model_items items.now) verdict.now coming)) }
 {
     let Some(kept) = request_at(items, verdict.request) else {
         return Ok(None);

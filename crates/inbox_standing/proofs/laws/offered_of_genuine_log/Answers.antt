@@ -1,6 +1,5 @@
-use Rattle.canton_model.proofs.Fits.{sealed_of, opens_of}
+use Rattle.canton_model.proofs.Approved.{opens_of}
 use Rattle.canton_model.proofs.FromGenuine.{consistent_of_log}
-use Rattle.canton_model.proofs.Lawful.{informs}
 use Rattle.inbox_standing.proofs.InboxOrder.{inbox_in_order}
 use Rattle.inbox_standing.proofs.LedgerOnce.{created_once_in_inbox}
 use Rattle.inbox_standing.proofs.Offered.{offered_is_node_active}
@@ -8,8 +7,7 @@ use Rattle.inbox_standing.proofs.laws.offered_of_genuine_log.Goals as goal
 
 pub returns : goal.returns
 returns c reading params log p n lawful distinct genuine within =
-    let sealed = sealed_of reading params log lawful genuine in
-    let opens = opens_of reading params log lawful genuine in
-    let consistent = consistent_of_log reading params log (informs reading lawful) distinct genuine sealed opens in
+    let opens = opens_of reading params log lawful genuine distinct p in
+    let consistent = consistent_of_log reading params log lawful genuine distinct in
     offered_is_node_active reading p _ (inbox_in_order reading p n log genuine.timely.times)
-    (created_once_in_inbox reading params log p n genuine.timely (opens p) within consistent.once)
+    (created_once_in_inbox reading params log p n genuine.timely opens within consistent.once)

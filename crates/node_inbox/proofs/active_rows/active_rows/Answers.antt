@@ -1,12 +1,11 @@
-use Rattle.std.proofs.Common.{◌≡◌, ◌++◌, List, [], ap, filter, subst, ◌∙◌, sym}
-use Rattle.std.specs.Prelude.{IfOk}
+use Rattle.std.proofs.Common.{◌≡◌, ◌++◌, List, [], ap, filter, ◌∙◌}
 use Rattle.ledger_terms.specs.declared.active_row.ActiveRow.{ActiveRow}
 use Rattle.ledger_terms.specs.declared.topology.Topology.{Topology}
 use Rattle.canton_model.specs.Inbox.{node_active}
 use Rattle.contract_store.specs.Written.{written}
 use Rattle.contract_store.specs.declared.row.StoreRow.{StoreRow}
 use Rattle.lang_eval.specs.Found.{Packages}
-use Rattle.sealed_form.specs.SealedReading.{sealed_reading}
+use Rattle.framed_form.specs.FramedReading.{framed_reading}
 use Rattle.node_inbox.specs.Hosts.{reading_by}
 use Rattle.node_inbox.specs.Items.{model_items}
 use Rattle.node_inbox.specs.KeptActive.{is_unconsumed, placed_between}
@@ -31,8 +30,8 @@ returns c =
     not_behind_active reading host.me items c.args.kept.now c.new-none.result c.args.end c.requires.active c.new-none.ensures.place c.new-none.ensures.rows known c.not_behind-known.ensures in
     let live : c.in_ok-live.live ≡ written (placed_between reading items known.place c.args.end) [] =
     c.in_ok-live.ensures
-    ∙ (ap (λ (t : Topology). written (placed_between (sealed_reading t c.setup.result.now.checked) items known.place c.args.end) []) c.setup.ensures.topology
-    ∙ ap (λ (q : Packages). written (placed_between (sealed_reading host.topology q) items known.place c.args.end) []) c.setup.ensures.packages) in
+    ∙ (ap (λ (t : Topology). written (placed_between (framed_reading t c.setup.result.now.checked) items known.place c.args.end) []) c.setup.ensures.topology
+    ∙ ap (λ (q : Packages). written (placed_between (framed_reading host.topology q) items known.place c.args.end) []) c.setup.ensures.packages) in
     c.in_ok-push_hosted.ensures
     ∙ (ap (λ (rows : List ActiveRow). rows ++ filter (is_offered reading host.me) (listed c.in_ok-live.live))
     (c.in_ok-rows.ensures ∙ ap (filter (is_unconsumed c.in_ok-live.live)) (c.as_slice.ensures ∙ (are.0).rows))

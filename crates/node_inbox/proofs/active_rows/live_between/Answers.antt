@@ -1,6 +1,6 @@
-use Rattle.std.proofs.Common.{◌≡◌, ◌+◌, ◌≤◌, ◌∙◌, [], sym, ap, arith}
+use Rattle.std.proofs.Common.{◌≤◌, ◌∙◌, [], sym, ap, arith}
 use Rattle.contract_store.specs.Written.{written}
-use Rattle.sealed_form.specs.SealedReading.{sealed_reading}
+use Rattle.framed_form.specs.FramedReading.{framed_reading}
 use Rattle.node_inbox.specs.Items.{model_items}
 use Rattle.node_inbox.proofs.ActiveRows.{next_written}
 use Rattle.node_inbox.proofs.Between.{none_between}
@@ -10,7 +10,7 @@ pub places-init : goal.places-init
 places-init c = (
   omega arith,
   c.new-live.ensures
-      ∙ ap (λ ps. written ps []) (sym (none_between (sealed_reading c.args.setup.now.topology c.args.setup.now.checked) (model_items c.args.items.now) c.args.start)),
+      ∙ ap (λ ps. written ps []) (sym (none_between (framed_reading c.args.setup.now.topology c.args.setup.now.checked) (model_items c.args.items.now) c.args.start)),
 )
 
 pub places-preserved : goal.places-preserved
@@ -18,6 +18,6 @@ places-preserved c =
     let low : c.args.start ≤ c.places.place = c.places.invariant.0 in (
       omega (arith, low),
       c.in_ok-write_approved.ensures
-          ∙ next_written (sealed_reading c.args.setup.now.topology c.args.setup.now.checked) (model_items c.args.items.now) c.args.start c.places.place
+          ∙ next_written (framed_reading c.args.setup.now.topology c.args.setup.now.checked) (model_items c.args.items.now) c.args.start c.places.place
           c.places.live low c.places.invariant.1,
     )

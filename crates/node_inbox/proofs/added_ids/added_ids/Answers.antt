@@ -3,7 +3,7 @@ use Rattle.std.proofs.lemmas.Grind.{common_steps}
 use Rattle.std.specs.Prelude.{◌&&◌, ◌||◌, not}
 use Rattle.indexmap.specs.IndexMap.{keys}
 use Rattle.ledger_model.specs.Terms.{Hash}
-use Rattle.sealed_form.specs.SealedReading.{sealed_reading}
+use Rattle.framed_form.specs.FramedReading.{framed_reading}
 use Rattle.inbox_standing.specs.ChangeLists.{id_in}
 use Rattle.node_inbox.specs.AddedIds.{added_if, is_new}
 use Rattle.node_inbox.proofs.AddedIds.{added_step, changed_step, new_end, new_step}
@@ -11,7 +11,7 @@ use Rattle.node_inbox.proofs.added_ids.added_ids.Goals as goal
 
 pub loop-at-preserved : goal.loop-at-preserved
 loop-at-preserved c =
-    let reading = sealed_reading c.args.setup.now.topology c.args.setup.now.checked in
+    let reading = framed_reading c.args.setup.now.topology c.args.setup.now.checked in
     let rows = c.args.store.now.rows in
     let few = c.front-first.result.now in
     let before : List Hash = map id_in (take c.loop-at.at few) ++ keys c.loop-at.later in

@@ -1,4 +1,4 @@
-use Rattle.std.proofs.Common.{◌∙◌, sym, ap}
+use Rattle.std.proofs.Common.{◌∙◌, ap}
 use Rattle.node_inbox.specs.Items.{model_items}
 use Rattle.node_inbox.specs.Places.{parts_at}
 use Rattle.node_inbox.proofs.KeptAnswers.{not_behind_are}

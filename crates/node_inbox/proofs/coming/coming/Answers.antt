@@ -1,25 +1,30 @@
-use Rattle.std.proofs.Common.{refl, sym, ap, ◌∙◌}
-use Rattle.std.specs.Prelude.{option_copied}
-use Rattle.node_inbox.proofs.Came.{coming_is, is_opened_to, is_root_to}
+use Rattle.node_inbox.proofs.Came.{came_as, comes, received_as}
+use Rattle.node_inbox.proofs.Checkable.{offer_spelled}
 use Rattle.node_inbox.proofs.coming.coming.Goals as goal
 
-pub returns-clause-shown : goal.returns-clause-shown
-returns-clause-shown c =
-    rw (c.in_ok-kept.ensures, c.in_ok-shared.ensures) (is_opened_to c.args.me c.args.request.now c.in-Some.envelope.now c.in-Some-2.tree c.in-Some-3.opened
-    (sym c.envelope_of.ensures ∙ ap option_copied c.in-Some.is)
-    (rw (c.as_slice.ensures) at (sym c.in_ok-tree.ensures.exact ∙ c.in-Some-2.is))
-    (sym c.in_ok-opened.ensures.exact ∙ c.in-Some-3.is))
+pub returns-in_default-2-clause-none : goal.returns-in_default-2-clause-none
+returns-in_default-2-clause-none c = let none = rw c.in_default-2.is at c.in_ok-notice.ensures.none in none c.args.setup.now.checked
+
+pub kept_of-requires : goal.kept_of-requires
+kept_of-requires c =
+    let notice = rw c.in-Some-2.is at c.in_ok-notice.ensures.notice in
+    offer_spelled c.args.setup.now.topology c.args.request.now c.args.me c.requires c.in-Some-2.notice.offered (notice c.args.setup.now.checked).offered
 
 pub returns-clause-some : goal.returns-clause-some
 returns-clause-some c =
-    rw (c.in_ok-kept.ensures, c.in_ok-shared.ensures) (coming_is c.args.setup.now.topology c.args.setup.now.checked c.args.me c.args.request.now _ c.requires
-    (is_opened_to c.args.me c.args.request.now c.in-Some.envelope.now c.in-Some-2.tree c.in-Some-3.opened
-    (sym c.envelope_of.ensures ∙ ap option_copied c.in-Some.is)
-    (rw (c.as_slice.ensures) at (sym c.in_ok-tree.ensures.exact ∙ c.in-Some-2.is))
-    (sym c.in_ok-opened.ensures.exact ∙ c.in-Some-3.is))
-    (is_root_to c.args.me c.args.request.now c.in-Some.envelope.now c.in-Some-2.tree c.in_ok-root.root
-    (sym c.envelope_of.ensures ∙ ap option_copied c.in-Some.is)
-    (rw (c.as_slice.ensures) at (sym c.in_ok-tree.ensures.exact ∙ c.in-Some-2.is))
-    c.in_ok-root.ensures)
-    refl refl
-    c.in_ok-views.ensures c.in_ok-facts.ensures (rw (c.as_slice-2.ensures.value) at c.in_ok-ids.ensures))
+    let topology = c.args.setup.now.topology in
+    let packages = c.args.setup.now.checked in
+    let to = rw c.in-Some-2.is at c.in_ok-notice.ensures.some in
+    let notice = rw c.in-Some-2.is at c.in_ok-notice.ensures.notice in
+    let came = came_as topology packages c.args.me c.args.request.now c.in-Some-2.notice c.in_ok-kept.kept c.requires (to packages) (notice packages) c.in_ok-kept.ensures.kept in
+    rw (c.in_ok-kept-2.ensures)
+    (comes topology packages c.args.me _ came c.in_ok-kept.ensures.parts (rw (c.as_slice.ensures.value) at c.in_ok-ids.ensures))
+
+pub returns-clause-received : goal.returns-clause-received
+returns-clause-received c =
+    let topology = c.args.setup.now.topology in
+    let packages = c.args.setup.now.checked in
+    let to = rw c.in-Some-2.is at c.in_ok-notice.ensures.some in
+    let notice = rw c.in-Some-2.is at c.in_ok-notice.ensures.notice in
+    let came = came_as topology packages c.args.me c.args.request.now c.in-Some-2.notice c.in_ok-kept.kept c.requires (to packages) (notice packages) c.in_ok-kept.ensures.kept in
+    rw (c.in_ok-kept-2.ensures) (received_as topology packages c.args.me c.in_ok-kept.kept came)

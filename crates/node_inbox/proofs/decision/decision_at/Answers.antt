@@ -1,4 +1,4 @@
-use Rattle.std.proofs.Common.{◌≡◌, ◌∙◌, List, ap}
+use Rattle.std.proofs.Common.{◌∙◌, List, ap}
 use Rattle.canton_model.specs.Timeline.{verdict_on}
 use Rattle.canton_model.specs.Inbox.{moments}
 use Rattle.node_inbox.specs.Items.{model_items}

@@ -2,7 +2,8 @@ use Rattle.std.proofs.Common.{ℕ, List, ◌<◌, length, sym, ap, subst, ◌∙
 use Rattle.std.specs.Prelude.{All}
 use Rattle.ledger_model.specs.Terms.{Path}
 use Rattle.validate_job.specs.Job.{Job}
-use Rattle.validate_job.specs.Owed.{CanCheck, owed_on_each}
+use Rattle.confirm_reply.specs.Verdict.{CanCheck}
+use Rattle.validate_job.specs.Owed.{owed_on_each}
 use Rattle.node_inbox.proofs.Jobs.{are_owed, can_check, some_views}
 use Rattle.node_inbox.proofs.job.job.Goals as goal
 

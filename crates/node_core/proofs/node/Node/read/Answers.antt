@@ -10,7 +10,7 @@ use Rattle.node_core.specs.Kept.{IsKept}
 use Rattle.node_core.specs.Participant.{Participant, CanRead, with_state, reading_of as reads}
 use Rattle.node_core.proofs.Growth.{where_below}
 use Rattle.node_core.proofs.KeptSteps.{item_keeps, placed_if}
-use Rattle.node_core.proofs.ReadSteps.{inbox_is, participant_of, rises_here, sealed_here, state_is}
+use Rattle.node_core.proofs.ReadSteps.{inbox_is, participant_of, rises_here, framed_here, state_is}
 use Rattle.node_core.proofs.node.Node.read.Goals as goal
 
 pub read-requires-clause-rises : goal.read-requires-clause-rises
@@ -19,10 +19,10 @@ read-requires-clause-rises c =
     rises_here c.self.inside.inbox c.self.inside.is_paused c.self.inside.duties c.args.slip.now.list can c.entry.result.now
     (c.entry.ensures _ can.cursor)
 
-pub read-requires-clause-sealed : goal.read-requires-clause-sealed
-read-requires-clause-sealed c =
+pub read-requires-clause-framed : goal.read-requires-clause-framed
+read-requires-clause-framed c =
     let can = subst (λ (p : Participant). CanRead p c.args.slip.now.list) (sym c.self.view_is) c.requires in
-    sealed_here c.self.inside.inbox c.self.inside.is_paused c.self.inside.duties c.args.slip.now.list can c.entry.result.now
+    framed_here c.self.inside.inbox c.self.inside.is_paused c.self.inside.duties c.args.slip.now.list can c.entry.result.now
     (c.entry.ensures _ can.cursor)
 
 pub owe-requires-clause-last : goal.owe-requires-clause-last

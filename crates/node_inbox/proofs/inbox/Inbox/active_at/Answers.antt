@@ -1,6 +1,6 @@
 use Rattle.std.proofs.Common.{[]}
 use Rattle.contract_store.specs.Written.{written}
-use Rattle.sealed_form.specs.SealedReading.{sealed_reading}
+use Rattle.framed_form.specs.FramedReading.{framed_reading}
 use Rattle.inbox_standing.specs.Changes.{changes_in}
 use Rattle.node_inbox.specs.Items.{model_items}
 use Rattle.node_inbox.proofs.HostedRows.{offered_are_hosted}
@@ -10,7 +10,7 @@ use Rattle.node_inbox.proofs.inbox.Inbox.active_at.Goals as goal
 pub new-hosting-requires : goal.new-hosting-requires
 new-hosting-requires c =
     let i = c.self.inside in
-    let reading = sealed_reading i.setup.now.topology i.setup.now.checked in
+    let reading = framed_reading i.setup.now.topology i.setup.now.checked in
     let known = rw (← c.self.view_is) at c.hosted_contracts.ensures in
     rw known (offered_are_hosted reading i.me (written (changes_in reading (model_items i.items.items)) []))
 

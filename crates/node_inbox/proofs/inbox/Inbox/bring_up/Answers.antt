@@ -2,7 +2,7 @@ use Rattle.std.proofs.Common.{◌≤◌, ◌∙◌, length, sym, arith}
 use Rattle.canton_model.proofs.InboxFacts.{clean_is_clean}
 use Rattle.node_inbox.specs.Items.{model_items}
 use Rattle.node_inbox.proofs.Places.{tracked_are}
-use Rattle.node_inbox.proofs.Seen.{clean_is, outcome_at_is}
+use Rattle.node_inbox.proofs.Seen.{outcome_at_is}
 use Rattle.node_inbox.proofs.inbox.Inbox.bring_up.Goals as goal
 
 pub bring_up-requires : goal.bring_up-requires

@@ -1,14 +1,14 @@
 use Rattle.std.proofs.Common.{ap, ◌∙◌}
 use Rattle.contract_store.specs.Active.{knowns}
 use Rattle.inbox_standing.proofs.Offered.{offered_is_node_active}
-use Rattle.sealed_form.specs.SealedReading.{sealed_reading}
+use Rattle.framed_form.specs.FramedReading.{framed_reading}
 use Rattle.node_inbox.specs.Items.{model_items}
 use Rattle.node_inbox.proofs.inbox.Inbox.known.Goals as goal
 
 pub returns-then-self : goal.returns-then-self
 returns-then-self c =
     let i = c.self.inside in
-    let reading = sealed_reading i.setup.now.topology i.setup.now.checked in
+    let reading = framed_reading i.setup.now.topology i.setup.now.checked in
     let items = model_items i.items.items in
     let active = offered_is_node_active reading i.me items c.self.invariant.0.order (c.self.invariant.2 c.if-self.true) in
     rw (← c.self.view_is) ((rw (← c.self.view_is) at c.hosted_contracts-stored.ensures) ∙ ap knowns active)

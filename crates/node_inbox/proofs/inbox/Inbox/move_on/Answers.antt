@@ -1,6 +1,5 @@
-use Rattle.std.proofs.Common.{◌≡◌, ◌∙◌, length, ap, subst, sym, arith}
-use Rattle.canton_model.specs.Inbox.{node_active}
-use Rattle.sealed_form.specs.SealedReading.{sealed_reading}
+use Rattle.std.proofs.Common.{◌≡◌, length, subst, sym, arith}
+use Rattle.framed_form.specs.FramedReading.{framed_reading}
 use Rattle.node_inbox.specs.Items.{model_items}
 use Rattle.node_inbox.specs.KeptActive.{AreFresh}
 use Rattle.node_inbox.proofs.KeptAnswers.{end_fresh}
@@ -10,7 +9,7 @@ pub invariant_of-self : goal.invariant_of-self
 invariant_of-self c =
     let i = c.self.inside in
     let items = model_items i.items.items in
-    let reading = sealed_reading i.setup.now.topology i.setup.now.checked in
+    let reading = framed_reading i.setup.now.topology i.setup.now.checked in
     let place : c.cursor-place.result ≡ length items = rw (← c.self.view_is) at c.cursor-place.ensures in (
       c.self.invariant.0,
       c.self.invariant.1,

@@ -7,7 +7,7 @@ pub returns-in-Some : goal.returns-in-Some
 returns-in-Some c =
     rw (← c.self.view_is)
     (sym (owes_some c.self.inside.setup.now.topology c.self.inside.setup.now.checked c.self.inside.me c.self.inside.items.items c.self.invariant.0.each
-    c.opened_views_are_filled.ensures c.args.place c.in-Some.kept.now (rw (c.as_slice.ensures.value) at (sym c.request_at.ensures ∙ ap option_copied c.in-Some.is))
+    c.args.place c.in-Some.kept.now (rw (c.as_slice.ensures.value) at (sym c.request_at.ensures ∙ ap option_copied c.in-Some.is))
     c.is_empty.result c.is_empty.ensures.0 c.is_empty.ensures.1))
 
 pub returns-in-None : goal.returns-in-None

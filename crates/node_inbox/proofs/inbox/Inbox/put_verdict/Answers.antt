@@ -1,7 +1,7 @@
 use Rattle.std.proofs.Common.{List, refl, ap, ◌∙◌, subst, sym}
 use Rattle.std.specs.Prelude.{◌||◌}
 use Rattle.ledger_model.specs.Terms.{Hash}
-use Rattle.sealed_form.specs.SealedReading.{sealed_reading}
+use Rattle.framed_form.specs.FramedReading.{framed_reading}
 use Rattle.inbox_standing.specs.Changes.{changes_in}
 use Rattle.inbox_standing.specs.Offered.{CreatedOnce}
 use Rattle.prepare_request.specs.Hosted.{AreTold, is_among}
@@ -18,7 +18,7 @@ pub invariant_of-self-in_err-put_verdict : goal.invariant_of-self-in_err-put_ver
 invariant_of-self-in_err-put_verdict c =
     let i = c.self.inside in
     let topology = i.setup.now.topology in
-    let reading = sealed_reading topology i.setup.now.checked in
+    let reading = framed_reading topology i.setup.now.checked in
     let unread = c.in_err-put_verdict.ensures.err in
     let same = sym unread.items in (
       unread.inbox,
@@ -35,7 +35,7 @@ invariant_of-self-2 c =
     let i = c.self.inside in
     let topology = i.setup.now.topology in
     let packages = i.setup.now.checked in
-    let reading = sealed_reading topology packages in
+    let reading = framed_reading topology packages in
     let law = c.ids_tell_after_each_change.ensures in
     let on : TellsOn reading i.me = record {
       hosted = law.hosted reading i.me;

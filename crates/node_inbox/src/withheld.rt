@@ -1,0 +1,108 @@
+//! Which approved requests a participant has no complete envelope of.
+ghost use Rattle.std.specs.Prelude.{◌≡◌, ◌++◌, ◌∷◌, [], IfOk, OnOk, Some, filter};
+ghost use Rattle.canton_model.specs.Inbox.{is_kept_from, is_withheld_in, withheld_below};
+ghost use Rattle.node_inbox.specs.Approved.{TellsOutcomes};
+ghost use Rattle.node_inbox.specs.Items.{model_items, notice_of};
+ghost use Rattle.node_inbox.specs.Offers.{is_open};
+ghost use Rattle.node_inbox.specs.Places.{AreApproved, is_kept_from_at, place_if};
+
+use crate::applied::is_approved;
+use crate::approved_places::ApprovedPlaces;
+use crate::items::request_at;
+use crate::kept_item::{KeptItem, KeptRequest};
+use crate::kept_offer::KeptOffer;
+use confirm_reply::Setup;
+use inbox_standing::Standing;
+use ledger_terms::U64List;
+use std::alloc::{AllocError, Global};
+
+fn is_open(offer: &KeptOffer) -> bool
+    ensures { result ≡ is_open offer.now }
+{
+    match offer {
+        KeptOffer::Mismatch => false,
+        KeptOffer::Missing => false,
+        KeptOffer::Open(_) => true,
+    }
+}
+
+// Whether the participant sees a view of a request, and its envelope isn't complete.
+fn is_kept_from(kept: &KeptRequest) -> bool
+    ensures { result ≡ is_kept_from (Some (notice_of kept.now)) }
+{
+    !kept.seen.is_empty() && !is_open(&kept.offer)
+}
+
+fn is_kept_from_at(items: &[KeptItem], place: u64) -> bool
+    ensures { result ≡ is_kept_from_at (model_items items.now) place }
+{
+    match request_at(items, place) {
+        Some(kept) => is_kept_from(kept),
+        None => false,
+    }
+}
+
+fn is_withheld(setup: &Setup, items: &[KeptItem], standing: &Standing, place: u64) -> bool
+    requires { TellsOutcomes setup.now.topology.params (model_items items.now) standing.now }
+    ensures { result ≡ is_withheld_in (model_items items.now) place }
+{
+    is_kept_from_at(items, place) && is_approved(standing, place)
+}
+
+fn push_if_kept_from(items: &[KeptItem], place: u64, places: &mut U64List) -> Result<(), AllocError>
+    ensures { OnOk result (places.new ≡ places.old ++ filter (is_kept_from_at (model_items items.now)) (place ∷ [])) }
+{
+    if is_kept_from_at(items, place) {
+        places.push(place)?;
+    }
+    Ok(())
+}
+
+// Those of these places at which there is a request that the participant is kept from.
+fn kept_from_among(alloc: Global, items: &[KeptItem], among: &[u64]) -> Result<U64List, AllocError>
+    ensures { IfOk result (λ places. places ≡ filter (is_kept_from_at (model_items items.now)) among.now) }
+{
+    let mut places = U64List::new(alloc);
+    for place in among {
+        push_if_kept_from(items, *place, &mut places)?;
+    }
+    Ok(places)
+}
+
+fn push_if_withheld(
+    setup: &Setup,
+    items: &[KeptItem],
+    standing: &Standing,
+    place: u64,
+    places: &mut U64List,
+) -> Result<(), AllocError>
+    requires { TellsOutcomes setup.now.topology.params (model_items items.now) standing.now }
+    ensures { OnOk result (places.new ≡ places.old ++ place_if (is_withheld_in (model_items items.now) place) place) }
+{
+    if is_withheld(setup, items, standing, place) {
+        places.push(place)?;
+    }
+    Ok(())
+}
+
+/// The withheld places below one, in order. Goes through the approved places that are known, and on from there.
+pub fn withheld(
+    alloc: Global,
+    setup: &Setup,
+    items: &[KeptItem],
+    standing: &Standing,
+    approved: &ApprovedPlaces,
+    end: u64,
+) -> Result<U64List, AllocError>
+    requires told { TellsOutcomes setup.now.topology.params (model_items items.now) standing.now }
+    requires approved { AreApproved setup.now.topology.params (model_items items.now) approved.now }
+    ensures { IfOk result (λ places. places ≡ withheld_below (model_items items.now) end) }
+{
+    let none = ApprovedPlaces::new(alloc);
+    let known = approved.not_behind(&none, end);
+    let mut places = kept_from_among(alloc, items, known.places.as_slice())?;
+    'places: for place in known.below..end {
+        push_if_withheld(setup, items, standing, place, &mut places)?;
+    }
+    Ok(places)
+}
