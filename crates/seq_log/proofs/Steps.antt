@@ -12,7 +12,7 @@ use Rattle.world_model.specs.Locks.{SequencerBehind}
 use Rattle.world_model.specs.Sequencing.{append_fault, entry_after, first_from, if_already, is_same, last_time, reserved, need_of}
 use Rattle.world_model.proofs.Appended.{behind_form, no_fault, appended_keeps, appended_within}
 use Rattle.log_row.specs.LogPrefix.{LogPrefix, extended}
-use Rattle.sealed_form.specs.Framed.{is_framed}
+use Rattle.framed_form.specs.Framed.{is_framed}
 use Rattle.seq_log.specs.Faults.{fault_in, if_full, next_time, request_fault}
 use Rattle.seq_log.specs.Sequenced.{Sequenced, IsFor}
 use Rattle.seq_log.specs.Slips.{Holds}

@@ -1,7 +1,7 @@
 -- What contracts see of a sequencer.
 use Rattle.std.specs.Prelude.{◌≡◌, ℕ, List, Option, Some, None}
 use Rattle.ledger_terms.specs.declared.topology.Topology.{Topology}
-use Rattle.sealed_form.specs.Framed.{is_framed}
+use Rattle.framed_form.specs.Framed.{is_framed}
 use Rattle.world_model.specs.Messages.{Entry, Request}
 use Rattle.world_model.specs.Machine.{Machine}
 use Rattle.world_model.specs.Sequencing as s

@@ -9,7 +9,7 @@ ghost use Rattle.log_row.specs.LogPrefix.{LogPrefix};
 ghost use Rattle.world_model.specs.Messages.{Entry};
 ghost use Rattle.world_model.specs.Sequencing as s;
 ghost use Rattle.seq_log.specs.Keys.{key_of};
-ghost use Rattle.sealed_form.specs.Framed.{is_framed};
+ghost use Rattle.framed_form.specs.Framed.{is_framed};
 ghost use Rattle.seq_log.specs.Faults.{next_time, fault_in, other_fault, request_fault};
 ghost use Rattle.seq_log.specs.Indexed.{IsIndexOf};
 ghost use Rattle.seq_log.specs.Sequenced.{LeftOpen, fault_if};

@@ -1,5 +1,5 @@
 -- What a participant that isn't paused answers, after it has read all of the log.
-use Rattle.std.proofs.Common.{◌≡◌, ◌<◌, ℕ, true, List, Option, Some, None, length, refl, sym, ap, ◌∙◌, subst, le_refl}
+use Rattle.std.proofs.Common.{◌≡◌, ◌<◌, ℕ, List, Option, Some, None, length, refl, sym, ap, ◌∙◌, subst, le_refl}
 use Rattle.std.proofs.lemmas.List.{take_all}
 use Rattle.ledger_terms.specs.declared.submission.Submission.{Submission}
 use Rattle.ledger_model.specs.Terms.{ParticipantId}
@@ -7,7 +7,6 @@ use Rattle.canton_model.specs.Inbox.{Item, inbox}
 use Rattle.canton_model.specs.Reading.{Reading}
 use Rattle.world_model.specs.Messages.{Request, RequestMessage}
 use Rattle.world_model.specs.Machine.{Machine}
-use Rattle.world_model.specs.Fits.{MayStand}
 use Rattle.world_model.specs.Locks.{SequencerBehind}
 use Rattle.world_model.specs.Plain.{AnswersWanted, HandedIn}
 use Rattle.world_model.specs.Rounds.{read_at, wanted_at}
@@ -15,7 +14,7 @@ use Rattle.world_model.specs.Rounds as w
 use Rattle.world_model.specs.Sequencing.{append_fault}
 use Rattle.prepare_request.specs.declared.submit_fault.SubmitFault.{SubmitFault}
 use Rattle.seq_log.specs.Sequenced.{Sequenced}
-use Rattle.node_core.specs.Participant.{Participant as NodeValue, reading_of}
+use Rattle.node_core.specs.Participant.{Participant as NodeValue}
 use Rattle.node_core.specs.declared.submit_result.SubmitResult.{SubmitResult}
 use Rattle.node_core.specs.declared.submit_result.SubmitResult.TheVariants.{Refused}
 use Rattle.node_core.proofs.OfferedNames.{offers_named}
@@ -91,10 +90,6 @@ module _ (node : NodeValue) (s : Sequenced) (after : NodeValue) (is : after ≡ 
 
   -- it stays a participant while the log goes on
   module _ (m : Machine) (p : ParticipantId) (given : IsParticipant m p node s) where
-    pub may_stand : (request : Request) → (reading_of after).is_sealed request ≡ true → MayStand m s.list (RequestMessage request)
-    may_stand request sealed =
-        subst (λ (r : Reading). r.is_sealed request ≡ true) ((all_read m p node s given after is).is).reading sealed
-
     pub stays_one : (s' : Sequenced) → GoesOn s s' → SequencerBehind m s'.list → IsParticipant m p after s'
     stays_one s' on behind =
         let read = all_read m p node s given after is in over_more m p after after s s' read on behind read.is read.has

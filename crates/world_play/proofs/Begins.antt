@@ -9,7 +9,7 @@ use Rattle.world_model.specs.World as w
 use Rattle.world_model.specs.Sequencing.{reserved, sequenced}
 use Rattle.world_model.specs.Locks.{SequencerBehind}
 use Rattle.world_model.specs.Lawful.{Lawful}
-use Rattle.world_model.specs.Rounds.{Round, begun}
+use Rattle.world_model.specs.Rounds.{Round, ticked}
 use Rattle.world_model.proofs.Steps.{lawful_grown}
 use Rattle.seq_log.specs.Sequenced.{Sequenced}
 use Rattle.node_core.specs.Participant.{Participant as NodeValue}
@@ -24,9 +24,9 @@ lawful_on m now later state nodes s s' on behind l =
     (lawful_grown m (world_with now state nodes s) on.more later l (subst (λ (xs : List Entry). Genuine m.reading m.params xs) on.is_more behind.genuine)
     (subst (λ (xs : List Entry). reserved xs ≤ m.capacity) on.is_more behind.within_capacity))
 
--- the log after an advance is that of a round's beginning
+-- the log after an advance is that after a round's Tick
 pub advanced_log : (m : Machine) (world : w.World) (by : ℕ) (round : Round) → round.advance ≡ by
-    → (w.happens m world (w.Advance by)).log ≡ begun m (world.now + by) round world.log
+    → (w.happens m world (w.Advance by)).log ≡ ticked m (world.now + by) round world.log
 advanced_log m world by round e =
     by_test (nat_eq by 0) ∙ ap (λ (n : ℕ). if nat_eq n 0 then world.log else sequenced m (world.now + by) world.log Tick) (sym e)
   where

@@ -1,4 +1,4 @@
-mod Refused
+pub mod Refused
 pub mod Answered
 pub mod Moved
 pub mod Readers
@@ -24,3 +24,5 @@ pub mod Awake
 pub mod Asked
 pub mod InOrder
 mod ActiveAt
+pub mod OwnRequests
+mod Raws

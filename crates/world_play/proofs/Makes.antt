@@ -6,8 +6,8 @@ use Rattle.std.proofs.lemmas.Option.{none-some, same_Some}
 use Rattle.ledger_terms.specs.declared.topology.Topology.{Topology}
 use Rattle.lang_eval.specs.Found.{Packages}
 use Rattle.world_model.specs.Node.{NodeState, new_node}
-use Rattle.sealed_form.specs.Framed.{is_framed}
-use Rattle.sealed_form.proofs.Sealed.{lawful}
+use Rattle.framed_form.specs.Framed.{is_framed}
+use Rattle.framed_form.proofs.Lawful.{lawful}
 use Rattle.node_core.specs.Participant.{Participant as NodeValue}
 use Rattle.seq_log.specs.Sequenced.{Sequenced}
 use Rattle.node_core.specs.Machines.{machine_of, IsNodeOf}

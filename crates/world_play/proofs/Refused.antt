@@ -1,5 +1,5 @@
 -- What the sequencer's answers say of a message that isn't appended.
-use Rattle.std.proofs.Common.{◌≡◌, ◌≢◌, [], ◌∷◌, ◌++◌, append-nil, Option, Some, refl, sym, ap, ◌∙◌, subst}
+use Rattle.std.proofs.Common.{ℕ, ◌≡◌, ◌≢◌, [], ◌∷◌, ◌++◌, append-nil, Option, Some, refl, sym, ap, ◌∙◌, subst}
 use Rattle.std.specs.Prelude.{IfSome}
 use Rattle.world_model.specs.Machine.{Machine}
 use Rattle.world_model.specs.Messages.{Message}
@@ -30,8 +30,8 @@ goes_nowhere before after same =
     (record { row = refl; capacity = refl; params = refl; framed = λ request. refl; more = []; is_more = sym (append-nil before.list) })
 
 -- a message that is refused changes no log
-pub stays : (m : Machine) (before after : Sequenced) (message : Message) → after ≡ before
-    → (cause : s.AppendFault) × (s.append_fault m before.list message ≡ Some cause) → after.list ≡ s.sequenced m 0 before.list message
-stays m before after message same found =
+pub stays : (m : Machine) (now : ℕ) (before after : Sequenced) (message : Message) → after ≡ before
+    → (cause : s.AppendFault) × (s.append_fault m before.list message ≡ Some cause) → after.list ≡ s.sequenced m now before.list message
+stays m now before after message same found =
     ap (λ (q : Sequenced). q.list) same
-    ∙ sym (ap (λ (f : Option s.AppendFault). s.unless_refused f before.list (before.list ++ s.entry_after 0 before.list message ∷ [])) found.1)
+    ∙ sym (ap (λ (f : Option s.AppendFault). s.unless_refused f before.list (before.list ++ s.entry_after now before.list message ∷ [])) found.1)

@@ -7,14 +7,13 @@ use Rattle.ledger_model.specs.Terms.{ParticipantId}
 use Rattle.ledger_model.proofs.Lists.{In, in_any, from_any, in_from_Contains, contains_from_In}
 use Rattle.canton_model.specs.Log.{Params, request_at}
 use Rattle.canton_model.specs.Genuine.{IsReading}
-use Rattle.canton_model.specs.Checks.{is_confirmed_by}
 use Rattle.canton_model.specs.Mediation.{has_responded}
-use Rattle.canton_model.proofs.Fits.{sealed_of}
+use Rattle.canton_model.proofs.Fits.{framed_of}
 use Rattle.world_model.specs.Messages.{Entry, Request}
-use Rattle.world_model.specs.Machine.{Machine, GenuineLog, confirms_some_view, is_asked}
+use Rattle.world_model.specs.Machine.{Machine, GenuineLog, is_asked}
 use Rattle.world_model.specs.Places.{has_place}
 use Rattle.world_model.specs.Settled.{is_asked_in, is_due, is_undecided}
-use Rattle.world_model.proofs.NodeFacts.{asked_confirms}
+use Rattle.world_model.proofs.NodeFacts.{asked_confirms, confirming_asked}
 use Rattle.seq_log.specs.OpenRequests.{is_open}
 use Rattle.seq_log.specs.Sequenced.{Sequenced, IsFor}
 use Rattle.world_play.specs.Scans.{asked, asks}
@@ -42,13 +41,10 @@ asked_is m log is g p j = by_request (request_at log j) refl
     by_request : (o : Option Request) → request_at log j ≡ o → asks p o ≡ is_asked_in m.reading p o
     by_request None e = refl
     by_request (Some q) e =
-        let sealed = sealed_of m.reading m.params log is g j q e in
+        let framed = framed_of m.reading m.params log g is j q e in
         iff_same (has_place q.confirming p) (is_asked m.reading p q)
-        (λ h.
-        let a = sealed.answers p (contains_from_In q.confirming p (named q.confirming p h)) in
-        ap (confirms_some_view m.reading p) a.is_shown
-        ∙ in_any (is_confirmed_by m.reading p) (a.shown).views a.view (in_from_Contains (a.shown).views a.view a.is_opened) a.is_confirmed)
-        (λ h. is_named q.confirming p (in_from_Contains q.confirming p (asked_confirms m.reading p q sealed h)))
+        (λ h. confirming_asked m.reading p q framed (contains_from_In q.confirming p (named q.confirming p h)))
+        (λ h. is_named q.confirming p (in_from_Contains q.confirming p (asked_confirms m.reading p q framed h)))
 
 -- the one who is found is the one who is asked
 found_one : (p q : ℕ) (xs : List ℕ) → find (nat_eq p) xs ≡ Some q → (p ≡ q) × (has_place xs p ≡ true)

@@ -1,5 +1,5 @@
 -- What a submission does to a world.
-use Rattle.std.proofs.Common.{◌≡◌, ◌≢◌, ℕ, zero, suc, Bool, true, false, if◌then◌else◌, List, [], ◌∷◌, map, take, length, Option, Some, None, refl, sym, ap}
+use Rattle.std.proofs.Common.{◌≡◌, ◌≢◌, ℕ, zero, suc, Bool, true, false, List, [], ◌∷◌, map, take, length, Option, Some, None, refl, sym, ap}
 use Rattle.std.proofs.Common.{◌∙◌, Result, Ok, Err, MatchResult, subst, arith}
 use Rattle.std.specs.Prelude.{slice_get, IfOk}
 use Rattle.std.specs.Result.{result_ok}
@@ -20,8 +20,8 @@ use Rattle.lang_eval.specs.Found.{Packages}
 use Rattle.lang_eval.specs.Named.{AreKnown}
 use Rattle.interpret.specs.NamedParties.{parties_in_contracts}
 use Rattle.sealed_form.specs.Within.{is_hosted}
-use Rattle.prepare_request.specs.Machine.{if_sealed, is_within}
 use Rattle.prepare_request.specs.Prepared.{prepared}
+use Rattle.prepare_request.proofs.Wanted.{none_if_refused}
 use Rattle.prepare_request.specs.declared.submit_fault.SubmitFault.{SubmitFault}
 use Rattle.prepare_request.specs.declared.submit_fault.SubmitFault.TheVariants.{Memory, Paused}
 use Rattle.world_model.specs.Lawful.{Lawful}
@@ -77,13 +77,8 @@ module _ (node : NodeValue) (what : Submission) (now : ℕ) (own : what.particip
 
   refused : (fault : SubmitFault) → answer_to node.me ≡ Err fault → wanted_request node.topology node.packages what (node.state).items now ≡ None
   refused fault e =
-      ap (λ (a : Result Request SubmitFault). if is_within node.topology node.packages what then if_sealed node.topology node.packages a else None)
+      none_if_refused node.topology node.packages (offered_in node.topology node.packages) what (node.state).items now fault
       (subst (λ (p : ℕ). answer_to p ≡ Err fault) (sym own) e)
-      ∙ none (is_within node.topology node.packages what)
-    where
-      none : (b : Bool) → (if b then if_sealed node.topology node.packages (Err fault) else None) ≡ None
-      none true = refl
-      none false = refl
 
   pub told : (answer : Result Request SubmitFault) → answer ≢ Err Memory → ((node.state).is_paused ≡ true → answer ≡ Err Paused)
       → Follows Memory answer (prepare_answer node what now)

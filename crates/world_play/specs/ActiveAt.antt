@@ -8,7 +8,7 @@ use Rattle.ledger_model.specs.Terms.{ParticipantId}
 use Rattle.lang_eval.specs.Found.{Packages}
 use Rattle.canton_model.specs.Inbox.{inbox, node_active}
 use Rattle.canton_model.specs.Log.{request_at}
-use Rattle.sealed_form.specs.SealedReading.{sealed_reading}
+use Rattle.framed_form.specs.FramedReading.{framed_reading}
 use Rattle.world_model.specs.Messages.{Entry, Request}
 use Rattle.world_model.specs.Rounds.{SubmitResult, Sent, Refused, Paused, Unwanted, Duplicate, LogFull}
 use Rattle.prepare_request.specs.Causes.{HasCause, IsRequestOf}
@@ -18,7 +18,7 @@ use Rattle.prepare_request.specs.declared.submit_fault.SubmitFault.TheVariants.{
 -- the active contracts of a participant that has read n entries of the log, at its cursor
 abbrev pub active_at : Topology → Packages → List Entry → ParticipantId → (n : ℕ) → List Known
 active_at topology packages log p n =
-    map (λ (a : ActiveRow). a.known) (node_active (sealed_reading topology packages) p (inbox (sealed_reading topology packages) p (take n log)) n)
+    map (λ (a : ActiveRow). a.known) (node_active (framed_reading topology packages) p (inbox (framed_reading topology packages) p (take n log)) n)
 
 module _ (topology : Topology) (packages : Packages) (now : ℕ) (log : List Entry) (what : Submission) where
   -- the request is of the transaction that the submission wants over what its participant knows

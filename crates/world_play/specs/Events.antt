@@ -4,13 +4,14 @@ use Rattle.ledger_terms.specs.declared.topology.Topology.{Topology}
 use Rattle.lang_eval.specs.Found.{Packages}
 use Rattle.world_model.specs.World as w
 use Rattle.world_play.specs.declared.event.Event.{Event}
-use Rattle.world_play.specs.declared.event.Event.TheVariants.{Advance, Submit, NodeRead, Validate, Reply, LoseReply, MediatorRead, GiveVerdict}
+use Rattle.world_play.specs.declared.event.Event.TheVariants.{Advance, Submit, SubmitRaw, NodeRead, Validate, Reply, LoseReply, MediatorRead, GiveVerdict}
 use Rattle.world_play.specs.declared.event.Event.TheVariants.{LoseVerdict, Pause}
 use Rattle.world_play.specs.Submitting.{CanSubmit}
 
 abbrev pub event_of : Event → w.Event
 event_of (Advance by) = w.Advance by
 event_of (Submit what) = w.Submit what
+event_of (SubmitRaw request) = w.SubmitRaw request
 event_of (NodeRead node) = w.NodeRead node
 event_of (Validate node) = w.Validate node
 event_of (Reply node) = w.Reply node
@@ -27,6 +28,7 @@ events_of events = map event_of events
 abbrev pub advance_of : Event → ℕ
 advance_of (Advance by) = by
 advance_of (Submit what) = 0
+advance_of (SubmitRaw request) = 0
 advance_of (NodeRead node) = 0
 advance_of (Validate node) = 0
 advance_of (Reply node) = 0
@@ -44,6 +46,7 @@ advance_in (event ∷ rest) = advance_of event + advance_in rest
 abbrev pub CanHappen : Topology → Packages → Event → Type 0
 CanHappen topology packages (Advance by) = Unit {0}
 CanHappen topology packages (Submit what) = CanSubmit topology packages what
+CanHappen topology packages (SubmitRaw request) = Unit {0}
 CanHappen topology packages (NodeRead node) = Unit {0}
 CanHappen topology packages (Validate node) = Unit {0}
 CanHappen topology packages (Reply node) = Unit {0}

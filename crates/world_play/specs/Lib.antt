@@ -13,3 +13,4 @@ pub mod Results
 pub mod Flags
 pub mod Answering
 pub mod ActiveAt
+pub mod OwnRequests

@@ -2,7 +2,7 @@
 use Rattle.std.specs.Prelude.{◌≡◌, ◌≤◌, ◌++◌, ℕ, List, length, take}
 use Rattle.ledger_model.specs.Terms.{ParticipantId}
 use Rattle.canton_model.specs.Genuine.{IsReading}
-use Rattle.sealed_form.specs.Framed.{is_framed}
+use Rattle.framed_form.specs.Framed.{is_framed}
 use Rattle.world_model.specs.Messages.{Entry, Request}
 use Rattle.world_model.specs.Machine.{Machine}
 use Rattle.world_model.specs.Locks.{SequencerBehind}

@@ -3,7 +3,6 @@ ghost use Rattle.std.specs.Prelude.{◌≡◌, ℕ, false, IfOk, OnErr, OnOk};
 ghost use Rattle.ledger_model.specs.Terms.{ParticipantId};
 ghost use Rattle.world_model.specs.Messages.{RequestMessage};
 ghost use Rattle.world_model.specs.Machine.{Machine};
-ghost use Rattle.world_model.specs.Fits.{MayStand};
 ghost use Rattle.world_model.specs.Locks.{SequencerBehind};
 ghost use Rattle.world_model.specs.Places.{has_place};
 ghost use Rattle.world_model.specs.Plain.{HandedIn};
@@ -30,8 +29,7 @@ fn send(sequencer: &mut Sequencer<'_>, request: Request) -> Result<SubmitResult,
     ensures plain { IfOk result IsPlainResult }
     ensures handed_in { IfOk result (λ answer. (m : Machine) (now : ℕ) → IsFor m sequencer.old
         → HandedIn now sequencer.old.list request (append_fault m sequencer.old.list (RequestMessage request)) (result_of answer) sequencer.new.list) }
-    ensures behind { (m : Machine) → IsFor m sequencer.old → SequencerBehind m sequencer.old.list
-        → MayStand m sequencer.old.list (RequestMessage request) → SequencerBehind m sequencer.new.list }
+    ensures behind { (m : Machine) → IsFor m sequencer.old → SequencerBehind m sequencer.old.list → SequencerBehind m sequencer.new.list }
 {
     let read_to = sequencer.len();
     match sequencer.append(Message::Request(request), 0) {

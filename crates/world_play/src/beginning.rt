@@ -5,7 +5,7 @@ ghost use Rattle.lang_eval.specs.Found.{Packages};
 ghost use Rattle.world_model.specs.Machine.{Machine};
 ghost use Rattle.world_model.specs.Mediator.{MediatorState};
 ghost use Rattle.world_model.specs.Lawful.{Lawful};
-ghost use Rattle.world_model.specs.Rounds.{Round, begun};
+ghost use Rattle.world_model.specs.Rounds.{Round, ticked};
 ghost use Rattle.seq_log.specs.Sequenced.{Sequenced};
 ghost use Rattle.world_play.specs.Flags.{ArePaused};
 ghost use Rattle.world_play.specs.Standing.{GoesOn};
@@ -64,7 +64,7 @@ pub fn begin_round(
         → AreSetUp topology packages (world.new.nodes).items }
     ensures paused { ArePaused paused.now (world.new.nodes).items }
     ensures log { OnOk result ((m : Machine) (state : MediatorState) (round : Round) → IsWorldOf m state world.old → round.advance ≡ advance
-        → (world.new.sequencer).list ≡ begun m (world.old.now + advance) round (world.old.sequencer).list) }
+        → (world.new.sequencer).list ≡ ticked m (world.old.now + advance) round (world.old.sequencer).list) }
     ensures err { OnErr result ((world.new.now ≡ world.old.now) × (world.new.sequencer ≡ world.old.sequencer)) }
 {
     set_paused(&mut world.nodes, paused.as_slice());

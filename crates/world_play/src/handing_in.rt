@@ -60,8 +60,7 @@ pub fn hand_in_request(sequencer: &mut Sequencer<'_>, request: Request) -> Resul
     ensures ok { OnOk result ((m : Machine) (now : ℕ) → IsFor m sequencer.old
         → sequencer.new.list ≡ sequenced m now sequencer.old.list (RequestMessage request)) }
     ensures err { OnErr result (sequencer.new ≡ sequencer.old) }
-    ensures behind { (m : Machine) → IsFor m sequencer.old → SequencerBehind m sequencer.old.list
-        → MayStand m sequencer.old.list (RequestMessage request) → SequencerBehind m sequencer.new.list }
+    ensures behind { (m : Machine) → IsFor m sequencer.old → SequencerBehind m sequencer.old.list → SequencerBehind m sequencer.new.list }
 {
     hand_in(sequencer, Message::Request(request))
 }

@@ -1,11 +1,11 @@
 //! What each event does to a synchroniser.
-ghost use Rattle.std.specs.Prelude.{◌≡◌, ◌+◌, ◌≤◌, ◌^◌, OnOk};
+ghost use Rattle.std.specs.Prelude.{◌≡◌, ◌+◌, ◌≤◌, ◌^◌, IfOk, OnOk};
 ghost use Rattle.ledger_terms.specs.declared.topology.Topology.{Topology};
 ghost use Rattle.lang_eval.specs.Found.{Packages};
 ghost use Rattle.world_model.specs.Machine.{Machine};
 ghost use Rattle.world_model.specs.Mediator.{MediatorState};
 ghost use Rattle.world_model.specs.Lawful.{Lawful};
-ghost use Rattle.world_model.specs.World.{MediatorRead, GiveVerdict, LoseVerdict};
+ghost use Rattle.world_model.specs.World.{MediatorRead, GiveVerdict, LoseVerdict, SubmitRaw};
 ghost use Rattle.world_play.specs.Becoming.{Becomes};
 ghost use Rattle.world_play.specs.Events.{CanHappen, advance_of, event_of};
 ghost use Rattle.world_play.specs.Moves.{event_at};
@@ -16,7 +16,9 @@ use crate::deciding::{give, lose, read_next};
 use crate::event::Event;
 use crate::moving::{NodeMove, move_node};
 use crate::submitting::{advance, submit};
+use crate::submitting_raw::hand_in_raw;
 use crate::world::World;
+use canton_model::Request;
 use lang_eval::NativeList;
 use ledger_terms::ParticipantId;
 use std::alloc::{AllocError, Global};
@@ -43,6 +45,22 @@ fn move_at<'r>(
         node.0 as usize,
         action,
     )
+}
+
+#[tactic(auto, using(std::proofs::lemmas::List::Elements::same_from_all_zip))]
+fn copy_of(request: &Request) -> Result<Request, AllocError>
+    ensures { IfOk result (λ copy. copy ≡ request.now) }
+{
+    request.clone()
+}
+
+fn raw_comes(world: &mut World<'_>, request: &Request) -> Result<(), AllocError>
+    ensures now { world.new.now ≡ world.old.now }
+    ensures nodes { world.new.nodes ≡ world.old.nodes }
+    ensures ok { OnOk result ((m : Machine) (state : MediatorState) → IsWorldOf m state world.old → Lawful m (world_of state world.old)
+        → Becomes m (SubmitRaw request.now) state world.old world.new) }
+{
+    hand_in_raw(world, copy_of(request)?)
 }
 
 fn mediator_reads(world: &mut World<'_>) -> Result<(), AllocError>
@@ -93,6 +111,7 @@ pub fn happen<'r>(
     match event {
         Event::Advance { by } => advance(world, *by),
         Event::Submit { what } => submit(natives, world, what),
+        Event::SubmitRaw { request } => raw_comes(world, request),
         Event::NodeRead { node } => move_at(alloc, natives, world, *node, NodeMove::Read),
         Event::Validate { node } => move_at(alloc, natives, world, *node, NodeMove::Validate),
         Event::Reply { node } => move_at(alloc, natives, world, *node, NodeMove::Reply),

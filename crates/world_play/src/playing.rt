@@ -1,11 +1,15 @@
 //! Events, one after another, from an empty log on.
-ghost use Rattle.std.specs.Prelude.{◌≡◌, ◌≤◌, ◌^◌, All, length, IfOk};
-ghost use Rattle.world_model.specs.Headline.{Headline};
+ghost use Rattle.std.specs.Prelude.{◌≡◌, ◌⊎◌, ◌≤◌, ◌^◌, ℕ, All, Contains, Some, length, IfOk};
+ghost use Rattle.canton_model.specs.Log.{request_at};
+ghost use Rattle.world_model.specs.Headline.{Headline, OneLedger};
 ghost use Rattle.world_model.specs.Mediator.{MediatorState};
-ghost use Rattle.world_model.specs.World.{new_world, played};
-ghost use Rattle.sealed_form.specs.SealedReading.{sealed_reading};
+ghost use Rattle.world_model.specs.Messages.{Request};
+ghost use Rattle.world_model.specs.World.{SubmitRaw, new_world, played};
+ghost use Rattle.framed_form.specs.Collisions.{Collides};
+ghost use Rattle.framed_form.specs.FramedReading.{framed_reading};
 ghost use Rattle.world_play.specs.Events.{CanHappen, advance_in, events_of};
 ghost use Rattle.node_core.specs.Machines.{machine_of};
+ghost use Rattle.world_play.specs.OwnRequests.{IsSubmitted};
 ghost use Rattle.world_play.specs.WorldOf.{IsWorldOf, world_of};
 
 use crate::event::EventList;
@@ -14,7 +18,7 @@ use crate::world::World;
 use confirm_reply::Setup;
 use lang_eval::NativeList;
 use log_row::LogRow;
-use prepare_request::laws::prepared_requests_make_a_machine;
+use prepare_request::laws::{prepared_requests_are_wanted, prepared_requests_make_a_machine};
 use std::alloc::{AllocError, Global};
 
 /// The synchroniser after these events, from an empty log on. One with nothing to do changes nothing.
@@ -32,11 +36,17 @@ pub fn play<'r>(
     ensures played { IfOk result (λ world.
         let m = machine_of setup.now.topology setup.now.checked capacity in
         (state : MediatorState) × IsWorldOf m state world × (world_of state world ≡ played m (new_world m) (events_of events.now))) }
-    ensures headline { IfOk result (λ world. Headline (sealed_reading setup.now.topology setup.now.checked) (setup.now.topology).params
+    ensures headline { IfOk result (λ world. Headline (framed_reading setup.now.topology setup.now.checked) (setup.now.topology).params
         (world.sequencer).list) }
+    ensures one_ledger { IfOk result (λ world. (Collides setup.now.topology (world.sequencer).list → ⊥)
+        → OneLedger (framed_reading setup.now.topology setup.now.checked) (setup.now.topology).params (world.sequencer).list) }
+    ensures own { IfOk result (λ world. (k : ℕ) (request : Request) → request_at (world.sequencer).list k ≡ Some request
+        → Contains (events_of events.now) (SubmitRaw request)
+        ⊎ IsSubmitted setup.now.topology setup.now.checked (events_of events.now) (world.sequencer).list k request) }
 {
-    // the prover learns from this call that there is a machine
+    // the prover learns from these calls that there is a machine, and what requests are of
     prepared_requests_make_a_machine();
+    prepared_requests_are_wanted();
     let mut world = World::new(alloc, setup, row, capacity)?;
     'events: for event in events.as_slice() {
         happen(alloc, natives, &mut world, event)?;

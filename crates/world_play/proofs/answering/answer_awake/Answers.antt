@@ -1,6 +1,5 @@
 use Rattle.std.proofs.Common.{◌≡◌, ◌≢◌, false, rules, refl, sym, ap, ◌∙◌, subst}
 use Rattle.world_model.specs.Messages.{RequestMessage}
-use Rattle.world_model.specs.Fits.{MayStand}
 use Rattle.world_model.specs.Locks.{SequencerBehind}
 use Rattle.world_model.specs.Plain.{HandedIn}
 use Rattle.world_model.specs.Sequencing.{append_fault}
@@ -13,7 +12,7 @@ use Rattle.world_play.specs.Answering.{AnswersAwake}
 use Rattle.node_core.specs.Machines.{offered_in}
 use Rattle.world_play.specs.Results.{result_of}
 use Rattle.world_play.specs.Standing.{GoesOn, IsParticipant}
-use Rattle.world_play.proofs.Awake.{may_prepare, may_stand, refuses, sends, stays_one}
+use Rattle.world_play.proofs.Awake.{may_prepare, refuses, sends, stays_one}
 use Rattle.world_play.proofs.Catches.{read_same, reader_same}
 use Rattle.world_play.proofs.OwnFaults.{not_paused, own_fault}
 use Rattle.world_play.proofs.Sends.{stays}
@@ -71,11 +70,8 @@ returns-in-Ok-clause-keeps g c = λ m p given.
     let next = c.send.new.sequencer in
     let on = subst (λ (q : Sequenced). GoesOn q next) c.read_to_end.ensures.same c.send.ensures.on in
     let behind =
-    subst
-    (λ (q : Sequenced). IsFor m q → SequencerBehind m q.list → MayStand m q.list (RequestMessage c.in-Ok.request) → SequencerBehind m next.list)
-    c.read_to_end.ensures.same (c.send.ensures.behind m) in
-    stays_one node s after is m p given next on
-    (behind given.is_for given.behind (may_stand node s after is m p given c.in-Ok.request c.in-Ok.ensures.sealed))
+    subst (λ (q : Sequenced). IsFor m q → SequencerBehind m q.list → SequencerBehind m next.list) c.read_to_end.ensures.same (c.send.ensures.behind m) in
+    stays_one node s after is m p given next on (behind given.is_for given.behind)
 
 pub returns-in-Ok-clause-answers : goal.returns-in-Ok-clause-answers
 returns-in-Ok-clause-answers g c =

@@ -1,4 +1,4 @@
-use Rattle.std.proofs.Common.{◌≡◌, ℕ, sym, ap}
+use Rattle.std.proofs.Common.{ℕ, ap}
 use Rattle.world_model.specs.Rounds as w
 use Rattle.seq_log.specs.Sequenced.{Sequenced}
 use Rattle.world_play.proofs.Refused.{cause_is}

@@ -56,3 +56,9 @@ returns-in-Pause-clause-ok g c =
 pub submit-requires-clause-within : goal.submit-requires-clause-within
 submit-requires-clause-within g c =
     let w = c.requires.within in (w.0, w.1, w.2, subst (λ (e : Event). CanHappen w.0 w.1 e) c.in-Submit.is w.3)
+
+pub returns-in-SubmitRaw-clause-ok : goal.returns-in-SubmitRaw-clause-ok
+returns-in-SubmitRaw-clause-ok g c =
+    on_ok c.raw_comes.result _ _ c.raw_comes.ensures.ok
+    (λ ok m state is l.
+    subst (λ (e : Event). Becomes m (event_of e) state c.args.world.now c.raw_comes.new.world) (sym c.in-SubmitRaw.is) (ok m state is l))

@@ -1,13 +1,16 @@
-use Rattle.std.proofs.Common.{◌≡◌, List, Some, sym, ap, ◌∙◌, subst}
+use Rattle.std.proofs.Common.{◌≡◌, List, Some, length, sym, ap, ◌∙◌, subst, arith}
 use Rattle.std.specs.Prelude.{slice_get}
+use Rattle.framed_form.proofs.Lawful.{are_framed}
+use Rattle.framed_form.proofs.NoCollision.{no_collision}
 use Rattle.world_model.proofs.HeadlineFacts.{headline}
 use Rattle.world_play.specs.declared.event.Event.{Event}
-use Rattle.world_play.specs.Events.{CanHappen}
+use Rattle.world_play.specs.Events.{CanHappen, events_of}
 use Rattle.world_model.specs.World as w
 use Rattle.world_model.specs.Mediator.{new_mediator}
 use Rattle.node_core.specs.Machines.{machine_of, offered_in}
 use Rattle.world_play.proofs.Passing.{item_at}
-use Rattle.world_play.proofs.Plays.{each_of, played_lawful, played_on, played_starts, within}
+use Rattle.world_play.proofs.OwnRequests.{asked_of_events}
+use Rattle.world_play.proofs.Plays.{each_of, played_all, played_lawful, played_on, played_starts, within}
 use Rattle.world_play.proofs.playing.play.Goals as goal
 
 pub happen-requires-clause-now : goal.happen-requires-clause-now
@@ -70,6 +73,29 @@ returns-clause-headline g c =
     let machine = c.events.invariant.0 in
     headline m.reading m.params (c.events.world.sequencer).list machine.is_reading
     (played_lawful m c.args.events.now machine c.events.event-index c.events.world c.events.invariant.1).genuine
+
+pub returns-clause-one_ledger : goal.returns-clause-one_ledger
+returns-clause-one_ledger g c = λ apart.
+    let t = c.args.setup.now.topology in
+    let p = c.args.setup.now.checked in
+    let m = machine_of t p c.args.capacity in
+    let machine = c.events.invariant.0 in
+    let list = (c.events.world.sequencer).list in
+    let genuine = (played_lawful m c.args.events.now machine c.events.event-index c.events.world c.events.invariant.1).genuine in
+    (headline m.reading m.params list machine.is_reading genuine).one_ledger (no_collision t p list (are_framed t p list genuine) apart)
+
+pub returns-clause-own : goal.returns-clause-own
+returns-clause-own g c =
+    let t = c.args.setup.now.topology in
+    let p = c.args.setup.now.checked in
+    let m = machine_of t p c.args.capacity in
+    let ends = c.events.auto.event-index-end in
+    let out = c.events-test.false in
+    let same = c.as_slice-event-items.ensures in
+    let all =
+    played_all m c.args.events.now c.events.event-index c.events.world c.events.invariant.1 (omega (arith, ends, out, ap length same)) in
+    asked_of_events t p c.prepared_requests_are_wanted.ensures.given c.args.capacity (events_of c.args.events.now) c.events.invariant.0
+    (c.events.world.sequencer).list (ap (λ (x : w.World). x.log) all.2)
 
 pub events-init : goal.events-init
 events-init g c =

@@ -2,7 +2,7 @@ use Rattle.std.proofs.Common.{Bool, List, [], ◌∷◌, ◌++◌, length, refl,
 use Rattle.canton_model.specs.Log.{Params}
 use Rattle.world_model.specs.Messages.{Entry, Request}
 use Rattle.log_row.specs.LogPrefix.{LogPrefix}
-use Rattle.sealed_form.specs.Framed.{is_framed}
+use Rattle.framed_form.specs.Framed.{is_framed}
 use Rattle.seq_log.specs.Faults.{fault_in, next_time}
 use Rattle.seq_log.specs.Indexed.{IsIndexOf}
 use Rattle.seq_log.specs.Sequenced.{Sequenced, IsFor, fault_if}
