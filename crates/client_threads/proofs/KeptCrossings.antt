@@ -21,6 +21,7 @@ use Rattle.confirm_reply.specs.contracts.shared_tree.SharedTree as SharedTree
 use Rattle.confirm_reply.proofs.id_facts.IdFacts.TheSendSync as id_facts
 use Rattle.inbox_standing.proofs.change.Change.TheSendSync as change
 use Rattle.node_inbox.specs.contracts.boxed_request.BoxedRequest as BoxedRequest
+use Rattle.node_inbox.specs.contracts.kept_offer.KeptOffer as KeptOffer
 use Rattle.node_inbox.specs.contracts.kept_item.KeptRequest as KeptRequest
 use Rattle.node_inbox.specs.contracts.kept_item.KeptContent as KeptContent
 use Rattle.node_inbox.specs.contracts.kept_item.KeptItem as KeptItem
@@ -79,6 +80,12 @@ shared_tree_send = search (sendable, crosses, opened_tree_send, opened_tree_sync
 pub shared_tree_sync : IsSync SharedTree.the_row
 shared_tree_sync = search (sendable, crosses, opened_tree_send, opened_tree_sync) depth 40 fits 10000
 
+pub kept_offer_send : IsSend KeptOffer.the_row
+kept_offer_send = search (variants_send, shared_tree_send) depth 12
+
+pub kept_offer_sync : IsSync KeptOffer.the_row
+kept_offer_sync = search (variants_sync, shared_tree_sync) depth 12
+
 pub kept_request_send : IsSend KeptRequest.the_row
 kept_request_send =
     declared_send KeptRequest.the_type (
@@ -88,12 +95,15 @@ kept_request_send =
         (
           hash.the_send,
           (
-            shared_tree_send,
+            search (sendable, crosses, list.the_send, as_row_send) depth 20,
             (
-              search (sendable, crosses, change.the_send, as_row_send) depth 20,
+              search (sendable, crosses, list.the_send, as_row_send) depth 20,
               (
-                search (sendable, crosses, list.the_send, as_row_send) depth 20,
-                (search (sendable, crosses, list.the_send, id_facts.the_send, as_row_send) depth 20, tt),
+                kept_offer_send,
+                (
+                  search (sendable, crosses, change.the_send, as_row_send) depth 20,
+                  (search (sendable, crosses, list.the_send, id_facts.the_send, as_row_send) depth 20, tt),
+                ),
               ),
             ),
           ),
@@ -110,12 +120,15 @@ kept_request_sync =
         (
           hash.the_sync,
           (
-            shared_tree_sync,
+            search (sendable, crosses, list.the_sync, as_row_sync) depth 20,
             (
-              search (sendable, crosses, change.the_sync, as_row_sync) depth 20,
+              search (sendable, crosses, list.the_sync, as_row_sync) depth 20,
               (
-                search (sendable, crosses, list.the_sync, as_row_sync) depth 20,
-                (search (sendable, crosses, list.the_sync, id_facts.the_sync, as_row_sync) depth 20, tt),
+                kept_offer_sync,
+                (
+                  search (sendable, crosses, change.the_sync, as_row_sync) depth 20,
+                  (search (sendable, crosses, list.the_sync, id_facts.the_sync, as_row_sync) depth 20, tt),
+                ),
               ),
             ),
           ),

@@ -1,23 +1,21 @@
 -- A job of a participant behind its lock: what is claimed, and what a job that is done leaves there.
-use Rattle.std.proofs.Common.{◌≡◌, ℕ, suc, ◌+◌, ◌<◌, true, false, List, [], ◌++◌, length, option_map, Option, Some, None, Result, refl, sym, ap, ◌∙◌, subst, arith}
+use Rattle.std.proofs.Common.{◌≡◌, ℕ, ◌<◌, true, false, List, [], length, option_map, Option, Some, None, Result, refl, sym, ap, ◌∙◌, subst, arith}
 use Rattle.std.specs.Prelude.{Ok, Err, IfOk, IfSome, IfNone, OnOk, OnErr, is_some}
 use Rattle.std.proofs.lemmas.Bool.{and_parts, both_ways}
 use Rattle.std.proofs.lemmas.List.{length-append}
 use mathlib.Core.List.{IsPrefix}
 use Rattle.ledger_terms.specs.declared.topology.Topology.{Topology}
-use Rattle.ledger_model.specs.Opening.{Shown}
 use Rattle.ledger_model.specs.Terms.{ParticipantId}
 use Rattle.lang_eval.specs.Found.{Packages}
 use Rattle.canton_model.specs.Log.{Params}
 use Rattle.canton_model.specs.Reading.{Reading}
-use Rattle.canton_model.specs.Inbox.{Item, inbox, items_after, shown_at}
+use Rattle.canton_model.specs.Inbox.{Item, Notice, inbox, items_after, notice_at}
 use Rattle.world_model.specs.Messages.{Entry, Response, ViewVerdict}
 use Rattle.world_model.specs.Machine.{Machine, confirms_some_view}
 use Rattle.world_model.specs.Rounds.{Why}
 use Rattle.world_model.specs.Places.{first_from}
-use Rattle.world_model.specs.Node.{NodeState, claim, finish, next_claim, is_claimable, is_open_at, outbox_head, is_waiting_at, waiting_to, owed_at, owes_at, response_at}
+use Rattle.world_model.specs.Node.{NodeState, claim, finish, next_claim, is_claimable, is_open_at, is_waiting_at, waiting_to, owed_at, owes_at, response_at}
 use Rattle.world_model.specs.Fits.{IsOwed}
-use Rattle.world_model.specs.Lawful.{NodeHas}
 use Rattle.world_model.specs.Locks.{Claimed}
 use Rattle.world_model.proofs.Halves.{owes_stays, same_verdicts}
 use Rattle.world_model.proofs.NodeFacts.{first_from_is, inbox_append, inbox_length}
@@ -42,10 +40,10 @@ module _ (reading : Reading) (params : Params) (p : ParticipantId) (node : NodeS
   claim_owes : owes_at reading p node.items k ≡ true
   claim_owes = (and_parts (owes_at reading p node.items k) _ claim_open.0).0
 
--- what is asked was shown
-shown_if_asked : (reading : Reading) (p : ParticipantId) (o : Option Shown) → confirms_some_view reading p o ≡ true → is_some o ≡ true
-shown_if_asked reading p None h = absurd (both_ways false refl h)
-shown_if_asked reading p (Some shown) h = refl
+-- what is asked was received
+told_if_asked : (o : Option Notice) → confirms_some_view o ≡ true → is_some o ≡ true
+told_if_asked None h = absurd (both_ways false refl h)
+told_if_asked (Some notice) h = refl
 
 module _ (topology : Topology) (packages : Packages) (m : Machine) (why : Why SubmitFault) (p : ParticipantId) (list : List Entry) (node : NodeValue)
     (b : IsNodeBehind topology packages m why p list node) where
@@ -128,10 +126,9 @@ module _ (topology : Topology) (packages : Packages) (m : Machine) (why : Why Su
         (ap (λ (its : List Item). owes_at m.reading p its k) (inbox_append m.reading p [] known follows.0)
         ∙ (owes_stays m.reading m.params p (inbox m.reading p known) (items_after m.reading p known follows.0) k known_within ∙ c.owes))
 
-    pub is_received : is_some (shown_at items k) ≡ true
+    pub is_received : is_some (notice_at items k) ≡ true
     is_received =
-        ap (λ (its : List Item). is_some (shown_at its k)) read_items
-        ∙ shown_if_asked m.reading p (shown_at (inbox m.reading p list) k) owes_then
+        ap (λ (its : List Item). is_some (notice_at its k)) read_items ∙ told_if_asked (notice_at (inbox m.reading p list) k) owes_then
 
     within : k < length items
     within =

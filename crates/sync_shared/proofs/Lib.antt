@@ -1,6 +1,5 @@
 pub mod Prefixes
 pub mod Logs
-pub mod Senders
 pub mod Nodes
 pub mod Preparing
 pub mod Jobs

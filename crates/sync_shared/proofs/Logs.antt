@@ -2,7 +2,7 @@
 use Rattle.std.proofs.Common.{◌≡◌, ℕ, ◌+◌, ◌<◌, List, [], ◌∷◌, ◌++◌, length, take, Option, Some, None, sym, ap, ◌∙◌, subst}
 use Rattle.std.specs.Prelude.{IfSome}
 use Rattle.ledger_terms.specs.declared.topology.Topology.{Topology}
-use Rattle.sealed_form.specs.Framed.{is_framed}
+use Rattle.framed_form.specs.Framed.{is_framed}
 use Rattle.world_model.specs.Messages.{Entry, Message, Tick}
 use Rattle.world_model.specs.Machine.{Machine, GenuineLog}
 use Rattle.world_model.specs.Sequencing.{append_fault, entry_after}

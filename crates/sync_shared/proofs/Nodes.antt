@@ -1,37 +1,34 @@
 -- A participant behind its lock: it reads one entry more, and its calls keep what lies there.
-use Rattle.std.proofs.Common.{◌≡◌, ℕ, suc, ◌+◌, ◌≤◌, ◌<◌, Bool, true, List, [], ◌∷◌, ◌++◌, length, take, Option, Some, None, refl, sym, ap, ◌∙◌, subst, arith}
-use Rattle.std.specs.Prelude.{is_some, slice_get}
+use Rattle.std.proofs.Common.{◌≡◌, ℕ, ◌+◌, ◌<◌, Bool, true, List, [], ◌∷◌, ◌++◌, length, take, Option, Some, refl, sym, ap, ◌∙◌, subst, arith}
+use Rattle.std.specs.Prelude.{is_some, nat_eq, option_map, slice_get, ◌||◌}
+use Rattle.std.proofs.lemmas.Bool.{eq-eqb}
 use mathlib.Core.List.{IsPrefix}
 use Rattle.ledger_terms.specs.declared.topology.Topology.{Topology}
 use Rattle.ledger_model.specs.Terms.{ParticipantId}
 use Rattle.lang_eval.specs.Found.{Packages}
 use Rattle.canton_model.specs.Log.{Params, request_at, decision_time_of}
-use Rattle.canton_model.specs.Timeline.{Outcome, outcome_of, timeline_of}
-use Rattle.canton_model.specs.Reading.{Reading, is_recipient}
+use Rattle.canton_model.specs.Timeline.{outcome_of, timeline_of}
+use Rattle.canton_model.specs.Reading.{Reading, is_recipient, sees_some_view}
 use Rattle.canton_model.specs.Genuine.{Genuine}
-use Rattle.canton_model.specs.Inbox.{Item, inbox, outcome_in, shown_at}
-use Rattle.canton_model.specs.Ledger.{read_by}
+use Rattle.canton_model.specs.Inbox.{Item, content_of, inbox, item_after, notice_at, notice_by, notice_in, outcome_in}
+use Rattle.canton_model.proofs.InboxFacts.{notice_received}
 use Rattle.canton_model.proofs.InboxOutcomes.{outcome_same}
-use Rattle.world_model.specs.Messages.{Entry, Request, RequestMessage, Message}
+use Rattle.world_model.specs.Messages.{Entry, Message}
 use Rattle.world_model.specs.Machine.{Machine, GenuineLog}
 use Rattle.world_model.specs.Rounds.{Why}
 use Rattle.world_model.specs.Node.{NodeState, read_entry, sent, with_flag}
 use Rattle.world_model.specs.Lawful.{NodeHas}
 use Rattle.world_model.specs.Locks.{NodeBehind}
 use Rattle.world_model.proofs.Grown.{request_grown}
-use Rattle.world_model.proofs.NodeFacts.{inbox_length, shown_is}
+use Rattle.world_model.proofs.NodeFacts.{inbox_length, item_at}
 use Rattle.world_model.proofs.Steps.{entry_of_request, has_read, has_flag, has_sent}
 use Rattle.node_core.specs.Completion.{completion_of}
-use Rattle.node_core.specs.declared.completion.Completion.{Completion}
 use Rattle.node_core.specs.Participant.{CanRead, Participant as NodeValue, items_of, params_of, reading_of, with_state}
-use Rattle.node_core.proofs.LogEnds.{sealed_there}
 use Rattle.prepare_request.specs.declared.submit_fault.SubmitFault.{SubmitFault}
-use Rattle.sealed_form.specs.SealedReading.{sealed_reading}
 use Rattle.threads_model.proofs.Begins.{front_of}
 use Rattle.sync_shared.specs.Behind.{IsNodeBehind}
 use Rattle.sync_shared.specs.Clients.{IsRequestBy}
 use Rattle.sync_shared.proofs.Prefixes.{one_longer}
-use Rattle.sync_shared.proofs.Senders.{sender_is_shown}
 
 module _ (topology : Topology) (packages : Packages) (m : Machine) (why : Why SubmitFault) (p : ParticipantId) where
   abbrev Behind : List Entry → NodeValue → Type 0
@@ -107,28 +104,26 @@ module _ (topology : Topology) (packages : Packages) (m : Machine) (why : Why Su
       its_request : request_at list place ≡ Some by.request
       its_request = subst (λ (xs : List Entry). request_at xs place ≡ Some by.request) begins.1 (request_grown first begins.0 place its_place ∙ by.there)
 
-      its_seal : m.reading.is_sealed by.request ≡ true
-      its_seal =
-          let e = entry_of_request (slice_get list place) by.request its_request in
-          sealed_there m.reading m.params list place e.0 (b.behind).genuine e.1 by.request e.2
+      is_to : is_recipient m.reading p by.request ≡ true
+      is_to =
+          ap (λ (sender : ParticipantId). nat_eq p sender || sees_some_view m.reading p by.request) by.sender
+          ∙ ap (λ (b : Bool). b || sees_some_view m.reading p by.request) (eq-eqb p p refl)
 
-      is_shown : is_some (m.reading.shown p by.request) ≡ true
-      is_shown =
-          let sealed = sealed_reading node.topology node.packages in
-          let own : sealed.is_sealed by.request ≡ true = subst (λ (r : Reading). r.is_sealed by.request ≡ true) (sym (b.is).reading) its_seal in
-          ap (λ (r : Reading). is_some (r.shown p by.request)) (sym (b.is).reading)
-          ∙ (ap (λ (i : ParticipantId). is_some (sealed.shown i by.request)) (sym by.sender) ∙ sender_is_shown node.topology node.packages by.request own)
-
-      pub its_item : is_some (shown_at (items_of node) place) ≡ true
+      pub its_item : is_some (notice_at (items_of node) place) ≡ true
       its_item =
-          ap (λ (items : List Item). is_some (shown_at items place)) items_are
-          ∙ (ap is_some (shown_is m.reading p list place) ∙ (ap (λ (o : Option Request). is_some (read_by (m.reading.shown p) o)) its_request ∙ is_shown))
+          let e = entry_of_request (slice_get list place) by.request its_request in
+          let before = take place list in
+          ap (λ (items : List Item). is_some (notice_at items place)) items_are
+          ∙ (ap (λ (o : Option Item). is_some (notice_in o))
+          (item_at m.reading p place [] list ∙ ap (option_map (item_after m.reading p before)) e.1)
+          ∙ (ap (λ (x : Message). is_some (notice_by (content_of m.reading p before x))) e.2
+          ∙ ap is_some (notice_received m.reading p by.request is_to)))
 
       pub its_outcome : outcome_in (params_of node) (items_of node) place ≡ outcome_of (timeline_of list) place (decision_time_of m.params list place)
       its_outcome =
           ap (λ (ps : Params). outcome_in ps (items_of node) place) (b.is).params
           ∙ (ap (λ (items : List Item). outcome_in m.params items place) items_are
-          ∙ outcome_same m.reading m.params p list place by.request ((b.behind).genuine).timely its_request is_shown)
+          ∙ outcome_same m.reading m.params p list place by.request ((b.behind).genuine).timely its_request is_to)
 
       pub its_completion : completion_of (length (items_of node)) (outcome_in (params_of node) (items_of node) place)
           ≡ completion_of (length list) (outcome_of (timeline_of list) place (decision_time_of m.params list place))

@@ -1,5 +1,5 @@
 -- What a participant behind its lock answers to a submission.
-use Rattle.std.proofs.Common.{◌≡◌, ◌≢◌, ℕ, ◌<◌, Bool, true, false, List, length, Option, Some, None, Result, refl, sym, ap, ◌∙◌, subst}
+use Rattle.std.proofs.Common.{◌≡◌, ◌≢◌, ℕ, ◌<◌, true, false, List, length, Option, Some, None, Result, refl, sym, ap, ◌∙◌, subst}
 use Rattle.std.specs.Prelude.{Ok, Err, IfOk, IfErr, MatchResult}
 use Rattle.ledger_terms.specs.Answers.{Follows}
 use Rattle.ledger_terms.specs.Topologies.{IsValid}
@@ -85,10 +85,6 @@ module _ (topology : Topology) (packages : Packages) (m : Machine) (why : Why Su
       ∙ (ap (λ (f : Why SubmitFault). f what its now) (b.set_up).why_is
       ∙ (ap (λ (t : Topology). why_of t packages what its now) (sym b.own_topology)
       ∙ (ap (λ (k : Packages). why_of node.topology k what its now) (sym b.own_packages) ∙ e)))
-
-  pub is_sealed : {X : Type 0} (answer : Result Request X) → IfOk answer (λ q. (reading_of node).is_sealed q ≡ true) → IfOk answer (λ q. m.reading.is_sealed q ≡ true)
-  is_sealed (Ok q) h = subst (λ (r : Reading). r.is_sealed q ≡ true) (b.is).reading h
-  is_sealed (Err fault) h = h
 
   pub is_framed : {X : Type 0} (answer : Result Request X) → IfOk answer (λ q. (reading_of node).is_framed q ≡ true) → IfOk answer (λ q. m.reading.is_framed q ≡ true)
   is_framed (Ok q) h = subst (λ (r : Reading). r.is_framed q ≡ true) (b.is).reading h

@@ -100,7 +100,6 @@ impl<'r, S: Session> LockedLog<'r, S> {
     ) -> Result<Slip<'r>, AppendFault>
         requires parts { 0 < share.old.parts }
         requires now { now ≤ 10 ^ 16 }
-        requires may { MayStand S.machine self.old (RequestMessage request) }
         ensures ok { IfOk result (λ slip. (append_fault S.machine self.old (RequestMessage request) ≡ None)
             × (self.new ≡ self.old ++ entry_after now self.old (RequestMessage request) ∷ []) × (slip.row ≡ S.history) × (slip.list ≡ self.new)) }
         ensures err { OnErr result (self.new ≡ self.old) }

@@ -1,7 +1,7 @@
 //! A participant as it lies behind its lock.
 ghost use Rattle.std.specs.Prelude.{◌≡◌, ◌≢◌, ◌+◌, ◌<◌, None, Some, length, is_some, true, IfOk, IfErr, IfSome, OnOk, OnErr};
 ghost use Rattle.lang_eval.specs.Named.{AreKnown};
-ghost use Rattle.canton_model.specs.Inbox.{inbox, shown_at};
+ghost use Rattle.canton_model.specs.Inbox.{inbox};
 ghost use Rattle.canton_model.specs.Log.{decision_time_of};
 ghost use Rattle.canton_model.specs.Timeline.{outcome_of, timeline_of};
 ghost use Rattle.sealed_form.specs.Within.{is_hosted};
@@ -146,7 +146,6 @@ impl<'r, S: Session, const I: u8> LockedNode<'r, S, I> {
         requires named { AreKnown (is_hosted S.topology) (parties_in_what what.now.what) }
         ensures same { self.new ≡ self.old }
         ensures wanted { IfOk result (λ request. S.machine.prepare what.now (inbox S.machine.reading I self.old) now ≡ Some request) }
-        ensures sealed { IfOk result (λ request. (S.machine.reading).is_sealed request ≡ true) }
         ensures framed { IfOk result (λ request. (S.machine.reading).is_framed request ≡ true) }
         ensures sender { IfOk result (λ request. request.sender ≡ I) }
         ensures unwanted { IfErr result (λ fault. fault ≢ Memory → (S.machine.prepare what.now (inbox S.machine.reading I self.old) now ≡ None)

@@ -30,7 +30,6 @@ pub(crate) fn prepared(
         (λ fault. fault ≢ SubmitFault.Memory → fault ≢ SubmitFault.Paused
         → (prepare_over node.now.topology node.now.packages offered what.now (items_of node.now) now ≡ None)
         × (why_over node.now.topology node.now.packages offered what.now (items_of node.now) now ≡ fault)) }
-    ensures sealed { IfOk result (λ request. (reading_of node.now).is_sealed request ≡ true) }
     ensures framed { IfOk result (λ request. (reading_of node.now).is_framed request ≡ true) }
     ensures sender { IfOk result (λ request. request.sender ≡ node.now.me) }
     ensures plain { IfErr result HoldsNoMemory }

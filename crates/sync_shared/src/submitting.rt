@@ -85,7 +85,6 @@ fn hand_in<'r, S: Session, const I: u8>(
     requires mine { (what.now.participant ≡ I) × (client.old.me ≡ I) × (request.sender ≡ I) }
     requires knows { IsPrefix client.old.list node.old }
     requires wanted { S.machine.prepare what.now (inbox S.machine.reading I node.old) now ≡ Some request }
-    requires sealed { (S.machine.reading).is_sealed request ≡ true }
     requires framed { (S.machine.reading).is_framed request ≡ true }
     ensures step { IfSome (answer_of result) (λ r. (paused : List ℕ) → has_place paused what.now.participant ≡ false
         → ClientStep S.machine S.why now paused client.old.list what.now r client.new.list) }

@@ -1,4 +1,4 @@
-use Rattle.std.proofs.Common.{◌≡◌, ◌≢◌, false, List, None, Some, refl, sym, ap, ◌∙◌, subst}
+use Rattle.std.proofs.Common.{◌≡◌, ◌≢◌, false, List, None, Some, refl, ap, subst}
 use Rattle.std.specs.Prelude.{IfOk, IfErr}
 use Rattle.canton_model.specs.Inbox.{inbox}
 use Rattle.world_model.specs.Messages.{Entry}
@@ -8,7 +8,7 @@ use Rattle.node_core.specs.Machines.{offered_in}
 use Rattle.sync_shared.specs.Answers.{fault_of}
 use Rattle.sync_shared.specs.Slips.{read_to}
 use Rattle.sync_shared.proofs.Nodes.{flagged}
-use Rattle.sync_shared.proofs.Preparing.{own, is_valid, is_within, is_sealed, is_mine, is_framed, is_wanted, no_request}
+use Rattle.sync_shared.proofs.Preparing.{own, is_valid, is_within, is_mine, is_framed, is_wanted, no_request}
 use Rattle.sync_shared.proofs.locked_node.LockedNode.prepare.Goals as goal
 
 pub invariant_of-self : goal.invariant_of-self
@@ -45,15 +45,6 @@ returns-clause-wanted g c =
     c.self.view_is
     (is_wanted g.S.Session.topology g.S.Session.packages g.S.Session.machine g.S.Session.why g.row.I list node b c.args.what.now c.args.now c.requires.mine
     c.prepared.result told)
-
-pub returns-clause-sealed : goal.returns-clause-sealed
-returns-clause-sealed g c =
-    let list = read_to c.self.inside.last in
-    let node = c.set_paused.new.self in
-    let b = flagged g.S.Session.topology g.S.Session.packages g.S.Session.machine g.S.Session.why g.row.I list c.self.inside.node c.self.invariant.1
-    node false c.set_paused.ensures in
-    is_sealed g.S.Session.topology g.S.Session.packages g.S.Session.machine g.S.Session.why g.row.I list node b c.args.what.now c.args.now c.requires.mine
-    c.prepared.result c.prepared.ensures.sealed
 
 pub returns-clause-sender : goal.returns-clause-sender
 returns-clause-sender g c =
