@@ -7,8 +7,8 @@ use Rattle.run_model.proofs.Ends.{run_approves_all}
 use Rattle.script_read.specs.Kept.{IsAccepted}
 use Rattle.script_read.specs.declared.round.Round.{Round}
 use Rattle.script_read.specs.declared.script.Script.{Script}
-use Rattle.sealed_form.proofs.Logs.{are_sealed}
-use Rattle.sealed_form.proofs.OneId.{no_collision}
+use Rattle.framed_form.proofs.Lawful.{are_framed}
+use Rattle.framed_form.proofs.NoCollision.{no_collision}
 use Rattle.run_model.specs.Workers.{RoundsBy}
 use Rattle.run_model.proofs.Workers.{rounds_are_plain, rounds_are_shared}
 use Rattle.threads_model.proofs.RunShared.{run_holds}
@@ -25,6 +25,7 @@ use Rattle.canton_run.specs.Answered.{answered}
 use Rattle.canton_run.specs.Between.{ArePlayed}
 use Rattle.canton_run.specs.Run.{IsRun, machine_for, submissions_in, why_for}
 use Rattle.canton_run.proofs.OneMore.{answers_are_as_many}
+use Rattle.canton_run.proofs.Own.{SentLaw, sent_is_own}
 
 module _ (script : Script) (capacity workers : ℕ) where
   abbrev m : Machine
@@ -47,7 +48,7 @@ module _ (script : Script) (capacity workers : ℕ) where
         played = ap (λ (x : w.World). x.log) new;
       }
 
-  module _ (machine : IsMachine m) (accepted : IsAccepted script) (room : capacity ≤ 20480) (results : List SubmitResult) (ends : List ℕ) where
+  module _ (machine : IsMachine m) (law : SentLaw) (accepted : IsAccepted script) (room : capacity ≤ 20480) (results : List SubmitResult) (ends : List ℕ) where
     pub is_run : (world : World) → ArePlayed script capacity workers (length script.rounds) world results ends → (log : List Entry)
         → log ≡ (world.sequencer).list → IsRun script capacity workers log results ends
     is_run world p log same =
@@ -75,8 +76,9 @@ module _ (script : Script) (capacity workers : ℕ) where
           approved =
               run_approves_all m (why_for script) log (answered script.rounds results ends) machine.is_reading cut
               (omega (arith, room, few, many, wait));
+          own = sent_is_own law script capacity log (answered script.rounds results ends) cut;
           headline = holds;
           one_ledger = λ apart.
               holds.one_ledger
-              (no_collision script.topology script.checked log (are_sealed script.topology script.checked log cut.genuine) apart);
+              (no_collision script.topology script.checked log (are_framed script.topology script.checked log cut.genuine) apart);
         }

@@ -7,7 +7,7 @@ use Rattle.cli_words.specs.declared.job.Job.{Job}
 use Rattle.cli_words.specs.declared.job.Job.TheVariants.{Gen, Run}
 use Rattle.cn_io.specs.Faults.{Rose}
 use Rattle.ledger_terms.specs.declared.limits.TheConstants.{MOST_SCRIPT_BYTES}
-use Rattle.script_read.specs.Script.{runnable_in}
+use Rattle.script_read.specs.Script.{script_in}
 use Rattle.script_read.specs.declared.script.Script.{Script}
 use Rattle.script_read.specs.declared.script_fault.ScriptFault.{ScriptFault}
 use Rattle.canton_run.specs.declared.finish.Finish.{Finish}
@@ -32,11 +32,10 @@ Ran words left left' finish text =
     (job : Job) × (script : Script) × (job_of words ≡ Some job) × GivesScript job left left' script
     × IsRun script (capacity_of job) (workers_of job) finish.log finish.results finish.ends × (text ≡ text_of job script finish)
 
--- The source was read to its end within the limit, and the fault kept is that of its bytes: the first fault of their script, or else
--- NotBuilt, where a round of it has a raw request.
+-- The source was read to its end within the limit, and the fault kept is the first fault of its bytes.
 abbrev pub ReadsFault : Option (List ℕ) → Option (List ℕ) → Finish → Type 0
 ReadsFault left left' finish =
-    (bytes : List ℕ) × (fault : ScriptFault) × ReadWhole left left' bytes × (runnable_in bytes ≡ Err fault) × (finish.fault ≡ Some fault)
+    (bytes : List ℕ) × (fault : ScriptFault) × ReadWhole left left' bytes × (script_in bytes ≡ Err fault) × (finish.fault ≡ Some fault)
 
 -- the words ask for a run, and the fault kept is that of the source's bytes
 abbrev pub KeepsFault : List (List ℕ) → Option (List ℕ) → Option (List ℕ) → Finish → Type 0
@@ -56,9 +55,9 @@ TakesUpTo words left left' finish =
 abbrev pub RanNothing : Option (List ℕ) → Option (List ℕ) → Finish → Type 0
 RanNothing held held' finish = (finish.log ≡ []) × (finish.results ≡ []) × (finish.ends ≡ []) × Keeps held held'
 
--- the source gives a script within the limit, without a raw request
+-- the source gives a script within the limit
 abbrev pub OffersScript : Option (List ℕ) → Type 0
-OffersScript left = (bytes : List ℕ) × (script : Script) × (left ≡ Some bytes) × (length bytes ≤ MOST_SCRIPT_BYTES) × (runnable_in bytes ≡ Ok script)
+OffersScript left = (bytes : List ℕ) × (script : Script) × (left ≡ Some bytes) × (length bytes ≤ MOST_SCRIPT_BYTES) × (script_in bytes ≡ Ok script)
 
 -- the same, where the job needs a source
 abbrev pub HasScript : Job → Option (List ℕ) → Type 0

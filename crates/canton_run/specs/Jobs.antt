@@ -12,7 +12,7 @@ use Rattle.node_core.specs.declared.node_view.NodeView.{NodeView}
 use Rattle.node_core.specs.declared.submit_result.SubmitResult.{SubmitResult}
 use Rattle.report_text.specs.Report.{report_of}
 use Rattle.report_text.specs.Totals.{summary_of}
-use Rattle.script_read.specs.Script.{runnable_in}
+use Rattle.script_read.specs.Script.{script_in}
 use Rattle.script_read.specs.declared.round.Round.{Round}
 use Rattle.script_read.specs.declared.script.Script.{Script}
 use Rattle.canton_run.specs.declared.finish.Finish.{Finish}
@@ -22,9 +22,9 @@ use Rattle.canton_run.specs.Run.{params_of, reading_for}
 abbrev pub ReadWhole : Option (List ℕ) → Option (List ℕ) → List ℕ → Type 0
 ReadWhole left left' bytes = Consumes left left' bytes × IsAtEnd left' × (length bytes ≤ MOST_SCRIPT_BYTES)
 
--- the source was read whole, and its bytes are the script, in which nobody hands in a raw request
+-- the source was read whole, and its bytes are the script
 abbrev pub ReadsScript : Option (List ℕ) → Option (List ℕ) → Script → Type 0
-ReadsScript left left' script = (bytes : List ℕ) × ReadWhole left left' bytes × (runnable_in bytes ≡ Ok script)
+ReadsScript left left' script = (bytes : List ℕ) × ReadWhole left left' bytes × (script_in bytes ≡ Ok script)
 
 -- the script of the source, or the generated one, for which nothing is read
 abbrev pub GivesScript : Job → Option (List ℕ) → Option (List ℕ) → Script → Type 0

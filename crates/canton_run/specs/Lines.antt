@@ -2,7 +2,7 @@
 use Rattle.std.specs.Prelude.{ℕ, ◌==◌, if◌then◌else◌, List, [], ◌++◌, Option, Some, None, codes}
 use Rattle.lang_check.specs.KindNames.{kind_name}
 use Rattle.script_read.specs.declared.script_fault.ScriptFault.{ScriptFault}
-use Rattle.script_read.specs.declared.script_fault.ScriptFault.TheVariants.{NotJson, Shape, NotInteger, Unknown, Package, Limit, Repeated, NotBuilt, Memory}
+use Rattle.script_read.specs.declared.script_fault.ScriptFault.TheVariants.{NotJson, Shape, NotInteger, Unknown, Package, Limit, Repeated, Memory}
 use Rattle.script_read.specs.Faults.{fault_name}
 
 abbrev pub why_text : ℕ → List ℕ
@@ -23,7 +23,6 @@ place_text (Unknown path name) = codes " " ++ path
 place_text (Package fault) = codes " " ++ kind_name fault.kind ++ codes " " ++ fault.at
 place_text (Limit path which found) = codes " " ++ path
 place_text (Repeated path) = codes " " ++ path
-place_text NotBuilt = []
 place_text Memory = []
 
 abbrev pub fault_line : ScriptFault → List ℕ

@@ -7,6 +7,7 @@ mod leftovers;
 mod lines;
 mod log_copy;
 mod played;
+mod raws;
 mod rounds;
 mod script_run;
 mod top_call;

@@ -66,7 +66,6 @@ fn put_place(out: &mut String, fault: &ScriptFault) -> Result<(), AllocError>
         ScriptFault::Limit { path, .. } => put_path(out, path.as_str()),
         ScriptFault::Repeated { path } => put_path(out, path.as_str()),
         ScriptFault::NotJson => Ok(()),
-        ScriptFault::NotBuilt => Ok(()),
         ScriptFault::Memory => Ok(()),
     }
 }

@@ -1,11 +1,10 @@
 //! The rounds of a script, one after another.
-ghost use Rattle.std.specs.Prelude.{◌≡◌, ◌+◌, ◌++◌, ◌<◌, ◌≤◌, ◌^◌, ℕ, All, [], length, IfOk, OnOk};
+ghost use Rattle.std.specs.Prelude.{◌≡◌, ◌+◌, ◌++◌, ℕ, [], length, IfOk, OnOk};
 ghost use Rattle.script_read.specs.Kept.{IsAccepted};
 ghost use Rattle.script_read.specs.declared.script.Script.{Script};
-ghost use Rattle.world_play.specs.Results.{IsPlainResult, results_of};
-ghost use Rattle.canton_run.specs.Answered.{round_of};
 ghost use Rattle.canton_run.specs.Between.{ArePlayed, CanBeAnswered, IsAnsweredRound, IsRoundOf, IsSetupOf};
 
+use crate::raws::hand_in_raws;
 use confirm_reply::Setup;
 use lane_pool::Gate;
 use lang_eval::NativeList;
@@ -85,7 +84,7 @@ fn append(results: &mut SubmitResultList, more: SubmitResultList) -> Result<(), 
     Ok(())
 }
 
-// Time moves on, each submission is handed in, and the world settles.
+// Time moves on, the raw requests and then the submissions are handed in, and the world settles.
 fn play_round<'r, R: Threads + Wait + Sync + RandomSource + AllocGlobal, G: Gate + Sync>(
     workers: &Workers<'_, R, G>,
     natives: &'r NativeList,
@@ -104,6 +103,7 @@ fn play_round<'r, R: Threads + Wait + Sync + RandomSource + AllocGlobal, G: Gate
     let hold_verdicts = round.hold_verdicts;
     let mut world = world;
     begin_round(&mut world, round.advance, &round.paused)?;
+    hand_in_raws(alloc, &mut world, &round.raws)?;
     let answered = submit_round(workers, natives, setup, world, round)?;
     let Answered { mut world, results } = answered;
     settle(alloc, natives, &mut world, &round.paused, hold_verdicts)?;

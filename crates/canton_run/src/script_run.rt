@@ -20,6 +20,7 @@ use std::random::RandomSource;
 use std::sync::Wait;
 use std::thread::Threads;
 use world_play::World;
+use world_play::laws::sent_requests_open_by_the_rules;
 
 /// Plays the rounds of a script over a new synchroniser with its log in `row`, whose requests may need so many places of the log
 /// in all. A choice that `natives` has is asked of them in place of the language by the thread that plays the rounds, and by no
@@ -39,8 +40,9 @@ pub fn run_script<'r, R: Threads + Wait + Sync + RandomSource + AllocGlobal, G: 
     ensures views { IfOk result (λ played. map view_of (played.nodes).items
         ≡ views_over (reading_for (script_with setup.now rounds.now)) setup.now.topology.params (played.record).log (length setup.now.topology.hosts)) }
 {
-    // the prover learns from this call that there is a machine
+    // the prover learns from these calls that there is a machine, and of what the requests of submissions are
     prepared_requests_make_a_machine();
+    sent_requests_open_by_the_rules();
     let alloc = workers.alloc;
     let new = World::new(alloc, setup, row, capacity)?;
     let rounds_played = play_rounds(workers, natives, setup, new, rounds)?;

@@ -1,14 +1,14 @@
 //! The top call: words, a source and a sink in, a status and what was run out.
-ghost use Rattle.std.specs.Prelude.{◌≡◌, ◌≢◌, ◌↔◌, ◌<◌, ◌≤◌, ◌*◌, List, ℕ, Some, None, Ok, [], length, take, IsErr, IfOk};
+ghost use Rattle.std.specs.Prelude.{◌≡◌, ◌≢◌, ◌↔◌, ◌<◌, ◌≤◌, ◌*◌, List, ℕ, Some, None, Ok, length, take, IsErr};
 ghost use Rattle.std.proofs.Common.{◌⊎◌};
-ghost use Rattle.std.specs.Io.KnownBytes.{Keeps, Appends};
+ghost use Rattle.std.specs.Io.KnownBytes.{Appends};
 ghost use Rattle.cli_words.specs.Jobs.{job_of};
 ghost use Rattle.cli_words.specs.declared.job.Job.{Job};
 ghost use Rattle.cn_io.specs.Faults.{Rose};
 ghost use Rattle.ledger_terms.specs.declared.limits.TheConstants.{MOST_PLACES, MOST_SUBMISSIONS};
 ghost use Rattle.load_gen.specs.Generated.{generated};
 ghost use Rattle.script_read.specs.Kept.{IsAccepted};
-ghost use Rattle.script_read.specs.Script.{runnable_in};
+ghost use Rattle.script_read.specs.Script.{script_in};
 ghost use Rattle.script_read.specs.declared.script.Script.{Script};
 ghost use Rattle.canton_run.specs.Run.{IsRun};
 ghost use Rattle.canton_run.specs.Jobs.{ReadsScript, capacity_of, text_of, workers_of};
@@ -28,7 +28,7 @@ use lang_eval::NativeList;
 use ledger_terms::limits::{MOST_PLACES, MOST_SCRIPT_BYTES};
 use load_gen::{generate, generated_scripts_are_accepted};
 use log_row::LogRow;
-use script_read::{RoundList, Script, ScriptFault, read_runnable};
+use script_read::{RoundList, Script, ScriptFault, read_script};
 use shared_rounds::Workers;
 use std::alloc::{AllocError, AllocGlobal, Global};
 use std::random::RandomSource;
@@ -132,13 +132,13 @@ fn run_source<
         × ((n : ℕ) × Appends (K.held sink.old) (K.held sink.new) (take n (text_of job script result))) }
     ensures count { (S.faults source.old ≤ S.faults source.new) × (K.faults sink.old ≤ K.faults sink.new) }
     ensures faulty { (bytes : List ℕ) → S.left source.old ≡ Some bytes → IsReadWhole result.status
-        → (result.status ≡ 3 ↔ IsErr (runnable_in bytes)) }
+        → (result.status ≡ 3 ↔ IsErr (script_in bytes)) }
     ensures complete { OffersScript (S.left source.old) → ¬ Rose (S.faults source.old) (S.faults source.new)
         → ¬ Rose (K.faults sink.old) (K.faults sink.new) → (result.status ≡ 0) ⊎ (result.status ≡ 70) }
 {
     let alloc = workers.alloc;
     match read_all(alloc, source, MOST_SCRIPT_BYTES) {
-        Ok(bytes) => match read_runnable(alloc, bytes.as_slice()) {
+        Ok(bytes) => match read_script(alloc, bytes.as_slice()) {
             Ok(script) => carry_out(workers, natives, job, script, sink),
             Err(ScriptFault::Memory) => ended(alloc, 70, None),
             Err(fault) => ended(alloc, 3, Some(fault)),
@@ -202,7 +202,7 @@ pub fn run<
         × (K.room sink.old < length text) × ((n : ℕ) × Appends (K.held sink.old) (K.held sink.new) (take n text)) }
     ensures count { (S.faults source.old ≤ S.faults source.new) × (K.faults sink.old ≤ K.faults sink.new) }
     ensures faulty { (bytes : List ℕ) → S.left source.old ≡ Some bytes → AsksForRun words.now → IsReadWhole result.status
-        → (result.status ≡ 3 ↔ IsErr (runnable_in bytes)) }
+        → (result.status ≡ 3 ↔ IsErr (script_in bytes)) }
     ensures complete { (job : Job) → job_of words.now ≡ Some job → HasScript job (S.left source.old)
         → NoReadFault job (S.faults source.old) (S.faults source.new) → ¬ Rose (K.faults sink.old) (K.faults sink.new)
         → (result.status ≡ 0) ⊎ (result.status ≡ 70) }

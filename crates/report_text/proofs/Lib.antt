@@ -2,3 +2,4 @@ pub mod Levels
 pub mod Escapes
 pub mod Zipped
 pub mod OneMore
+mod Recipients

@@ -1,8 +1,8 @@
 -- The lines of a log's entries.
 use Rattle.std.specs.Prelude.{ℕ, ◌+◌, ◌||◌, nat_eq, Bool, if◌then◌else◌, List, [], ◌∷◌, ◌++◌, codes, decimal, slice_get, Option, Some, None}
 use Rattle.std.specs.List.{flat_map, list_any}
+use Rattle.ledger_terms.specs.Hosting.{keeps_party}
 use Rattle.ledger_terms.specs.declared.host.Host.{Host}
-use Rattle.canton_model.specs.declared.envelope.Envelope.{Envelope}
 use Rattle.canton_model.specs.declared.request.Request.{Request}
 use Rattle.canton_model.specs.declared.local_verdict.LocalVerdict.{LocalVerdict}
 use Rattle.canton_model.specs.declared.local_verdict.LocalVerdict.TheVariants.{Approve, Reject}
@@ -13,6 +13,9 @@ use Rattle.canton_model.specs.declared.message.Message.{Message}
 use Rattle.canton_model.specs.declared.message.Message.TheVariants.{Request as RequestMessage, Response as ResponseMessage, Verdict as VerdictMessage, Tick}
 use Rattle.canton_model.specs.declared.entry.Entry.{Entry}
 use Rattle.canton_model.specs.ReasonNames.{reason_name}
+use Rattle.blind_tree.specs.declared.roles_tree.RolesTree.{RolesTree}
+use Rattle.blind_tree.specs.declared.view_roles.ViewRoles.{ViewRoles}
+use Rattle.proto_model.specs.RequestedViews.{requested_views}
 use Rattle.report_text.specs.Values.{between}
 
 abbrev pub host_name : Option Host → List ℕ
@@ -27,18 +30,30 @@ host_text hosts p = host_name (slice_get hosts p)
 abbrev pub hosts_text : List Host → List ℕ → List ℕ
 hosts_text hosts ps = flat_map (λ p. codes " " ++ host_text hosts p) ps
 
-abbrev pub is_addressed : List Envelope → ℕ → Bool
-is_addressed envelopes p = list_any (λ (envelope : Envelope). nat_eq envelope.to p) envelopes
+abbrev pub views_in : Option RolesTree → List ViewRoles
+views_in None = []
+views_in (Some told) = told.views
 
--- a request goes to its sender and to those that an envelope is addressed to
-abbrev pub is_recipient : Request → ℕ → Bool
-is_recipient request p = nat_eq request.sender p || is_addressed request.envelopes p
+-- the views of a request, as the mediator is told of them
+abbrev pub views_told : Request → List ViewRoles
+views_told request = views_in (requested_views request)
+
+-- the host has an informee of one of the views, to confirm for it or only to observe
+abbrev pub sees_one : List ViewRoles → Host → Bool
+sees_one views host = list_any (λ (view : ViewRoles). list_any (λ party. keeps_party party host) view.informees) views
+
+-- a request goes to its sender, and to those that see one of its views, whether an envelope is addressed to them or not
+abbrev pub is_recipient : (sender : ℕ) → List ViewRoles → ℕ → Host → Bool
+is_recipient sender views p host = nat_eq p sender || sees_one views host
 
 -- the recipients in order of the topology, whose hosts from this index on are given, each with a space before it
-abbrev pub recipients_text : Request → ℕ → List Host → List ℕ
-recipients_text request p [] = []
-recipients_text request p (host ∷ hosts) =
-    (if is_recipient request p then codes " " ++ host.name else []) ++ recipients_text request (p + 1) hosts
+abbrev pub recipients_from : (sender : ℕ) → List ViewRoles → ℕ → List Host → List ℕ
+recipients_from sender views p [] = []
+recipients_from sender views p (host ∷ hosts) =
+    (if is_recipient sender views p host then codes " " ++ host.name else []) ++ recipients_from sender views (p + 1) hosts
+
+abbrev pub recipients_text : Request → List Host → List ℕ
+recipients_text request hosts = recipients_from request.sender (views_told request) 0 hosts
 
 -- the steps with a point between them
 abbrev pub path_text : List ℕ → List ℕ
@@ -60,7 +75,7 @@ decision_text hosts (TimedOut missing) = codes "timeout" ++ hosts_text hosts mis
 
 abbrev pub message_text : List Host → Message → List ℕ
 message_text hosts (RequestMessage request) =
-    codes "request " ++ host_text hosts request.sender ++ codes " " ++ request.command ++ codes " to" ++ recipients_text request 0 hosts
+    codes "request " ++ host_text hosts request.sender ++ codes " " ++ request.command ++ codes " to" ++ recipients_text request hosts
 message_text hosts (ResponseMessage response) =
     codes "response " ++ host_text hosts response.from ++ codes " for " ++ decimal response.request ++ flat_map view_text response.verdicts
 message_text hosts (VerdictMessage verdict) =

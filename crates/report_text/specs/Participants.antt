@@ -14,10 +14,15 @@ commit_lines commit = codes "commit " ++ decimal commit.place ++ codes "\n" ++ t
 abbrev pub active_line : ActiveRow → List ℕ
 active_line row = codes "active " ++ decimal row.created_at ++ codes " " ++ instance_text row.known.instance ++ codes "\n"
 
+-- an approved place of whose request it has no complete envelope
+abbrev pub withheld_line : (place : ℕ) → List ℕ
+withheld_line place = codes "withheld " ++ decimal place ++ codes "\n"
+
 abbrev pub participant_line : Host → NodeView → List ℕ
 participant_line host view =
     codes "participant " ++ host.name ++ codes " clean " ++ decimal view.clean ++ codes " time " ++ decimal view.clean_time ++ codes "\n"
 
 -- a participant with what it knows at its clean place
 abbrev pub participant_lines : Host × NodeView → List ℕ
-participant_lines (host, view) = participant_line host view ++ flat_map commit_lines view.commits ++ flat_map active_line view.active
+participant_lines (host, view) =
+    participant_line host view ++ flat_map withheld_line view.withheld ++ flat_map commit_lines view.commits ++ flat_map active_line view.active

@@ -1,16 +1,19 @@
 //! The lines of a log's entries.
-ghost use Rattle.std.specs.Prelude.{◌≡◌, ◌++◌, OnOk, string_bytes, nat_eq};
-ghost use Rattle.std.specs.List.{flat_map};
-ghost use Rattle.report_text.specs.Entries.{host_text, hosts_text, is_addressed, is_recipient, recipients_text, path_text, view_text};
+ghost use Rattle.std.specs.Prelude.{◌≡◌, ◌++◌, IfOk, OnOk, string_bytes};
+ghost use Rattle.std.specs.List.{flat_map, list_any};
+ghost use Rattle.ledger_terms.specs.Hosting.{keeps_party};
+ghost use Rattle.report_text.specs.Entries.{host_text, hosts_text, is_recipient, recipients_from, recipients_text, sees_one, views_told};
+ghost use Rattle.report_text.specs.Entries.{path_text, view_text};
 ghost use Rattle.report_text.specs.Entries.{decision_text, message_text, entry_line, entry_lines};
 
 use crate::values::put_number;
+use blind_tree::{ViewRoles, ViewRolesList};
 use canton_model::{
-    Decision, Entry, EntryList, Envelope, EnvelopeList, LocalVerdict, Message, Request,
-    ViewVerdict, ViewVerdictList,
+    Decision, Entry, EntryList, LocalVerdict, Message, Request, ViewVerdict, ViewVerdictList,
 };
-use ledger_terms::{HostList, ParticipantId, ParticipantIdList, Path};
-use std::alloc::AllocError;
+use ledger_terms::{Host, HostList, Name, ParticipantId, ParticipantIdList, PartySet, Path};
+use proto_model::requested_views;
+use std::alloc::{AllocError, Global};
 
 /// Puts a participant's name at the end.
 pub fn put_host(out: &mut String, hosts: &HostList, at: ParticipantId) -> Result<(), AllocError>
@@ -32,37 +35,66 @@ fn put_hosts(out: &mut String, hosts: &HostList, ids: &ParticipantIdList) -> Res
     Ok(())
 }
 
-fn is_for(envelope: &Envelope, at: usize) -> bool
-    ensures { result ≡ nat_eq envelope.now.to at }
+fn keeps(host: &Host, party: Name) -> bool
+    ensures { result ≡ keeps_party party host.now }
 {
-    envelope.to.0 as usize == at
+    host.parties.contains(party) || host.observing.contains(party)
 }
 
-fn has_envelope(envelopes: &EnvelopeList, at: usize) -> bool
-    ensures { result ≡ is_addressed envelopes.now at }
+fn has_one(host: &Host, parties: &PartySet) -> bool
+    ensures { result ≡ list_any (λ party. keeps_party party host.now) parties.now }
 {
-    envelopes
-        .as_slice()
-        .iter()
-        .any(|envelope| is_for(envelope, at))
+    parties.as_slice().iter().any(|party| keeps(host, *party))
 }
 
-fn is_sent_to(request: &Request, at: usize) -> bool
-    ensures { result ≡ is_recipient request.now at }
+fn sees_one(host: &Host, views: &[ViewRoles]) -> bool
+    ensures { result ≡ sees_one views.now host.now }
 {
-    request.sender.0 as usize == at || has_envelope(&request.envelopes, at)
+    views.iter().any(|view| has_one(host, &view.informees))
 }
 
-fn put_recipients(out: &mut String, hosts: &HostList, request: &Request) -> Result<(), AllocError>
-    ensures { OnOk result (string_bytes out.new ≡ string_bytes out.old ++ recipients_text request.now 0 hosts.now) }
+fn is_sent_to(sender: ParticipantId, views: &[ViewRoles], at: usize, host: &Host) -> bool
+    ensures { result ≡ is_recipient sender views.now at host.now }
 {
-    'hosts: for (at, host) in hosts.as_slice().iter().enumerate() {
-        if is_sent_to(request, at) {
+    at == sender.0 as usize || sees_one(host, views)
+}
+
+fn put_recipients_from(
+    out: &mut String,
+    sender: ParticipantId,
+    views: &[ViewRoles],
+    hosts: &[Host],
+) -> Result<(), AllocError>
+    ensures { OnOk result (string_bytes out.new ≡ string_bytes out.old ++ recipients_from sender views.now 0 hosts.now) }
+{
+    'hosts: for (at, host) in hosts.iter().enumerate() {
+        if is_sent_to(sender, views, at, host) {
             out.push_str(" ")?;
             out.push_str(host.name.as_str())?;
         }
     }
     Ok(())
+}
+
+fn views_told(alloc: Global, request: &Request) -> Result<ViewRolesList, AllocError>
+    ensures { IfOk result (λ views. views ≡ views_told request.now) }
+{
+    match requested_views(alloc, request)? {
+        Some(told) => Ok(told.views),
+        None => Ok(ViewRolesList::new(alloc)),
+    }
+}
+
+fn put_recipients(
+    alloc: Global,
+    out: &mut String,
+    hosts: &HostList,
+    request: &Request,
+) -> Result<(), AllocError>
+    ensures { OnOk result (string_bytes out.new ≡ string_bytes out.old ++ recipients_text request.now hosts.now) }
+{
+    let views = views_told(alloc, request)?;
+    put_recipients_from(out, request.sender, views.as_slice(), hosts.as_slice())
 }
 
 /// Puts a path at the end, its steps joined by points.
@@ -126,7 +158,12 @@ pub fn put_decision(
     }
 }
 
-fn put_message(out: &mut String, hosts: &HostList, message: &Message) -> Result<(), AllocError>
+fn put_message(
+    alloc: Global,
+    out: &mut String,
+    hosts: &HostList,
+    message: &Message,
+) -> Result<(), AllocError>
     ensures { OnOk result (string_bytes out.new ≡ string_bytes out.old ++ message_text hosts.now message.now) }
 {
     match message {
@@ -136,7 +173,7 @@ fn put_message(out: &mut String, hosts: &HostList, message: &Message) -> Result<
             out.push_str(" ")?;
             out.push_str(request.command.as_str())?;
             out.push_str(" to")?;
-            put_recipients(out, hosts, request)
+            put_recipients(alloc, out, hosts, request)
         }
         Message::Response(response) => {
             out.push_str("response ")?;
@@ -156,6 +193,7 @@ fn put_message(out: &mut String, hosts: &HostList, message: &Message) -> Result<
 }
 
 fn put_entry(
+    alloc: Global,
     out: &mut String,
     hosts: &HostList,
     place: u64,
@@ -167,16 +205,21 @@ fn put_entry(
     out.push_str(" ")?;
     put_number(out, entry.time)?;
     out.push_str(" ")?;
-    put_message(out, hosts, &entry.message)?;
+    put_message(alloc, out, hosts, &entry.message)?;
     out.push_str("\n")
 }
 
 /// Puts a line for each entry at the end.
-pub fn put_entries(out: &mut String, hosts: &HostList, log: &EntryList) -> Result<(), AllocError>
+pub fn put_entries(
+    alloc: Global,
+    out: &mut String,
+    hosts: &HostList,
+    log: &EntryList,
+) -> Result<(), AllocError>
     ensures { OnOk result (string_bytes out.new ≡ string_bytes out.old ++ entry_lines hosts.now 0 log.now) }
 {
     'entries: for (place, entry) in log.as_slice().iter().enumerate() {
-        put_entry(out, hosts, place as u64, entry)?;
+        put_entry(alloc, out, hosts, place as u64, entry)?;
     }
     Ok(())
 }

@@ -1,9 +1,11 @@
-//! The exact text of a run: a line for each entry, result, outcome, participant, commit, action and active contract.
+//! The exact text of a run: a line for each entry, result, outcome, participant, withheld place, commit, action and active
+//! contract.
 #![tactic(auto)]
 
 mod actions;
 mod entries;
 mod fault_names;
+pub mod laws;
 mod outcome_lines;
 mod outcomes;
 mod participants;

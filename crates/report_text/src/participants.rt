@@ -1,12 +1,12 @@
 //! The lines of the participants.
 ghost use Rattle.std.specs.Prelude.{◌≡◌, ◌++◌, OnOk, string_bytes};
 ghost use Rattle.std.specs.List.{flat_map, zip};
-ghost use Rattle.report_text.specs.Participants.{commit_lines, active_line, participant_line, participant_lines};
+ghost use Rattle.report_text.specs.Participants.{commit_lines, active_line, participant_line, participant_lines, withheld_line};
 
 use crate::actions::put_trees;
 use crate::values::{put_instance, put_number};
 use ledger_model::{Commit, CommitList};
-use ledger_terms::{ActiveRow, ActiveRowList, Host, HostList};
+use ledger_terms::{ActiveRow, ActiveRowList, Host, HostList, U64List};
 use node_core::{NodeView, NodeViewList};
 use std::alloc::AllocError;
 
@@ -47,6 +47,23 @@ fn put_actives(out: &mut String, rows: &ActiveRowList) -> Result<(), AllocError>
     Ok(())
 }
 
+fn put_withheld_place(out: &mut String, place: u64) -> Result<(), AllocError>
+    ensures { OnOk result (string_bytes out.new ≡ string_bytes out.old ++ withheld_line place) }
+{
+    out.push_str("withheld ")?;
+    put_number(out, place)?;
+    out.push_str("\n")
+}
+
+fn put_withheld(out: &mut String, places: &U64List) -> Result<(), AllocError>
+    ensures { OnOk result (string_bytes out.new ≡ string_bytes out.old ++ flat_map withheld_line places.now) }
+{
+    'places: for place in places.as_slice() {
+        put_withheld_place(out, *place)?;
+    }
+    Ok(())
+}
+
 fn put_participant_line(out: &mut String, host: &Host, view: &NodeView) -> Result<(), AllocError>
     ensures { OnOk result (string_bytes out.new ≡ string_bytes out.old ++ participant_line host.now view.now) }
 {
@@ -60,6 +77,7 @@ fn put_participant(out: &mut String, host: &Host, view: &NodeView) -> Result<(),
     ensures { OnOk result (string_bytes out.new ≡ string_bytes out.old ++ participant_lines (host.now, view.now)) }
 {
     put_participant_line(out, host, view)?;
+    put_withheld(out, &view.withheld)?;
     put_commits(out, &view.commits)?;
     put_actives(out, &view.active)
 }

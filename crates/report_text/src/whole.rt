@@ -29,7 +29,7 @@ pub fn report(
     out.push_str("entries ")?;
     put_number(&mut out, log.len() as u64)?;
     out.push_str("\n")?;
-    put_entries(&mut out, &topology.hosts, log)?;
+    put_entries(alloc, &mut out, &topology.hosts, log)?;
     put_results(&mut out, &topology.hosts, rounds, results)?;
     put_outcomes(alloc, &mut out, topology, log)?;
     put_participants(&mut out, &topology.hosts, views)?;

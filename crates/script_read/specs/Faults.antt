@@ -3,7 +3,7 @@ use Rattle.std.specs.Prelude.{ℕ, List, Option, Some, None, Result, Ok, Err, co
 use Rattle.json_walk.specs.declared.walk_fault.WalkFault.{WalkFault}
 use Rattle.json_walk.specs.declared.walk_fault.WalkFault.TheVariants as walk
 use Rattle.script_read.specs.declared.script_fault.ScriptFault.{ScriptFault}
-use Rattle.script_read.specs.declared.script_fault.ScriptFault.TheVariants.{NotJson, Shape, NotInteger, Unknown, Package, Limit, Repeated, NotBuilt, Memory}
+use Rattle.script_read.specs.declared.script_fault.ScriptFault.TheVariants.{NotJson, Shape, NotInteger, Unknown, Package, Limit, Repeated, Memory}
 
 abbrev pub fault_name : ScriptFault → List ℕ
 fault_name NotJson = codes "NotJson"
@@ -13,7 +13,6 @@ fault_name (Unknown path name) = codes "Unknown"
 fault_name (Package fault) = codes "Package"
 fault_name (Limit path which found) = codes "Limit"
 fault_name (Repeated path) = codes "Repeated"
-fault_name NotBuilt = codes "NotBuilt"
 fault_name Memory = codes "Memory"
 
 abbrev pub fault_path : ScriptFault → Option (List ℕ)
@@ -24,7 +23,6 @@ fault_path (Unknown path name) = Some path
 fault_path (Package fault) = None
 fault_path (Limit path which found) = Some path
 fault_path (Repeated path) = Some path
-fault_path NotBuilt = None
 fault_path Memory = None
 
 -- a fault of a walk

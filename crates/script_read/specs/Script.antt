@@ -1,6 +1,5 @@
 -- Scripts: the first fault of the walk, or the script.
-use Rattle.std.specs.Prelude.{ℕ, ◌+◌, Bool, not, List, [], ◌∷◌, length, nat_lt, Option, Some, None, Result, Ok, Err, codes}
-use Rattle.std.specs.List.{list_any}
+use Rattle.std.specs.Prelude.{ℕ, ◌+◌, Bool, List, [], ◌∷◌, length, Option, Some, None, Result, Ok, Err, codes}
 use Rattle.serde_json.specs.Data.{Data}
 use Rattle.serde_json.specs.Find.{get}
 use Rattle.ledger_terms.specs.Pointers.{at_member}
@@ -16,11 +15,10 @@ use Rattle.json_walk.specs.Walk.{Place, has_members, json_of}
 use Rattle.lang_read.specs.Packages.{package_of}
 use Rattle.json_walk.specs.declared.walk_fault.WalkFault.{WalkFault}
 use Rattle.script_read.specs.declared.script_fault.ScriptFault.{ScriptFault}
-use Rattle.script_read.specs.declared.script_fault.ScriptFault.TheVariants.{Shape, Package, NotBuilt}
+use Rattle.script_read.specs.declared.script_fault.ScriptFault.TheVariants.{Shape, Package}
 use Rattle.script_read.specs.Faults.{from_walk}
 use Rattle.script_read.specs.Hosts.{hosts_in, params_of, vetting_in}
 use Rattle.script_read.specs.Rounds.{rounds_in}
-use Rattle.script_read.specs.declared.round.Round.{Round}
 use Rattle.script_read.specs.declared.script.Script.{Script}
 
 -- ---- packages
@@ -80,16 +78,3 @@ unfoldable pub script_in : List ℕ → Result Script ScriptFault
 script_in bytes = do
   d ← from_walk (json_of bytes)
   script_of d
-
--- ---- what can be run
-
--- whether some round has raw requests
-abbrev pub has_raws : List Round → Bool
-has_raws rounds = list_any (λ (r : Round). nat_lt 0 (length r.raws)) rounds
-
--- the script that bytes are, where it can be run: raw requests are read, but can't be handed in yet
-unfoldable pub runnable_in : List ℕ → Result Script ScriptFault
-runnable_in bytes = do
-  script ← script_in bytes
-  _ ← check (not (has_raws script.rounds)) NotBuilt
-  Ok script

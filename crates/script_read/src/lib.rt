@@ -22,7 +22,7 @@ mod tree;
 mod vetting;
 mod what;
 
-pub use read::{read_runnable, read_script};
+pub use read::read_script;
 pub use round::{Round, RoundList};
 pub use script::Script;
 pub use script_fault::ScriptFault;

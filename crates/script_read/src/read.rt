@@ -5,10 +5,9 @@ ghost use Rattle.ledger_terms.specs.Answers.{Follows};
 ghost use Rattle.json_walk.specs.Lists.{counted_of};
 ghost use Rattle.script_read.specs.Kept.{IsAccepted};
 ghost use Rattle.script_read.specs.Script.{counted_package, packages_in, checked_of, checked_in, has_script_members, topology_in};
-ghost use Rattle.script_read.specs.Script.{script_of, script_in, has_raws, runnable_in};
+ghost use Rattle.script_read.specs.Script.{script_of, script_in};
 
 use crate::host::hosts_in;
-use crate::round::Round;
 use crate::rounds::rounds_in;
 use crate::script::Script;
 use crate::script_fault::ScriptFault;
@@ -155,24 +154,4 @@ pub fn read_script(alloc: Global, bytes: &[u8]) -> Result<Script, ScriptFault>
 {
     let value = read_json(alloc, bytes)?;
     read_value(alloc, &value)
-}
-
-fn has_raws(rounds: &[Round]) -> bool
-    ensures { result ≡ has_raws rounds.now }
-{
-    rounds.iter().any(|round| round.raws.len() > 0)
-}
-
-/// The same of a script that can be run: raw requests are read, but can't be handed in yet, so that a script with some is
-/// NotBuilt where it has no other fault.
-#[tactic(auto, unfolding(crate::specs::Script::runnable_in))]
-pub fn read_runnable(alloc: Global, bytes: &[u8]) -> Result<Script, ScriptFault>
-    ensures exact { Follows ScriptFault.Memory result (runnable_in bytes.now) }
-    ensures accepted { IfOk result IsAccepted }
-{
-    let script = read_script(alloc, bytes)?;
-    if has_raws(script.rounds.as_slice()) {
-        return Err(ScriptFault::NotBuilt);
-    }
-    Ok(script)
 }

@@ -11,7 +11,7 @@ use std::alloc::{AllocError, AllocFailed};
 /// The first fault of a script, or want of memory. A path is the place of the fault, as a JSON pointer from the script's
 /// root. `which` is the number of the limit that is broken and `found` the count or number that breaks it, 0 for a negative
 /// one. Package is the first fault that the check of the packages finds, which has its own place in the list of packages;
-/// want of memory in that check is Memory. NotBuilt is the fault of a script that is read but can't be run yet.
+/// want of memory in that check is Memory.
 #[derive(Drop)]
 pub enum ScriptFault {
     NotJson,
@@ -36,7 +36,6 @@ pub enum ScriptFault {
     Repeated {
         path: Pointer,
     },
-    NotBuilt,
     Memory,
 }
 
@@ -53,7 +52,6 @@ impl ScriptFault {
             ScriptFault::Package { .. } => "Package",
             ScriptFault::Limit { .. } => "Limit",
             ScriptFault::Repeated { .. } => "Repeated",
-            ScriptFault::NotBuilt => "NotBuilt",
             ScriptFault::Memory => "Memory",
         }
     }
@@ -70,7 +68,6 @@ impl ScriptFault {
             ScriptFault::Repeated { path } => Some(path.as_str()),
             ScriptFault::NotJson => None,
             ScriptFault::Package { .. } => None,
-            ScriptFault::NotBuilt => None,
             ScriptFault::Memory => None,
         }
     }

@@ -3,6 +3,7 @@ use Rattle.node_core.specs.declared.submit_result.SubmitResult.{SubmitResult}
 use Rattle.canton_run.specs.Answered.{round_of}
 use Rattle.canton_run.specs.Between.{ArePlayed}
 use Rattle.canton_run.specs.Run.{machine_for}
+use Rattle.canton_run.proofs.Begins.{has_begun}
 use Rattle.canton_run.proofs.PlaysOn.{time_fits, can_be_answered, plays_on}
 use Rattle.canton_run.proofs.rounds.play_round.Goals as goal
 
@@ -16,43 +17,67 @@ pub submit_round-requires-clause-answerable : goal.submit_round-requires-clause-
 submit_round-requires-clause-answerable g c κs within =
     let r = c.requires.played in
     let b = c.in_ok-begin_round.ensures in
+    let h = c.in_ok-hand_in_raws.ensures in
     let p = r.5 in
-    let m = machine_for r.0 r.1 in (
+    let m = machine_for r.0 r.1 in
+    let round = c.args.round.now in
+    let w0 = c.begin_round.new.world in
+    let w1 = c.hand_in_raws.new.world in
+    let is = b.lawful m p.state p.is p.lawful in
+    let begun =
+    has_begun r.0 r.1 round p.state c.args.world w0 w1 b.now is (b.set_up (r.0).topology (r.0).checked p.set_up) b.paused
+    (b.log m p.state (round_of round) p.is refl) h.now h.nodes (h.lawful m p.state)
+    (h.log m ((c.args.world).now + round.advance) ((is.0).nodes).is_for) in (
       r.0,
       r.1,
       r.3,
-      can_be_answered r.0 r.2 c.args.round.now r.4 r.1 c.args.workers.now.count c.args.world c.begin_round.new.world
-          (c.args.answers.now).results (c.args.answers.now).ends p b.now (b.lawful m p.state p.is p.lawful)
-          (b.set_up (r.0).topology (r.0).checked p.set_up) b.paused,
+      can_be_answered r.0 r.2 round r.4 r.1 c.args.workers.now.count c.args.world w1 (c.args.answers.now).results (c.args.answers.now).ends p
+          begun.now begun.is begun.set_up begun.paused,
     )
 
 pub settle-requires : goal.settle-requires
 settle-requires g c =
     let r = c.requires.played in
     let b = c.in_ok-begin_round.ensures in
+    let h = c.in_ok-hand_in_raws.ensures in
     let p = r.5 in
     let m = machine_for r.0 r.1 in
+    let round = c.args.round.now in
+    let w0 = c.begin_round.new.world in
+    let w1 = c.hand_in_raws.new.world in
+    let is = b.lawful m p.state p.is p.lawful in
+    let begun =
+    has_begun r.0 r.1 round p.state c.args.world w0 w1 b.now is (b.set_up (r.0).topology (r.0).checked p.set_up) b.paused
+    (b.log m p.state (round_of round) p.is refl) h.now h.nodes (h.lawful m p.state)
+    (h.log m ((c.args.world).now + round.advance) ((is.0).nodes).is_for) in
     let can =
-    can_be_answered r.0 r.2 c.args.round.now r.4 r.1 c.args.workers.now.count c.args.world c.begin_round.new.world (c.args.answers.now).results
-    (c.args.answers.now).ends p b.now (b.lawful m p.state p.is p.lawful) (b.set_up (r.0).topology (r.0).checked p.set_up) b.paused in
+    can_be_answered r.0 r.2 round r.4 r.1 c.args.workers.now.count c.args.world w1 (c.args.answers.now).results (c.args.answers.now).ends p
+    begun.now begun.is begun.set_up begun.paused in
     let a = c.in_ok-answered.ensures r.0 r.1 r.3 can in record { lawful = (m, a.state, a.is, a.lawful) }
 
 pub returns : goal.returns
 returns g c = λ script capacity count setup is p.
     let b = c.in_ok-begin_round.ensures in
+    let h = c.in_ok-hand_in_raws.ensures in
     let m = machine_for script capacity in
     let t = script.topology in
     let k = script.checked in
-    let begins = b.log m p.state (round_of c.args.round.now) p.is refl in
+    let round = c.args.round.now in
+    let w1 = c.hand_in_raws.new.world in
+    let world0 = b.lawful m p.state p.is p.lawful in
+    let begun =
+    has_begun script capacity round p.state c.args.world c.begin_round.new.world w1 b.now world0 (b.set_up t k p.set_up) b.paused
+    (b.log m p.state (round_of round) p.is refl) h.now h.nodes (h.lawful m p.state)
+    (h.log m ((c.args.world).now + round.advance) ((world0.0).nodes).is_for) in
     let can =
-    can_be_answered script count c.args.round.now is capacity c.args.workers.now.count c.args.world c.begin_round.new.world
-    (c.args.answers.now).results (c.args.answers.now).ends p b.now (b.lawful m p.state p.is p.lawful) (b.set_up t k p.set_up) b.paused in
+    can_be_answered script count round is capacity c.args.workers.now.count c.args.world w1 (c.args.answers.now).results
+    (c.args.answers.now).ends p begun.now begun.is begun.set_up begun.paused in
     let a = c.in_ok-answered.ensures script capacity setup can in
     let s = c.in_ok-settle.ensures in
     let answered = c.in_ok-answered.answered in
     let on =
-    plays_on script count c.args.round.now is capacity c.args.workers.now.count c.args.world c.begin_round.new.world answered.world
-    c.settle.new.world (c.args.answers.now).results answered.results (c.args.answers.now).ends c.len.result p b.now a.now s.now begins
+    plays_on script count round is capacity c.args.workers.now.count c.args.world w1 answered.world
+    c.settle.new.world (c.args.answers.now).results answered.results (c.args.answers.now).ends c.len.result p begun.now a.now s.now begun.begins
     a.each_result a.plain a.part (s.passes m a.state a.is a.lawful) c.len.ensures (s.lawful m a.state a.is a.lawful) (s.set_up t k a.set_up) in
     subst (λ (xs : List SubmitResult). ArePlayed script capacity c.args.workers.now.count (count + 1) c.settle.new.world xs c.push.new.self)
     (sym c.in_ok-append.ensures)

@@ -36,8 +36,9 @@ returns-clause-run g c =
     c.in_ok-rounds_played.ensures script c.args.capacity c.requires.accepted refl refl
     (none_played script c.args.capacity c.args.workers.now.count (c.prepared_requests_make_a_machine.ensures _ _ _ _) n.new n.ensures.is
     n.ensures.new n.ensures.set_up) in
-    is_run script c.args.capacity c.args.workers.now.count (c.prepared_requests_make_a_machine.ensures _ _ _ _) c.requires.accepted
-    c.requires.room (c.in_ok-rounds_played.rounds_played.answers).results (c.in_ok-rounds_played.rounds_played.answers).ends
+    is_run script c.args.capacity c.args.workers.now.count (c.prepared_requests_make_a_machine.ensures _ _ _ _)
+    c.sent_requests_open_by_the_rules.ensures c.requires.accepted c.requires.room
+    (c.in_ok-rounds_played.rounds_played.answers).results (c.in_ok-rounds_played.rounds_played.answers).ends
     c.in_ok-rounds_played.rounds_played.world p c.in_ok-log.log
     (c.in_ok-log.ensures.log ∙ ap (λ (q : Sequenced). q.list) c.in_ok-catch_up.ensures.log)
 
