@@ -11,7 +11,7 @@ use lane_pool::Gate;
 use ledger_terms::Text;
 use ledger_terms::limits::MOST_SCRIPT_BYTES;
 use report_chart::chart_of;
-use script_read::read_runnable;
+use script_read::read_script;
 use shared_rounds::Workers;
 use std::alloc::AllocGlobal;
 use std::random::RandomSource;
@@ -36,7 +36,7 @@ fn text_of<R: Threads + Wait + Sync + RandomSource + AllocGlobal, G: Gate + Sync
         }
         Asked::Views { reader } => {
             let bytes = read_all(alloc, source, MOST_SCRIPT_BYTES)?;
-            let script = read_runnable(alloc, bytes.as_slice())?;
+            let script = read_script(alloc, bytes.as_slice())?;
             script_picture(workers, script, reader)
         }
     }

@@ -2,11 +2,11 @@
 use crate::heading::{label, quiet};
 use crate::layout::{LEFT, ROW_HEIGHT, SAYS_LEFT, WIDTH, at};
 use crate::limits::MOST_ROWS;
-use crate::outcomes::{mark_of, outcome_at, recipients_at, round_at};
+use crate::outcomes::{mark_of, outcome_at, recipients_at, round_at, withheld_at};
 use crate::sheet::Sheet;
 use report_read::{Decision, Entry, Lane, LaneSet, Message, Report};
 use std::alloc::AllocError;
-use svg_text::{Anchor, Dash, Fill, Font, Frame, Label, Paint, Size, Stroke, Tone};
+use svg_text::{Anchor, Dash, Fill, Font, Frame, Label, Mark, Paint, Size, Stroke, Tone};
 
 /// Letters that have room beside the lanes, in the first line and in the second, and in the column of times.
 const SAYS_LETTERS: u32 = 38;
@@ -27,6 +27,11 @@ const FOOT: u32 = 5;
 
 /// Room for a mark before its words.
 const MARK_WIDTH: u32 = 20;
+
+/// How far beside a mark and below it a word stands.
+const NEXT: u32 = 8;
+
+const BELOW: u32 = 13;
 
 /// Draws a row for each entry, up to the most that is drawn.
 pub fn draw_entries(sheet: &mut Sheet, report: &Report<'_>) -> Result<(), AllocError> {
@@ -60,7 +65,8 @@ fn draw_entry(sheet: &mut Sheet, report: &Report<'_>, entry: &Entry<'_>) -> Resu
             command,
             recipients,
         } => {
-            draw_request(sheet, report, sender, &recipients)?;
+            let withheld = withheld_at(report, entry.place);
+            draw_request(sheet, report, sender, &recipients, &withheld)?;
             say_request(sheet, report, entry.place, command, sender)
         }
         Message::Response {
@@ -132,12 +138,14 @@ fn draw_dot(sheet: &mut Sheet, x: u32, y: u32, tone: Tone) -> Result<(), AllocEr
     sheet.svg.circle(at(x, y), 4, paint)
 }
 
-/// Draws the request from its sender to the log, and from there to each recipient.
+/// Draws the request from its sender to the log, and from there to each recipient, with a mark in place of an arrow where it is
+/// withheld.
 fn draw_request(
     sheet: &mut Sheet,
     report: &Report<'_>,
     sender: Lane,
     recipients: &LaneSet,
+    withheld: &LaneSet,
 ) -> Result<(), AllocError> {
     let upper = sheet.y.saturating_add(UPPER);
     let from = sheet.lanes.participant(sender);
@@ -148,7 +156,29 @@ fn draw_request(
         .arrow(at(from, upper), at(log, upper), solid(Tone::Ink))?;
     let lower = sheet.y.saturating_add(LOWER);
     draw_dot(sheet, log, lower, Tone::Ink)?;
-    draw_arrows(sheet, report, log, lower, recipients, solid(Tone::Ink))
+    for index in 0..report.hosts.len() {
+        let lane = Lane(index);
+        if withheld.contains(lane) {
+            draw_withheld(sheet, lane, lower)?;
+        } else if recipients.contains(lane) {
+            let to = at(sheet.lanes.participant(lane), lower);
+            sheet.svg.arrow(at(log, lower), to, solid(Tone::Ink))?;
+        }
+    }
+    Ok(())
+}
+
+/// Draws that a request is withheld from a participant.
+fn draw_withheld(sheet: &mut Sheet, lane: Lane, y: u32) -> Result<(), AllocError> {
+    let x = sheet.lanes.participant(lane);
+    sheet.svg.mark(at(x, y), Mark::Rejected)?;
+    let word = Label {
+        at: at(x.saturating_add(NEXT), y.saturating_add(BELOW)),
+        anchor: Anchor::Start,
+        font: Font::Small,
+        tone: Tone::Bad,
+    };
+    sheet.svg.text(&word, "withheld")
 }
 
 /// Draws an arrow to each of some participants.
@@ -225,6 +255,7 @@ fn say_ending(sheet: &mut Sheet, decision: Decision<'_>) -> Result<(), AllocErro
     sheet.words(&words, decision.words, BECAME_LETTERS)
 }
 
+/// Says who sent which request, and in which round; a raw one isn't of a submission.
 fn say_request(
     sheet: &mut Sheet,
     report: &Report<'_>,
@@ -235,7 +266,7 @@ fn say_request(
     let name = report.hosts.name(sender).unwrap_or("");
     let words = match round_at(report, place) {
         Some(round) => format!(in sheet.alloc; "{name} {command}, round {round}"),
-        None => format!(in sheet.alloc; "{name} {command}"),
+        None => format!(in sheet.alloc; "{name} {command}, raw"),
     }?;
     say(sheet, words.as_str(), Font::Strong)?;
     match outcome_at(report, place) {

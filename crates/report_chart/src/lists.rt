@@ -4,7 +4,7 @@ use crate::heading::{label, quiet};
 use crate::layout::{LEFT, LINE_HEIGHT, LIST_GAP, at};
 use crate::limits::{MOST_ACTIVES, MOST_REFUSED};
 use crate::sheet::Sheet;
-use report_read::{Active, Answer, Lane, Report, Standing, SubmitResult};
+use report_read::{Active, Answer, Report, Standing, SubmitResult};
 use std::alloc::AllocError;
 use svg_text::{Font, Mark};
 
@@ -78,14 +78,18 @@ fn draw_standing(
     let Standing { clean, time, .. } = standing;
     let known = format!(in sheet.alloc; "{name}: clean to place {clean}, time {time}")?;
     let Standing {
+        withheld,
         commits,
         actions,
         actives,
         ..
     } = standing;
-    let words = format!(in sheet.alloc;
+    let mut words = format!(in sheet.alloc;
         "{known}; commits {commits}, actions {actions}, active contracts {actives}"
     )?;
+    if *withheld > 0 {
+        write!(words, ", withheld requests {withheld}")?;
+    }
     let place = at(LEFT, sheet.y);
     sheet.words(&label(place, Font::Plain), words.as_str(), LINE_LETTERS)?;
     sheet.skip(LINE_HEIGHT);

@@ -24,6 +24,17 @@ pub fn round_at(report: &Report<'_>, place: u64) -> Option<u64> {
     None
 }
 
+/// From whom the request at a place is withheld.
+pub fn withheld_at(report: &Report<'_>, place: u64) -> LaneSet {
+    let mut lanes = LaneSet::none();
+    for withheld in report.withheld.as_slice() {
+        if withheld.place == place {
+            lanes.insert(withheld.participant);
+        }
+    }
+    lanes
+}
+
 /// Who received the request at a place, or everybody where none stands there.
 pub fn recipients_at(report: &Report<'_>, place: u64) -> LaneSet {
     if let Some(entry) = report.entries.get(place as usize) {

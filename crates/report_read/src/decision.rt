@@ -22,7 +22,7 @@ pub struct Decision<'t> {
 }
 
 /// Why a view is rejected: the words of the local checks.
-const REASONS: [&str; 9] = [
+const REASONS: [&str; 13] = [
     "IdMismatch",
     "NotVetted",
     "TimeSkew",
@@ -32,6 +32,10 @@ const REASONS: [&str; 9] = [
     "Unordered",
     "NotConformant",
     "NotAuthorised",
+    "RootMismatch",
+    "ViewMissing",
+    "WrongSender",
+    "WrongCommon",
 ];
 
 pub(crate) fn is_reason(word: &str) -> bool {

@@ -7,24 +7,41 @@ use crate::lines::Lines;
 use crate::report_fault::ReportFault;
 use crate::scan::{is_action, is_instance, level_of};
 use crate::standing::{Standing, StandingList};
+use crate::withheld::{Withheld, WithheldList};
 use crate::words::Words;
+use std::alloc::Global;
 
-/// What each participant knows, and the contracts that are active for it.
+/// What each participant knows, the requests that are withheld from it, and the contracts that are active for it.
+#[derive(Drop)]
+pub(crate) struct Finals<'t> {
+    pub standings: StandingList,
+    pub withheld: WithheldList,
+    pub actives: ActiveList<'t>,
+}
+
+/// What each participant knows, in their order.
 pub(crate) fn read_finals<'t>(
+    alloc: Global,
     lines: &mut Lines<'t>,
     hosts: &Hosts<'t>,
-    standings: &mut StandingList,
-    actives: &mut ActiveList<'t>,
-) -> Result<(), ReportFault> {
+) -> Result<Finals<'t>, ReportFault> {
+    let mut standings = StandingList::new(alloc);
+    let mut withheld = WithheldList::new(alloc);
+    let mut actives = ActiveList::new(alloc);
     for at in 0..hosts.len() {
         let lane = Lane(at);
         let line = lines.next(Expected::ParticipantOrEnd)?;
         let mut standing = lines.read(read_standing(line, lane, hosts))?;
+        standing.withheld = read_withheld(lines, lane, &mut withheld)?;
         read_commits(lines, &mut standing)?;
-        standing.actives = read_actives(lines, lane, actives)?;
+        standing.actives = read_actives(lines, lane, &mut actives)?;
         standings.push(standing)?;
     }
-    Ok(())
+    Ok(Finals {
+        standings,
+        withheld,
+        actives,
+    })
 }
 
 fn read_standing<'t>(line: &'t str, lane: Lane, hosts: &Hosts<'t>) -> Result<Standing, Expected> {
@@ -42,10 +59,41 @@ fn read_standing<'t>(line: &'t str, lane: Lane, hosts: &Hosts<'t>) -> Result<Sta
         participant: lane,
         clean,
         time,
+        withheld: 0,
         commits: 0,
         actions: 0,
         actives: 0,
     })
+}
+
+/// The requests that come next which are withheld, counted.
+fn read_withheld(
+    lines: &mut Lines<'_>,
+    lane: Lane,
+    withheld: &mut WithheldList,
+) -> Result<u64, ReportFault> {
+    let mut count = 0u64;
+    for _ in 0..u64::MAX {
+        if !lines.begins_with("withheld ") {
+            break;
+        }
+        let line = lines.next(Expected::ParticipantOrEnd)?;
+        let place = lines.read(read_withheld_place(line))?;
+        withheld.push(Withheld {
+            participant: lane,
+            place,
+        })?;
+        count = count.saturating_add(1);
+    }
+    Ok(count)
+}
+
+fn read_withheld_place(line: &str) -> Result<u64, Expected> {
+    let mut words = Words::of(line);
+    words.literal("withheld", Expected::ParticipantOrEnd)?;
+    let place = words.number(Expected::Withheld)?;
+    words.end()?;
+    Ok(place)
 }
 
 /// Commits with their actions, which are counted.

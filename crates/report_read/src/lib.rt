@@ -18,6 +18,7 @@ mod results;
 mod scan;
 mod standing;
 mod submit_result;
+mod withheld;
 mod words;
 
 pub use active::{Active, ActiveList};
@@ -32,3 +33,4 @@ pub use report::{Report, read_report};
 pub use report_fault::ReportFault;
 pub use standing::{Standing, StandingList};
 pub use submit_result::{Answer, SubmitResult, SubmitResultList};
+pub use withheld::{Withheld, WithheldList};

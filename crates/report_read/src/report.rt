@@ -3,7 +3,7 @@ use crate::active::ActiveList;
 use crate::entries::read_entries;
 use crate::entry::EntryList;
 use crate::expected::Expected;
-use crate::finals::read_finals;
+use crate::finals::{Finals, read_finals};
 use crate::hosts::Hosts;
 use crate::lines::Lines;
 use crate::outcome::OutcomeList;
@@ -11,6 +11,7 @@ use crate::report_fault::ReportFault;
 use crate::results::{read_outcomes, read_results};
 use crate::standing::StandingList;
 use crate::submit_result::SubmitResultList;
+use crate::withheld::WithheldList;
 use std::alloc::Global;
 
 /// A report. What is said in the words of its text borrows from it.
@@ -21,6 +22,7 @@ pub struct Report<'t> {
     pub results: SubmitResultList<'t>,
     pub outcomes: OutcomeList<'t>,
     pub standings: StandingList,
+    pub withheld: WithheldList,
     pub actives: ActiveList<'t>,
 }
 
@@ -31,16 +33,20 @@ pub fn read_report<'t>(alloc: Global, text: &'t str) -> Result<Report<'t>, Repor
     let entries = read_entries(alloc, &mut lines, &hosts)?;
     let results = read_results(alloc, &mut lines, &hosts)?;
     let outcomes = read_outcomes(alloc, &mut lines, &hosts)?;
-    let mut standings = StandingList::new(alloc);
-    let mut actives = ActiveList::new(alloc);
-    read_finals(&mut lines, &hosts, &mut standings, &mut actives)?;
+    let finals = read_finals(alloc, &mut lines, &hosts)?;
     read_end(&mut lines)?;
+    let Finals {
+        standings,
+        withheld,
+        actives,
+    } = finals;
     Ok(Report {
         hosts,
         entries,
         results,
         outcomes,
         standings,
+        withheld,
         actives,
     })
 }

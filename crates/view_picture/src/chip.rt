@@ -3,10 +3,16 @@ use crate::part::Part;
 use ledger_terms::Name;
 use svg_text::Frame;
 
-/// A participant that sees a view, in the box of that view.
+/// A participant that sees a view, or is to see it where it is withheld, in the box of that view.
 #[derive(Drop)]
 pub struct Chip {
     pub name: Name,
     pub part: Part,
+    pub is_withheld: bool,
     pub frame: Frame,
+}
+
+/// What a chip says of a participant beside its name.
+pub(crate) fn chip_word(part: Part, is_withheld: bool) -> &'static str {
+    if is_withheld { "withheld" } else { part.word() }
 }

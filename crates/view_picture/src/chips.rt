@@ -1,4 +1,5 @@
 //! Who sees a view, who confirms it, and who only observes.
+use crate::audience::Audience;
 use crate::part::Part;
 use crate::sheet::Sheet;
 use crate::span::Span;
@@ -26,15 +27,16 @@ fn part_of(
 /// Puts a chip for each participant that hosts one of the parties which are told of a view.
 pub(crate) fn put_chips(
     sheet: &mut Sheet,
-    topology: &Topology,
+    audience: &Audience<'_>,
     span: Span,
     told: &PartySet,
     confirmers: &PartySet,
 ) -> Result<(), AllocError> {
     let mut left = span.left;
-    for (at, host) in (0..=255u8).zip(topology.hosts.as_slice()) {
-        if let Some(part) = part_of(topology, ParticipantId(at), told, confirmers) {
-            left = sheet.put_chip(span, left, host.name, part)?;
+    for (at, host) in (0..=255u8).zip(audience.topology.hosts.as_slice()) {
+        let at = ParticipantId(at);
+        if let Some(part) = part_of(audience.topology, at, told, confirmers) {
+            left = sheet.put_chip(span, left, host.name, part, audience.lacks(at))?;
         }
     }
     sheet.end_chips();

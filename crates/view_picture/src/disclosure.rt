@@ -1,61 +1,89 @@
 //! What a request discloses.
+use crate::offer::{Offer, offer_of};
+use crate::withheld::WithheldList;
 use blind_tree::{OpenedTree, RolesTree, Tree};
 use canton_model::Request;
-use ledger_terms::{ListOf, ParticipantId, PartySet, Path};
-use proto_model::{envelope_of, opened_in, opened_to, requested_views, tree_in};
+use ledger_terms::{ListOf, ParticipantId, PartySet, Path, Topology};
+use proto_model::{envelope_of, read_outline, requested_views, tree_in};
 use std::alloc::{AllocError, Global};
 use view_split::View;
 
-/// What is drawn of a request: a tree that says where its views are, what envelopes open of it, and what the mediator is told of
-/// its views.
+/// What is drawn of a request: a tree that says where its views are, what complete envelopes open of it, what the mediator is told
+/// of its views, and from whom they are withheld.
 #[derive(Drop)]
 pub(crate) struct Disclosure {
     pub tree: Tree,
     pub opened: ListOf<OpenedTree>,
     pub roles: Option<RolesTree>,
+    pub withheld: WithheldList,
 }
 
 impl Disclosure {
-    /// What the envelope to a participant discloses; nothing where there is none, or its bytes can't be read.
+    /// What is disclosed to a participant: what its envelope opens, where that is complete, and else only where the views are that
+    /// are withheld from it. Nothing where it is to see no view, and where the mediator's bytes can't be read.
     pub fn to(
         alloc: Global,
+        topology: &Topology,
         request: &Request,
         me: ParticipantId,
     ) -> Result<Option<Disclosure>, AllocError> {
-        let Some(bytes) = envelope_of(request, me) else {
+        let Some(outline) = read_outline(alloc, request)? else {
             return Ok(None);
         };
-        let Some(tree) = tree_in(alloc, bytes.as_slice())? else {
+        let offer = offer_of(alloc, topology, request, &outline, me)?;
+        let bytes = match (&offer, envelope_of(request, me)) {
+            (Offer::Open(_), Some(envelope)) => envelope,
+            (Offer::Withheld(_), _) => &request.mediator,
+            _ => return Ok(None),
+        };
+        let Some(mut disclosure) = Disclosure::of_tree(alloc, bytes.as_slice())? else {
             return Ok(None);
         };
-        let mut opened = ListOf::new(alloc);
-        if let Some(part) = opened_in(alloc, bytes.as_slice())? {
-            opened.push(part)?;
-        }
-        Ok(Some(Disclosure {
-            tree,
-            opened,
-            roles: None,
-        }))
+        disclosure.put(offer)?;
+        Ok(Some(disclosure))
     }
 
     /// What all messages of a request disclose together: the mediator's has every view with its informees and confirmers, and
-    /// the envelopes open them. Nothing where the mediator's can't be read.
-    pub fn of_all(alloc: Global, request: &Request) -> Result<Option<Disclosure>, AllocError> {
-        let Some(tree) = tree_in(alloc, request.mediator.as_slice())? else {
+    /// the complete envelopes open them. Nothing where the mediator's can't be read.
+    pub fn of_all(
+        alloc: Global,
+        topology: &Topology,
+        request: &Request,
+    ) -> Result<Option<Disclosure>, AllocError> {
+        let Some(outline) = read_outline(alloc, request)? else {
             return Ok(None);
         };
-        let mut opened = ListOf::new(alloc);
-        for envelope in request.envelopes.as_slice() {
-            if let Some(part) = opened_to(alloc, request, envelope.to)? {
-                opened.push(part)?;
-            }
+        let Some(mut disclosure) = Disclosure::of_tree(alloc, request.mediator.as_slice())? else {
+            return Ok(None);
+        };
+        disclosure.roles = requested_views(alloc, request)?;
+        for (at, _) in (0..=255u8).zip(topology.hosts.as_slice()) {
+            let offer = offer_of(alloc, topology, request, &outline, ParticipantId(at))?;
+            disclosure.put(offer)?;
         }
-        Ok(Some(Disclosure {
-            tree,
-            opened,
-            roles: requested_views(alloc, request)?,
-        }))
+        Ok(Some(disclosure))
+    }
+
+    /// Adds what is offered to a participant.
+    fn put(&mut self, offer: Offer) -> Result<(), AllocError> {
+        match offer {
+            Offer::Nothing => Ok(()),
+            Offer::Open(part) => self.opened.push(part),
+            Offer::Withheld(withheld) => self.withheld.push(withheld),
+        }
+    }
+
+    /// The tree that bytes spell, of which nothing is disclosed so far.
+    fn of_tree(alloc: Global, bytes: &[u8]) -> Result<Option<Disclosure>, AllocError> {
+        match tree_in(alloc, bytes)? {
+            Some(tree) => Ok(Some(Disclosure {
+                tree,
+                opened: ListOf::new(alloc),
+                roles: None,
+                withheld: WithheldList::new(alloc),
+            })),
+            None => Ok(None),
+        }
     }
 
     /// The view at a path, of the first envelope that opens it as one of its topmost views.
@@ -85,6 +113,16 @@ impl Disclosure {
     pub fn informees_at(&self, path: &Path) -> Option<&PartySet> {
         let (informees, _) = self.roles_at(path)?;
         Some(informees)
+    }
+
+    /// Whether the view at a path is withheld from somebody.
+    pub fn is_withheld(&self, path: &Path) -> bool {
+        self.withheld.as_slice().iter().any(|one| one.sees(path))
+    }
+
+    /// Whether the sender's name is told, by the mediator's tree or by an envelope.
+    pub fn names_sender(&self) -> bool {
+        self.roles.is_some() || !self.opened.is_empty()
     }
 
     /// The requesters, where an envelope tells them.

@@ -1,5 +1,5 @@
 //! From a picture to its text.
-use crate::chip::Chip;
+use crate::chip::{Chip, chip_word};
 use crate::cut::cut;
 use crate::line::{Line, LineKind};
 use crate::part::Part;
@@ -36,21 +36,23 @@ fn draw_shown_box(svg: &mut Svg, frame: Frame, fill: Fill) -> Result<(), AllocEr
     svg.rectangle(frame, Paint { tone, fill })
 }
 
-fn draw_blinded_box(svg: &mut Svg, frame: Frame) -> Result<(), AllocError> {
-    let paint = Paint {
-        tone: Tone::Quiet,
-        fill: Fill::Clear,
-    };
+fn draw_dashed(svg: &mut Svg, frame: Frame, paint: Paint) -> Result<(), AllocError> {
     svg.begin_group("dashed")?;
     svg.rectangle(frame, paint)?;
     svg.end_group()
+}
+
+fn draw_clear_box(svg: &mut Svg, frame: Frame, tone: Tone) -> Result<(), AllocError> {
+    let fill = Fill::Clear;
+    draw_dashed(svg, frame, Paint { tone, fill })
 }
 
 fn draw_box(svg: &mut Svg, view_box: &ViewBox) -> Result<(), AllocError> {
     match view_box.kind {
         BoxKind::Tinted => draw_shown_box(svg, view_box.frame, Fill::Tint),
         BoxKind::Plain => draw_shown_box(svg, view_box.frame, Fill::Page),
-        BoxKind::Blinded => draw_blinded_box(svg, view_box.frame),
+        BoxKind::Blinded => draw_clear_box(svg, view_box.frame, Tone::Quiet),
+        BoxKind::Withheld => draw_clear_box(svg, view_box.frame, Tone::Bad),
     }
 }
 
@@ -62,6 +64,7 @@ fn look_of(kind: LineKind) -> (Font, Tone) {
         LineKind::View => (Font::Small, Tone::Accent),
         LineKind::Action => (Font::Code, Tone::Ink),
         LineKind::Blinded => (Font::Code, Tone::Quiet),
+        LineKind::Withheld => (Font::Small, Tone::Bad),
     }
 }
 
@@ -91,30 +94,40 @@ fn draw_text(
     }
 }
 
-/// Draws the frame of a chip: filled where the participant confirms, and of dashes where it only observes.
-fn draw_chip_frame(svg: &mut Svg, frame: Frame, part: Part) -> Result<(), AllocError> {
-    match part {
-        Part::Confirms => draw_shown_box(svg, frame, Fill::Full),
-        Part::Sees => draw_shown_box(svg, frame, Fill::Page),
-        Part::Observes => {
-            svg.begin_group("dashed")?;
-            draw_shown_box(svg, frame, Fill::Page)?;
-            svg.end_group()
-        }
+/// The tone of a chip's frame, and of its text where that isn't filled.
+fn chip_tone(chip: &Chip) -> Tone {
+    if chip.is_withheld {
+        Tone::Bad
+    } else {
+        Tone::Accent
     }
 }
 
-fn chip_tone(part: Part) -> Tone {
-    match part {
+/// Draws the frame of a chip: filled where the participant confirms, and of dashes where it only observes.
+fn draw_chip_frame(svg: &mut Svg, chip: &Chip) -> Result<(), AllocError> {
+    let tone = chip_tone(chip);
+    let fill = match chip.part {
+        Part::Confirms => Fill::Full,
+        Part::Sees | Part::Observes => Fill::Page,
+    };
+    let paint = Paint { tone, fill };
+    match chip.part {
+        Part::Confirms | Part::Sees => svg.rectangle(chip.frame, paint),
+        Part::Observes => draw_dashed(svg, chip.frame, paint),
+    }
+}
+
+fn chip_text_tone(chip: &Chip) -> Tone {
+    match chip.part {
         Part::Confirms => Tone::Paper,
-        Part::Sees | Part::Observes => Tone::Accent,
+        Part::Sees | Part::Observes => chip_tone(chip),
     }
 }
 
 /// Draws a chip: the name and what the participant does, in a frame that tells that, too.
 fn draw_chip(alloc: Global, svg: &mut Svg, chip: &Chip) -> Result<(), AllocError> {
     let frame = chip.frame;
-    draw_chip_frame(svg, frame, chip.part)?;
+    draw_chip_frame(svg, chip)?;
     let label = Label {
         at: Point {
             x: frame.corner.x.saturating_add(frame.size.width / 2),
@@ -122,11 +135,11 @@ fn draw_chip(alloc: Global, svg: &mut Svg, chip: &Chip) -> Result<(), AllocError
         },
         anchor: Anchor::Middle,
         font: Font::Small,
-        tone: chip_tone(chip.part),
+        tone: chip_text_tone(chip),
     };
     let mut text = String::from_str(alloc, chip.name.as_str())?;
     text.push_str(" ")?;
-    text.push_str(chip.part.word())?;
+    text.push_str(chip_word(chip.part, chip.is_withheld))?;
     draw_text(
         alloc,
         svg,

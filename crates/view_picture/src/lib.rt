@@ -1,12 +1,16 @@
 //! Pictures of requests: the tree of each transaction with its views, as its messages tell it.
 #![tactic(auto)]
 
+mod audience;
 mod chip;
 mod chips;
 mod cut;
+mod disclosed_request;
 mod disclosure;
 mod drawing;
+mod lack;
 mod line;
+mod offer;
 mod part;
 mod picture;
 mod piece;
@@ -19,6 +23,7 @@ mod told;
 mod vertices;
 mod view_box;
 mod views;
+mod withheld;
 mod words;
 
 pub use chip::Chip;

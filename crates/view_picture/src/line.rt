@@ -21,6 +21,8 @@ pub enum LineKind {
     Action,
     /// A hash in place of what isn't shown.
     Blinded,
+    /// From whom views are withheld.
+    Withheld,
 }
 
 impl LineKind {
@@ -28,9 +30,11 @@ impl LineKind {
     pub(crate) fn letters_in(self, width: u32) -> u32 {
         match self {
             LineKind::Action | LineKind::Blinded => letters_in(width),
-            LineKind::Title | LineKind::Request | LineKind::Detail | LineKind::View => {
-                width / TEXT_LETTER
-            }
+            LineKind::Title
+            | LineKind::Request
+            | LineKind::Detail
+            | LineKind::View
+            | LineKind::Withheld => width / TEXT_LETTER,
         }
     }
 }

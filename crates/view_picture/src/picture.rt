@@ -1,11 +1,12 @@
 //! Pictures of logs.
+use crate::disclosed_request::disclosed_requests;
 use crate::line::LineKind;
 use crate::piece::PieceList;
 use crate::request::put_request;
 use crate::sheet::Sheet;
 use crate::span::Span;
 use crate::view_box::ViewBoxList;
-use canton_model::{EntryList, Message};
+use canton_model::EntryList;
 use ledger_terms::{ParticipantId, Text, Topology};
 use report_text::{put_host, put_number};
 use std::alloc::{AllocError, Global};
@@ -28,8 +29,8 @@ pub struct Picture {
     pub pieces: PieceList,
 }
 
-/// The picture of the requests of a log's first entries: all that the messages of each disclose, or what the envelope to one
-/// participant does.
+/// The picture of the requests of a log's first entries: all that the messages of each disclose, or what they disclose to one
+/// participant.
 pub fn picture_of(
     alloc: Global,
     topology: &Topology,
@@ -44,12 +45,26 @@ pub fn picture_of(
     sheet.skip(MARGIN);
     let title = title_of(alloc, topology, reader)?;
     sheet.put_line(LineKind::Title, span, title.clone()?)?;
+    let requests = disclosed_requests(alloc, topology, log, MOST_ENTRIES, reader)?;
     put_key(&mut sheet, span, topology, reader.is_some())?;
-    put_requests(&mut sheet, topology, span, log, reader)?;
+    if requests
+        .as_slice()
+        .iter()
+        .any(|request| request.has_withheld())
+    {
+        put_withheld_key(&mut sheet, span)?;
+    }
+    for request in requests.as_slice() {
+        put_request(&mut sheet, topology, span, request, reader)?;
+    }
     if log.len() > MOST_ENTRIES {
         put_end(&mut sheet, span)?;
     }
     sheet.skip(MARGIN);
+    Ok(picture_with(title, sheet))
+}
+
+fn picture_with(title: Text, sheet: Sheet) -> Picture {
     let Sheet {
         bottom,
         boxes,
@@ -60,12 +75,12 @@ pub fn picture_of(
         width: WIDTH,
         height: bottom,
     };
-    Ok(Picture {
+    Picture {
         title,
         size,
         boxes,
         pieces,
-    })
+    }
 }
 
 fn title_of(
@@ -113,6 +128,15 @@ fn put_key(
     Ok(())
 }
 
+/// Puts what the look of withheld views means.
+fn put_withheld_key(sheet: &mut Sheet, span: Span) -> Result<(), AllocError> {
+    let text = Text::of(
+        sheet.alloc,
+        "What is withheld is red: the participant is to see the view, by what the mediator is told, and has no complete envelope.",
+    )?;
+    sheet.put_line(LineKind::Detail, span, text)
+}
+
 /// Whether a participant hosts a party only to observe.
 fn has_observers(topology: &Topology) -> bool {
     topology
@@ -131,19 +155,4 @@ fn put_end(sheet: &mut Sheet, span: Span) -> Result<(), AllocError> {
     put_number(&mut out, MOST_ENTRIES as u64)?;
     out.push_str(" entries.")?;
     sheet.put_line(LineKind::Detail, span, Text::of_string(out))
-}
-
-fn put_requests(
-    sheet: &mut Sheet,
-    topology: &Topology,
-    span: Span,
-    log: &EntryList,
-    reader: Option<&ParticipantId>,
-) -> Result<(), AllocError> {
-    for (place, entry) in (0..MOST_ENTRIES as u64).zip(log.as_slice()) {
-        if let Message::Request(request) = &entry.message {
-            put_request(sheet, topology, span, place, request, reader)?;
-        }
-    }
-    Ok(())
 }

@@ -1,5 +1,5 @@
 //! A picture in the making.
-use crate::chip::Chip;
+use crate::chip::{Chip, chip_word};
 use crate::line::{Line, LineKind};
 use crate::part::Part;
 use crate::piece::{Piece, PieceList};
@@ -35,8 +35,9 @@ pub(crate) struct Sheet {
 }
 
 /// How wide a chip wants to be.
-fn chip_width(name: Name, part: Part) -> u32 {
-    let letters = letters_of(name.as_str()).saturating_add(letters_of(part.word()));
+fn chip_width(name: Name, part: Part, is_withheld: bool) -> u32 {
+    let word = chip_word(part, is_withheld);
+    let letters = letters_of(name.as_str()).saturating_add(letters_of(word));
     width_of(letters.saturating_add(CHIP_LETTERS))
 }
 
@@ -79,8 +80,9 @@ impl Sheet {
         left: u32,
         name: Name,
         part: Part,
+        is_withheld: bool,
     ) -> Result<u32, AllocError> {
-        let width = chip_width(name, part).min(span.width());
+        let width = chip_width(name, part, is_withheld).min(span.width());
         let mut left = left;
         if left > span.left && left.saturating_add(width) > span.right {
             self.skip(CHIP + CHIP_GAP);
@@ -97,7 +99,12 @@ impl Sheet {
             },
             radius: CHIP / 2,
         };
-        self.pieces.push(Piece::Chip(Chip { name, part, frame }))?;
+        self.pieces.push(Piece::Chip(Chip {
+            name,
+            part,
+            is_withheld,
+            frame,
+        }))?;
         Ok(left.saturating_add(width).saturating_add(CHIP_GAP))
     }
 

@@ -2,24 +2,31 @@
 use crate::disclosure::Disclosure;
 use crate::words::{put_hash, put_parties};
 use blind_tree::{Leaf, OpenedTree};
-use ledger_terms::Text;
+use ledger_terms::{Name, Text};
 use report_text::put_number;
 use std::alloc::{AllocError, Global};
 
-/// Sender, ledger time and requesters, as an envelope tells them.
+/// Sender, ledger time and requesters, as an envelope tells them; the sender as the mediator is told it, where none does.
 pub(crate) fn told_text(alloc: Global, disclosure: &Disclosure) -> Result<Text, AllocError> {
     let mut out = String::new(alloc);
     if let Some(part) = disclosure.opened.get(0) {
         put_head(&mut out, part)?;
+    } else if let Some(told) = &disclosure.roles {
+        put_sender(&mut out, told.sender)?;
     }
     put_requesters(alloc, disclosure, &mut out)?;
     Ok(Text::of_string(out))
 }
 
-fn put_head(out: &mut String, part: &OpenedTree) -> Result<(), AllocError> {
+fn put_sender(out: &mut String, sender: Name) -> Result<(), AllocError> {
     out.push_str("sender ")?;
-    out.push_str(part.sender.as_str())?;
-    out.push_str(", ledger time ")?;
+    out.push_str(sender.as_str())?;
+    out.push_str(", ")
+}
+
+fn put_head(out: &mut String, part: &OpenedTree) -> Result<(), AllocError> {
+    put_sender(out, part.sender)?;
+    out.push_str("ledger time ")?;
     put_number(out, part.ledger_time)?;
     out.push_str(", ")
 }

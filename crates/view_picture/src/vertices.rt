@@ -1,4 +1,5 @@
 //! The views of a request in the tree that has their places.
+use crate::audience::Audience;
 use crate::disclosure::Disclosure;
 use crate::line::LineKind;
 use crate::sheet::Sheet;
@@ -7,13 +8,13 @@ use crate::view_box::BoxKind;
 use crate::views::{put_roles, put_view};
 use crate::words::{blind_text, hash_line};
 use blind_tree::{Leaf, Vertex, VertexList};
-use ledger_terms::{Hash, Topology};
+use ledger_terms::{Hash, Path};
 use std::alloc::AllocError;
 
 /// Puts the views of vertices side by side: what an envelope opens as it is, and hashes in the place of all else.
 pub(crate) fn put_vertices(
     sheet: &mut Sheet,
-    topology: &Topology,
+    audience: &Audience<'_>,
     disclosure: &Disclosure,
     above: &Spot,
     vertices: &VertexList,
@@ -23,7 +24,7 @@ pub(crate) fn put_vertices(
         let spot = above.below(at, above.span, &above.told)?;
         at = at.saturating_add(1);
         if let Some(view) = disclosure.view_at(&spot.path) {
-            put_view(sheet, topology, &spot, view)?;
+            put_view(sheet, audience, &spot, view)?;
             continue;
         }
         match vertex {
@@ -34,15 +35,24 @@ pub(crate) fn put_vertices(
                 subviews,
             } => {
                 let top = sheet.begin_box();
-                put_blind_head(sheet, topology, disclosure, &spot, informees)?;
+                put_blind_head(sheet, audience, disclosure, &spot, informees)?;
                 put_leaf(sheet, &spot, "contents: hash ", contents)?;
                 let inside = spot.inside(disclosure.informees_at(&spot.path))?;
-                put_vertices(sheet, topology, disclosure, &inside, subviews)?;
-                sheet.end_box(spot.span, top, BoxKind::Blinded)?;
+                put_vertices(sheet, audience, disclosure, &inside, subviews)?;
+                sheet.end_box(spot.span, top, kind_at(disclosure, &spot.path))?;
             }
         }
     }
     Ok(())
+}
+
+/// How the box of a view looks that isn't shown.
+fn kind_at(disclosure: &Disclosure, path: &Path) -> BoxKind {
+    if disclosure.is_withheld(path) {
+        BoxKind::Withheld
+    } else {
+        BoxKind::Blinded
+    }
 }
 
 /// Puts the box of a view of which the hash alone is shown.
@@ -59,19 +69,22 @@ fn put_hash_box(sheet: &mut Sheet, spot: &Spot, hash: &Hash) -> Result<(), Alloc
 /// Puts which view it is whose contents aren't shown, with what the mediator is told of it.
 fn put_blind_head(
     sheet: &mut Sheet,
-    topology: &Topology,
+    audience: &Audience<'_>,
     disclosure: &Disclosure,
     spot: &Spot,
     informees: &Leaf,
 ) -> Result<(), AllocError> {
-    match disclosure.roles_at(&spot.path) {
-        Some((informees, confirmers)) => { put_roles(sheet, topology, spot, informees, confirmers) }
-        None => {
-            let text = blind_text(sheet.alloc, &spot.path, ", blinded")?;
-            sheet.put_line(LineKind::View, spot.span.inside(), text)?;
-            put_leaf(sheet, spot, "informees: hash ", informees)
-        }
+    if let Some((informees, confirmers)) = disclosure.roles_at(&spot.path) {
+        return put_roles(sheet, audience, spot, informees, confirmers);
     }
+    let inside = spot.span.inside();
+    if disclosure.is_withheld(&spot.path) {
+        let text = blind_text(sheet.alloc, &spot.path, ", withheld")?;
+        return sheet.put_line(LineKind::Withheld, inside, text);
+    }
+    let text = blind_text(sheet.alloc, &spot.path, ", blinded")?;
+    sheet.put_line(LineKind::View, inside, text)?;
+    put_leaf(sheet, spot, "informees: hash ", informees)
 }
 
 /// Puts the hash of a leaf that isn't shown.

@@ -11,6 +11,8 @@ pub enum BoxKind {
     Plain,
     /// That of a view which isn't shown.
     Blinded,
+    /// That of a view which nobody is shown who is to see it.
+    Withheld,
 }
 
 /// The box round a view's actions. Of a view that isn't shown it holds hashes alone.

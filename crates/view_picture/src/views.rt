@@ -1,4 +1,5 @@
 //! Views that are shown.
+use crate::audience::Audience;
 use crate::chips::put_chips;
 use crate::line::LineKind;
 use crate::sheet::Sheet;
@@ -7,14 +8,14 @@ use crate::spot::Spot;
 use crate::steps::{StepList, steps_of};
 use crate::view_box::BoxKind;
 use crate::words::view_text;
-use ledger_terms::{PartySet, Path, Topology};
+use ledger_terms::{PartySet, Path};
 use std::alloc::AllocError;
 use view_split::View;
 
 /// Puts a view with all views below it, each in the place of its hole.
 pub(crate) fn put_view(
     sheet: &mut Sheet,
-    topology: &Topology,
+    audience: &Audience<'_>,
     spot: &Spot,
     view: &View,
 ) -> Result<(), AllocError> {
@@ -23,7 +24,7 @@ pub(crate) fn put_view(
     let told = spot.told.union(&view.root.informees)?;
     put_roles(
         sheet,
-        topology,
+        audience,
         spot,
         &view.root.informees,
         &view.root.confirmers,
@@ -34,7 +35,7 @@ pub(crate) fn put_view(
     for below in view.below.as_slice() {
         let hole = put_core(sheet, inside, &steps, next)?;
         let spot_below = spot.below(at, inside.at_level(hole.level), &told)?;
-        put_view(sheet, topology, &spot_below, below)?;
+        put_view(sheet, audience, &spot_below, below)?;
         next = hole.next;
         at = at.saturating_add(1);
     }
@@ -54,7 +55,7 @@ fn kind_at(path: &Path) -> BoxKind {
 /// Puts what is told of a view: who it is for, and a chip for each participant that sees it.
 pub(crate) fn put_roles(
     sheet: &mut Sheet,
-    topology: &Topology,
+    audience: &Audience<'_>,
     spot: &Spot,
     informees: &PartySet,
     confirmers: &PartySet,
@@ -63,7 +64,7 @@ pub(crate) fn put_roles(
     let told = spot.told.union(informees)?;
     let text = view_text(sheet.alloc, &spot.path, informees, confirmers)?;
     sheet.put_line(LineKind::View, inside, text)?;
-    put_chips(sheet, topology, inside, &told, confirmers)
+    put_chips(sheet, audience, inside, &told, confirmers)
 }
 
 /// A hole in a core: its level, and the number of the step after it.

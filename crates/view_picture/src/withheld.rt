@@ -1,0 +1,21 @@
+//! From whom the views of a request are withheld.
+use crate::lack::Lack;
+use ledger_terms::{ListOf, ParticipantId, Path, PathList};
+
+/// A participant that is to see views, by what the mediator is told, and has no complete envelope: nothing is opened to it.
+#[derive(Drop)]
+pub(crate) struct Withheld {
+    pub participant: ParticipantId,
+    pub seen: PathList,
+    pub lack: Lack,
+}
+
+/// Such participants, in the order of the topology.
+pub(crate) type WithheldList = ListOf<Withheld>;
+
+impl Withheld {
+    /// Whether it is to see the view at a path.
+    pub fn sees(&self, path: &Path) -> bool {
+        self.seen.as_slice().iter().any(|seen| *seen == *path)
+    }
+}
