@@ -1,8 +1,8 @@
 -- A participant that claims jobs and puts them back, and then reads an entry.
-use Rattle.std.proofs.Common.{◌≡◌, ℕ, ◌+◌, ◌<◌, true, List, [], ◌∷◌, ◌++◌, take, length, option_map, Option, Some, None, Result, refl, sym, ap, ◌∙◌, subst}
+use Rattle.std.proofs.Common.{◌≡◌, ℕ, ◌+◌, ◌<◌, true, List, [], ◌∷◌, ◌++◌, take, length, option_map, Option, Some, None, Result, sym, ap, ◌∙◌, subst}
 use Rattle.std.specs.Prelude.{Ok, Err, IfOk, IfSome, IfNone, OnOk, OnErr, slice_get}
 use Rattle.ledger_model.specs.Terms.{ParticipantId}
-use Rattle.canton_model.specs.Inbox.{item_after, shown_at, shown_in}
+use Rattle.canton_model.specs.Inbox.{item_after, notice_at, notice_in}
 use Rattle.world_model.specs.Messages.{Entry}
 use Rattle.world_model.specs.Machine.{Machine}
 use Rattle.world_model.specs.Node.{NodeState, claim, put_back, read_entry}
@@ -106,10 +106,10 @@ module _ (node : NodeValue) (log : List Entry) (reads : Reads node log) (k : ℕ
   owed_as_before j within =
       subst (λ (x : NodeValue). owed_there x j ≡ owed_there node j) (sym stepped) (owed_stays node before next.0 j within)
 
-  pub shown_as_before : (j : ℕ) → j < length (items_of node) → shown_at (items_of after) j ≡ shown_at (items_of node) j
-  shown_as_before j within =
-      subst (λ (x : NodeValue). shown_at (items_of x) j ≡ shown_at (items_of node) j) (sym stepped)
-      (ap shown_in (slice_get_left (items_of node) (item_after (reading_of node) node.me before next.0 ∷ []) j within))
+  pub received_as_before : (j : ℕ) → j < length (items_of node) → notice_at (items_of after) j ≡ notice_at (items_of node) j
+  received_as_before j within =
+      subst (λ (x : NodeValue). notice_at (items_of x) j ≡ notice_at (items_of node) j) (sym stepped)
+      (ap notice_in (slice_get_left (items_of node) (item_after (reading_of node) node.me before next.0 ∷ []) j within))
 
 -- it reads it, or wants memory and is as before
 module _ {X Y : Type 0} (A B : Type 0) where

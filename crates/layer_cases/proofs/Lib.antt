@@ -1,4 +1,5 @@
 mod CanShare
+mod Checkable
 mod Each
 pub mod Fronts
 mod Hosted

@@ -1,7 +1,7 @@
 //! Jobs that are polled by hand.
 ghost use Rattle.std.specs.Prelude.{◌≡◌, true, IfOk};
 ghost use Rattle.std.specs.List.{AllByRecursion};
-ghost use Rattle.validate_job.specs.Owed.{CanCheck};
+ghost use Rattle.confirm_reply.specs.Verdict.{CanCheck};
 
 use crate::answer::Answer;
 use crate::check::facts::paths_of;
@@ -9,7 +9,7 @@ use crate::check::polls::put_poll;
 use crate::check::received::{Received, receive};
 use crate::tree::script_in;
 use crate::words::Words;
-use confirm_reply::{CheckInput, Setup, SharedTree, can_check};
+use confirm_reply::{CheckInput, Setup, Shown, can_check};
 use futures::test::MockTask;
 use ledger_terms::{ParticipantId, Path, PathList};
 use script_read::Script;
@@ -84,12 +84,17 @@ fn input_of<'s>(
     time: u64,
     received: Received,
 ) -> CheckInput<'s> {
-    let Received { tree, facts } = received;
+    let Received {
+        sender,
+        shown,
+        facts,
+    } = received;
     CheckInput {
         setup,
         me,
+        sender,
         time,
-        tree,
+        shown,
         facts,
     }
 }
@@ -125,12 +130,14 @@ fn can_check_all(alloc: Global, input: &CheckInput<'_>, views: &[Path]) -> Resul
     Ok(true)
 }
 
-/// Whether a view is opened and can be checked.
+/// Whether a view can be checked: where an envelope is open, it opens that view, and all actions that it opens have roles.
 fn can_check_view(alloc: Global, input: &CheckInput<'_>, view: &Path) -> Result<bool, AllocError>
     ensures { IfOk result (λ can. can ≡ true → CanCheck input.now view.now) }
 {
-    let can = can_check(alloc, &input.setup.checked, input.tree.opened(), view)?;
-    Ok(can)
+    match &input.shown {
+        Shown::Fixed(_) => Ok(true),
+        Shown::Open(tree) => can_check(alloc, &input.setup.checked, tree.opened(), view),
+    }
 }
 
 /// Polls a job as often as it has views.

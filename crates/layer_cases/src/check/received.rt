@@ -3,18 +3,20 @@ use crate::answer::Answer;
 use crate::check::facts::facts_of;
 use crate::tree::{sealed, transaction_of};
 use canton_model::Request;
-use confirm_reply::{IdFactsList, SharedTree};
+use confirm_reply::{IdFactsList, Shown};
 use fixtures::know_created;
-use ledger_terms::{KnownList, ParticipantId, Submission};
-use proto_model::opened_to;
+use ledger_terms::{KnownList, ParticipantId, Submission, Topology};
+use node_inbox::KeptOffer;
+use proto_model::{read_notice, read_outline};
 use script_read::Script;
 use std::alloc::{AllocError, Global};
 use view_split::split;
 
-/// What is opened to a participant, with what it knows of contracts.
+/// What a participant is shown of a request, whom this is from, and what it knows of contracts.
 #[derive(Drop)]
 pub(crate) struct Received {
-    pub(crate) tree: SharedTree,
+    pub(crate) sender: ParticipantId,
+    pub(crate) shown: Shown,
     pub(crate) facts: IdFactsList,
 }
 
@@ -28,10 +30,15 @@ pub(crate) fn receive(
 ) -> Option<Received> {
     let mut known = KnownList::new(alloc);
     let requests = all_sent(alloc, script, &mut known, out);
-    match read_last(alloc, requests.as_slice(), me) {
-        Ok(Some(tree)) => {
+    let request = requests.last()?;
+    match shown_of(alloc, &script.topology, request, me) {
+        Ok(Some(shown)) => {
             let facts = facts_of(alloc, &known, facts).ok()?;
-            Some(Received { tree, facts })
+            Some(Received {
+                sender: request.sender,
+                shown,
+                facts,
+            })
         }
         Ok(None) => None,
         Err(_) => {
@@ -78,17 +85,18 @@ fn send(
     sealed(alloc, &script.topology, submission, &views, out)
 }
 
-/// What is opened of the last request to a participant.
-fn read_last(
+/// What a participant is shown of a request, where it is a recipient.
+fn shown_of(
     alloc: Global,
-    requests: &[Request],
+    topology: &Topology,
+    request: &Request,
     me: ParticipantId,
-) -> Result<Option<SharedTree>, AllocError> {
-    let Some(request) = requests.last() else {
+) -> Result<Option<Shown>, AllocError> {
+    let Some(outline) = read_outline(alloc, request)? else {
         return Ok(None);
     };
-    match opened_to(alloc, request, me)? {
-        Some(tree) => Ok(Some(SharedTree::new(alloc, tree)?)),
+    match read_notice(alloc, topology, me, request, &outline)? {
+        Some(notice) => Ok(Some(KeptOffer::of(alloc, notice.offered)?.shown()?)),
         None => Ok(None),
     }
 }

@@ -59,7 +59,7 @@ fn put_recipient(alloc: Global, sent: Sent<'_>, at: u8, tree: &Tree, out: &mut A
     if at as usize >= sent.topology.hosts.len() {
         put_told(alloc, sent, out);
     } else {
-        put_opened(alloc, sent, ParticipantId(at), tree, out);
+        put_opened(alloc, name, tree, out);
     }
 }
 

@@ -5,20 +5,23 @@ ghost use Rattle.lang_eval.specs.Found.{Packages};
 ghost use Rattle.world_play.specs.Events.{CanHappen};
 ghost use Rattle.world_play.specs.Submitting.{CanSubmit};
 
+use crate::world::handed_in::HandedIn;
+use canton_model::Request;
 use confirm_reply::Setup;
 use ledger_terms::{ParticipantId, Submission, Topology};
 use world_play::Event;
 
-/// The event that a word says. A submission is taken from the front of those that are left.
-pub(crate) fn event_of(setup: &Setup, left: &mut Vec<Submission>, word: &str) -> Option<Event>
-    requires { All (CanSubmit setup.now.topology setup.now.checked) left.old.items }
+/// The event that a word says. A submission or a raw request is taken from the front of those that are left.
+pub(crate) fn event_of(setup: &Setup, left: &mut HandedIn, word: &str) -> Option<Event>
+    requires { All (CanSubmit setup.now.topology setup.now.checked) left.old.submits.items }
     ensures event { IfSome result (CanHappen setup.now.topology setup.now.checked) }
-    ensures left { All (CanSubmit setup.now.topology setup.now.checked) left.new.items }
+    ensures left { All (CanSubmit setup.now.topology setup.now.checked) left.new.submits.items }
 {
-    if word == "submit" {
-        return next_submission(left);
+    match word {
+        "submit" => next_submission(&mut left.submits),
+        "raw" => next_raw(&mut left.raws),
+        _ => plain_event(&setup.topology, word),
     }
-    plain_event(&setup.topology, word)
 }
 
 #[tactic(auto, using(crate::proofs::Fronts::front_holds, crate::proofs::Fronts::others_hold))]
@@ -36,7 +39,18 @@ fn next_submission(left: &mut Vec<Submission>) -> Option<Event>
     })
 }
 
-// An event that is no submission.
+fn next_raw(left: &mut Vec<Request>) -> Option<Event>
+    ensures { (topology : Topology) (packages : Packages) → IfSome result (CanHappen topology packages) }
+{
+    if left.is_empty() {
+        return None;
+    }
+    Some(Event::SubmitRaw {
+        request: left.remove(0),
+    })
+}
+
+// An event that hands nothing in.
 fn plain_event(topology: &Topology, word: &str) -> Option<Event>
     ensures { (topology : Topology) (packages : Packages) → IfSome result (CanHappen topology packages) }
 {
@@ -78,7 +92,8 @@ fn event_at(verb: &str, node: ParticipantId) -> Option<Event>
     }
 }
 
-fn participant_of(topology: &Topology, name: &str) -> Option<ParticipantId> {
+/// The participant with a name.
+pub(crate) fn participant_of(topology: &Topology, name: &str) -> Option<ParticipantId> {
     let at = place_of(topology, name)?;
     Some(ParticipantId((at % 256) as u8))
 }

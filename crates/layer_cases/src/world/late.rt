@@ -1,7 +1,7 @@
 //! A participant's job that comes to its end after the request was decided.
 ghost use Rattle.std.specs.Prelude.{◌≡◌, ◌≤◌, ◌<◌, ◌^◌, true, ℕ, All, IfOk, IfSome, length, is_some};
 ghost use Rattle.ledger_model.specs.Terms.{ParticipantId};
-ghost use Rattle.canton_model.specs.Inbox.{shown_at};
+ghost use Rattle.canton_model.specs.Inbox.{notice_at};
 ghost use Rattle.world_model.specs.Lawful.{Lawful};
 ghost use Rattle.world_model.specs.Machine.{Machine};
 ghost use Rattle.world_model.specs.Mediator.{MediatorState};
@@ -129,7 +129,7 @@ fn put_third(
 
 // Since when the request is decided.
 fn put_decided(node: &Node<'_>, place: u64, out: &mut Answer)
-    requires { is_some (shown_at (items_of node.now) place) ≡ true }
+    requires { is_some (notice_at (items_of node.now) place) ≡ true }
 {
     match node.decided_at(place) {
         Some(at) => put_numbered("decided at ", at, out),

@@ -1,7 +1,7 @@
 //! Jobs that are claimed, put back and claimed again, while their participant reads on.
 ghost use Rattle.std.specs.Prelude.{◌≡◌, ◌<◌, true, length, IfOk, IfSome};
 ghost use Rattle.ledger_model.specs.Terms.{ParticipantId};
-ghost use Rattle.canton_model.specs.Inbox.{shown_at};
+ghost use Rattle.canton_model.specs.Inbox.{notice_at};
 ghost use Rattle.world_model.specs.Machine.{Machine};
 ghost use Rattle.validate_job.specs.Outcome.{IsOutcome};
 ghost use Rattle.validate_job.specs.Owed.{owed_on_each};
@@ -53,7 +53,7 @@ pub(crate) fn finished(job: ValidateJob<'_>) -> Result<Finished, AllocError>
 pub(crate) fn read_on(node: &mut Node<'_>, sequencer: &mut Sequencer<'_>) -> Result<(), AllocError>
     requires { (m : Machine) × (p : ParticipantId) × IsParticipant m p node.old sequencer.old }
     ensures verdicts { (k : _) → k < length (items_of node.old) → owed_there node.new k ≡ owed_there node.old k }
-    ensures shown { (k : _) → k < length (items_of node.old) → shown_at (items_of node.new) k ≡ shown_at (items_of node.old) k }
+    ensures received { (k : _) → k < length (items_of node.old) → notice_at (items_of node.new) k ≡ notice_at (items_of node.old) k }
 {
     match sequencer.entry(node.cursor()) {
         Some(slip) => node.read(&slip),

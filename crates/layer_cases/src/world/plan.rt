@@ -4,8 +4,8 @@ ghost use Rattle.world_play.specs.Events.{CanHappen, advance_in, advance_of};
 ghost use Rattle.world_play.specs.Submitting.{CanSubmit};
 
 use crate::world::events::{event_of, place_of};
+use crate::world::handed_in::HandedIn;
 use confirm_reply::Setup;
-use ledger_terms::Submission;
 use std::alloc::{AllocError, Global};
 use world_play::{Event, EventList};
 
@@ -20,10 +20,12 @@ pub(crate) struct Plan {
     pub(crate) late: Option<usize>,
 }
 
-/// The name of the participant whose job comes too late, which is empty where there is none, and the words of the events.
+/// The name of the participant whose job comes too late and the changes of the last request, each empty where there is none, and the
+/// words of the events.
 #[derive(Clone, Copy)]
 pub(crate) struct Asked<'a> {
     pub(crate) late: &'a str,
+    pub(crate) changes: &'a str,
     pub(crate) words: &'a str,
 }
 
@@ -31,10 +33,10 @@ pub(crate) struct Asked<'a> {
 pub(crate) fn plan_of(
     alloc: Global,
     setup: &Setup,
-    submissions: Vec<Submission>,
+    left: HandedIn,
     asked: Asked<'_>,
 ) -> Result<Option<Plan>, AllocError>
-    requires { All (CanSubmit setup.now.topology setup.now.checked) submissions.items }
+    requires { All (CanSubmit setup.now.topology setup.now.checked) left.submits.items }
     ensures { IfOk result (λ o. IfSome o (λ plan. All (CanHappen setup.now.topology setup.now.checked) plan.events)) }
 {
     let (words, settles) = match asked.words.strip_suffix(",settle") {
@@ -42,7 +44,7 @@ pub(crate) fn plan_of(
         None => (asked.words, false),
     };
     let late = place_of(&setup.topology, asked.late);
-    match events_of(alloc, setup, submissions, words)? {
+    match events_of(alloc, setup, left, words)? {
         Some(events) => Ok(Some(Plan {
             events,
             settles,
@@ -56,13 +58,13 @@ pub(crate) fn plan_of(
 fn events_of(
     alloc: Global,
     setup: &Setup,
-    submissions: Vec<Submission>,
+    left: HandedIn,
     words: &str,
 ) -> Result<Option<EventList>, AllocError>
-    requires { All (CanSubmit setup.now.topology setup.now.checked) submissions.items }
+    requires { All (CanSubmit setup.now.topology setup.now.checked) left.submits.items }
     ensures { IfOk result (λ o. IfSome o (λ events. All (CanHappen setup.now.topology setup.now.checked) events)) }
 {
-    let mut left = submissions;
+    let mut left = left;
     let mut events = EventList::new(alloc);
     'words: for word in words.split(',') {
         match event_of(setup, &mut left, word) {

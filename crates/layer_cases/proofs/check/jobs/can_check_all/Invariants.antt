@@ -1,6 +1,6 @@
 use Rattle.std.proofs.Common.{drop}
 use Rattle.std.specs.List.{AllByRecursion}
-use Rattle.validate_job.specs.Owed.{CanCheck}
+use Rattle.confirm_reply.specs.Verdict.{CanCheck}
 use Rattle.layer_cases.proofs.check.jobs.can_check_all.Given as goal
 
 -- where the rest can be checked, all can
