@@ -3,7 +3,7 @@ of jobs, and what plain lists tell after the calls of a tracker and of a store.
 """
 import ledger
 import trees
-from hosting import hosted
+from hosting import confirmed, hosted
 from language import NOTE, Packages
 from tree_cases import path_text, transaction_of, yes
 
@@ -31,13 +31,13 @@ class Check:
     def __init__(self, script, me, time, facts):
         self.packages, known, (submission, by, self.roots) = last_sent(script)
         self.script, self.host, self.time, self.by = script, script['participants'][me], time, by
+        self.sender = self.name = submission['participant']
         self.ledger_time = submission.get('ledger_time', 0)
         self.facts = {known[number]['id']: (status, held) for number, status, held in facts}
         seen = trees.topmost(trees.split(self.packages, self.roots), hosted(self.host))
         self.views = list(trees.all_views(seen))
         self.acts = [n for v in seen for _, n in ledger.preorder([v['nodes'][0]])]
-        shown = self.host['name'] == submission['participant'] or any(len(v['path']) == 1 for v in seen)
-        self.requesters = by if shown else None
+        self.requesters = by if any(len(v['path']) == 1 for v in seen) else None
 
     def verdict(self, path):
         view = next(v for v in self.views if v['path'] == path)
@@ -57,7 +57,23 @@ class Check:
         at = next(k for k, other in enumerate(self.acts) if other is node)
         return [other for other in self.acts[:at] if other['action']['id'] == node['action']['id']]
 
-    # an action of a view's core shows a reason
+    # an action of a view's core shows a reason, or the first one does for the whole view
+
+    def WrongSender(self, view, node):
+        sender = next(h for h in self.script['participants'] if h['name'] == self.sender)
+        return self.name != self.sender or not set(self.requesters or []) <= set(confirmed(sender))
+
+    def WrongCommon(self, view, node):
+        starts = [below['nodes'][0] for below in view['below']]
+        try:
+            told = [ledger.roles(self.packages, each['action']) for each in view['nodes'] + starts]
+        except ledger.NoRoles:
+            return True
+        core, below, informees = told[:len(view['nodes'])], told[len(view['nodes']):], told[0][3]
+        confirmers = ledger.union(*(parties for signatories, _, actors, _ in core for parties in (signatories, actors)))
+        is_inside = [set(roles[3]) <= set(informees) for roles in core]
+        return (view['informees'] != informees or view['confirmers'] != confirmers or not all(is_inside)
+                or any(set(roles[3]) <= set(informees) for roles in below))
 
     def IdMismatch(self, view, node):
         action = node['action']
@@ -97,7 +113,7 @@ class Check:
         return is_asked and not (self.requesters is not None and is_authorised(self.packages, action, self.requesters))
 
 
-REASONS = ['IdMismatch', 'NotVetted', 'TimeSkew', 'Locked', 'Inactive', 'NotFresh', 'Unordered', 'NotConformant', 'NotAuthorised']
+REASONS = ['WrongSender', 'WrongCommon', 'IdMismatch', 'NotVetted', 'TimeSkew', 'Locked', 'Inactive', 'NotFresh', 'Unordered', 'NotConformant', 'NotAuthorised']
 
 
 def is_authorised(packages, action, by):

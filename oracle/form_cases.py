@@ -41,15 +41,14 @@ def opened_lines(root, paths, with_requesters, data):
     if not isinstance(opened, tuple):
         yield opened
         return
-    sender, time, by, views = opened
-    yield 'open %s %d %s' % (sender, time, 'hidden' if by is None else ','.join(by))
-    for path, informees, confirmers, _ in views:
-        yield parties_line('opens', {'path': path, 'informees': informees, 'confirmers': confirmers})
-    for _, _, _, below in views:
-        yield from below_lines(below)
+    yield 'open %s %d %s' % (opened.name, opened.time, 'hidden' if opened.by is None else ','.join(opened.by))
+    for view in opened.views:
+        yield parties_line('opens', view)
+    for view in opened.views:
+        yield from below_lines(view['below'])
 
 
 def below_lines(views):
-    for informees, confirmers, below in views:
-        yield 'below %s %s' % (','.join(informees), ','.join(confirmers))
-        yield from below_lines(below)
+    for view in views:
+        yield 'below %s %s' % (','.join(view['informees']), ','.join(view['confirmers']))
+        yield from below_lines(view['below'])

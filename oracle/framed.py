@@ -1,4 +1,6 @@
 """What is a framed request, and what is opened of the bytes of an envelope that anybody may have made."""
+import collections
+
 import trees
 from hosting import confirmed, that_confirm
 from terms import Bad
@@ -82,6 +84,7 @@ def is_framed(script, request):
 # --- envelopes
 
 MISMATCH, MISSING = 'mismatch', 'missing'
+Opened = collections.namedtuple('Opened', 'name time by views')  # the name is that of the common leaf; by is None where it isn't asked for
 
 
 def opened_for(data, root, listed, with_requesters):
@@ -102,9 +105,9 @@ def opened(tree, listed, with_requesters):
     common, requesters, vertices = tree
     if not all(stands(vertices, path) for path in listed):
         raise Bad(0)
-    sender, time = Common(shown(common)).head()
+    name, time = Common(shown(common)).head()
     by = whole(Roles(shown(requesters))) if with_requesters else None
-    return sender, time, by, list(topmost(vertices, listed))
+    return Opened(name, time, by, list(topmost(vertices, listed)))
 
 
 def whole(reader):
@@ -127,20 +130,37 @@ def stands(vertices, path):
 
 
 def topmost(vertices, listed, above=()):
-    """The topmost listed views, each with its path and what it shows. All below them have to be listed and shown."""
+    """The topmost listed views. All below them have to be listed and shown."""
     for at, vertex in enumerate(vertices):
         path = list(above) + [at]
         if path in listed:
-            yield (path,) + shown_view(vertex, listed, path)
+            yield shown_view(vertex, listed, path)
         elif not isinstance(vertex, bytes):
             yield from topmost(vertex[2], listed, path)
 
 
 def shown_view(vertex, listed, path):
-    """The informees and the confirmers of a view, and what the views directly below it show."""
+    """A view with those below it, as views of a transaction are."""
     if path not in listed or isinstance(vertex, bytes):
         raise Bad(0)
     informees, confirmers = Roles(shown(vertex[0])).both()
-    if trees.LeafReader(shown(vertex[1])).contents() != len(vertex[2]):
+    core = trees.LeafReader(shown(vertex[1])).contents()
+    if trees.holes(core) != len(vertex[2]):
         raise Bad(0)
-    return informees, confirmers, [shown_view(below, listed, path + [at]) for at, below in enumerate(vertex[2])]
+    below, nodes = [shown_view(v, listed, path + [at]) for at, v in enumerate(vertex[2])], list(core_nodes(core))
+    fill(core, iter(below))
+    return {'path': path, 'informees': informees, 'confirmers': confirmers, 'below': below, 'nodes': nodes}
+
+
+def core_nodes(core):
+    """The actions of a core in pre-order."""
+    yield core
+    for child in core['children']:
+        if child is not None:
+            yield from core_nodes(child)
+
+
+def fill(node, below):
+    """Puts the first actions of the views below into the holes of a core."""
+    node['children'] = [next(below)['nodes'][0] if child is None else fill(child, below) for child in node['children']]
+    return node

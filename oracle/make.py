@@ -10,7 +10,9 @@ import check_cases
 import form_cases
 import framed
 import language
+import lies
 import load_cases
+import plain_run
 import raws
 import sharing_cases
 import tree_cases
@@ -18,7 +20,7 @@ import trees
 import world_cases
 from tables import bytes as byte_tables
 from tables import (
-    benches, checks, edges, expressions, frames, openings, package_faults, requests, runs, script_faults, transactions, words, worlds)
+    benches, checks, edges, expressions, frames, openings, package_faults, raw_runs, requests, runs, script_faults, transactions, words, worlds)
 
 CRATES = os.path.join(os.path.dirname(os.path.dirname(os.path.abspath(__file__))), 'crates')
 
@@ -181,14 +183,39 @@ def generated_rows():
         yield name, lines
 
 
-def run_rows():
-    for name, words, source, take, put, status, line, text in runs.cases():
+def plain_text(words, source):
+    """What a run without workers writes of a script."""
+    words = words.split(',')
+    return plain_run.report(json.loads(source), int(words[words.index('--log') + 1]) if '--log' in words else 20_480)
+
+
+def lying_transfer(changes):
+    """The worked transfer, whose second request is a raw one with changes."""
+    return compact(lies.handed_in(json.loads(runs.TRANSFER), **changes))
+
+
+def raw_run_cases():
+    """Runs of scripts with raw requests, in the form of those of the table of runs."""
+    for name, changes, text in raw_runs.LIES:
+        yield name, 'run', lying_transfer(changes), 0, 0, 0, None, text
+    spelled = [raws.spelled(request) for request in raws.requests_of(json.loads(raw_runs.TWO))]
+    for name, words, script_over, text in raw_runs.BESIDE:
+        yield name, words, script_over(spelled), 0, 0, 0, None, text
+    for name, words, source, text in raw_runs.UNREAD:
+        yield name, words, source, 0, 0, 0, None, text
+
+
+def run_rows(cases):
+    for name, words, source, take, put, status, line, text in cases:
+        if status == 0 and words.startswith('run'):
+            agreed(name, plain_text(words, source), text)
         lines = ['run ' + name, 'status %d' % status] + ([] if line is None else [line])
         yield 'run %s %d %d %s %s' % (name, take, put, words, source), lines + ['|' + written for written in text.splitlines()]
 
 
 def sure_run_rows():
-    for name, source, text in runs.SURE_RUNS:
+    for name, source, text in runs.SURE_RUNS + [(name, lying_transfer(changes), text) for name, changes, text in raw_runs.SURE]:
+        agreed(name, plain_text('run', source), text)
         lines = ['run ' + name, 'status 0'] + ['|' + written for written in text.splitlines()]
         yield 'surely %s %d run %s' % (name, len(text), source), lines
     for name, source, line in runs.RUNS_WITHOUT_ROOM:
@@ -196,7 +223,8 @@ def sure_run_rows():
 
 
 def count_rows():
-    for name, words, source, patterns in edges.COUNTS:
+    lying = [(name, 'run,--workers,4', lying_transfer(changes), patterns) for name, changes, patterns in raw_runs.COUNTED]
+    for name, words, source, patterns in edges.COUNTS + lying:
         spelled = ';'.join(pattern.replace(' ', '_') for pattern, _ in patterns)
         lines = ['run ' + name, 'status 0'] + ['%d of %s' % (count, pattern) for pattern, count in patterns]
         yield 'count %s %s %s %s' % (name, spelled, words, source), lines
@@ -236,6 +264,9 @@ def world_rows():
         else:
             agreed(name, lines, worked)
         yield 'play %s %s %s' % (name, words, compact(script)), ['play ' + name] + lines
+    for name, changes, lie, worked in worlds.CHANGED:
+        lines = agreed(name, world_cases.case_lines(lies.handed_in(worlds.TRANSFER, **lie), worlds.OWED + ',raw,settle'), worked)
+        yield 'change %s %s %s %s' % (name, changes, worlds.OWED + ',submit,settle', compact(worlds.TRANSFER)), ['change ' + name] + lines
     for name, script, who, words, worked in worlds.LATE:
         lines = agreed(name, world_cases.case_lines(script, words, who), worked)
         yield 'late %s %s %s %s' % (name, who, words, compact(script)), ['late ' + name] + lines
@@ -309,7 +340,8 @@ def write(crate, cases):
 def main():
     write('layer_cases', layer_rows())
     write('run_cases', headed({
-        'Whole runs': run_rows(), 'Whole runs within room': sure_run_rows(), 'Whole runs with workers in any order': count_rows(),
+        'Whole runs': run_rows(runs.cases()), 'Whole runs with raw requests': run_rows(raw_run_cases()),
+        'Whole runs within room': sure_run_rows(), 'Whole runs with workers in any order': count_rows(),
         'Whole runs that pass a gate': gate_rows(), 'Whole runs with natives': native_rows(), 'Beginnings of a script': cut_rows(),
         'Logs': log_rows(), 'Sources that fail': edges.SOURCES, 'Sinks that fail': edges.SINKS}))
 

@@ -7,29 +7,48 @@ from language import Packages
 from tree_cases import transaction_of
 
 
-def requests_of(script):
-    """The requests of a script's submissions, each over what those before it create, with bytes in place of digits."""
-    packages, known = Packages(script.get('packages', [])), []
+class Parts:
+    """What a request is made of: whom its common leaf names, the ledger time, the requesters, and the views."""
+
+    def __init__(self, script, submission, time, seed, by, views):
+        self.script, self.submission, self.seed, self.views = script, submission, seed, views
+        self.sender, self.command = submission['participant'], submission['command']
+        self.name, self.time, self.by = self.sender, time, by
+
+    def parties(self, kind):
+        return {party for view in trees.all_views(self.views) for party in view[kind]}
+
+    def request(self):
+        """The request by the rules, whether these parts are those of a transaction or not, with bytes in place of digits."""
+        common, requesters = trees.common_leaf(self.name, self.time, self.seed), trees.requesters_leaf(self.by, self.seed)
+        informees, envelopes = self.parties('informees'), []
+        for host in self.script['participants']:
+            if host['name'] == self.sender or set(hosted(host)) & informees:
+                envelopes.append((host['name'], trees.envelope(common, requesters, self.views, hosted(host), host['name'] == self.sender)))
+        return {'participant': self.sender, 'command': self.command, 'confirming': that_confirm(self.script, self.parties('confirmers')),
+                'mediator': trees.envelope(common, requesters, self.views, None, False), 'envelopes': envelopes}
+
+
+def parts_of(script):
+    """The parts of the request of each submission of a script that isn't refused, over what those before it create."""
+    packages, known, now = Packages(script.get('packages', [])), [], 0
     for round_ in script['rounds']:
+        now += round_.get('advance', 0)
         for submission in round_.get('submits', []):
-            seed, by, roots = transaction_of(packages, known, submission)
+            try:
+                seed, by, roots = transaction_of(packages, known, submission)
+                views = trees.split(packages, roots)
+            except (ledger.Refused, trees.NoViews):
+                continue
             for _, node in ledger.preorder(roots):
                 if node['action']['kind'] == 'create':
                     known.append({'id': node['action']['id'], 'salt': node['seed'], 'instance': node['action']['instance']})
-            yield request_of(script, submission, seed, by, trees.split(packages, roots))
+            yield Parts(script, submission, submission.get('ledger_time', now), seed, by, views)
 
 
-def request_of(script, submission, seed, by, views):
-    sender, time = submission['participant'], submission.get('ledger_time', 0)
-    common, requesters = trees.common_leaf(sender, time, seed), trees.requesters_leaf(by, seed)
-    informees = {party for view in trees.all_views(views) for party in view['informees']}
-    confirmers = {party for view in trees.all_views(views) for party in view['confirmers']}
-    envelopes = []
-    for host in script['participants']:
-        if host['name'] == sender or set(hosted(host)) & informees:
-            envelopes.append((host['name'], trees.envelope(common, requesters, views, hosted(host), host['name'] == sender)))
-    return {'participant': sender, 'command': submission['command'], 'confirming': that_confirm(script, confirmers),
-            'mediator': trees.envelope(common, requesters, views, None, False), 'envelopes': envelopes}
+def requests_of(script):
+    """The requests of a script's submissions that aren't refused."""
+    return (parts.request() for parts in parts_of(script))
 
 
 def spelled(request):

@@ -1,15 +1,20 @@
 """Whether the report of a run fits the rules, whatever number of workers the run had and in whatever order they worked.
 
 The entries are taken one after another, and each is tried against those before it: its place and time; of a Tick that its round moves
-the time; of a request that a result says that it was sent, and that what its participant may have read gives it; of a response its
+the time; of a request that it is the next raw one, at the beginning of its round, or that a result says that it was sent and what its
+participant may have read gives it; of a raw request that has no entry, that it is refused at its step; of a response its
 verdicts, of a verdict its decision, that neither comes twice or too late, and that it may stand in a round in which its participant
 isn't paused, or which doesn't hold verdicts. Before an entry of a later round nothing was due any more at some place, nor is at the end.
-Each refusal has its cause. All that the report says below its results is then worked out again from the entries.
+Each refusal has its cause. All that the report says below its results is then worked out again from the entries, and of the ledger what
+audit.py says.
 """
+import audit
 import ledger
 import trees
+import world_cases
+from framed import is_framed, read_raw
 from hosting import confirmed
-from world_cases import Request, World
+from received import Received
 
 
 class Misfit(Exception):
@@ -21,13 +26,14 @@ def want(holds, line, why):
         raise Misfit('%s: %s' % (line, why))
 
 
-class Report(World):
+class Report(world_cases.World):
     """A log that is read from the report of a script's run, whose requests may need so many places of the log."""
 
     def __init__(self, script, capacity):
-        World.__init__(self, {**script, 'rounds': [{'submits': []}]})
+        world_cases.World.__init__(self, {**script, 'rounds': [{'submits': []}]})
         self.rounds, self.capacity, self.times, self.begun = script['rounds'], capacity, [], {}
-        self.spans, self.round, self.round_place = [], 0, 0
+        self.spans, self.round, self.round_place, self.raw_rounds = [], 0, 0, {}
+        self.raws = [(number, raw) for number, round_ in enumerate(self.rounds) for raw in round_.get('raw', [])]
         now = 0
         for round_ in self.rounds:
             now += round_.get('advance', 0)
@@ -42,26 +48,30 @@ class Report(World):
         sent = {result['sent']: result['round'] for result in results}
         ticks, known = iter(self.with_tick()), []
         for place, line in enumerate(lines):
-            kind = line.split(' ')[2]
-            known.append(sent.get(place) if kind == 'request' else next(ticks, None) if kind == 'tick' else None)
+            _, _, kind, *rest = line.split(' ')
+            known.append(self.rounds_of_request(sent.get(place), rest) if kind == 'request' else [next(ticks, 0)] if kind == 'tick' else [])
         firsts, lasts, first, last = [], [], 0, len(self.rounds) - 1
-        for at in known:
-            first = first if at is None else max(first, at)
+        for rounds in known:
+            first = max([first] + rounds[:1])
             firsts.append(first)
-        for at in reversed(known):
-            last = last if at is None else min(last, at)
+        for rounds in reversed(known):
+            last = min([last] + rounds[-1:])
             lasts.append(last)
         self.spans = list(zip(firsts, reversed(lasts)))
+
+    def rounds_of_request(self, sent, rest):
+        """The round of the result that tells of a request, or those that have such a raw one."""
+        return [sent] if sent is not None else [number for number, raw in self.raws if [raw['participant'], raw['command']] == rest[:2]]
 
     def rounds_here(self):
         """The rounds in which the next entry may stand."""
         first, last = self.spans[len(self.log)]
         return self.rounds[first:last + 1]
 
-    def goes_on(self, line, number):
-        """The next entry is of this round, in front of which nothing was due at some place."""
+    def goes_on(self, line, number, is_begin=False):
+        """The next entry is of this round, perhaps its first, in front of which nothing was due at some place."""
         if number > self.round:
-            ends = range(self.round_place, len(self.log) + 1)
+            ends = range(len(self.log) if is_begin else self.round_place, len(self.log) + 1)
             want(any(self.is_settled(self.rounds[number - 1], end) for end in ends), line, 'more was due in the round before it')
         self.round, self.round_place = number, len(self.log) + 1
 
@@ -77,7 +87,8 @@ class Report(World):
     def read_tick(self, line, time, rest, results):
         ticked, with_tick = len(self.begun), self.with_tick()
         want(ticked < len(with_tick), line, 'no round moves the time here')
-        self.goes_on(line, with_tick[ticked])
+        self.pass_raws(line, with_tick[ticked])
+        self.goes_on(line, with_tick[ticked], True)
         want(time == max(self.times[with_tick[ticked]], self.next_time()), line, 'it has the time of its round')
         self.begun[with_tick[ticked]] = len(self.log)
         self.append('tick', time)
@@ -85,20 +96,56 @@ class Report(World):
     def read_request(self, line, time, rest, results):
         name, command = rest[:2]
         result = next((r for r in results if r['sent'] == len(self.log)), None)
-        want(result is not None, line, 'a result says that it was sent')
+        if result is None:
+            self.read_raw(line, rest)
+            return
         want((name, command) == (result['name'], result['command']), line, 'its result is another submission\'s')
-        want(all((r.sender, r.command) != (name, command) for _, r in self.requests(len(self.log))), line, 'its command stands already')
+        want(not self.stands(name, command), line, 'its command stands already')
         want(name not in self.rounds[result['round']].get('paused', []), line, 'its participant is paused')
-        self.has_begun(line, result)
+        self.has_begun(line, result['round'])
+        self.pass_raws(line, result['round'] + 1)
         self.goes_on(line, result['round'])
-        wanted = [request for request in self.wanted(result, len(self.log)) if isinstance(request, Request)]
+        wanted = [request for request in self.wanted(result, len(self.log)) if isinstance(request, Received)]
         want(wanted, line, 'nothing that its participant can have read gives it')
         want(rest == [name, command, 'to'] + wanted[0].recipients(), line, 'its recipients are others')
         self.append('request', request=wanted[0])
 
-    def has_begun(self, line, result):
-        """The Ticks up to the result's round stand before it, and no others."""
-        due = {number for number, round_ in enumerate(self.rounds[:result['round'] + 1]) if round_.get('advance', 0)}
+    def read_raw(self, line, rest):
+        """The next raw request that isn't refused, behind its round's Tick and its other raw ones."""
+        while self.raws and ([self.raws[0][1]['participant'], self.raws[0][1]['command']] != rest[:2] or self.refuses_next()):
+            self.pass_raw(line)
+        want(self.raws, line, 'no result says that it was sent, and no raw request is like it')
+        number, raw = self.raws.pop(0)
+        self.has_begun(line, number)
+        last = len(self.log) - 1
+        is_next = self.begun.get(number) == last or self.raw_rounds.get(last) == number
+        is_first = not self.rounds[number].get('advance', 0) and (number > self.round or last < 0)
+        want(is_next or is_first, line, 'it stands elsewhere than at the beginning of its round')
+        self.goes_on(line, number, True)
+        request = Received(self.script, self.packages, read_raw(raw))
+        want(rest[2:] == ['to'] + request.recipients(), line, 'its recipients are others')
+        self.raw_rounds[len(self.log)] = number
+        self.append('request', request=request)
+
+    def refuses_next(self):
+        """Whether the log refuses the next raw request."""
+        raw = self.raws[0][1]
+        return (self.stands(raw['participant'], raw['command']) or not is_framed(self.script, read_raw(raw))
+                or self.reserved()[-1] + 2 + len(raw['confirming']) > self.capacity)
+
+    def pass_raw(self, line):
+        """The next raw request is refused."""
+        want(self.refuses_next(), line, 'the raw request %s stands before it' % self.raws[0][1]['command'])
+        self.raws.pop(0)
+
+    def pass_raws(self, line, before):
+        """So are all before a round."""
+        while self.raws and self.raws[0][0] < before:
+            self.pass_raw(line)
+
+    def has_begun(self, line, number):
+        """The Ticks up to its round stand before it, and no others."""
+        due = {at for at, round_ in enumerate(self.rounds[:number + 1]) if round_.get('advance', 0)}
         want(set(self.begun) == due, line, 'it stands in another round')
 
     def wanted(self, result, end):
@@ -106,12 +153,13 @@ class Report(World):
         name, submission = result['name'], result['submission']
         if not set(submission['act_as']) <= set(confirmed(self.host(name))):
             return ['NotHosted']
-        start = max([result['after']] + [k + 1 for n, k in self.begun.items() if n <= result['round']])
+        raws = [place + 1 for place, number in self.raw_rounds.items() if number <= result['round']]
+        start = max([result['after']] + raws + [k + 1 for n, k in self.begun.items() if n <= result['round']])
         found = []
         for read in range(end, start - 1, -1):
             known = [contract for _, contract in self.active(name, read, read)]
             try:
-                found.append(Request(self, submission, self.times[result['round']], known))
+                found.append(world_cases.wanted(self, submission, self.times[result['round']], known))
             except ledger.Refused as refused:
                 found.append(refused.line.split(' ')[0])
             except trees.NoViews:
@@ -153,7 +201,7 @@ class Report(World):
         elif rest[0] == 'LogFull':
             reserved, need = int(rest[1]), int(rest[2])
             want(reserved + need > self.capacity and reserved in self.reserved(), line, 'the log had room')
-            want(need in [self.need(r) for r in self.wanted(result, len(self.log)) if isinstance(r, Request)], line, 'it needs other room')
+            want(need in [self.need(r) for r in self.wanted(result, len(self.log)) if isinstance(r, Received)], line, 'it needs other room')
         elif not paused:
             want(rest[0] in self.wanted(result, len(self.log)), line, 'nothing that its participant can have read refuses it so')
 
@@ -213,12 +261,16 @@ def misfit(script, text, capacity=20_480):
             report.entry(line, [result for _, result in results])
         for line, result in results:
             report.result(line, result)
-        want(sum(result['sent'] is not None for _, result in results) == len(report.requests(count)), 'results', 'each request is sent by one')
+        report.pass_raws('end', len(script['rounds']))
+        sent = sum(result['sent'] is not None for _, result in results)
+        want(sent + len(report.raw_rounds) == len(report.requests(count)), 'results', 'each request is sent by one, or a raw one')
         want(report.is_settled(script['rounds'][-1] if script['rounds'] else {}, count), 'end', 'more was due')
         below = [line for line in report.report() if not line.startswith(('consistent ', 'inconsistent '))][count + 1:]
         told = [line for line in lines[count + 1:] if not line.startswith('result ')]
         apart = next((pair for pair in zip(told, below) if pair[0] != pair[1]), ('more or fewer lines', ''))
         want(told == below, apart[0], 'it has to be %s' % apart[1])
+        unlike = audit.unlike(report)
+        want(unlike is None, 'end', unlike)
     except Misfit as misfit_:
         return str(misfit_)
     return None

@@ -204,18 +204,21 @@ class LeafReader(Reader):
         self.end()
 
     def core_node(self, levels=16):
-        """How many holes a core of so many levels has; below the last stand holes alone."""
-        self.take(32)
-        self.action()
-        holes = 0
+        """A core of so many levels, with None for each of its holes. Below the last level stand holes alone."""
+        node = {'seed': self.take(32), 'action': self.action(), 'children': []}
         for _ in range(self.count(2, 63)):
-            holes += 1 if self.tag((0, 1) if levels > 1 else (1,)) == 1 else self.core_node(levels - 1)
-        return holes
+            is_hole = self.tag((0, 1) if levels > 1 else (1,)) == 1
+            node['children'].append(None if is_hole else self.core_node(levels - 1))
+        return node
 
     def contents(self):
-        holes = self.core_node()
+        core = self.core_node()
         self.end()
-        return holes
+        return core
+
+
+def holes(core):
+    return sum(1 if child is None else holes(child) for child in core['children'])
 
 
 def plain(read):
@@ -249,7 +252,7 @@ def open_whole(vertex):
     if isinstance(vertex, bytes):
         raise Bad(0)
     plain(vertex[0]).roles()
-    if plain(vertex[1]).contents() != len(vertex[2]):
+    if holes(plain(vertex[1]).contents()) != len(vertex[2]):
         raise Bad(len(vertex[1][1]))
     for below in vertex[2]:
         open_whole(below)

@@ -5,8 +5,8 @@
 
 Of two spends of one contract with 4 workers, COUNT times (100), the first has to be approved, and the second rejected as Locked or Inactive
 or refused as ContractUnknown; gen 1 7 and gen 1000 7 with 4 workers have to write as often what one thread writes; and twice as many
-runs of scripts with 1 to 8 workers, drawn from a seed, have to end with status 0. Scripts are made here, and in each second run one is
-taken from the folders: NAME.json, with the words in the lines of NAME.args, which one thread runs to status 0. The report of each
+runs of scripts with 1 to 8 workers, drawn from a seed, have to end with status 0. Scripts are made here, half of them with raw requests, and in each
+second run one is taken from the folders: NAME.json, with the words in the lines of NAME.args, which one thread runs to status 0. The report of each
 script is tried by report_check.py, which knows the rules and not the program."""
 import glob
 import json
@@ -15,6 +15,8 @@ import random
 import subprocess
 import sys
 
+import raws
+from hostile_requests import Hostile
 from report_check import misfit
 
 EXAMPLES = os.path.join(os.path.dirname(os.path.abspath(__file__)), '..', 'examples')
@@ -139,9 +141,22 @@ class Made:
             made['hold_verdicts'] = True
         return made
 
+    def lie(self, script):
+        """Hands in requests like those of some submissions as raw ones, which mostly are changed."""
+        parts = [each for each in raws.parts_of(script) if self.random.random() < 0.3]
+        requests = [each.request() for each in parts]
+        hostile = Hostile(self.random, [request['mediator'] for request in requests])
+        for each in parts:
+            round_ = next(r for r in script['rounds'] if any(each.submission is s for s in r['submits']))
+            round_.setdefault('raw', []).append(raws.spelled(hostile.request(script, each)))
+            if self.random.random() < 0.5:
+                round_['submits'] = [s for s in round_['submits'] if s is not each.submission]
+
     def source(self):
-        rounds = [self.round() for _ in range(self.random.randint(1, 5))]
-        return json.dumps({'participants': self.hosts, 'packages': self.packages, 'rounds': rounds}).encode()
+        script = {'participants': self.hosts, 'packages': self.packages, 'rounds': [self.round() for _ in range(self.random.randint(1, 5))]}
+        if self.random.random() < 0.5:
+            self.lie(script)
+        return json.dumps(script).encode()
 
 
 def drawn_runs(packages):

@@ -5,48 +5,24 @@ All is worked out from the log and from how much of it each participant and the 
 """
 import check_cases
 import ledger
+import raws
 import trees
-from hosting import confirmed, hosted, that_confirm, that_host
+from framed import is_framed, read_raw
+from hosting import confirmed, hosted
 from language import Packages
+from received import Received
 from terms import instance_text
 from tree_cases import path_text, transaction_of, tree_lines
 
 WAIT, SKEW, MOST_TIME = 30_000_000, 60_000_000, 10 ** 16
 
 
-class Request:
-    """A request: who sends it, its transaction and its views, and who confirms it."""
-
-    def __init__(self, world, submission, now, known):
-        self.world, self.submission = world, submission
-        self.sender, self.command = submission['participant'], submission['command']
-        self.ledger_time = submission.get('ledger_time', now)
-        _, self.by, self.roots = transaction_of(world.packages, known, submission)
-        self.views = list(trees.all_views(trees.split(world.packages, self.roots)))
-
-    def parties(self, kind):
-        return {party for view in self.views for party in view[kind]}
-
-    def confirming(self):
-        """Who is asked to confirm."""
-        return that_confirm(self.world.script, self.parties('confirmers'))
-
-    def recipients(self):
-        seeing = that_host(self.world.script, self.parties('informees'))
-        return [h['name'] for h in self.world.hosts if h['name'] == self.sender or h['name'] in seeing]
-
-    def seen(self, name):
-        """The topmost views that a participant sees."""
-        return trees.topmost([v for v in self.views if len(v['path']) == 1], hosted(self.world.host(name)))
-
-    def acts(self, name):
-        """The actions that a participant sees whose ids are right."""
-        for view in self.seen(name):
-            for _, node in ledger.preorder([view['nodes'][0]]):
-                action = node['action']
-                salt = node['seed'] if action['kind'] == 'create' else action['salt']
-                if ledger.contract_id(salt, action['instance']) == action['id']:
-                    yield node
+def wanted(world, submission, now, known):
+    """The request that a submission wants over the contracts that its participant knows."""
+    seed, by, roots = transaction_of(world.packages, known, submission)
+    views = trees.split(world.packages, roots)
+    parts = raws.Parts(world.script, submission, submission.get('ledger_time', now), seed, by, views)
+    return Received(world.script, world.packages, parts.request())
 
 
 class Checked(check_cases.Check):
@@ -54,22 +30,22 @@ class Checked(check_cases.Check):
 
     def __init__(self, world, name, place):
         request = world.log[place]['request']
-        self.packages, self.script, self.roots, self.by = world.packages, world.script, request.roots, request.by
-        self.host = world.host(name)
-        self.time, self.ledger_time = world.log[place]['time'], request.ledger_time
-        self.facts = world.facts(name, place)
-        seen = request.seen(name)
-        self.views = list(trees.all_views(seen))
-        self.acts = [n for v in seen for _, n in ledger.preorder([v['nodes'][0]])]
-        shown = name == request.sender or any(len(v['path']) == 1 for v in seen)
-        self.requesters = request.by if shown else None
+        self.packages, self.script, self.sender, self.offer = world.packages, world.script, request.sender, request.offer(name)
+        self.host, self.time, self.facts = world.host(name), world.log[place]['time'], world.facts(name, place)
+        if not isinstance(self.offer, str):
+            self.name, self.ledger_time, self.requesters, seen = self.offer
+            self.views = list(trees.all_views(seen))
+            self.acts = [node for _, node in ledger.preorder(request.roots(name))]
+
+    def verdict(self, path):
+        return self.offer + ' 0' if isinstance(self.offer, str) else check_cases.Check.verdict(self, path)
 
 
 class World:
     def __init__(self, script):
         self.script, self.hosts, self.packages = script, script['participants'], Packages(script.get('packages', []))
         self.log, self.now = [], 0
-        self.left = list(script['rounds'][0]['submits'])
+        self.left, self.left_raws = list(script['rounds'][0].get('submits', [])), list(script['rounds'][0].get('raw', []))
         self.paused, self.read, self.taken, self.outbox = set(), {}, {}, {}
         for host in self.hosts:
             self.read[host['name']], self.taken[host['name']], self.outbox[host['name']] = 0, set(), {}
@@ -158,11 +134,21 @@ class World:
             return
         try:
             known = [contract for _, contract in self.active(name, self.read[name], self.read[name])]
-            request = Request(self, submission, self.now, known)
+            request = wanted(self, submission, self.now, known)
         except (ledger.Refused, trees.NoViews):
             return
-        if all((r.sender, r.command) != (request.sender, request.command) for _, r in self.requests(len(self.log))):
+        if not self.stands(request.sender, request.command):
             self.append('request', request=request)
+
+    def stands(self, sender, command):
+        """Whether a request of this sender and command stands in the log."""
+        return any((r.sender, r.command) == (sender, command) for _, r in self.requests(len(self.log)))
+
+    def submit_raw(self):
+        raw = self.left_raws.pop(0)
+        request = read_raw(raw)
+        if not self.stands(raw['participant'], raw['command']) and is_framed(self.script, request):
+            self.append('request', request=Received(self.script, self.packages, request))
 
     def advance(self, by):
         if by:
@@ -174,9 +160,8 @@ class World:
         return [k for k, r in self.requests(end) if name in r.confirming() and not self.is_decided(k, end)]
 
     def verdicts(self, name, place):
-        checked, parties = Checked(self, name, place), set(confirmed(self.host(name)))
-        mine = [v['path'] for v in self.log[place]['request'].views if set(v['confirmers']) & parties]
-        return [(path_text(path), checked.verdict(path)) for path in mine]
+        checked = Checked(self, name, place)
+        return [(path_text(path), checked.verdict(path)) for path in self.log[place]['request'].asked_of(name)]
 
     def reasons(self, name, place):
         """The verdicts without the numbers of actions, as a response has them."""
@@ -242,6 +227,8 @@ class World:
             self.read_next(self.read, rest)
         elif verb == 'submit':
             self.submit()
+        elif verb == 'raw':
+            self.submit_raw()
         elif verb == 'validate':
             self.validate(rest)
         elif verb in ('reply', 'lose'):
@@ -249,17 +236,25 @@ class World:
         else:
             self.give(verb == 'lose-verdict')
 
+    def awake(self):
+        """The participants that answer."""
+        return self.hosts
+
+    def decides(self):
+        """Whether the mediator gives verdicts."""
+        return True
+
     def settle(self):
         """All that is due comes, until nothing more does."""
         before = None
         while before != len(self.log):
             before = len(self.log)
-            for host in self.hosts:
+            for host in self.awake():
                 name = host['name']
                 for place in self.owed(name, len(self.log)):
                     self.hand_in('response', place, by=name, verdicts=self.reasons(name, place))
             end = len(self.log)
-            for place, _ in self.requests(end):
+            for place, _ in self.requests(end) if self.decides() else []:
                 decision = self.decision(place, end)
                 if decision is not None:
                     self.hand_in('verdict', place, decision=decision)
@@ -327,13 +322,21 @@ class World:
 
     def applied(self, name):
         for place, request in self.approved(len(self.log), self.clean(name)):
-            roots = ledger.projection(self.packages, request.roots, hosted(self.host(name)))
-            if roots:
-                yield place, roots
+            if request.roots(name):
+                yield place, request.roots(name)
+
+    def withheld(self, name):
+        """The approved requests below the clean place that the participant ought to see and doesn't."""
+        return self.withheld_in(name, self.clean(name))
+
+    def withheld_in(self, name, most):
+        return [place for place, request in self.approved(len(self.log), most) if request.is_withheld(name)]
 
     def participant(self, name):
         clean = self.clean(name)
         yield 'participant %s clean %d time %d' % (name, clean, self.log[clean - 1]['time'] if clean else 0)
+        for place in self.withheld(name):
+            yield 'withheld %d' % place
         for place, roots in self.applied(name):
             yield 'commit %d' % place
             yield from tree_lines(roots)
@@ -341,7 +344,7 @@ class World:
             yield 'active %d %s' % (place, instance_text(contract['instance']))
 
 
-WORDS = {'mediator', 'verdict', 'lose-verdict', 'submit', 'advance', 'read', 'validate', 'reply', 'lose', 'pause', 'wake'}
+WORDS = {'mediator', 'verdict', 'lose-verdict', 'submit', 'raw', 'advance', 'read', 'validate', 'reply', 'lose', 'pause', 'wake'}
 
 
 def case_lines(script, words, late=None):
@@ -349,7 +352,9 @@ def case_lines(script, words, late=None):
     words = words.split(',')
     settles = words[-1] == 'settle'
     words = words[:-1] if settles else words
-    if not {word.partition(':')[0] for word in words} <= WORDS or words.count('submit') > len(script['rounds'][0]['submits']):
+    given = script['rounds'][0]
+    if (not {word.partition(':')[0] for word in words} <= WORDS or words.count('submit') > len(given.get('submits', []))
+            or words.count('raw') > len(given.get('raw', []))):
         return ['no events']
     if sum(int(word[8:]) for word in words if word.startswith('advance:')) > MOST_TIME:
         return ['too late']

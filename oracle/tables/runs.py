@@ -223,10 +223,6 @@ participant P1 clean 0 time 0
 end
 '''
 
-# a raw request, which nothing hands in yet
-RAW = '{"raw":[{"participant":"P1","command":"z","confirming":[],"mediator":"","envelopes":[]}]}'
-NOT_BUILT = 'canton_cli: script NotBuilt'
-
 # the same debt, which Alice transfers to Carol twice in the second round
 TWO_SPENDS = json.dumps(
     {"participants": HOSTS, "packages": [IOU], "rounds": [
@@ -441,11 +437,6 @@ RUNS = [
     ('observing-host-of-the-new-owner', 'run', INNER, 0, 0, 0, None, SEEN_INSIDE),
     ('requesters-only-observed', 'run', SUBMITTED_FOR, 0, 0, 0, None, HAS_SUBMITTED),
     ('locked-where-observed', 'run', POKED, 0, 0, 0, None, IS_POKED),
-    ('no-raw-request', 'run', NOTE % '{"raw":[]}', 0, 0, 0, None, NOTHING),
-    ('raw-request', 'run', NOTE % RAW, 0, 0, 3, NOT_BUILT, ''),
-    ('raw-request-in-the-last-round', 'run,--workers,2', NOTE % ('{"advance":1},{"raw":[]},' + RAW), 0, 0, 3, NOT_BUILT, ''),
-    ('raw-request-before-a-fault', 'run', NOTE % (RAW + ',{"advance":-1}'), 0, 0, 3, 'canton_cli: script Limit /rounds/1/advance', ''),
-    ('raw-request-to-a-sink-that-fails', 'run', NOTE % RAW, 0, 1, 3, NOT_BUILT, ''),
     ('one-debt', 'gen,1,7', '', 0, 0, 0, None, ONE_DEBT),
     # nothing is taken from the source
     ('one-debt-from-no-source', 'gen,--workers,1,1,7', HI, 1, 0, 0, None, ONE_DEBT),

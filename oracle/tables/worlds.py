@@ -1,7 +1,11 @@
 """Events of a synchroniser, with the log or the whole report that they leave, or what becomes of a job behind them, worked out by hand
 from docs/PROTOCOL.md.
 """
+import struct
+
+import raws
 from tables.transactions import IOU, asked, create, does, exercise, fetch, iou, known, note, party, prepared, transfer
+from terms import name_bytes, set_bytes
 
 ONE = [{"name": "P1", "parties": ["Alice"]}]
 THREE = [{"name": "P1", "parties": ["Bank"]}, {"name": "P2", "parties": ["Alice", "Bob"]}, {"name": "P3", "parties": ["Carol"]}]
@@ -27,6 +31,27 @@ def decides(reads):
     return words(*['mediator'] * reads, 'verdict')
 
 
+def swap(old, new):
+    """A leaf of all trees with other bytes, which stand behind their length."""
+    return ':'.join(['swap'] + [(struct.pack('>I', len(data)) + data).hex() for data in (old, new)])
+
+
+def sent_by(name):
+    """The common leaf, with the ledger time 0."""
+    return name_bytes(name) + bytes(8)
+
+
+def seen_by(*informees):
+    """The informees leaf of the view 0.0, which the Bank confirms."""
+    return set_bytes(informees) + set_bytes(['Bank'])
+
+
+def with_raws(script, *changes):
+    """A script whose last request comes raw as well, once with each of these changes."""
+    request = list(raws.requests_of(script))[-1]
+    return dict(script, rounds=[dict(script['rounds'][0], raw=[raws.spelled(dict(request, **change)) for change in changes])])
+
+
 HI = asked("P1", "c1", ["Alice"], note("Alice", "Alice", "hi"))
 HELLO = asked("P1", "c2", ["Alice"], note("Alice", "Alice", "hello"))
 NOTE, TWO_NOTES = script(ONE, HI), script(ONE, HI, HELLO)
@@ -50,6 +75,8 @@ def changed(amount):
 TRANSFER = script(THREE, C1, asked("P2", "t1", ["Alice"], transfer(of='c1')))
 WRONG_CHILD = script(THREE, C1, prepared("P2", "w1", ["Alice"], changed(11)))
 USED_AFTER = script(THREE, C1, prepared("P2", "x1", ["Alice"], changed(10), fetch(known("#P1:c1:0"), ["Alice"])))
+# the transfer comes raw with another list of whom to ask, and isn't framed; then as it is; and then once more
+RAW_TRANSFER = with_raws(TRANSFER, {'confirming': ['P1']}, {})
 TRANSIENT = script(
     THREE, asked("P2", "n1", ["Alice"], note("Alice", "Carol", "a")),
     asked("P2", "n2", ["Alice"], exercise("Note.Note", "#P2:n1:0", "Flash")))
@@ -62,6 +89,28 @@ OBSERVED_SENT = words(
 
 MOVED = ['commit 0', '  create Iou.Iou(Bank,Alice,10)', 'commit 3',
          '  consume Iou.Iou(Bank,Alice,10) Transfer(Carol) by Alice = ()', '    create Iou.Iou(Bank,Carol,10)']
+
+OWED_STILL = ['commit 0', '  create Iou.Iou(Bank,Alice,10)', 'active 0 Iou.Iou(Bank,Alice,10)']
+CAROLS = ['commit 3', '  create Iou.Iou(Bank,Carol,10)', 'active 3 Iou.Iou(Bank,Carol,10)']
+ALL_CONSISTENT = ['consistent P1', 'consistent P2', 'consistent P3']
+
+
+def approved(told):
+    """All lines where the transfer is approved, with what is told of Carol's participant."""
+    return ['entries 7'] + OWED_LOG + [
+        '3 4 request P2 t1 to P1 P2 P3', '4 5 response P1 for 3 0=approve 0.0=approve', '5 6 response P2 for 3 0=approve',
+        '6 7 verdict for 3 approved', 'outcome 0 approved', 'outcome 3 approved', 'participant P1 clean 7 time 7'] + MOVED + [
+        'active 3 Iou.Iou(Bank,Carol,10)', 'participant P2 clean 7 time 7'] + MOVED + [
+        'participant P3 clean 7 time 7'] + told + ['end'] + ALL_CONSISTENT
+
+
+def rejected(recipients, first, second, decision):
+    """All lines where the transfer is rejected."""
+    return ['entries 7'] + OWED_LOG + [
+        '3 4 request P2 t1 to ' + recipients, '4 5 response P1 for 3 ' + first, '5 6 response P2 for 3 ' + second, '6 7 verdict for 3 ' + decision,
+        'outcome 0 approved', 'outcome 3 ' + decision, 'participant P1 clean 7 time 7'] + OWED_STILL + [
+        'participant P2 clean 7 time 7'] + OWED_STILL + ['participant P3 clean 7 time 7', 'end'] + ALL_CONSISTENT
+
 
 # a name, the script, the events, and all lines or, behind None, some that follow one another
 CASES = [
@@ -77,12 +126,8 @@ CASES = [
      NOTE_REPORT),
     ('pause', TWO_NOTES, words('pause:P1', 'submit', 'wake:P1', 'submit', 'pause:P1', answers('P1'), decides(2)),
      [None, 'entries 3', '0 1 request P1 c2 to P1', '1 2 response P1 for 0 0=approve', '2 3 verdict for 0 approved', 'outcome 0 approved']),
-    ('inner-view', TRANSFER, BOTH_ANSWER, ['entries 7'] + OWED_LOG + [
-        '3 4 request P2 t1 to P1 P2 P3', '4 5 response P1 for 3 0=approve 0.0=approve', '5 6 response P2 for 3 0=approve',
-        '6 7 verdict for 3 approved', 'outcome 0 approved', 'outcome 3 approved', 'participant P1 clean 7 time 7'] + MOVED + [
-        'active 3 Iou.Iou(Bank,Carol,10)', 'participant P2 clean 7 time 7'] + MOVED + [
-        'participant P3 clean 7 time 7', 'commit 3', '  create Iou.Iou(Bank,Carol,10)', 'active 3 Iou.Iou(Bank,Carol,10)', 'end',
-        'consistent P1', 'consistent P2', 'consistent P3']),
+    ('inner-view', TRANSFER, BOTH_ANSWER, approved(CAROLS)),
+    ('raw', RAW_TRANSFER, words(OWED, 'raw', 'raw', 'submit', 'settle'), approved(CAROLS)),
     ('observing-host', OBSERVED, OBSERVED_SENT, ['entries 7', '0 1 request P1 c1 to P1 P2 P4'] + OWED_LOG[1:] + [
         '3 4 request P2 t1 to P1 P2 P3 P4', '4 5 response P1 for 3 0=approve 0.0=approve', '5 6 response P2 for 3 0=approve',
         '6 7 verdict for 3 approved', 'outcome 0 approved', 'outcome 3 approved', 'participant P1 clean 7 time 7'] + MOVED + [
@@ -107,6 +152,19 @@ LATE = [
     ('late-transfer', TRANSFER, 'P1', words(OWED, 'submit', *['read:P1'] * 3, answers('P2'), 'read:P1', 'advance:60000005'), [
         'place 3 left 2', 'pending, woken yes left 1', 'place 3 left 1', 'ready place 3', 'verdict 0 approve', 'verdict 0.0 approve',
         'place 3 left 2', 'pending, woken yes left 1', 'undecided', 'decided at 5', 'too late for 3', 'decided at 5', 'cancelled 3'])]
+
+# A name, the changes of the transfer's request by its bytes, the same by what they say, and all lines. The transfer has the views 0, which
+# Alice and the Bank confirm, and 0.0, of which Carol and the Bank are informees and which the Bank confirms.
+CHANGED = [
+    ('no-envelope', 'drop:P1', {'drop': ['P1']},
+     rejected('P1 P2 P3', '0=ViewMissing 0.0=ViewMissing', '0=approve', 'rejected P1 0 ViewMissing')),
+    ('another-root', 'flip:P1', {'damage': ['P1']},
+     rejected('P1 P2 P3', '0=RootMismatch 0.0=RootMismatch', '0=approve', 'rejected P1 0 RootMismatch')),
+    ('another-sender', swap(sent_by('P2'), sent_by('P1')), {'sender': 'P1'},
+     rejected('P1 P2 P3', '0=WrongSender 0.0=WrongSender', '0=WrongSender', 'rejected P1 0 WrongSender')),
+    ('unseen-by-carol', words(swap(seen_by('Bank', 'Carol'), seen_by('Bank')), 'drop:P3'), {'informees': [([0, 0], ['Bank'])]},
+     rejected('P1 P2', '0=approve 0.0=WrongCommon', '0=approve', 'rejected P1 0.0 WrongCommon')),
+    ('withheld-from-carol', 'drop:P3', {'drop': ['P3']}, approved(['withheld 3']))]
 
 # A name, the script, and all lines. The Bank's request stands at place 0 with its two entries behind it, and Alice's at place 3 with two
 # responses and a verdict. Who asks at once has seen the entries as far as the own request, and who asks behind the turns all. P2 has read
