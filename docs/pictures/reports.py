@@ -36,7 +36,9 @@ def broken():
     participant = "one of the report's participants, of which there are at most 8"
     action = 'an action, at most one level below the one before'
     instance = 'a place and an instance'
-    more = "a commit, an active contract, a participant or 'end'"
+    more = "a withheld place, a commit, an active contract, a participant or 'end'"
+    third = 'participant P3 clean 7 time 7\n'
+    late = replaced(transfer, 'active 3 Iou.Iou(Bank,Carol,10)\nparticipant P4', 'withheld 3\nparticipant P4')
     first = number_of(transfer, '  create Iou.Iou(')
     yield 'nothing', '', 1, "'entries' and a number below 2^64"
     yield 'cut_in_a_line', '\n'.join(lines[:4]) + '\n' + lines[4][:9], 5, whole_line
@@ -56,6 +58,8 @@ def broken():
     yield 'deep_action', transfer.replace('\n  create', '\n    create', 1), first, action
     yield 'odd_blanks', transfer.replace('\n  create', '\n create', 1), first, action
     yield 'text_without_quote', example('one-note').replace('"hi")', '"hi)', 1), number_of(example('one-note'), '  create'), action
+    yield 'bad_withheld', replaced(transfer, third, third + 'withheld x\n'), number_of(transfer, third) + 1, 'the place of a withheld request'
+    yield 'late_withheld', late, number_of(late, 'withheld 3'), more
     yield 'bad_active', transfer.replace('\nactive 3 ', '\nactive x ', 1), number_of(transfer, 'active 3 '), instance
     yield 'two_ends', transfer + 'end\n', len(lines), "nothing behind 'end'"
     yield 'no_utf8', transfer.replace('1 2 response', '1 2 \udcff'), 3, 'UTF-8'
@@ -86,7 +90,8 @@ def worded_report():
     names = ['Participant-%d-of-a-long-name' % at for at in range(1, 9)]
     first, last = names[0], names[-1]
     text = 'T.T(A,[],[A,B],-9223372036854775807,true,false,(),"<a href=\\x22x\\x22>&\'\\x0a\u6f22\u5b57\ufffe",%s)' % HASH
-    lines = ['entries 9', '0 1 request %s c1 to %s' % (first, ' '.join(names)), '1 2 response %s for 0 0=approve 0.0=NotConformant' % first,
+    views = '0=approve 0.0=NotConformant 0.1=RootMismatch 0.2=ViewMissing 0.3=WrongSender 0.4=WrongCommon'
+    lines = ['entries 9', '0 1 request %s c1 to %s' % (first, ' '.join(names)), '1 2 response %s for 0 %s' % (first, views),
              '2 3 verdict for 0 rejected %s 0.0 NotConformant' % first, '3 4 request %s c2 to %s' % (last, last),
              '4 9999999999999999 tick', '5 10000000000000000 verdict for 3 timeout %s %s' % (first, last),
              '6 10000000000000001 request %s c3 to %s' % (last, last), '7 18446744073709551614 tick',
@@ -98,7 +103,7 @@ def worded_report():
     lines += ['outcome 0 rejected %s 0.0 NotConformant' % first, 'outcome 3 timeout %s %s' % (first, last), 'outcome 6 expired', 'outcome 8 undecided']
     for name in names:
         lines.append('participant %s clean 8 time 18446744073709551614' % name)
-        lines += ['commit 0', '  create ' + text, '  consume %s Go() by A,B = ()' % text, '    exercise %s Go(1,"x") by A = [A]' % text,
+        lines += ['withheld 3', 'withheld 6', 'commit 0', '  create ' + text, '  consume %s Go() by A,B = ()' % text, '    exercise %s Go(1,"x") by A = [A]' % text,
                   '      fetch %s by A' % text, '  exercise T.T() Go() by A = "y"', 'active 0 ' + text]
     return '\n'.join(lines + ['end', ''])
 
