@@ -49,7 +49,7 @@ active_of_place reading p all false k None = refl
 active_of_place reading p all false k (Some t) = refl
 
 -- the commits of places that a second test keeps too
-kept_below_place : (reading : Reading) (log : List Entry) (held : ℕ → Bool) (k : ℕ) → without_places held (commits_below reading log k) ≡ ledger_below (λ m. is_approved_in m (timeline_of log) && not (held m)) (whole_at reading log) k
+pub kept_below_place : (reading : Reading) (log : List Entry) (held : ℕ → Bool) (k : ℕ) → without_places held (commits_below reading log k) ≡ ledger_below (λ m. is_approved_in m (timeline_of log) && not (held m)) (whole_at reading log) k
 kept_below_place reading log held zero = refl
 kept_below_place reading log held (suc k) =
     filter_append (λ (commit : Commit). not (held commit.place)) (commits_below reading log k) (commit_if (is_approved_in k (timeline_of log)) (whole_at reading log k))
@@ -245,11 +245,10 @@ module _ (reading : Reading) (params : Params) (log : List Entry) (lawful : IsRe
       let commits = active_append reading p (ledger_part m) (kept_commits k) (commit_if (kept k) (whole_at reading log k)) in
       ap (λ (xs : List ActiveRow). xs ++ mine) rest ∙ (ap (λ (xs : List ActiveRow). before ++ xs) (here ∙ sym place) ∙ sym commits)
 
-  kept_sets : kept_below reading p its (authentic_below reading its (clean params its)) (clean params its) ≡ kept_of reading p (ledger_acts (kept_commits (clean params its))) (kept_commits (clean params its))
-  kept_sets =
-      let same = ledger_gathered kept (whole_at reading log) (clean params its) in
-      active_upto (clean params its) (clean params its) (le_refl _) (le_refl _)
-      ∙ ap (λ (all : List Act). kept_of reading p all (kept_commits (clean params its))) (sym same)
+  kept_sets : (m : ℕ) → m ≤ clean params its → kept_below reading p its (authentic_below reading its m) m ≡ kept_of reading p (ledger_acts (kept_commits m)) (kept_commits m)
+  kept_sets m le =
+      let same = ledger_gathered kept (whole_at reading log) m in
+      active_upto m m le (le_refl _) ∙ ap (λ (all : List Act). kept_of reading p all (kept_commits m)) (sym same)
 
   -- a row is of an action of the ledger
   record OfLedger (r : ActiveRow) : Type 0 where
@@ -269,10 +268,10 @@ module _ (reading : Reading) (params : Params) (log : List Entry) (lawful : IsRe
       let instances : a.known.instance ≡ b.known.instance = x.same_instance ∙ (one ∙ sym y.same_instance) in
       rw (same, instances) refl
 
-  rows_here : (r : ActiveRow) → In r (created_below reading its (clean params its)) → OfLedger r
-  rows_here r h =
-      let w = create_below reading its (clean params its) r h in
-      let there = counts w.0 w.3 w.1 w.2 w.4 in
+  rows_here : (m : ℕ) → m ≤ clean params its → (r : ActiveRow) → In r (created_below reading its m) → OfLedger r
+  rows_here m le r h =
+      let w = create_below reading its m r h in
+      let there = counts w.0 w.3 (let low = w.1 in omega (arith, low, le)) w.2 w.4 in
       record {
         place = w.0;
         act = w.3;
@@ -282,12 +281,12 @@ module _ (reading : Reading) (params : Params) (log : List Entry) (lawful : IsRe
         same_instance = ap (λ (x : ActiveRow). x.known.instance) (sym w.5);
       }
 
-  rows_there : (r : ActiveRow) → In r (created_by (kept_commits (clean params its))) → OfLedger r
-  rows_there r h =
-      let w = create_by (kept_commits (clean params its)) r h in
-      let inside : In w.2 (ledger_acts (kept_commits (clean params its))) = in_ledger_acts (kept_commits (clean params its)) w.0 w.2 w.1 w.3 in
-      let gathered : In w.2 (ledger_part (clean params its)) = subst (λ (xs : List Act). In w.2 xs) (ledger_gathered kept (whole_at reading log) (clean params its)) inside in
-      let k = in_gather kept whole_acts (clean params its) w.2 gathered in
+  rows_there : (m : ℕ) → (r : ActiveRow) → In r (created_by (kept_commits m)) → OfLedger r
+  rows_there m r h =
+      let w = create_by (kept_commits m) r h in
+      let inside : In w.2 (ledger_acts (kept_commits m)) = in_ledger_acts (kept_commits m) w.0 w.2 w.1 w.3 in
+      let gathered : In w.2 (ledger_part m) = subst (λ (xs : List Act). In w.2 xs) (ledger_gathered kept (whole_at reading log) m) inside in
+      let k = in_gather kept whole_acts m w.2 gathered in
       record {
         place = k.0;
         act = w.2;
@@ -302,17 +301,22 @@ module _ (reading : Reading) (params : Params) (log : List Entry) (lawful : IsRe
       in_ledger_acts (x ∷ xs) c a (inl same) j = in_append_left (acts x.roots) (ledger_acts xs) a (subst (λ (y : Commit). In a (acts y.roots)) (sym same) j)
       in_ledger_acts (x ∷ xs) c a (inr t) j = in_append_right (acts x.roots) (ledger_acts xs) a (in_ledger_acts xs c a t j)
 
-  mapped_sets : node_active reading p its (clean params its) ≡ active_of reading p (without_places held (commits_below reading log (clean params its)))
-  mapped_sets =
-      let mine = authentic_below reading its (clean params its) in
-      let commits = kept_commits (clean params its) in
+  mapped_sets : (m : ℕ) → m ≤ clean params its → node_active reading p its m ≡ active_of reading p (without_places held (commits_below reading log m))
+  mapped_sets m le =
+      let mine = authentic_below reading its m in
+      let commits = kept_commits m in
       let theirs = ledger_acts commits in
-      first_filtered (is_active_row reading p mine) (created_below reading its (clean params its)) (one_contract mine _ rows_here)
-      ∙ (ap first_of_each (active_below reading p mine its (clean params its) ∙ (kept_sets ∙ sym (active_by reading p theirs commits)))
-      ∙ (sym (first_filtered (is_active_row reading p theirs) (created_by commits) (one_contract theirs _ rows_there))
-      ∙ ap (active_of reading p) (sym (kept_below_place reading log held (clean params its)))))
+      first_filtered (is_active_row reading p mine) (created_below reading its m) (one_contract mine _ (rows_here m le))
+      ∙ (ap first_of_each (active_below reading p mine its m ∙ (kept_sets m le ∙ sym (active_by reading p theirs commits)))
+      ∙ (sym (first_filtered (is_active_row reading p theirs) (created_by commits) (one_contract theirs _ (rows_there m)))
+      ∙ ap (active_of reading p) (sym (kept_below_place reading log held m))))
+
+  -- at each place up to the clean one
+  pub active_sets_up_to : (m : ℕ) → m ≤ clean params (inbox reading p (take n log))
+      → node_active reading p (inbox reading p (take n log)) m ≡ active_of reading p (without_places (is_withheld reading log p) (commits_below reading log m))
+  active_sets_up_to m le =
+      subst (λ (all : List Item). m ≤ clean params all → node_active reading p all m ≡ active_of reading p (without_places held (commits_below reading log m)))
+      (sym (inbox_is_mapped reading params log p n genuine.timely)) (mapped_sets m) le
 
   pub active_sets : node_active reading p (inbox reading p (take n log)) (clean params (inbox reading p (take n log))) ≡ active_of reading p (without_places (is_withheld reading log p) (commits_below reading log (clean params (inbox reading p (take n log)))))
-  active_sets =
-      subst (λ (all : List Item). node_active reading p all (clean params all) ≡ active_of reading p (without_places held (commits_below reading log (clean params all))))
-      (sym (inbox_is_mapped reading params log p n genuine.timely)) mapped_sets
+  active_sets = active_sets_up_to (clean params (inbox reading p (take n log))) (le_refl _)

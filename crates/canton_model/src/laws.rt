@@ -20,6 +20,7 @@ ghost use Rattle.canton_model.specs.Inbox;
 ghost use Rattle.canton_model.specs.Inbox.{Item, IsClean, item_after, active_of, active_row, clean, inbox, is_informed, node_active};
 ghost use Rattle.canton_model.specs.Inbox.{node_log, project_ledger, has_hosted_stakeholder, is_locked_in_inbox, status_in_inbox};
 ghost use Rattle.canton_model.specs.Inbox.{is_decided_in, outcome_in, is_withheld_in, without_places, withheld, confirms_signatory};
+ghost use Rattle.canton_model.specs.Shared.{shared_with};
 ghost use Rattle.canton_model.specs.Ledger.{whole_at, commits_below, Timely, requests_of, ledger, status_in, is_guard, is_withheld, opened_to};
 ghost use Rattle.canton_model.specs.Genuine.{Genuine, EntryFits, IsReading, FramedFacts, IsVouched, NoCollision};
 ghost use Rattle.canton_model.specs.Causes.{CauseOf, LocalCauseOf, IsLockedIn};
@@ -134,16 +135,34 @@ pub fn approved_requests_are_vouched_for()
         → IsVouched reading request path }
 {}
 
-/// A participant's active contracts at its clean place are those with a hosted stakeholder that the ledger's commits below
-/// that place, taken whole and without the places that are withheld from it, create and don't consume.
+/// A participant's active contracts at each place up to its clean one are those with a hosted stakeholder that the ledger's
+/// commits below that place, taken whole and without the places that are withheld from it, create and don't consume.
 pub fn active_sets_are_exact()
-    ensures { (reading : Reading) (params : Params) (log : List Entry) (p : ParticipantId) (n : ℕ)
+    ensures { (reading : Reading) (params : Params) (log : List Entry) (p : ParticipantId) (n m : ℕ)
         → IsReading reading
         → NoCollision reading log
         → Genuine reading params log
         → n ≤ length log
-        → node_active reading p (inbox reading p (take n log)) (clean params (inbox reading p (take n log)))
-        ≡ active_of reading p (without_places (is_withheld reading log p) (commits_below reading log (clean params (inbox reading p (take n log))))) }
+        → m ≤ clean params (inbox reading p (take n log))
+        → node_active reading p (inbox reading p (take n log)) m
+        ≡ active_of reading p (without_places (is_withheld reading log p) (commits_below reading log m)) }
+{}
+
+/// Two participants know the same contracts of which each of them hosts a stakeholder, at each place up to both of their clean
+/// places and below which nothing is withheld from either, however far each has read.
+pub fn shared_contracts_agree()
+    ensures { (reading : Reading) (params : Params) (log : List Entry) (p q : ParticipantId) (n o m : ℕ)
+        → IsReading reading
+        → NoCollision reading log
+        → Genuine reading params log
+        → n ≤ length log
+        → o ≤ length log
+        → m ≤ clean params (inbox reading p (take n log))
+        → m ≤ clean params (inbox reading q (take o log))
+        → ((k : ℕ) → k < m → is_withheld reading log p k ≡ false)
+        → ((k : ℕ) → k < m → is_withheld reading log q k ≡ false)
+        → shared_with reading q (node_active reading p (inbox reading p (take n log)) m)
+        ≡ shared_with reading p (node_active reading q (inbox reading q (take o log)) m) }
 {}
 
 /// The premises of `one_ledger_of_genuine_log` can be met, and the definitions compute.

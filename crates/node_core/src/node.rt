@@ -298,6 +298,15 @@ impl<'s> Node<'s> {
         self.inbox.active(alloc)
     }
 
+    /// The active contracts with a hosted stakeholder at a place, in order of creation, by all that it has read. Up to its clean
+    /// place they are the ledger's without what is withheld from it (`active_sets_are_exact`). Goes through the places below the one
+    /// that is asked for.
+    pub fn active_at(&self, alloc: Global, place: u64) -> Result<ActiveRowList, AllocError>
+        ensures { IfOk result (λ rows. rows ≡ node_active (reading_of self.now) self.now.me (items_of self.now) place) }
+    {
+        self.inbox.active_at(alloc, place)
+    }
+
     /// What became of a request that it received, over what it has read.
     pub fn completion_of(&self, place: u64) -> Result<Completion, AllocError>
         requires { is_some (notice_at (items_of self.now) place) ≡ true }

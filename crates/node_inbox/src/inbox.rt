@@ -332,8 +332,10 @@ impl<'s> Inbox<'s> {
         }
     }
 
-    // The active contracts with a hosted stakeholder at a place, in order of creation. Goes on from those that are kept.
-    fn active_at(&self, alloc: Global, place: u64) -> Result<ActiveRowList, AllocError>
+    /// The active contracts with a hosted stakeholder at a place, in order of creation, by all that was read. Up to the clean place
+    /// they are the ledger's. Goes through the places below the one that is asked for, from those on that are kept, and not
+    /// through items above it.
+    pub fn active_at(&self, alloc: Global, place: u64) -> Result<ActiveRowList, AllocError>
         ensures { IfOk result (λ rows. rows ≡ node_active (reading_of self.now) self.now.me self.now.items place) }
     {
         let hosting = Hosting::new(self.setup, self.me, self.hosted_contracts());
