@@ -1,4 +1,5 @@
--- The job that words ask for: `run [--workers N] [--log N]` or `gen COUNT SEED [--workers N]`.
+-- The job that words ask for: `run [--workers N] [--log N]`, `commitments [--workers N] [--log N]` or
+-- `gen COUNT SEED [--workers N]`.
 use Rattle.std.specs.Prelude.{ℕ, Bool, ◌&&◌, List, [], ◌∷◌, length, Option, Some, None, if◌then◌else◌, nat_le, option_map, codes}
 use Rattle.std.specs.Borrow.{Bor}
 use Rattle.std.specs.List.{list_all}
@@ -9,7 +10,8 @@ use Rattle.ledger_terms.specs.declared.limits.TheConstants.{MOST_PLACES}
 use Rattle.cli_words.specs.Arguments.{Text, Argument, text_of, arguments_of}
 use Rattle.cli_words.specs.declared.limits.TheConstants.{MOST_DIGITS, MOST_WORKERS, MOST_COUNT, MOST_SEED}
 use Rattle.cli_words.specs.declared.job.Job.{Job}
-use Rattle.cli_words.specs.declared.job.Job.TheVariants.{Run, Gen}
+use Rattle.cli_words.specs.declared.job.Job.TheVariants.{Run, Gen, Commitments}
+use Rattle.cli_words.specs.declared.run_options.RunOptions.{RunOptions}
 
 infixl 10 ◌>>=◌
 abbrev pub ◌>>=◌ : {A B : Type 0} → Option A → (A → Option B) → Option B
@@ -68,13 +70,24 @@ given_in given =
 unfoldable pub given_of : List Text → Option Given
 given_of words = option_map given_in (arguments_of words)
 
-unfoldable pub run_of : Given → Option Job
-run_of given = do
+-- the options of a job on the source's script
+unfoldable pub options_of : Given → Option RunOptions
+options_of given = do
   _ ← absent given.count
   _ ← absent given.seed
   workers ← number_or 0 0 MOST_WORKERS given.workers
   log ← number_or MOST_PLACES 1 MOST_PLACES given.log
-  Some (Run workers log)
+  Some (record { workers = workers; log = log })
+
+unfoldable pub run_of : Given → Option Job
+run_of given = do
+  options ← options_of given
+  Some (Run options.workers options.log)
+
+unfoldable pub commitments_of : Given → Option Job
+commitments_of given = do
+  options ← options_of given
+  Some (Commitments options.workers options.log)
 
 unfoldable pub gen_of : Given → Option Job
 gen_of given = do
@@ -86,7 +99,10 @@ gen_of given = do
 
 abbrev pub job_by : Text → Given → Option Job
 job_by command given =
-    if bytes_eq command (codes "run") then run_of given else (if bytes_eq command (codes "gen") then gen_of given else None)
+    if bytes_eq command (codes "run") then run_of given
+    else if bytes_eq command (codes "commitments") then commitments_of given
+    else if bytes_eq command (codes "gen") then gen_of given
+    else None
 
 -- The job that the words ask for, after the program's name; none where they are not accepted.
 unfoldable pub job_of : List Text → Option Job

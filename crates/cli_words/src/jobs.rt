@@ -1,12 +1,13 @@
 //! Jobs from what is given.
 ghost use Rattle.std.specs.Prelude.{◌≡◌, ◌≤◌, IfSome};
 ghost use Rattle.cli_words.specs.Command.{matches_given};
-ghost use Rattle.cli_words.specs.Jobs.{number_or, run_of, gen_of, job_by};
-ghost use Rattle.cli_words.specs.Within.{IsWithin};
+ghost use Rattle.cli_words.specs.Jobs.{number_or, options_of, run_of, commitments_of, gen_of, job_by};
+ghost use Rattle.cli_words.specs.Within.{AreWithin, IsWithin};
 
 use crate::job::Job;
 use crate::limits::{MOST_COUNT, MOST_SEED, MOST_WORKERS};
 use crate::numbers::{number_of, number_or};
+use crate::run_options::RunOptions;
 use clap::ArgMatches;
 use ledger_terms::limits::MOST_PLACES;
 
@@ -19,11 +20,11 @@ fn workers_of(given: &ArgMatches<'_>) -> Option<u32>
     Some(workers as u32)
 }
 
-/// A run of the source's script.
-#[tactic(auto, unfolding(crate::specs::Jobs::run_of))]
-fn run_of(given: &ArgMatches<'_>) -> Option<Job>
-    ensures job { result ≡ run_of (matches_given given.now) }
-    ensures within { IfSome result IsWithin }
+/// The options of a job on the source's script.
+#[tactic(auto, unfolding(crate::specs::Jobs::options_of))]
+fn options_of(given: &ArgMatches<'_>) -> Option<RunOptions>
+    ensures options { result ≡ options_of (matches_given given.now) }
+    ensures within { IfSome result AreWithin }
 {
     if given.get_str("count").is_some() || given.get_str("seed").is_some() {
         return None;
@@ -31,7 +32,27 @@ fn run_of(given: &ArgMatches<'_>) -> Option<Job>
     let workers = workers_of(given)?;
     let most = MOST_PLACES as u64;
     let log = number_or(most, 1, most, given.get_str("log"))?;
+    Some(RunOptions { workers, log })
+}
+
+/// A run of the source's script.
+#[tactic(auto, unfolding(crate::specs::Jobs::run_of))]
+fn run_of(given: &ArgMatches<'_>) -> Option<Job>
+    ensures job { result ≡ run_of (matches_given given.now) }
+    ensures within { IfSome result IsWithin }
+{
+    let RunOptions { workers, log } = options_of(given)?;
     Some(Job::Run { workers, log })
+}
+
+/// The commitments of the source's script.
+#[tactic(auto, unfolding(crate::specs::Jobs::commitments_of))]
+fn commitments_of(given: &ArgMatches<'_>) -> Option<Job>
+    ensures job { result ≡ commitments_of (matches_given given.now) }
+    ensures within { IfSome result IsWithin }
+{
+    let RunOptions { workers, log } = options_of(given)?;
+    Some(Job::Commitments { workers, log })
 }
 
 /// A run of a generated script.
@@ -60,6 +81,8 @@ pub(crate) fn job_by(command: &str, given: &ArgMatches<'_>) -> Option<Job>
 {
     if command == "run" {
         run_of(given)
+    } else if command == "commitments" {
+        commitments_of(given)
     } else if command == "gen" {
         gen_of(given)
     } else {

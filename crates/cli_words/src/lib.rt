@@ -8,6 +8,7 @@ mod laws;
 mod limits;
 mod numbers;
 mod read;
+mod run_options;
 mod word_list;
 mod words_fault;
 
