@@ -33,6 +33,10 @@ fn put_asked(job: Job, out: &mut Answer) {
             put_numbered("run workers ", workers as u64, out);
             put_numbered(" log ", log as u64, out);
         }
+        Job::Commitments { workers, log } => {
+            put_numbered("commitments workers ", workers as u64, out);
+            put_numbered(" log ", log as u64, out);
+        }
         Job::Gen {
             count,
             seed,
