@@ -1,0 +1,133 @@
+-- The readings of paths, responses and verdicts.
+use Rattle.std.specs.Prelude.{ℕ, zero, suc, Bool, true, List, [], ◌∷◌, Result, Ok, Err, length, nat_lt}
+use Rattle.std.specs.Int.{w16, w64}
+use Rattle.ledger_terms.specs.declared.limits.TheConstants.{MOST_ACTION_DEPTH}
+use Rattle.wire_form.specs.Formats.{◌>>=◌, Reading, both_at, seen_at, counted_at, any_item}
+use Rattle.wire_form.specs.Fields.{byte_at, number_at, count_at, small_count_at}
+use Rattle.canton_model.specs.declared.reason.Reason.{Reason}
+use Rattle.canton_model.specs.declared.reason.Reason.TheVariants.{IdMismatch, NotVetted, TimeSkew, Locked, Inactive, NotFresh}
+use Rattle.canton_model.specs.declared.reason.Reason.TheVariants.{Unordered, NotConformant, NotAuthorised}
+use Rattle.canton_model.specs.declared.reason.Reason.TheVariants.{RootMismatch, ViewMissing, WrongSender, WrongCommon}
+use Rattle.canton_model.specs.declared.local_verdict.LocalVerdict.{LocalVerdict}
+use Rattle.canton_model.specs.declared.local_verdict.LocalVerdict.TheVariants.{Approve, Reject}
+use Rattle.canton_model.specs.declared.view_verdict.ViewVerdict.{ViewVerdict}
+use Rattle.canton_model.specs.declared.response.Response.{Response}
+use Rattle.canton_model.specs.declared.decision.Decision.{Decision}
+use Rattle.canton_model.specs.declared.decision.Decision.TheVariants.{Approved, Rejected, TimedOut}
+use Rattle.canton_model.specs.declared.verdict.Verdict.{Verdict}
+
+-- the most that a byte and two bytes count
+abbrev pub MOST_OF_BYTE : ℕ
+MOST_OF_BYTE = 255
+
+abbrev pub MOST_OF_TWO_BYTES : ℕ
+MOST_OF_TWO_BYTES = 65535
+
+-- A count of one byte and the steps. No view lies deeper than a transaction has levels.
+unfoldable pub path_at : Reading (List ℕ)
+path_at = counted_at (small_count_at MOST_ACTION_DEPTH) any_item (number_at w16)
+
+-- the reason of a number
+unfoldable pub numbered_reason_at : ℕ → List ℕ → ℕ → Result (Reason × List ℕ) ℕ
+numbered_reason_at zero rest here = Err here
+numbered_reason_at (suc zero) rest here = Ok (IdMismatch, rest)
+numbered_reason_at (suc (suc zero)) rest here = Ok (NotVetted, rest)
+numbered_reason_at (suc (suc (suc zero))) rest here = Ok (TimeSkew, rest)
+numbered_reason_at (suc (suc (suc (suc zero)))) rest here = Ok (Locked, rest)
+numbered_reason_at (suc (suc (suc (suc (suc zero))))) rest here = Ok (Inactive, rest)
+numbered_reason_at (suc (suc (suc (suc (suc (suc zero)))))) rest here = Ok (NotFresh, rest)
+numbered_reason_at (suc (suc (suc (suc (suc (suc (suc zero))))))) rest here = Ok (Unordered, rest)
+numbered_reason_at (suc (suc (suc (suc (suc (suc (suc (suc zero)))))))) rest here = Ok (NotConformant, rest)
+numbered_reason_at (suc (suc (suc (suc (suc (suc (suc (suc (suc zero))))))))) rest here = Ok (NotAuthorised, rest)
+numbered_reason_at (suc (suc (suc (suc (suc (suc (suc (suc (suc (suc zero)))))))))) rest here = Ok (RootMismatch, rest)
+numbered_reason_at (suc (suc (suc (suc (suc (suc (suc (suc (suc (suc (suc zero))))))))))) rest here = Ok (ViewMissing, rest)
+numbered_reason_at (suc (suc (suc (suc (suc (suc (suc (suc (suc (suc (suc (suc zero)))))))))))) rest here = Ok (WrongSender, rest)
+numbered_reason_at (suc (suc (suc (suc (suc (suc (suc (suc (suc (suc (suc (suc (suc zero))))))))))))) rest here = Ok (WrongCommon, rest)
+numbered_reason_at (suc (suc (suc (suc (suc (suc (suc (suc (suc (suc (suc (suc (suc (suc n)))))))))))))) rest here = Err here
+
+unfoldable pub reason_at : Reading Reason
+reason_at bytes = do
+  number ← byte_at bytes
+  numbered_reason_at number.0 number.1 (length bytes)
+
+-- the parts of a rejection
+abbrev pub RejectParts : Type 0
+RejectParts = Reason × ℕ
+
+abbrev pub reject_of : RejectParts → LocalVerdict
+reject_of parts = Reject parts.0 parts.1
+
+-- what follows the tag of a local verdict
+unfoldable pub tagged_local_at : ℕ → List ℕ → ℕ → Result (LocalVerdict × List ℕ) ℕ
+tagged_local_at zero rest here = Ok (Approve, rest)
+tagged_local_at (suc zero) rest here = seen_at reject_of (both_at reason_at (number_at w16)) rest
+tagged_local_at (suc (suc n)) rest here = Err here
+
+unfoldable pub local_at : Reading LocalVerdict
+local_at bytes = do
+  tag ← byte_at bytes
+  tagged_local_at tag.0 tag.1 (length bytes)
+
+-- a view's path and a verdict
+abbrev pub ViewVerdictParts : Type 0
+ViewVerdictParts = List ℕ × LocalVerdict
+
+abbrev pub view_verdict_of : ViewVerdictParts → ViewVerdict
+view_verdict_of parts = record { view = parts.0; verdict = parts.1 }
+
+unfoldable pub view_verdict_at : Reading ViewVerdict
+view_verdict_at = seen_at view_verdict_of (both_at path_at local_at)
+
+-- two bytes of count and the verdicts
+unfoldable pub view_verdicts_at : Reading (List ViewVerdict)
+view_verdicts_at = counted_at (count_at MOST_OF_TWO_BYTES) any_item view_verdict_at
+
+-- the parts of a response, one after another
+abbrev pub ResponseParts : Type 0
+ResponseParts = (ℕ × ℕ) × List ViewVerdict
+
+abbrev pub response_of : ResponseParts → Response
+response_of parts = record { from = parts.0.0; request = parts.0.1; verdicts = parts.1 }
+
+-- a participant up to the greatest that there is
+unfoldable pub response_at : (most : ℕ) → Reading Response
+response_at most = seen_at response_of (both_at (both_at (small_count_at most) (number_at w64)) view_verdicts_at)
+
+-- whether a participant stands above the last of these
+abbrev pub is_past : List ℕ → ℕ → Bool
+is_past [] p = true
+is_past (q ∷ []) p = nat_lt q p
+is_past (q ∷ next ∷ more) p = is_past (next ∷ more) p
+
+-- a count of one byte and participants that ascend
+unfoldable pub participants_at : (most : ℕ) → Reading (List ℕ)
+participants_at most = counted_at (small_count_at MOST_OF_BYTE) is_past (small_count_at most)
+
+-- the parts of a rejection by the mediator
+abbrev pub RejectedParts : Type 0
+RejectedParts = (ℕ × List ℕ) × Reason
+
+abbrev pub rejected_of : RejectedParts → Decision
+rejected_of parts = Rejected parts.0.0 parts.0.1 parts.1
+
+-- what follows the tag of a decision
+unfoldable pub tagged_decision_at : (most : ℕ) → ℕ → List ℕ → ℕ → Result (Decision × List ℕ) ℕ
+tagged_decision_at most zero rest here = Ok (Approved, rest)
+tagged_decision_at most (suc zero) rest here = seen_at rejected_of (both_at (both_at (small_count_at most) path_at) reason_at) rest
+tagged_decision_at most (suc (suc zero)) rest here = seen_at TimedOut (participants_at most) rest
+tagged_decision_at most (suc (suc (suc n))) rest here = Err here
+
+unfoldable pub decision_at : (most : ℕ) → Reading Decision
+decision_at most bytes = do
+  tag ← byte_at bytes
+  tagged_decision_at most tag.0 tag.1 (length bytes)
+
+-- the place of the request and the decision
+abbrev pub VerdictParts : Type 0
+VerdictParts = ℕ × Decision
+
+abbrev pub verdict_of : VerdictParts → Verdict
+verdict_of parts = record { request = parts.0; decision = parts.1 }
+
+unfoldable pub verdict_at : (most : ℕ) → Reading Verdict
+verdict_at most = seen_at verdict_of (both_at (number_at w64) (decision_at most))

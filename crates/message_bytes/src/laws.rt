@@ -1,0 +1,28 @@
+//! Laws of the formats, each the contract of a function with nothing to do.
+ghost use Rattle.std.specs.Prelude.{ℕ};
+ghost use Rattle.wire_form.specs.Laws.{HasOneSpelling, IsEnoughFor, NoneBeginsAnother};
+ghost use Rattle.message_bytes.specs.InRange.{IsPath, IsResponse, IsVerdict};
+ghost use Rattle.message_bytes.specs.Reading.{path_at, response_at, verdict_at};
+ghost use Rattle.message_bytes.specs.Spellable.{IsSpellablePath, IsSpellableResponse, IsSpellableVerdict};
+ghost use Rattle.message_bytes.specs.Spelling.{spell_path, spell_response, spell_verdict};
+
+/// No spelling begins another, so bytes that begin with a spelling begin with only one.
+pub fn none_begins_another()
+    ensures paths { NoneBeginsAnother spell_path IsPath }
+    ensures responses { (most : ℕ) → NoneBeginsAnother spell_response (IsResponse most) }
+    ensures verdicts { (most : ℕ) → NoneBeginsAnother spell_verdict (IsVerdict most) }
+{}
+
+/// Each value has one spelling: the bytes that are read as it are its spelling, which is read as it.
+pub fn one_spelling()
+    ensures paths { HasOneSpelling spell_path IsPath path_at }
+    ensures responses { (most : ℕ) → HasOneSpelling spell_response (IsResponse most) (response_at most) }
+    ensures verdicts { (most : ℕ) → HasOneSpelling spell_verdict (IsVerdict most) (verdict_at most) }
+{}
+
+/// What a decoder gives can be encoded.
+pub fn in_range_is_spellable()
+    ensures paths { IsEnoughFor IsPath IsSpellablePath }
+    ensures responses { (most : ℕ) → IsEnoughFor (IsResponse most) IsSpellableResponse }
+    ensures verdicts { (most : ℕ) → IsEnoughFor (IsVerdict most) IsSpellableVerdict }
+{}
