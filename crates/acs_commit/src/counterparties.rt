@@ -1,10 +1,9 @@
 //! The contracts in which another participant has a part.
-ghost use Rattle.std.specs.Prelude.{◌≡◌, ◌++◌, ◌∷◌, [], map, IfOk, OnOk};
+ghost use Rattle.std.specs.Prelude.{◌≡◌, ◌++◌, ◌∷◌, [], IfOk, OnOk};
 ghost use Rattle.ledger_terms.specs.Parties.{set_of};
 ghost use Rattle.canton_model.specs.Inbox.{is_stakeholder_hosted};
-ghost use Rattle.canton_model.specs.Shared.{shared_with};
 ghost use Rattle.framed_form.specs.FramedReading.{framed_reading};
-ghost use Rattle.acs_commit.specs.Shared.{row_id, shared_ids};
+ghost use Rattle.acs_commit.specs.Shared.{shared_ids};
 
 use crate::commit_tree::CommitTree;
 use lang_eval::{Checked, EvalFault, has_kinds, parties_of_contract};
