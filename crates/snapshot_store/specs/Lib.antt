@@ -1,0 +1,5 @@
+pub mod Spelling
+pub mod Reading
+pub mod Whole
+pub mod InRange
+pub mod Spellable

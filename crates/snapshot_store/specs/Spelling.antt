@@ -1,0 +1,75 @@
+-- The one spelling of a state. Numbers have their high byte first.
+use Rattle.std.specs.Prelude.{ℕ, Bool, List, [], ◌∷◌, ◌++◌, length, Option, Some, None}
+use Rattle.std.specs.Int.{w16, w32, w64, to_be_bytes}
+use Rattle.std.specs.List.{flat_map}
+use Rattle.ledger_terms.specs.declared.active_row.ActiveRow.{ActiveRow}
+use Rattle.canton_model.specs.declared.response.Response.{Response}
+use Rattle.wire_form.specs.Spelling.{spell_name, spell_truth, spell_instance}
+use Rattle.message_bytes.specs.Spelling.{spell_participant, spell_path, spell_response, spell_verdict}
+use Rattle.snapshot_store.specs.declared.item.Item.{Item}
+use Rattle.snapshot_store.specs.declared.item_what.ItemWhat.{ItemWhat}
+use Rattle.snapshot_store.specs.declared.item_what.ItemWhat.TheVariants.{Nothing, Request, Verdict}
+use Rattle.snapshot_store.specs.declared.node_state.NodeState.{NodeState}
+
+-- four bytes of count and the items
+abbrev pub spell_counted : {A : Type 0} → (A → List ℕ) → List A → List ℕ
+spell_counted spell xs = to_be_bytes w32 (length xs) ++ flat_map spell xs
+
+-- the place, the salt and the instance, of which the id is made
+abbrev pub spell_row : ActiveRow → List ℕ
+spell_row row = to_be_bytes w64 row.created_at ++ row.known.salt ++ spell_instance row.known.instance
+
+unfoldable pub spell_rows : List ActiveRow → List ℕ
+spell_rows rows = spell_counted spell_row rows
+
+abbrev pub spell_id : List ℕ → List ℕ
+spell_id id = id
+
+unfoldable pub spell_ids : List (List ℕ) → List ℕ
+spell_ids ids = spell_counted spell_id ids
+
+-- two bytes of count and the paths
+unfoldable pub spell_paths : List (List ℕ) → List ℕ
+spell_paths paths = to_be_bytes w16 (length paths) ++ flat_map spell_path paths
+
+-- an envelope has four bytes of length
+unfoldable pub spell_envelope : Option (List ℕ) → List ℕ
+spell_envelope None = 0 ∷ []
+spell_envelope (Some bytes) = 1 ∷ (to_be_bytes w32 (length bytes) ++ bytes)
+
+unfoldable pub spell_what : ItemWhat → List ℕ
+spell_what Nothing = 0 ∷ []
+spell_what (Request sender command root seen confirmed envelope) =
+    1 ∷ (spell_participant sender ++ spell_name command ++ root ++ spell_paths seen ++ spell_paths confirmed ++ spell_envelope envelope)
+spell_what (Verdict verdict) = 2 ∷ spell_verdict verdict
+
+abbrev pub spell_item : Item → List ℕ
+spell_item item = to_be_bytes w64 item.time ++ spell_what item.what
+
+unfoldable pub spell_items : List Item → List ℕ
+spell_items items = spell_counted spell_item items
+
+unfoldable pub spell_responses : List Response → List ℕ
+spell_responses responses = spell_counted spell_response responses
+
+abbrev pub spell_place : ℕ → List ℕ
+spell_place place = to_be_bytes w64 place
+
+unfoldable pub spell_places : List ℕ → List ℕ
+spell_places places = spell_counted spell_place places
+
+-- the version and whose it is
+unfoldable pub spell_owner : ℕ → List ℕ
+spell_owner me = 1 ∷ (me ∷ [])
+
+-- from where on, and whether it is paused
+unfoldable pub spell_position : (base base_time : ℕ) → Bool → List ℕ
+spell_position base base_time paused = to_be_bytes w64 base ++ to_be_bytes w64 base_time ++ spell_truth paused
+
+unfoldable pub spell_head : NodeState → List ℕ
+spell_head state = spell_owner state.me ++ spell_position state.base state.base_time state.paused
+
+unfoldable pub spell_state : NodeState → List ℕ
+spell_state state =
+    spell_head state ++ spell_rows state.active ++ spell_ids state.gone ++ spell_items state.items ++ spell_responses state.outbox
+    ++ spell_places state.done
