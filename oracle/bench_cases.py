@@ -2,6 +2,7 @@
 import hashlib
 import json
 
+import commitments
 import ledger
 import terms
 import trees
@@ -20,6 +21,32 @@ def last_hash(count, instance):
     for _ in range(count):
         last = hashlib.sha256(b'\1' + last + instance).digest()
     return last.hex()
+
+
+def ids_of(count):
+    """Ids, each the hash of the one before."""
+    ids = [bytes(32)]
+    for _ in range(count):
+        ids.append(hashlib.sha256(b'\1' + ids[-1]).digest())
+    return ids[1:]
+
+
+def commit_line(count):
+    """The last root of a tree to which ids were added, and the root of no ids."""
+    return '%s %s' % (commitments.root(ids_of(count)).hex(), commitments.root([]).hex())
+
+
+def buckets_line(count):
+    """For each id that is added, and for each that is taken out, a string as long as a bucket's and eight as long as a node's."""
+    last, counts = bytes(32), [0] * 256
+    for by in (1, -1):
+        for one in ids_of(count):
+            counts[one[0]] += by
+            made = hashlib.sha256(b'\1' + last + bytes(max(0, 32 * counts[one[0]] - 28))).digest()
+            for _ in range(8):
+                made = hashlib.sha256(b'\1' + made + last).digest()
+            last = made
+    return '%d hashes alone %s' % (count * 2 * (1 + 8), last.hex())
 
 
 def digits(actions):

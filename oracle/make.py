@@ -287,6 +287,8 @@ def bench_rows():
     yield 'blind %d' % few, [benches.BLIND]
     yield 'request %d' % few, [bench_cases.request_line(benches.TRANSFER, few)]
     yield 'strings %d' % few, [benches.STRINGS]
+    yield 'commit %d' % count, [bench_cases.commit_line(count)]
+    yield 'buckets %d' % count, [bench_cases.buckets_line(count)]
     script = compact(benches.TRANSFER)
     yield 'script %d %s' % (few, script), [bench_cases.script_line(script)]
     for text, fault in benches.FAULTS:

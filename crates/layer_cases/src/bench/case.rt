@@ -1,6 +1,8 @@
 //! Cases.
 use crate::answer::Answer;
 use crate::bench::actions::put_round_trip;
+use crate::bench::buckets::put_buckets;
+use crate::bench::commits::put_commits;
 use crate::bench::hashes::{LONG, SHORT, put_last};
 use crate::bench::scripts::{put_json, put_script};
 use crate::bench::strings::put_strings;
@@ -20,6 +22,8 @@ pub(crate) fn put_answer(alloc: Global, line: &str, out: &mut Answer) {
         "wire" => put_round_trip(alloc, count, words, out),
         "script" => put_script(alloc, count, words.rest(), out),
         "json" => put_json(alloc, count, words.rest(), out),
+        "commit" => put_commits(alloc, count, out),
+        "buckets" => put_buckets(alloc, count, out),
         "blind" | "request" | "strings" => put_transfer(alloc, word, count, out),
         _ => out.line(&[line]),
     }
