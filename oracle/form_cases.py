@@ -1,4 +1,5 @@
 """What the layer form of crates/layer_cases has to write of the bytes of actions, of trees and of envelopes."""
+import commitments
 import framed
 import terms
 import trees
@@ -17,6 +18,21 @@ def action_line(reader):
     action = reader.action()
     data = terms.action_bytes(action)
     return '%s next %d length %d spelled %s' % (terms.action_text(action), reader.at, len(data), data.hex())
+
+
+def calls_line(calls):
+    """Whether each id is added or taken out, and the root after the last call."""
+    ids, words = set(), []
+    for call in calls:
+        one = bytes.fromhex(call[1:])
+        words.append('yes' if (one in ids) == (call[0] == '-') else 'no')
+        ids = ids | {one} if call[0] == '+' else ids - {one}
+    return ' '.join(words + [commitments.root(ids).hex()])
+
+
+def difference_line(mine, theirs):
+    bucket = commitments.first_difference(*(set(map(bytes.fromhex, ids)) for ids in (mine, theirs)))
+    return 'equal' if bucket is None else 'differ %d' % bucket
 
 
 def counted(call, tree):

@@ -20,7 +20,7 @@ import trees
 import world_cases
 from tables import bytes as byte_tables
 from tables import (
-    benches, checks, edges, expressions, frames, openings, package_faults, raw_runs, requests, runs, script_faults, transactions, words, worlds)
+    benches, checks, commits, edges, expressions, frames, openings, package_faults, raw_runs, requests, runs, script_faults, transactions, words, worlds)
 
 CRATES = os.path.join(os.path.dirname(os.path.dirname(os.path.abspath(__file__))), 'crates')
 
@@ -40,6 +40,15 @@ def script_row(name, text, fault=None):
     """The line of a script and those that answer it: its first fault, or what its submissions show."""
     lines = list(tree_cases.script_lines(json.loads(text))) if fault is None else ['fault ' + fault]
     return 'script %s %s' % (name, text), ['script ' + name] + lines
+
+
+def commitment_rows():
+    """Calls of trees of commitments, and the first bucket in which two sets differ."""
+    for calls, worked in commits.CALLS:
+        yield 'commitments ' + ' '.join(calls), [agreed(' '.join(calls), form_cases.calls_line(calls), worked)]
+    for mine, theirs, worked in commits.DIFFERENCES:
+        words = ','.join(mine) + ' ' + ','.join(theirs)
+        yield 'difference ' + words, [agreed(words, form_cases.difference_line(mine, theirs), worked)]
 
 
 def tree_rows():
@@ -306,7 +315,7 @@ def below(line, cases):
 def layer_rows():
     """The cases of each layer, below the line that says which it is."""
     tables = {
-        'form': {'Actions and trees as bytes': byte_rows(), 'What envelopes open': opening_rows()},
+        'form': {'Actions and trees as bytes': byte_rows(), 'What envelopes open': opening_rows(), 'Commitments': commitment_rows()},
         'tree': {
             'Transactions, and scripts with their first fault': tree_rows(), 'Raw requests': frame_rows(), 'Expressions': expression_rows(), 'Packages': package_rows()},
         'load': {'Words': word_rows(), 'Generated scripts': generated_rows()},

@@ -1,6 +1,7 @@
 //! Cases.
 use crate::answer::Answer;
 use crate::form::actions::put_action;
+use crate::form::commitments::{put_calls, put_difference};
 use crate::form::openings::put_opening;
 use crate::form::trees::put_tree;
 use crate::words::Words;
@@ -11,9 +12,15 @@ use wire_form::WireFault;
 pub(crate) fn put_answer(alloc: Global, line: &str, out: &mut Answer) {
     let mut words = Words::of(line);
     let word = words.next();
-    if word == "opened-for" {
-        return put_opening(alloc, words, out);
+    match word {
+        "opened-for" => put_opening(alloc, words, out),
+        "commitments" => put_calls(alloc, words, out),
+        "difference" => put_difference(alloc, words, out),
+        _ => put_bytes(alloc, line, word, words, out),
     }
+}
+
+fn put_bytes(alloc: Global, line: &str, word: &str, words: Words<'_>, out: &mut Answer) {
     match hex::decode(alloc, words.rest()) {
         Ok(bytes) => put_read(alloc, word, bytes.as_slice(), out),
         Err(_) => out.line(&[line]),

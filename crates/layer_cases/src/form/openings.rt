@@ -38,7 +38,7 @@ pub(crate) fn put_opening(alloc: Global, mut words: Words<'_>, out: &mut Answer)
     }
 }
 
-fn hash_of(alloc: Global, digits: &str) -> Option<Hash> {
+pub(crate) fn hash_of(alloc: Global, digits: &str) -> Option<Hash> {
     let bytes = hex::decode(alloc, digits).ok()?;
     if bytes.len() != 32 {
         return None;
