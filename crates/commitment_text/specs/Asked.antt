@@ -1,0 +1,29 @@
+-- What participants were asked for.
+use Rattle.std.specs.Prelude.{◌≡◌, ℕ, List, [], ◌∷◌, All, Option, None, Some}
+use Rattle.ledger_terms.specs.declared.host.Host.{Host}
+use Rattle.ledger_model.specs.Terms.{ParticipantId}
+use Rattle.node_core.specs.Participant.{Participant}
+use Rattle.commitment_text.specs.Counterparties.{Counterparty}
+use Rattle.commitment_text.specs.Knowledge.{knowledge_of}
+use Rattle.commitment_text.specs.declared.active_at.ActiveAt.{ActiveAt}
+
+-- which participant of the topology it is, its name, and itself
+pub record NamedNode : Type 0 where
+  pub number : ParticipantId
+  pub name : List ℕ
+  pub node : Participant
+
+abbrev pub counterparty_of : NamedNode → Counterparty
+counterparty_of named = record { number = named.number; name = named.name; knowledge = knowledge_of named.node }
+
+-- the same of a host's participant, where there is one
+abbrev pub counterparty_at : ParticipantId → Host → Option Participant → List Counterparty
+counterparty_at p host None = []
+counterparty_at p host (Some node) = record { number = p; name = host.name; knowledge = knowledge_of node } ∷ []
+
+-- they are the participant's active contracts at that place
+abbrev pub IsActiveAt : Participant → ActiveAt → Type 0
+IsActiveAt node at = at.rows ≡ (knowledge_of node).active_at at.place
+
+abbrev pub AreActiveAt : Participant → List ActiveAt → Type 0
+AreActiveAt node asked = All (IsActiveAt node) asked

@@ -1,0 +1,58 @@
+-- The text of commitments: for each two participants how far both know the log, how many contracts each of them shares with the other
+-- there, and whether they commit to the same ones.
+use Rattle.std.specs.Prelude.{ℕ, List, [], ◌∷◌, ◌++◌, codes, decimal, length, min, Option, None, Some}
+use Rattle.std.specs.List.{flat_map}
+use Rattle.ledger_terms.specs.Parties.{set_of}
+use Rattle.ledger_terms.specs.declared.host.Host.{Host}
+use Rattle.ledger_model.specs.Terms.{ParticipantId}
+use Rattle.canton_model.specs.Reading.{Reading}
+use Rattle.acs_commit.specs.Shared.{shared_ids}
+use Rattle.acs_commit.specs.Trees.{first_difference}
+use Rattle.commitment_text.specs.Counterparties.{Counterparty, counterparties_from}
+use Rattle.commitment_text.specs.Knowledge.{Knowledge}
+
+-- the ids of the contracts that are active for a participant at a place and of which another hosts a stakeholder
+abbrev pub ids_shared : Reading → (other : ParticipantId) → Knowledge → (place : ℕ) → List (List ℕ)
+ids_shared reading other knowledge place = shared_ids reading other (knowledge.active_at place)
+
+abbrev pub agreement_text : Option ℕ → List ℕ
+agreement_text None = codes "equal"
+agreement_text (Some bucket) = codes "differ " ++ decimal bucket
+
+-- with the first bucket whose hashes differ
+abbrev pub agreement : (mine theirs : List (List ℕ)) → List ℕ
+agreement mine theirs = agreement_text (first_difference (set_of mine) (set_of theirs))
+
+abbrev pub place_text : (one other : List ℕ) → (place : ℕ) → List ℕ
+place_text one other place = codes "pair " ++ one ++ codes " " ++ other ++ codes " at " ++ decimal place
+
+abbrev pub counts_text : (mine theirs : ℕ) → List ℕ
+counts_text mine theirs = codes " count " ++ decimal mine ++ codes " " ++ decimal theirs ++ codes " "
+
+abbrev pub told_text : (mine theirs : ℕ) → (told : List ℕ) → List ℕ
+told_text mine theirs told = counts_text mine theirs ++ told ++ codes "\n"
+
+abbrev pub shared_text : (mine theirs : List (List ℕ)) → List ℕ
+shared_text mine theirs = told_text (length mine) (length theirs) (agreement mine theirs)
+
+-- `pair P Q at M count A B equal`, or `differ N` in place of `equal`
+abbrev pub pair_at : Reading → (one other : Counterparty) → (place : ℕ) → List ℕ
+pair_at reading one other place =
+    place_text one.name other.name place
+    ++ shared_text (ids_shared reading other.number one.knowledge place) (ids_shared reading one.number other.knowledge place)
+
+-- the lesser of both clean places
+abbrev pub place_of : (one other : Counterparty) → ℕ
+place_of one other = min (one.knowledge).clean (other.knowledge).clean
+
+abbrev pub pair_text : Reading → (one other : Counterparty) → List ℕ
+pair_text reading one other = pair_at reading one other (place_of one other)
+
+-- each with each that comes after it
+abbrev pub pairs_text : Reading → List Counterparty → List ℕ
+pairs_text reading [] = []
+pairs_text reading (one ∷ others) = flat_map (pair_text reading one) others ++ pairs_text reading others
+
+-- the text of participants with what they know, in order of the topology
+abbrev pub commitments_of : Reading → List Host → List Knowledge → List ℕ
+commitments_of reading hosts known = pairs_text reading (counterparties_from 0 hosts known) ++ codes "end\n"

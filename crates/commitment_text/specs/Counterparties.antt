@@ -1,0 +1,25 @@
+-- Participants as they are to each other.
+use Rattle.std.specs.Prelude.{ℕ, ◌+◌, List, [], ◌∷◌}
+use Rattle.ledger_terms.specs.declared.host.Host.{Host}
+use Rattle.ledger_model.specs.Terms.{ParticipantId}
+use Rattle.canton_model.specs.Inbox.{inbox}
+use Rattle.canton_model.specs.Log.{Params}
+use Rattle.canton_model.specs.Reading.{Reading}
+use Rattle.canton_model.specs.declared.entry.Entry.{Entry}
+use Rattle.commitment_text.specs.Knowledge.{Knowledge, knowledge_over}
+
+pub record Counterparty : Type 0 where
+  pub number : ParticipantId
+  pub name : List ℕ
+  pub knowledge : Knowledge
+
+-- a participant with what it knows over a whole log
+abbrev pub counterparty_over : Reading → Params → List Entry → ParticipantId → (name : List ℕ) → Counterparty
+counterparty_over reading params log p name = record { number = p; name = name; knowledge = knowledge_over reading params p (inbox reading p log) }
+
+-- each participant, from this one on, with what it knows
+abbrev pub counterparties_from : ParticipantId → List Host → List Knowledge → List Counterparty
+counterparties_from p [] known = []
+counterparties_from p (host ∷ hosts) [] = []
+counterparties_from p (host ∷ hosts) (knowledge ∷ known) =
+    record { number = p; name = host.name; knowledge = knowledge } ∷ counterparties_from (p + 1) hosts known

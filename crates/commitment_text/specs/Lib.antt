@@ -1,0 +1,4 @@
+pub mod Knowledge
+pub mod Counterparties
+pub mod Commitments
+pub mod Asked

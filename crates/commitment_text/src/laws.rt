@@ -1,0 +1,32 @@
+//! Laws of the text of commitments, each the contract of a function with nothing to do.
+ghost use Rattle.std.specs.Prelude.{◌≡◌, ◌<◌, ◌++◌, ℕ, List, codes, false, min};
+ghost use Rattle.ledger_terms.specs.declared.topology.Topology.{Topology};
+ghost use Rattle.canton_model.specs.Genuine.{Genuine};
+ghost use Rattle.canton_model.specs.Inbox.{clean, inbox};
+ghost use Rattle.canton_model.specs.Ledger.{is_withheld};
+ghost use Rattle.canton_model.specs.declared.entry.Entry.{Entry};
+ghost use Rattle.lang_eval.specs.Found.{Packages};
+ghost use Rattle.framed_form.specs.Collisions.{Collides};
+ghost use Rattle.framed_form.specs.FramedReading.{framed_reading};
+ghost use Rattle.commitment_text.specs.Commitments.{pair_text, place_text, told_text};
+ghost use Rattle.commitment_text.specs.Counterparties.{counterparty_over};
+
+use acs_commit::laws::counterparties_agree;
+
+/// In a genuine log that doesn't collide, the line of two participants says that both share equally many contracts with the other, and
+/// `equal`, where nothing is withheld from either below the lesser of their clean places.
+pub fn counterparties_are_told_equal()
+    ensures { (topology : Topology) (packages : Packages) (log : List Entry) (p q : ℕ) (name other : List ℕ) (place : ℕ)
+        → Genuine (framed_reading topology packages) topology.params log
+        → (Collides topology log → ⊥)
+        → place ≡ min (clean topology.params (inbox (framed_reading topology packages) p log))
+        (clean topology.params (inbox (framed_reading topology packages) q log))
+        → ((k : ℕ) → k < place → is_withheld (framed_reading topology packages) log p k ≡ false)
+        → ((k : ℕ) → k < place → is_withheld (framed_reading topology packages) log q k ≡ false)
+        → (count : ℕ) × (pair_text (framed_reading topology packages)
+        (counterparty_over (framed_reading topology packages) topology.params log p name)
+        (counterparty_over (framed_reading topology packages) topology.params log q other)
+        ≡ place_text name other place ++ told_text count count (codes "equal")) }
+{
+    counterparties_agree();
+}
