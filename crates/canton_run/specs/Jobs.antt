@@ -1,11 +1,12 @@
 -- What each job runs and writes.
-use Rattle.std.specs.Prelude.{◌≡◌, ℕ, ◌≤◌, List, Option, Ok, length}
+use Rattle.std.specs.Prelude.{◌≡◌, ℕ, ◌≤◌, Bool, true, false, List, Option, Ok, length}
 use Rattle.std.specs.Io.KnownBytes.{Consumes, IsAtEnd, Keeps}
 use Rattle.canton_model.specs.declared.entry.Entry.{Entry}
 use Rattle.cli_words.specs.declared.job.Job.{Job}
-use Rattle.cli_words.specs.declared.job.Job.TheVariants.{Gen, Run}
+use Rattle.cli_words.specs.declared.job.Job.TheVariants.{Commitments, Gen, Run}
+use Rattle.commitment_text.specs.Commitments.{commitments_of}
+use Rattle.commitment_text.specs.Knowledge.{Knowledge, each_knowledge}
 use Rattle.ledger_terms.specs.declared.limits.TheConstants.{MOST_PLACES, MOST_SCRIPT_BYTES}
-use Rattle.ledger_terms.specs.declared.topology.Topology.{Topology}
 use Rattle.load_gen.specs.Generated.{generated}
 use Rattle.node_core.specs.Views.{views_over}
 use Rattle.node_core.specs.declared.node_view.NodeView.{NodeView}
@@ -13,7 +14,6 @@ use Rattle.node_core.specs.declared.submit_result.SubmitResult.{SubmitResult}
 use Rattle.report_text.specs.Report.{report_of}
 use Rattle.report_text.specs.Totals.{summary_of}
 use Rattle.script_read.specs.Script.{script_in}
-use Rattle.script_read.specs.declared.round.Round.{Round}
 use Rattle.script_read.specs.declared.script.Script.{Script}
 use Rattle.canton_run.specs.declared.finish.Finish.{Finish}
 use Rattle.canton_run.specs.Run.{params_of, reading_for}
@@ -26,30 +26,44 @@ ReadWhole left left' bytes = Consumes left left' bytes × IsAtEnd left' × (leng
 abbrev pub ReadsScript : Option (List ℕ) → Option (List ℕ) → Script → Type 0
 ReadsScript left left' script = (bytes : List ℕ) × ReadWhole left left' bytes × (script_in bytes ≡ Ok script)
 
+-- whether the job takes its script from the source
+abbrev pub needs_source : Job → Bool
+needs_source (Run workers log) = true
+needs_source (Gen count seed workers) = false
+needs_source (Commitments workers log) = true
+
 -- the script of the source, or the generated one, for which nothing is read
 abbrev pub GivesScript : Job → Option (List ℕ) → Option (List ℕ) → Script → Type 0
 GivesScript (Run workers log) left left' script = ReadsScript left left' script
 GivesScript (Gen count seed workers) left left' script = Keeps left left' × (script ≡ generated seed count)
+GivesScript (Commitments workers log) left left' script = ReadsScript left left' script
 
 -- how many places of the log the requests may need
 abbrev pub capacity_of : Job → ℕ
 capacity_of (Run workers log) = log
 capacity_of (Gen count seed workers) = MOST_PLACES
+capacity_of (Commitments workers log) = log
 
 -- how many lanes work beside the clients of a round
 abbrev pub workers_of : Job → ℕ
 workers_of (Run workers log) = workers
 workers_of (Gen count seed workers) = workers
+workers_of (Commitments workers log) = workers
 
--- the report of a run, or its summary
-abbrev pub text_over : Job → Topology → List Round → List Entry → List SubmitResult → List NodeView → List ℕ
-text_over (Run workers log) topology rounds entries results views = report_of topology rounds entries results views
-text_over (Gen count seed workers) topology rounds entries results views = summary_of topology entries results views
+-- the report of a run, its summary, or its commitments
+abbrev pub text_over : Job → Script → List Entry → List SubmitResult → List NodeView → List Knowledge → List ℕ
+text_over (Run workers log) script entries results views known = report_of script.topology script.rounds entries results views
+text_over (Gen count seed workers) script entries results views known = summary_of script.topology entries results views
+text_over (Commitments workers log) script entries results views known = commitments_of (reading_for script) (script.topology).hosts known
 
 -- what each participant knows at its clean place over the whole log
 abbrev pub views_in : Script → Finish → List NodeView
 views_in script finish = views_over (reading_for script) (params_of script) finish.log (length (script.topology).hosts)
 
+-- what each participant knows of active contracts over the whole log
+abbrev pub knowledge_in : Script → Finish → List Knowledge
+knowledge_in script finish = each_knowledge (reading_for script) (params_of script) finish.log (length (script.topology).hosts)
+
 -- what the job of the script writes
 abbrev pub text_of : Job → Script → Finish → List ℕ
-text_of job script finish = text_over job script.topology script.rounds finish.log finish.results (views_in script finish)
+text_of job script finish = text_over job script finish.log finish.results (views_in script finish) (knowledge_in script finish)

@@ -1,13 +1,19 @@
 //! The text of a job.
-ghost use Rattle.std.specs.Prelude.{◌≡◌, IfOk, map};
+ghost use Rattle.std.specs.Prelude.{◌≡◌, ◌≤◌, IfOk, length, map};
+ghost use Rattle.commitment_text.specs.Commitments.{commitments_of};
+ghost use Rattle.commitment_text.specs.Knowledge.{knowledge_of};
+ghost use Rattle.framed_form.specs.FramedReading.{framed_reading};
 ghost use Rattle.node_core.specs.Views.{view_of};
 ghost use Rattle.report_text.specs.Report.{report_of};
 ghost use Rattle.report_text.specs.Totals.{summary_of};
 ghost use Rattle.canton_run.specs.Jobs.{text_over};
+ghost use Rattle.canton_run.specs.Run.{script_with};
 
 use crate::played::RunRecord;
 use crate::views::{actives_of, remains_of, views_of};
 use cli_words::Job;
+use commitment_text::commitments;
+use confirm_reply::Setup;
 use ledger_terms::{Text, Topology};
 use node_core::{NodeRemains, NodeViewList};
 use report_text::{report, summary};
@@ -71,20 +77,40 @@ fn summary_text(
     })
 }
 
-/// The text that a job writes of a run. A summary asks the participants for their active contracts alone.
+fn commitments_text(
+    alloc: Global,
+    setup: &Setup,
+    nodes: NodeList<'_>,
+) -> Result<JobText, AllocError>
+    requires { length setup.now.topology.hosts ≤ 256 }
+    ensures { IfOk result (λ told. told.text
+        ≡ commitments_of (framed_reading setup.now.topology setup.now.checked) setup.now.topology.hosts (map knowledge_of nodes.entry.items)) }
+{
+    let text = commitments(alloc, setup, nodes.as_slice())?;
+    Ok(JobText {
+        text,
+        views: NodeViewList::new(alloc),
+        nodes: remains_of(alloc, nodes)?,
+    })
+}
+
+/// The text that a job writes of a run. A summary asks the participants for their active contracts alone, and commitments ask for
+/// those at the places at which participants are compared.
 pub fn text_of(
     alloc: Global,
     job: Job,
-    topology: &Topology,
+    setup: &Setup,
     rounds: &RoundList,
     run_record: &RunRecord,
     nodes: NodeList<'_>,
 ) -> Result<JobText, AllocError>
-    ensures { IfOk result (λ told. told.text
-        ≡ text_over job topology.now rounds.now run_record.now.log run_record.now.results (map view_of nodes.entry.items)) }
+    requires { length setup.now.topology.hosts ≤ 256 }
+    ensures { IfOk result (λ told. told.text ≡ text_over job (script_with setup.now rounds.now) run_record.now.log run_record.now.results
+        (map view_of nodes.entry.items) (map knowledge_of nodes.entry.items)) }
 {
     match job {
-        Job::Run { .. } => report_text(alloc, topology, rounds, run_record, nodes),
-        Job::Gen { .. } => summary_text(alloc, topology, run_record, nodes),
+        Job::Run { .. } => report_text(alloc, &setup.topology, rounds, run_record, nodes),
+        Job::Gen { .. } => summary_text(alloc, &setup.topology, run_record, nodes),
+        Job::Commitments { .. } => commitments_text(alloc, setup, nodes),
     }
 }

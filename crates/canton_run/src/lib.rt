@@ -3,6 +3,7 @@
 
 mod finish;
 mod job_text;
+pub mod laws;
 mod leftovers;
 mod lines;
 mod log_copy;

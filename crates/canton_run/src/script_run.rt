@@ -1,5 +1,6 @@
 //! A whole script, from an empty log on.
 ghost use Rattle.std.specs.Prelude.{◌≡◌, ◌≤◌, IfOk, length, map};
+ghost use Rattle.commitment_text.specs.Knowledge.{each_knowledge, knowledge_of};
 ghost use Rattle.ledger_terms.specs.declared.limits.TheConstants.{MOST_PLACES};
 ghost use Rattle.node_core.specs.Views.{view_of, views_over};
 ghost use Rattle.script_read.specs.Kept.{IsAccepted};
@@ -39,6 +40,8 @@ pub fn run_script<'r, R: Threads + Wait + Sync + RandomSource + AllocGlobal, G: 
         (played.record).ends) }
     ensures views { IfOk result (λ played. map view_of (played.nodes).items
         ≡ views_over (reading_for (script_with setup.now rounds.now)) setup.now.topology.params (played.record).log (length setup.now.topology.hosts)) }
+    ensures knowledge { IfOk result (λ played. map knowledge_of (played.nodes).items
+        ≡ each_knowledge (reading_for (script_with setup.now rounds.now)) setup.now.topology.params (played.record).log (length setup.now.topology.hosts)) }
 {
     // the prover learns from these calls that there is a machine, and of what the requests of submissions are
     prepared_requests_make_a_machine();

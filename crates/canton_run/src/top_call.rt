@@ -12,7 +12,7 @@ ghost use Rattle.script_read.specs.Script.{script_in};
 ghost use Rattle.script_read.specs.declared.script.Script.{Script};
 ghost use Rattle.canton_run.specs.Run.{IsRun};
 ghost use Rattle.canton_run.specs.Jobs.{ReadsScript, capacity_of, text_of, workers_of};
-ghost use Rattle.canton_run.specs.Ends.{AsksForRun, HasScript, IsReadWhole, IsRunStatus, IsStatus, KeepsFault, NoReadFault};
+ghost use Rattle.canton_run.specs.Ends.{AsksForScript, HasScript, IsReadWhole, IsRunStatus, IsStatus, KeepsFault, NoReadFault};
 ghost use Rattle.canton_run.specs.Ends.{OffersScript, Ran, RanNothing, ReadsFault, TakesAtMost, TakesUpTo};
 
 use crate::finish::{Finish, ended, finished};
@@ -40,7 +40,7 @@ fn capacity_of(job: Job) -> u64
     ensures { result ≡ capacity_of job }
 {
     match job {
-        Job::Run { log, .. } => log,
+        Job::Run { log, .. } | Job::Commitments { log, .. } => log,
         Job::Gen { .. } => MOST_PLACES as u64,
     }
 }
@@ -50,7 +50,8 @@ fn workers_of(job: Job) -> u32
     ensures { result ≡ workers_of job }
 {
     match job {
-        Job::Run { workers, .. } | Job::Gen { workers, .. } => workers,
+        Job::Run { workers, .. } | Job::Gen { workers, .. } | Job::Commitments { workers, .. } =>
+            workers,
     }
 }
 
@@ -90,7 +91,7 @@ fn carry_out<R: Threads + Wait + Sync + RandomSource + AllocGlobal, G: Gate + Sy
     ) else {
         return ended(alloc, 70, None);
     };
-    let Ok(told) = text_of(alloc, job, &setup.topology, &rounds, &record, nodes) else {
+    let Ok(told) = text_of(alloc, job, &setup, &rounds, &record, nodes) else {
         return ended(alloc, 70, None);
     };
     let JobText { text, views, nodes } = told;
@@ -178,8 +179,8 @@ fn run_generated<R: Threads + Wait + Sync + RandomSource + AllocGlobal, G: Gate 
     }
 }
 
-/// Does what the words ask for: reads a script from the source, runs it and writes the report to the sink; or runs a generated
-/// script and writes the summary. With workers each round's submissions come from clients in threads of their own, beside so many
+/// Does what the words ask for: reads a script from the source, runs it and writes the report or the commitments to the sink; or runs a
+/// generated script and writes the summary. With workers each round's submissions come from clients in threads of their own, beside so many
 /// lanes, which pass the gate before each view that they check; without, one thread does all the work and passes no gate. That thread asks
 /// `natives` for a choice that they have, in place of the language; lanes and clients ask the language. Memory is that of the words.
 pub fn run<
@@ -201,7 +202,7 @@ pub fn run<
     ensures cut { result.status ≡ 5 → (text : List ℕ) × Ran words.now (S.left source.old) (S.left source.new) result text
         × (K.room sink.old < length text) × ((n : ℕ) × Appends (K.held sink.old) (K.held sink.new) (take n text)) }
     ensures count { (S.faults source.old ≤ S.faults source.new) × (K.faults sink.old ≤ K.faults sink.new) }
-    ensures faulty { (bytes : List ℕ) → S.left source.old ≡ Some bytes → AsksForRun words.now → IsReadWhole result.status
+    ensures faulty { (bytes : List ℕ) → S.left source.old ≡ Some bytes → AsksForScript words.now → IsReadWhole result.status
         → (result.status ≡ 3 ↔ IsErr (script_in bytes)) }
     ensures complete { (job : Job) → job_of words.now ≡ Some job → HasScript job (S.left source.old)
         → NoReadFault job (S.faults source.old) (S.faults source.new) → ¬ Rose (K.faults sink.old) (K.faults sink.new)
@@ -217,10 +218,10 @@ pub fn run<
                 count: workers_of(job),
             };
             match job {
-                Job::Run { .. } => run_source(&workers, &natives, job, source, sink),
                 Job::Gen { count, seed, .. } => run_generated(
                     &workers, &natives, count, seed, job, sink,
                 ),
+                _ => run_source(&workers, &natives, job, source, sink),
             }
         }
         Err(WordsFault::Usage) => ended(alloc, 2, None),

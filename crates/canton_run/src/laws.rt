@@ -1,0 +1,30 @@
+//! Laws of runs, each the contract of a function with nothing to do.
+ghost use Rattle.std.specs.Prelude.{◌≡◌, ◌<◌, ◌++◌, ℕ, List, codes, false, min};
+ghost use Rattle.canton_model.specs.Inbox.{clean, inbox};
+ghost use Rattle.canton_model.specs.Ledger.{is_withheld};
+ghost use Rattle.canton_model.specs.declared.entry.Entry.{Entry};
+ghost use Rattle.commitment_text.specs.Commitments.{pair_text, place_text, told_text};
+ghost use Rattle.commitment_text.specs.Counterparties.{counterparty_over};
+ghost use Rattle.framed_form.specs.Collisions.{Collides};
+ghost use Rattle.node_core.specs.declared.submit_result.SubmitResult.{SubmitResult};
+ghost use Rattle.script_read.specs.declared.script.Script.{Script};
+ghost use Rattle.canton_run.specs.Run.{IsRun, params_of, reading_for};
+
+use commitment_text::laws::counterparties_are_told_equal;
+
+/// In a run whose log doesn't collide, the line of two participants among the commitments says that both share equally many contracts with
+/// the other, and `equal`, where nothing is withheld from either below the lesser of their clean places.
+pub fn counterparties_of_a_run_are_told_equal()
+    ensures { (script : Script) (capacity workers : ℕ) (log : List Entry) (results : List SubmitResult) (ends : List ℕ)
+        (p q : ℕ) (name other : List ℕ) (place : ℕ)
+        → IsRun script capacity workers log results ends
+        → (Collides script.topology log → ⊥)
+        → place ≡ min (clean (params_of script) (inbox (reading_for script) p log)) (clean (params_of script) (inbox (reading_for script) q log))
+        → ((k : ℕ) → k < place → is_withheld (reading_for script) log p k ≡ false)
+        → ((k : ℕ) → k < place → is_withheld (reading_for script) log q k ≡ false)
+        → (count : ℕ) × (pair_text (reading_for script) (counterparty_over (reading_for script) (params_of script) log p name)
+        (counterparty_over (reading_for script) (params_of script) log q other)
+        ≡ place_text name other place ++ told_text count count (codes "equal")) }
+{
+    counterparties_are_told_equal();
+}
