@@ -9,4 +9,4 @@ returns c =
     let P = CanHappen c.args.setup.now.topology c.args.setup.now.checked in
     subst (All P) (sym c.of.ensures)
     (other_last P _ c.pop.new.self.items c.push.new.self.items c.pop.result _ c.pop.ensures.items c.in_ok-push.ensures.items
-    (subst (All P) (sym c.into_vec.ensures) c.requires.within) tt)
+    (subst (All P) (sym c.into_vec-events.ensures) c.requires.within) tt)
