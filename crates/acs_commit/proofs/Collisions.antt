@@ -10,21 +10,11 @@ use Rattle.sha2.proofs.Facts256.{length-sha256}
 use Rattle.hash_id.specs.Strings.{be32}
 use Rattle.blind_tree.specs.Agreement.{Clash}
 use Rattle.blind_tree.specs.TreeHashes.{Hashing}
+use Rattle.blind_tree.proofs.Agreement.{parts}
 use Rattle.ledger_model.proofs.Lists.{In, in_append_left, in_append_right, contains_from_In, in_from_Contains}
 use Rattle.acs_commit.specs.Strings.{bucket_string, node_string}
 use Rattle.acs_commit.specs.Trees.{AreIds, IsIdSet, bucket, first_byte, hash_at, root_of, strings_at, tree_strings}
 use Rattle.acs_commit.proofs.Sets.{sets_meet}
-
--- two lists joined fall apart in one way
-parts : {X : Type 0} (s t b c : List X) → length s ≡ length t → s ++ b ≡ t ++ c → (s ≡ t) × (b ≡ c)
-parts [] [] b c l e = (refl, e)
-parts [] (y ∷ t) b c l e = absurd (omega (arith, l))
-parts (x ∷ s) [] b c l e = absurd (omega (arith, l))
-parts (x ∷ s) (y ∷ t) b c l e =
-    let head : x ≡ y = cc in
-    let tail : s ++ b ≡ t ++ c = cc in
-    let r = parts s t b c (omega (arith, l)) tail in
-    (λ i. head i ∷ r.0 i, r.1)
 
 concat_length : (d : List ℕ) (ds : List (List ℕ)) → length (concat (d ∷ ds)) ≡ length d + length (concat ds)
 concat_length d ds = length-append d (concat ds)

@@ -20,7 +20,7 @@ use Rattle.blind_tree.specs.declared.leaf.Leaf.TheVariants.{Blind, Plain}
 use Rattle.blind_tree.specs.declared.tree.Tree.{Tree}
 
 -- two lists joined fall apart in one way
-parts : {X : Type 0} (s t b c : List X) → length s ≡ length t → s ++ b ≡ t ++ c → (s ≡ t) × (b ≡ c)
+pub parts : {X : Type 0} (s t b c : List X) → length s ≡ length t → s ++ b ≡ t ++ c → (s ≡ t) × (b ≡ c)
 parts [] [] b c l e = (refl, e)
 parts [] (y ∷ t) b c l e = absurd (omega (arith, l))
 parts (x ∷ s) [] b c l e = absurd (omega (arith, l))

@@ -1,6 +1,7 @@
 //! Merkle trees of transactions: their hashes and bytes, what they show to whom, and what they open.
 #![tactic(auto)]
 
+mod alike;
 mod blinding;
 mod core_bytes;
 mod core_read;
@@ -30,6 +31,7 @@ mod tree;
 mod vertex;
 mod view_roles;
 
+pub use alike::verify_beside;
 pub use blinding::{blind, blind_all, spelled_for};
 pub use decode::decode_tree;
 pub use encode::encode_tree;
@@ -39,7 +41,7 @@ pub use kept_tree::KeptTree;
 pub use leaf::Leaf;
 pub use leaves::read_head;
 pub use opening::{opened, own_view};
-pub use opening_for::opened_for;
+pub use opening_for::{opened_beside, opened_for};
 pub use recipient::{Recipient, RecipientList};
 pub use roles_tree::RolesTree;
 pub use root::{root_of, verify};

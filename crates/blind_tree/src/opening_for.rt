@@ -1,13 +1,17 @@
 //! What a participant reads in bytes that anybody may have made.
 ghost use Rattle.std.specs.Prelude.{◌≡◌, ◌<◌, ◌∷◌, Ok, IfOk, if◌then◌else◌};
 ghost use Rattle.std.specs.List.{list_all};
+ghost use Rattle.sha2.specs.Sha256.{sha256};
 ghost use Rattle.ledger_terms.specs.Answers.{Follows, FollowsOn, check};
 ghost use Rattle.wire_form.specs.declared.wire_fault.WireFault.TheVariants as WireFault;
 ghost use Rattle.blind_tree.specs.Vertices.{AreNarrow, IsNarrow};
 ghost use Rattle.blind_tree.specs.VertexLists.{one_vertex};
-ghost use Rattle.blind_tree.specs.OpenedFor.{answered, are_listed, is_end, is_listed, missing, opened_for_root, opened_of_views, requesters_if, stands_at};
+ghost use Rattle.blind_tree.specs.OpenedFor.{answered, are_listed, is_end, is_listed, missing, open_or_missing, opened_for_root};
+ghost use Rattle.blind_tree.specs.OpenedFor.{opened_of_views, requesters_if, stands_at};
+ghost use Rattle.blind_tree.specs.TreeHashes.{hash_of_root};
 ghost use Rattle.blind_tree.specs.ListedAfter.{inner_listed, listed_after, stands_in};
 
+use crate::alike::verify_beside;
 use crate::decode::decode_tree;
 use crate::informees::path_below;
 use crate::leaf::Leaf;
@@ -42,7 +46,43 @@ pub fn opened_for(
     if !verify(alloc, &tree, root)? {
         return Ok(OpenedFor::Mismatch);
     }
-    match open_views(alloc, &tree, seen, requesters) {
+    open_tree(alloc, &tree, seen, requesters)
+}
+
+/// The same, beside another tree whose hash is `root`. What both show alike isn't hashed.
+pub fn opened_beside(
+    alloc: Global,
+    bytes: &[u8],
+    root: &Hash,
+    told: &Tree,
+    seen: &PathList,
+    requesters: bool,
+) -> Result<OpenedFor, AllocError>
+    requires narrow { IsNarrow told.now.views }
+    requires root { root.now ≡ hash_of_root sha256 told.now }
+    ensures { IfOk result (λ opened. opened ≡ opened_for_root root.now seen.now requesters bytes.now) }
+{
+    let tree = match decode_tree(alloc, bytes) {
+        Ok(tree) => tree,
+        Err(WireFault::Bad { .. }) => return Ok(OpenedFor::Mismatch),
+        Err(WireFault::Memory) => return Err(AllocError),
+    };
+    if !verify_beside(alloc, &tree, told, root)? {
+        return Ok(OpenedFor::Mismatch);
+    }
+    open_tree(alloc, &tree, seen, requesters)
+}
+
+fn open_tree(
+    alloc: Global,
+    tree: &Tree,
+    seen: &PathList,
+    requesters: bool,
+) -> Result<OpenedFor, AllocError>
+    requires { IsNarrow tree.now.views }
+    ensures { IfOk result (λ opened. opened ≡ open_or_missing (opened_of_views seen.now requesters tree.now)) }
+{
+    match open_views(alloc, tree, seen, requesters) {
         Ok(opened) => Ok(OpenedFor::Open(opened)),
         Err(WireFault::Bad { .. }) => Ok(OpenedFor::Missing),
         Err(WireFault::Memory) => Err(AllocError),

@@ -1,9 +1,10 @@
 //! Root hashes of trees.
-ghost use Rattle.std.specs.Prelude.{◌≡◌, ◌++◌, IfOk, OnOk};
+ghost use Rattle.std.specs.Prelude.{◌≡◌, ◌++◌, ◌∷◌, [], IfOk, OnOk};
 ghost use Rattle.std.specs.Bool.{Decides};
 ghost use Rattle.sha2.specs.Sha256.{sha256};
 ghost use Rattle.blind_tree.specs.Vertices.{IsNarrow, AreNarrow};
 ghost use Rattle.blind_tree.specs.TreeHashes.{hashes_of_vertices, hash_of_root};
+ghost use Rattle.blind_tree.specs.VertexLists.{one_vertex};
 
 use crate::leaf::hash_of;
 use crate::tree::Tree;
@@ -34,27 +35,36 @@ pub fn verify(alloc: Global, tree: &Tree, root: &Hash) -> Result<bool, AllocErro
 }
 
 // Puts the hashes of vertices at the end.
+#[cycle(hash)]
 fn hashes_into(vertices: &VertexList, out: &mut Vec<Hash>) -> Result<(), AllocError>
     requires { AreNarrow vertices.now }
     ensures { OnOk result (out.new.items ≡ out.old.items ++ hashes_of_vertices sha256 vertices.now) }
 {
     for vertex in vertices.as_slice() {
-        match vertex {
-            Vertex::Blind(hash) => {
-                out.push(*hash)?;
-            }
-            Vertex::Inner {
-                informees,
-                contents,
-                subviews,
-            } => {
-                let mut below = Vec::new(*out.allocator());
-                hashes_into(subviews, &mut below)?;
-                let first = hash_of(3, informees);
-                let second = hash_of(4, contents);
-                out.push(view_hash(&first, &second, below.as_slice()))?;
-            }
-        }
+        let hash = hash_of_vertex(*out.allocator(), vertex)?;
+        out.push(hash)?;
     }
     Ok(())
+}
+
+/// The hash of a vertex, the same whatever it shows.
+#[cycle(hash)]
+pub(crate) fn hash_of_vertex(alloc: Global, vertex: &Vertex) -> Result<Hash, AllocError>
+    requires { AreNarrow (one_vertex vertex.now) }
+    ensures { IfOk result (λ hash. hashes_of_vertices sha256 (one_vertex vertex.now) ≡ hash ∷ []) }
+{
+    match vertex {
+        Vertex::Blind(hash) => Ok(*hash),
+        Vertex::Inner {
+            informees,
+            contents,
+            subviews,
+        } => {
+            let mut below = Vec::new(alloc);
+            hashes_into(subviews, &mut below)?;
+            let first = hash_of(3, informees);
+            let second = hash_of(4, contents);
+            Ok(view_hash(&first, &second, below.as_slice()))
+        }
+    }
 }

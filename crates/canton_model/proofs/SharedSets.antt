@@ -4,7 +4,7 @@ use Rattle.std.specs.Prelude.{◌&&◌, if◌then◌else◌}
 use Rattle.std.specs.List.{list_any}
 use Rattle.std.proofs.lemmas.Bool.{cases_Bool}
 use Rattle.ledger_model.specs.Terms.{ActiveRow, ParticipantId, consumes}
-use Rattle.ledger_model.specs.Forest.{Commit, ledger_acts}
+use Rattle.ledger_model.specs.Forest.{ledger_acts}
 use Rattle.canton_model.specs.Evidence.{commit_if, ledger_below}
 use Rattle.canton_model.specs.Log.{Params, Entry}
 use Rattle.canton_model.specs.Reading.{Reading}

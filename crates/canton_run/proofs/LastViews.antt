@@ -16,7 +16,6 @@ use Rattle.world_model.specs.Lawful.{Lawful, NodeHas}
 use Rattle.world_model.specs.Settling.{caught_up_world}
 use Rattle.world_model.specs.World as w
 use Rattle.world_model.proofs.CatchingUp.{node_caught}
-use Rattle.node_core.specs.Machines.{IsNodeOf}
 use Rattle.world_play.specs.Submitting.{AreSetUp}
 use Rattle.world_play.specs.WorldOf.{IsWorldOf, world_of}
 use Rattle.world_play.specs.declared.world.World.{World}

@@ -5,5 +5,6 @@ pub mod Framed
 pub mod FramedForm
 pub mod FramedReading
 pub mod Frames
+pub mod Outlines
 pub mod Structure
 pub mod Together

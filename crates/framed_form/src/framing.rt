@@ -1,43 +1,60 @@
 //! Whether a request is framed.
-ghost use Rattle.std.specs.Prelude.{◌≡◌, ◌≤◌, Some, IfOk, length};
+ghost use Rattle.std.specs.Prelude.{◌≡◌, ◌≤◌, Ok, Some, IfOk, IfSome, is_some, length};
 ghost use Rattle.std.specs.List.{list_all, list_any};
 ghost use Rattle.ledger_terms.specs.Hosting.{confirms_at, lists_party};
+ghost use Rattle.blind_tree.specs.Opening.{informee_tree_of};
 ghost use Rattle.blind_tree.specs.ShownViews.{is_plain};
 ghost use Rattle.blind_tree.specs.VertexLists.{one_vertex};
-ghost use Rattle.blind_tree.specs.Vertices.{IsNarrow};
 ghost use Rattle.blind_tree.specs.declared.view_roles.ViewRoles.{ViewRoles};
 ghost use Rattle.framed_form.specs.Framed.{are_bytes, are_envelopes_framed, are_views_framed, asked_by, hides_contents, is_confirmed};
 ghost use Rattle.framed_form.specs.Framed.{is_framed, is_short, is_tree_framed, same_participants};
+ghost use Rattle.framed_form.specs.Outlines.{IsOutline};
 ghost use Rattle.sealed_form.specs.Within.{is_hosted};
 
-use blind_tree::{
-    Leaf, RolesTree, Tree, Vertex, VertexList, ViewRoles, ViewRolesList, decode_tree, informee_tree,
-};
+use crate::outline::{Outline, outline_of};
+use crate::told_tree::{ToldTree, read_told_tree};
+use blind_tree::{Leaf, RolesTree, Vertex, VertexList, ViewRoles, ViewRolesList};
 use canton_model::{EnvelopeList, Request};
 use ledger_terms::limits::MOST_TREE_BYTES;
 use ledger_terms::{Name, ParticipantId, ParticipantIdList, PartySet, Topology};
 use std::alloc::{AllocError, Global};
-use wire_form::WireFault;
+
+/// What the mediator's bytes of a request tell, where it has the form in which the sequencer takes it from anybody. They are read
+/// once.
+#[tactic(auto, unfolding(crate::specs::Framed::is_framed))]
+pub fn framed_outline(
+    alloc: Global,
+    topology: &Topology,
+    request: &Request,
+) -> Result<Option<Outline>, AllocError>
+    requires { length topology.now.hosts ≤ 256 }
+    ensures framed { IfOk result (λ o. is_some o ≡ is_framed topology.now request.now) }
+    ensures outline { IfOk result (λ o. IfSome o (λ outline. IsOutline request.now outline)) }
+{
+    let hosts = topology.hosts.len();
+    if request.sender.0 as usize >= hosts {
+        return Ok(None);
+    }
+    let bytes = request.mediator.as_slice();
+    if !is_short(bytes) || !are_envelopes_framed(&request.envelopes, hosts) {
+        return Ok(None);
+    }
+    let Some(told) = read_told_tree(alloc, request)? else {
+        return Ok(None);
+    };
+    if !is_tree_framed(topology, &request.confirming, &told) {
+        return Ok(None);
+    }
+    Ok(Some(outline_of(alloc, told)?))
+}
 
 /// Whether a request has the form in which the sequencer takes it from anybody.
-#[tactic(auto, unfolding(crate::specs::Framed::is_framed))]
 pub fn framed(alloc: Global, topology: &Topology, request: &Request) -> Result<bool, AllocError>
     requires { length topology.now.hosts ≤ 256 }
     ensures { IfOk result (λ is. is ≡ is_framed topology.now request.now) }
 {
-    let hosts = topology.hosts.len();
-    if request.sender.0 as usize >= hosts {
-        return Ok(false);
-    }
-    let bytes = request.mediator.as_slice();
-    if !is_short(bytes) || !are_envelopes_framed(&request.envelopes, hosts) {
-        return Ok(false);
-    }
-    match decode_tree(alloc, bytes) {
-        Ok(tree) => is_tree_framed(alloc, topology, &request.confirming, &tree),
-        Err(WireFault::Bad { .. }) => Ok(false),
-        Err(WireFault::Memory) => Err(AllocError),
-    }
+    let outline = framed_outline(alloc, topology, request)?;
+    Ok(outline.is_some())
 }
 
 fn is_short(bytes: &[u8]) -> bool
@@ -68,24 +85,14 @@ fn are_envelopes_framed(envelopes: &EnvelopeList, hosts: usize) -> bool
     true
 }
 
-fn is_tree_framed(
-    alloc: Global,
-    topology: &Topology,
-    confirming: &ParticipantIdList,
-    tree: &Tree,
-) -> Result<bool, AllocError>
+fn is_tree_framed(topology: &Topology, confirming: &ParticipantIdList, told: &ToldTree) -> bool
     requires hosts { length topology.now.hosts ≤ 256 }
-    requires narrow { IsNarrow tree.now.views }
-    ensures { IfOk result (λ is. is ≡ is_tree_framed topology.now confirming.now (Some tree.now)) }
+    requires tells { informee_tree_of told.now.tree ≡ Ok told.now.roles }
+    ensures { result ≡ is_tree_framed topology.now confirming.now (Some told.now.tree) }
 {
-    if is_plain(&tree.requesters) || !hides_contents(&tree.views) {
-        return Ok(false);
-    }
-    match informee_tree(alloc, tree) {
-        Ok(roles) => Ok(are_views_framed(topology, confirming, &roles)),
-        Err(WireFault::Bad { .. }) => Ok(false),
-        Err(WireFault::Memory) => Err(AllocError),
-    }
+    !is_plain(&told.tree.requesters)
+        && hides_contents(&told.tree.views)
+        && are_views_framed(topology, confirming, &told.roles)
 }
 
 fn is_plain(leaf: &Leaf) -> bool

@@ -1,23 +1,23 @@
 //! Where the entries lie. An entry stays where it was put for as long as the log is lent.
 ghost use Rattle.std.specs.Prelude.{◌≡◌, ◌<◌, ◌^◌, MatchResult};
 
+use crate::stored::Stored;
 use boxcar::slot::{OnceSlot, SlotRule};
 use boxcar::tag::Tag;
-use canton_model::Entry;
 use std::alloc::{AllocError, Global};
 use std::sync::OnceLock;
 
 /// Any entry may lie in a slot.
 pub struct AnyEntry;
 
-impl SlotRule<Entry> for AnyEntry {
+impl SlotRule<Stored> for AnyEntry {
     ghost use Rattle.std.specs.Prelude.{⊤};
 
     ghost holds = { λ _ _. ⊤ };
 }
 
 // A slot is written by the one writer alone, so nobody waits for one, and none is woken.
-type Row = Vec<OnceSlot<Entry, AnyEntry>>;
+type Row = Vec<OnceSlot<Stored, AnyEntry>>;
 
 /// Rows of doubling length, each made when its first entry comes.
 #[derive(Drop)]
@@ -34,7 +34,7 @@ impl EntryRows {
     }
 
     /// Keeps the entry at the index, where none was. It comes back where there is no memory.
-    pub fn put<'r>(&'r self, index: u64, entry: Entry) -> Result<&'r Entry, Entry>
+    pub fn put<'r>(&'r self, index: u64, entry: Stored) -> Result<&'r Stored, Stored>
         requires { index < 2 ^ 63 }
         ensures { MatchResult result (λ r. r.now ≡ entry) (λ e. e ≡ entry) }
     {
@@ -45,7 +45,7 @@ impl EntryRows {
     }
 
     // The index's own slot, which is empty until it is used. None comes where there is no memory.
-    fn slot(&self, index: u64) -> Option<&OnceSlot<Entry, AnyEntry>>
+    fn slot(&self, index: u64) -> Option<&OnceSlot<Stored, AnyEntry>>
         requires { index < 2 ^ 63 }
     {
         let number = index + 1;

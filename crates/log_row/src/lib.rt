@@ -5,6 +5,7 @@ mod entry_rows;
 mod history;
 mod row;
 mod seat;
+mod stored;
 
 pub use history::Row;
 pub use row::{LogRow, Pen, Slip};

@@ -1,12 +1,16 @@
 //! The log with one writer.
-ghost use Rattle.std.specs.Prelude.{◌≡◌, ℕ, ◌+◌, ◌<◌, ◌^◌, ◌++◌, ◌∷◌, [], length, Some, slice_get, IfOk, MatchResult, OnErr, OnOk};
+ghost use Rattle.std.specs.Prelude.{◌≡◌, ℕ, ◌+◌, ◌<◌, ◌^◌, ◌++◌, ◌∷◌, [], length, Some, option_copied, slice_get, IfOk, MatchResult, OnErr, OnOk};
+ghost use Rattle.canton_model.specs.declared.entry.Entry.{Entry as EntryValue};
+ghost use Rattle.framed_form.specs.Outlines.{IsOutlined};
 ghost use Rattle.log_row.specs.LogPrefix.{extended, Agree};
 ghost use Rattle.log_row.specs.Seats.{writer};
 ghost use mathlib.Core.List.{IsPrefix};
 
 use crate::entry_rows::EntryRows;
 use crate::seat::{Adds, Append, Copied, Joined, Learn, RowSeat, RowShared, RowTable};
+use crate::stored::Stored;
 use canton_model::Entry;
+use framed_form::Outline;
 use std::alloc::{AllocError, Global};
 use std::marker::{Brand, Model};
 use std::mem;
@@ -116,7 +120,7 @@ pub struct Slip<'r> {
     storage: &'r Storage,
     seat: RowSeat,
     place: u64,
-    entry: &'r Entry,
+    stored: &'r Stored,
 }
 
 impl<'r> Model for Slip<'r> {
@@ -130,7 +134,7 @@ impl<'r> Model for Slip<'r> {
     ghost view = { λ s. record { row = s.seat.table_id; list = s.seat.me.0.list } };
 
     ghost invariant = { λ s. (s.seat.table_id ≡ s.storage.now.table.shared.table_id) × (s.seat.table_id.words ≡ 1)
-        × (s.seat.me ≡ (reader s.seat.me.0.list, [])) × EndsAt s.seat.me.0.list s.place s.entry.now × (s.place < 2 ^ 63) };
+        × (s.seat.me ≡ (reader s.seat.me.0.list, [])) × EndsAt s.seat.me.0.list s.place s.stored.now × (s.place < 2 ^ 63) };
 }
 
 impl LogRow {
@@ -172,13 +176,19 @@ impl<'r> Pen<'r> {
         self.count
     }
 
-    /// Appends the entry to the history, and gives its slip. Without memory the entry comes back.
-    pub fn publish(&mut self, entry: Entry) -> Result<Slip<'r>, Entry>
-        requires { length self.old.list < 2 ^ 63 }
+    /// Appends the entry to the history with what its mediator's bytes tell, where it brings a request, and gives its slip. Without
+    /// memory the entry comes back.
+    pub fn publish(&mut self, entry: Entry, outline: Option<Outline>) -> Result<Slip<'r>, Entry>
+        requires room { length self.old.list < 2 ^ 63 }
+        requires outlined { IsOutlined entry.message outline }
         ensures { MatchResult result (λ s. (self.new ≡ extended self.old entry) × (s ≡ self.new)) (λ e. (self.new ≡ self.old) × (e ≡ entry)) }
     {
-        let entry = self.storage.entry_rows.put(self.count, entry)?;
-        append::<Brand>(&self.storage.table.shared, &mut self.seat, entry);
+        let fresh = Stored::new(entry, outline);
+        let stored = match self.storage.entry_rows.put(self.count, fresh) {
+            Ok(stored) => stored,
+            Err(stored) => return Err(stored.into_entry()),
+        };
+        append::<Brand>(&self.storage.table.shared, &mut self.seat, stored.entry());
         let seat = self
             .storage
             .table
@@ -190,7 +200,7 @@ impl<'r> Pen<'r> {
             storage: self.storage,
             seat,
             place,
-            entry,
+            stored,
         })
     }
 
@@ -225,7 +235,15 @@ impl<'r> Slip<'r> {
     pub fn entry(&self) -> &Entry
         ensures { (k : ℕ) → length self.now.list ≡ k + 1 → slice_get self.now.list k ≡ Some result.now }
     {
-        self.entry
+        self.stored.entry()
+    }
+
+    /// What the mediator's bytes tell, where the entry brings a request.
+    pub fn outline(&self) -> Option<&Outline>
+        ensures { (k : ℕ) (entry : EntryValue) → length self.now.list ≡ k + 1 → slice_get self.now.list k ≡ Some entry
+            → IsOutlined entry.message (option_copied result) }
+    {
+        self.stored.outline()
     }
 
     /// The same slip once more.
@@ -242,7 +260,7 @@ impl<'r> Slip<'r> {
             storage: self.storage,
             seat,
             place: self.place,
-            entry: self.entry,
+            stored: self.stored,
         }
     }
 

@@ -134,7 +134,7 @@ impl<'s> Node<'s> {
     {
         let place = slip.place();
         self.duties.reserve()?;
-        self.inbox.read(slip.entry())?;
+        self.inbox.read(slip.entry(), slip.outline())?;
         if self.inbox.owes(place) {
             self.duties.owe(place);
         }

@@ -7,6 +7,7 @@ ghost use Rattle.canton_model.specs.Inbox.{Received, received};
 ghost use Rattle.canton_model.specs.Reading.{is_recipient};
 ghost use Rattle.wire_form.specs.Spellable.{IsSpellableInstance};
 ghost use Rattle.framed_form.specs.FramedReading.{framed_reading};
+ghost use Rattle.framed_form.specs.Outlines.{IsOutline};
 ghost use Rattle.node_inbox.specs.Coming.{AreParts, IsComing, IsKeptOf};
 ghost use Rattle.node_inbox.specs.Items.{notice_of};
 ghost use Rattle.node_inbox.specs.Offers.{roots_offered, roots_opened};
@@ -20,7 +21,7 @@ use canton_model::Request;
 use confirm_reply::{IdFactsList, Setup};
 use inbox_standing::Change;
 use ledger_terms::{HashList, ParticipantId};
-use proto_model::{Notice, read_notice, read_outline};
+use proto_model::{Notice, Outline, read_notice};
 use std::alloc::{AllocError, Global};
 
 /// A request that comes, with the contracts that it will hold.
@@ -67,24 +68,23 @@ fn kept_of(alloc: Global, request: &Request, notice: Notice) -> Result<KeptReque
     })
 }
 
-/// What comes of a framed request, and none exactly where the participant isn't a recipient. The mediator's bytes and the envelope
-/// are read once each.
+/// What comes of a framed request, by what its mediator's bytes tell, and none exactly where the participant isn't a recipient. The
+/// envelope is read once.
 pub fn coming(
     alloc: Global,
     setup: &Setup,
     me: ParticipantId,
     request: &Request,
+    outline: &Outline,
 ) -> Result<Option<ComingRequest>, AllocError>
-    requires { (framed_reading setup.now.topology setup.now.checked).is_framed request.now ≡ true }
+    requires framed { (framed_reading setup.now.topology setup.now.checked).is_framed request.now ≡ true }
+    requires outline { IsOutline request.now outline.now }
     ensures none { IfOk result (λ o. IfNone o (is_recipient (framed_reading setup.now.topology setup.now.checked) me request.now ≡ false)) }
     ensures some { IfOk result (λ o. IfSome o (λ coming. IsComing setup.now.topology setup.now.checked me coming)) }
     ensures received { IfOk result (λ o. IfSome o (λ coming.
         received (framed_reading setup.now.topology setup.now.checked) me request.now ≡ Received (notice_of coming.kept))) }
 {
-    let Some(outline) = read_outline(alloc, request)? else {
-        unreachable!()
-    };
-    let Some(notice) = read_notice(alloc, &setup.topology, me, request, &outline)? else {
+    let Some(notice) = read_notice(alloc, &setup.topology, me, request, outline)? else {
         return Ok(None);
     };
     let kept = kept_of(alloc, request, notice)?;

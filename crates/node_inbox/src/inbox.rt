@@ -14,6 +14,7 @@ ghost use Rattle.canton_model.specs.Inbox.{is_locked_in_inbox, status_in_inbox};
 ghost use Rattle.inbox_standing.specs.Changes.{changes_in, pending_changes};
 ghost use Rattle.inbox_standing.specs.Requests.{outcome_received};
 ghost use Rattle.validate_job.specs.Owed.{owed_on_each};
+ghost use Rattle.framed_form.specs.Outlines.{IsOutline, IsOutlined};
 ghost use Rattle.prepare_request.specs.Hosted.{hosted_rows};
 ghost use Rattle.node_inbox.specs.Coming.{IsTelling};
 ghost use Rattle.node_inbox.specs.Entries.{item_from, told_if_received};
@@ -48,6 +49,7 @@ use ledger_model::CommitList;
 use ledger_terms::{ActiveRowList, Exact, KnownList, ParticipantId, U64List};
 use prepare_request::laws::ids_tell_after_each_change;
 use prepare_request::{HostedContracts, HostedIds};
+use proto_model::Outline;
 use std::alloc::{AllocError, Global};
 use std::marker::Model;
 use validate_job::ValidateJob;
@@ -139,15 +141,21 @@ impl<'s> Inbox<'s> {
         )
     }
 
-    fn read_request(&mut self, time: u64, request: &Request) -> Result<(), AllocError>
+    fn read_request(
+        &mut self,
+        time: u64,
+        request: &Request,
+        outline: &Outline,
+    ) -> Result<(), AllocError>
         requires few { length self.old.items < 2 ^ 63 }
         requires rises { last_time self.old.items < time }
         requires framed { (reading_of self.old).is_framed request.now ≡ true }
+        requires outline { IsOutline request.now outline.now }
         ensures ok { OnOk result (self.new ≡ with_item self.old (item_with time (received (reading_of self.old) self.old.me request.now))) }
         ensures err { OnErr result (self.new ≡ self.old) }
     {
         let alloc = *self.items.allocator();
-        match coming(alloc, self.setup, self.me, request)? {
+        match coming(alloc, self.setup, self.me, request, outline)? {
             Some(coming) => put_request(
                 self.setup,
                 self.me,
@@ -237,18 +245,23 @@ impl<'s> Inbox<'s> {
         Ok(())
     }
 
-    /// Reads the next entry of the log. Takes all memory before it changes anything.
-    pub fn read(&mut self, entry: &Entry) -> Result<(), AllocError>
+    /// Reads the next entry of the log, by what its mediator's bytes tell, where it brings a request. Takes all memory before it changes
+    /// anything.
+    pub fn read(&mut self, entry: &Entry, outline: Option<&Outline>) -> Result<(), AllocError>
         requires few { length self.old.items < 2 ^ 63 }
         requires rises { last_time self.old.items < entry.now.time }
         requires framed { (q : RequestValue) → entry.now.message ≡ RequestMessage q → (reading_of self.old).is_framed q ≡ true }
+        requires outlined { IsOutlined entry.now.message (option_copied outline) }
         ensures ok { OnOk result (self.new ≡ with_item self.old (item_from (reading_of self.old) self.old.me self.old.items entry.now)) }
         ensures err { OnErr result (self.new ≡ self.old) }
     {
         self.bring_up()?;
         self.move_on()?;
         match &entry.message {
-            Message::Request(request) => self.read_request(entry.time, request),
+            Message::Request(request) => match outline {
+                Some(outline) => self.read_request(entry.time, request, outline),
+                None => unreachable!(),
+            },
             Message::Verdict(verdict) => self.read_verdict(entry.time, verdict),
             Message::Response(_) => self.read_nothing(entry.time),
             Message::Tick => self.read_nothing(entry.time),

@@ -4,4 +4,3 @@ pub mod Told
 pub mod Named
 pub mod Seen
 pub mod Noticed
-pub mod Outlines

@@ -19,7 +19,8 @@ use Rattle.framed_form.specs.FramedForm.{outline_of}
 use Rattle.framed_form.specs.FramedForm as bytes
 use Rattle.framed_form.specs.FramedReading.{framed_reading, stated}
 use Rattle.framed_form.specs.Frames.{tells}
-use Rattle.proto_model.specs.Notices.{confirmed_among, listed_views}
+use Rattle.framed_form.specs.Outlines.{listed_views}
+use Rattle.proto_model.specs.Notices.{confirmed_among}
 
 abbrev Placed : Type 0
 Placed = Path × Sets

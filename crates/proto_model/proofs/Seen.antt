@@ -13,7 +13,8 @@ use Rattle.blind_tree.specs.Leaves.{Sets}
 use Rattle.blind_tree.specs.Opening.{view_roles}
 use Rattle.blind_tree.specs.declared.view_roles.ViewRoles.{ViewRoles}
 use Rattle.framed_form.specs.Frames.{paths_in, seen_in, tells}
-use Rattle.proto_model.specs.Notices.{confirmed_among, listed_views, top_seen}
+use Rattle.framed_form.specs.Outlines.{listed_views}
+use Rattle.proto_model.specs.Notices.{confirmed_among, top_seen}
 
 abbrev pub path_if : Bool → Path → List Path
 path_if wanted path = if wanted then path ∷ [] else []

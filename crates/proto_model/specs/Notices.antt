@@ -1,26 +1,13 @@
 -- What a participant reads of a request that anybody may have sent.
-use Rattle.std.specs.Prelude.{◌≡◌, ℕ, Bool, List, [], Option, Some, None, filter, map, nat_lt, length, if◌then◌else◌}
+use Rattle.std.specs.Prelude.{◌≡◌, ℕ, Bool, List, Option, Some, None, filter, map, nat_lt, length, if◌then◌else◌}
 use Rattle.std.specs.List.{list_any}
-use Rattle.ledger_terms.specs.Forest.{Forest, paths_from, preorder}
 use Rattle.ledger_terms.specs.declared.topology.Topology.{Topology}
 use Rattle.ledger_model.specs.Terms.{Name, ParticipantId, Path}
 use Rattle.canton_model.specs.Reading.{Reading, paths_confirmed, paths_seen}
 use Rattle.canton_model.specs.declared.request.Request.{Request}
-use Rattle.blind_tree.specs.Leaves.{Sets}
-use Rattle.blind_tree.specs.Opening.{view_roles}
 use Rattle.blind_tree.specs.declared.view_roles.ViewRoles.{ViewRoles}
-use Rattle.framed_form.specs.FramedForm.{offered, outline_of, root_of}
+use Rattle.framed_form.specs.FramedForm.{offered, root_of}
 use Rattle.proto_model.specs.declared.notice.Notice.{Notice}
-use Rattle.proto_model.specs.declared.outline.Outline.{Outline}
-
--- the views of a forest, each with its path and before those below it
-abbrev pub listed_views : Forest Sets → List ViewRoles
-listed_views views = map (λ (view : Path × Sets). view_roles view.0 view.1) (preorder (paths_from [] 0 views))
-
--- What the mediator's bytes tell: their tree's hash, and its views.
-pub record IsOutline (request : Request) (outline : Outline) : Type 0 where
-  pub root : outline.root ≡ root_of request
-  pub views : outline.views ≡ listed_views (outline_of request)
 
 -- the paths of those of these views that have a confirmer who is confirmed for
 abbrev pub confirmed_among : (confirms : Name → Bool) → List ViewRoles → List Path

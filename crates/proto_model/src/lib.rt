@@ -6,7 +6,6 @@ mod mediator_tree;
 mod naming;
 mod notice;
 mod opening;
-mod outline;
 mod participants;
 mod sealing;
 mod seeing;
@@ -17,11 +16,10 @@ pub use canton_model::{
     Request, Response, SharedBytes, Verdict, ViewVerdict, ViewVerdictList,
 };
 pub use confirm_reply::Setup;
-pub use framed_form::framed;
+pub use framed_form::{Outline, framed, read_outline, tree_in};
 pub use ledger_model::Status;
 pub use mediator_tree::requested_views;
 pub use notice::{Notice, if_known, read_notice};
-pub use opening::{envelope_of, tree_in};
-pub use outline::{Outline, read_outline};
+pub use opening::envelope_of;
 pub use sealing::seal;
 pub use seeing::{has_root, seen_among};

@@ -2,9 +2,9 @@
 ghost use Rattle.std.specs.Prelude.{◌≡◌, IfOk};
 ghost use Rattle.proto_model.specs.RequestedViews.{requested_views};
 
-use crate::opening::tree_in;
 use blind_tree::{RolesTree, informee_tree};
 use canton_model::Request;
+use framed_form::tree_in;
 use std::alloc::{AllocError, Global};
 use wire_form::WireFault;
 

@@ -1,17 +1,21 @@
 //! What a participant reads of a request that anybody may have sent.
 ghost use Rattle.std.specs.Prelude.{◌≡◌, ◌||◌, false, nat_eq, true, IfNone, IfOk, IfSome};
+ghost use Rattle.std.specs.List.{list_any};
+ghost use Rattle.ledger_model.specs.Opening.{is_root_path};
 ghost use Rattle.lang_eval.specs.Found.{Packages};
+ghost use Rattle.blind_tree.specs.OpenedFor.{opened_for_root};
 ghost use Rattle.canton_model.specs.Reading.{is_recipient, is_some_path};
 ghost use Rattle.framed_form.specs.FramedForm.{if_known, offered, paths_seen, root_of};
 ghost use Rattle.framed_form.specs.FramedReading.{framed_reading};
-ghost use Rattle.proto_model.specs.Notices.{IsNotice, IsOutline};
+ghost use Rattle.framed_form.specs.Outlines.{IsOutline};
+ghost use Rattle.proto_model.specs.Notices.{IsNotice};
 
 use crate::naming::names_known;
 use crate::opening::envelope_of;
-use crate::outline::Outline;
 use crate::seeing::{confirmed_among, has_root, seen_among};
-use blind_tree::{OpenedFor, opened_for};
+use blind_tree::{OpenedFor, opened_beside, opened_for};
 use canton_model::Request;
+use framed_form::{Outline, tree_in};
 use ledger_terms::{Hash, ParticipantId, PathList, Topology};
 use std::alloc::{AllocError, Global};
 
@@ -62,8 +66,25 @@ fn offered(
     let Some(envelope) = envelope_of(request, me) else {
         return Ok(OpenedFor::Missing);
     };
-    let offered = opened_for(alloc, envelope.as_slice(), root, seen, has_root(seen))?;
+    let offered = opened_of(alloc, request, envelope.as_slice(), root, seen)?;
     if_known(alloc, topology, offered)
+}
+
+// What an envelope's bytes open. What they show as the mediator's tree does isn't hashed.
+fn opened_of(
+    alloc: Global,
+    request: &Request,
+    bytes: &[u8],
+    root: &Hash,
+    seen: &PathList,
+) -> Result<OpenedFor, AllocError>
+    requires { root.now ≡ root_of request.now }
+    ensures { IfOk result (λ opened. opened ≡ opened_for_root root.now seen.now (list_any is_root_path seen.now) bytes.now) }
+{
+    match tree_in(alloc, request.mediator.as_slice())? {
+        Some(told) => opened_beside(alloc, bytes, root, &told, seen, has_root(seen)),
+        None => opened_for(alloc, bytes, root, seen, has_root(seen)),
+    }
 }
 
 fn is_some_path(paths: &PathList) -> bool

@@ -6,7 +6,8 @@ ghost use Rattle.ledger_terms.specs.Hosting.{confirms_at, hosts_at};
 ghost use Rattle.ledger_model.specs.Opening.{is_root_path};
 ghost use Rattle.blind_tree.specs.Leaves.{Sets};
 ghost use Rattle.framed_form.specs.Frames.{seen_in};
-ghost use Rattle.proto_model.specs.Notices.{confirmed_among, listed_views, top_here, top_seen};
+ghost use Rattle.framed_form.specs.Outlines.{listed_views};
+ghost use Rattle.proto_model.specs.Notices.{confirmed_among, top_here, top_seen};
 
 use blind_tree::{ViewRoles, ViewRolesList};
 use ledger_terms::{Exact, ParticipantId, PathList, Topology};

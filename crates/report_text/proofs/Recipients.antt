@@ -22,7 +22,7 @@ use Rattle.framed_form.specs.FramedForm.{forest_in, outline_in, outline_of, path
 use Rattle.framed_form.specs.FramedReading.{framed_reading}
 use Rattle.framed_form.proofs.Decided.{framed_decides}
 use Rattle.framed_form.proofs.Facts.{told}
-use Rattle.proto_model.specs.Notices.{listed_views}
+use Rattle.framed_form.specs.Outlines.{listed_views}
 use Rattle.proto_model.proofs.Noticed.{recipient_is}
 use Rattle.proto_model.proofs.Seen.{all_seen, seen_after}
 use Rattle.report_text.specs.Entries.{is_recipient, views_in, views_told}

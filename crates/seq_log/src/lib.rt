@@ -1,6 +1,7 @@
 //! The sequencer: one rising log, each message of which stands in it once.
 #![tactic(auto)]
 
+mod admission;
 mod fault;
 mod key;
 mod late;

@@ -6,22 +6,24 @@ ghost use Rattle.indexmap.specs.IndexMap.{spare};
 ghost use Rattle.canton_model.specs.Log.{FollowsTime};
 ghost use Rattle.canton_model.specs.Mediation.{has_responded};
 ghost use Rattle.log_row.specs.LogPrefix.{LogPrefix};
-ghost use Rattle.world_model.specs.Messages.{Entry};
+ghost use Rattle.world_model.specs.Messages.{Entry, RequestMessage};
 ghost use Rattle.world_model.specs.Sequencing as s;
 ghost use Rattle.seq_log.specs.Keys.{key_of};
 ghost use Rattle.framed_form.specs.Framed.{is_framed};
+ghost use Rattle.seq_log.specs.Admitted.{IsAdmitted, refusal_of};
 ghost use Rattle.seq_log.specs.Faults.{next_time, fault_in, other_fault, request_fault};
 ghost use Rattle.seq_log.specs.Indexed.{IsIndexOf};
 ghost use Rattle.seq_log.specs.Sequenced.{LeftOpen, fault_if};
 ghost use Rattle.seq_log.specs.Slips.{Holds};
 
+use crate::admission::{Admission, taken_unless};
 use crate::fault::AppendFault;
 use crate::key::Key;
 use crate::late::{if_full, if_late};
 use crate::open_requests::OpenRequests;
 use crate::place::{place_of, put_place, stands};
 use canton_model::{Message, Request};
-use framed_form::framed;
+use framed_form::framed_outline;
 use indexmap::IndexMap;
 use ledger_terms::{Params, ParticipantId, Topology};
 use log_row::Slip;
@@ -67,71 +69,79 @@ fn need_of_request(request: &Request) -> u64
 }
 
 impl LogIndex {
-    // Why the request isn't appended, where it doesn't stand in the log.
-    fn request_fault(
+    // Whether the request is appended, where it doesn't stand in the log.
+    fn admit_request(
         &self,
         alloc: Global,
         topology: &Topology,
         request: &Request,
-    ) -> Result<Option<AppendFault>, AllocError>
+    ) -> Result<Admission, AllocError>
         requires hosts { length topology.now.hosts ≤ 256 }
         requires reserved { self.now.reserved ≤ self.now.capacity }
-        ensures { IfOk result (λ fault. request_fault (is_framed topology.now request.now) self.now.capacity self.now.reserved
-            (2 + length request.now.confirming) ≡ fault_if fault) }
+        ensures ok { IfOk result (λ admission. request_fault (is_framed topology.now request.now) self.now.capacity self.now.reserved
+            (2 + length request.now.confirming) ≡ fault_if (refusal_of admission)) }
+        ensures outlined { IfOk result (λ admission. IsAdmitted (RequestMessage request.now) admission) }
     {
         let full = if_full(self.capacity, self.reserved, need_of_request(request));
-        if !framed(alloc, topology, request)? {
-            return Ok(Some(AppendFault::Unframed));
+        let Some(outline) = framed_outline(alloc, topology, request)? else {
+            return Ok(Admission::Refused(AppendFault::Unframed));
+        };
+        match full {
+            Some(fault) => Ok(Admission::Refused(fault)),
+            None => Ok(Admission::Taken(Some(outline))),
         }
-        Ok(full)
     }
 
-    // Why the message isn't appended, where it doesn't stand in the log.
-    fn other_fault(
+    // Whether the message is appended, where it doesn't stand in the log.
+    fn admit_other(
         &self,
         alloc: Global,
         topology: &Topology,
         slips: &Vec<Slip<'_>>,
         message: &Message,
-    ) -> Result<Option<AppendFault>, AllocError>
+    ) -> Result<Admission, AllocError>
         requires hosts { length topology.now.hosts ≤ 256 }
         requires reserved { self.now.reserved ≤ self.now.capacity }
         requires last { self.now.last + 1 < 2 ^ 64 }
-        ensures ok { IfOk result (λ fault. (t : LogPrefix) → Holds t slips.now.items → IsIndexOf self.now t.list
-            → other_fault (is_framed topology.now) self.now.capacity self.now.params t.list message.now ≡ fault_if fault) }
+        ensures ok { IfOk result (λ admission. (t : LogPrefix) → Holds t slips.now.items → IsIndexOf self.now t.list
+            → other_fault (is_framed topology.now) self.now.capacity self.now.params t.list message.now ≡ fault_if (refusal_of admission)) }
+        ensures outlined { IfOk result (λ admission. IsAdmitted message.now admission) }
         ensures err { OnErr result ((t : LogPrefix) → LeftOpen (other_fault (is_framed topology.now) self.now.capacity self.now.params t.list message.now)) }
     {
         match message {
-            Message::Request(request) => self.request_fault(alloc, topology, request),
+            Message::Request(request) => self.admit_request(alloc, topology, request),
             Message::Response(response) => {
-                Ok(if_late(slips, &self.params, self.last, response.request))
+                let late = if_late(slips, &self.params, self.last, response.request);
+                Ok(taken_unless(late))
             }
             Message::Verdict(verdict) => {
-                Ok(if_late(slips, &self.params, self.last, verdict.request))
+                let late = if_late(slips, &self.params, self.last, verdict.request);
+                Ok(taken_unless(late))
             }
-            Message::Tick => Ok(None),
+            Message::Tick => Ok(Admission::Taken(None)),
         }
     }
 
-    /// Why the message isn't appended, by the first cause.
-    pub fn fault(
+    /// Whether the message is appended, and else the first cause why it isn't.
+    pub fn admit(
         &self,
         alloc: Global,
         topology: &Topology,
         slips: &Vec<Slip<'_>>,
         message: &Message,
-    ) -> Result<Option<AppendFault>, AllocError>
+    ) -> Result<Admission, AllocError>
         requires hosts { length topology.now.hosts ≤ 256 }
         requires reserved { self.now.reserved ≤ self.now.capacity }
         requires last { self.now.last + 1 < 2 ^ 64 }
-        ensures ok { IfOk result (λ fault. (t : LogPrefix) → Holds t slips.now.items → IsIndexOf self.now t.list
-            → fault_in (is_framed topology.now) self.now.capacity self.now.params t.list message.now ≡ fault_if fault) }
+        ensures ok { IfOk result (λ admission. (t : LogPrefix) → Holds t slips.now.items → IsIndexOf self.now t.list
+            → fault_in (is_framed topology.now) self.now.capacity self.now.params t.list message.now ≡ fault_if (refusal_of admission)) }
+        ensures outlined { IfOk result (λ admission. IsAdmitted message.now admission) }
         ensures err { OnErr result ((t : LogPrefix) → IsIndexOf self.now t.list
             → LeftOpen (fault_in (is_framed topology.now) self.now.capacity self.now.params t.list message.now)) }
     {
         match place_of(&self.places, message) {
-            Some(place) => Ok(Some(AppendFault::Already { place })),
-            None => self.other_fault(alloc, topology, slips, message),
+            Some(place) => Ok(Admission::Refused(AppendFault::Already { place })),
+            None => self.admit_other(alloc, topology, slips, message),
         }
     }
 

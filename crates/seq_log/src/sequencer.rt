@@ -16,6 +16,7 @@ ghost use Rattle.seq_log.specs.Sequenced.{IsFor, LeftOpen, prefix_of, cause_of};
 ghost use Rattle.seq_log.specs.Slips.{prefix_to};
 ghost use mathlib.Core.List.{IsPrefix};
 
+use crate::admission::Admission;
 use crate::fault::{AppendFault, AppendRefusal};
 use crate::key::key_of;
 use crate::log_index::{LogIndex, need_of, next_time};
@@ -113,17 +114,17 @@ impl<'r> Sequencer<'r> {
             → SequencerBehind m self.new.list }
     {
         let alloc = *self.slips.allocator();
-        match self
+        let outline = match self
             .index
-            .fault(alloc, self.topology, &self.slips, &message)
+            .admit(alloc, self.topology, &self.slips, &message)
         {
-            Ok(None) => {}
-            Ok(Some(fault)) => return Err(AppendRefusal { fault, message }),
+            Ok(Admission::Taken(outline)) => outline,
+            Ok(Admission::Refused(fault)) => return Err(AppendRefusal { fault, message }),
             Err(AllocError) => {
                 let fault = AppendFault::Memory;
                 return Err(AppendRefusal { fault, message });
             }
-        }
+        };
         if make_room(&mut self.slips, &mut self.index).is_err() {
             let fault = AppendFault::Memory;
             return Err(AppendRefusal { fault, message });
@@ -132,7 +133,7 @@ impl<'r> Sequencer<'r> {
         let need = need_of(&message);
         let time = next_time(now, &message, self.index.last);
         let place = self.pen.len();
-        match self.pen.publish(Entry { time, message }) {
+        match self.pen.publish(Entry { time, message }, outline) {
             Ok(mut slip) => {
                 self.slips.push_reserved(slip.again());
                 self.index.note(&self.slips, key, place, need, time);

@@ -1,5 +1,5 @@
 //! What a request offers a participant.
-ghost use Rattle.proto_model.specs.Notices.{IsOutline};
+ghost use Rattle.framed_form.specs.Outlines.{IsOutline};
 
 use crate::lack::Lack;
 use crate::withheld::Withheld;

@@ -2,7 +2,7 @@
 ghost use Rattle.std.specs.Prelude.{◌≡◌, ◌++◌, IfOk, OnOk, option_to_list};
 ghost use Rattle.canton_model.specs.declared.request.Request.{Request};
 ghost use Rattle.framed_form.specs.FramedForm.{complete_in};
-ghost use Rattle.proto_model.specs.Notices.{IsOutline};
+ghost use Rattle.framed_form.specs.Outlines.{IsOutline};
 ghost use Rattle.whole_request.specs.Completes.{complete_of, completes, requesters_among, requesters_told, shown};
 
 use crate::part::Part;

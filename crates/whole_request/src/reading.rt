@@ -5,7 +5,7 @@ ghost use Rattle.view_split.specs.Split.{assembled};
 ghost use Rattle.blind_tree.specs.Vertices.{IsNarrow};
 ghost use Rattle.framed_form.specs.Framed.{is_framed};
 ghost use Rattle.framed_form.specs.FramedReading.{framed_reading};
-ghost use Rattle.proto_model.specs.Notices.{IsOutline};
+ghost use Rattle.framed_form.specs.Outlines.{IsOutline};
 ghost use Rattle.whole_request.specs.Completes.{completes, time_told, transaction, whole_told};
 
 use crate::complete::{complete_envelopes, parts_of, requesters_among};

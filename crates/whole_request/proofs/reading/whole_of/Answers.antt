@@ -1,6 +1,6 @@
 use Rattle.std.proofs.Common.{sym, ◌∙◌}
 use Rattle.std.proofs.lemmas.Result.{IfOk-weaker}
-use Rattle.proto_model.proofs.Outlines.{narrow_of}
+use Rattle.framed_form.proofs.ReadOutlines.{narrow_of}
 use Rattle.whole_request.proofs.Read.{whole_read, whole_unread}
 use Rattle.whole_request.proofs.reading.whole_of.Goals as goal
 

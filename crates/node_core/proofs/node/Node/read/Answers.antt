@@ -25,6 +25,11 @@ read-requires-clause-framed c =
     framed_here c.self.inside.inbox c.self.inside.is_paused c.self.inside.duties c.args.slip.now.list can c.entry.result.now
     (c.entry.ensures _ can.cursor)
 
+pub read-requires-clause-outlined : goal.read-requires-clause-outlined
+read-requires-clause-outlined c =
+    let can = subst (λ (p : Participant). CanRead p c.args.slip.now.list) (sym c.self.view_is) c.requires in
+    c.outline.ensures _ c.entry.result.now can.cursor (c.entry.ensures _ can.cursor)
+
 pub owe-requires-clause-last : goal.owe-requires-clause-last
 owe-requires-clause-last c =
     let i = c.self.inside.inbox in

@@ -3,8 +3,10 @@ use Rattle.canton_model.specs.Log.{Params}
 use Rattle.world_model.specs.Messages.{Entry, Request}
 use Rattle.log_row.specs.LogPrefix.{LogPrefix}
 use Rattle.framed_form.specs.Framed.{is_framed}
+use Rattle.seq_log.specs.Admitted.{refusal_of}
 use Rattle.seq_log.specs.Faults.{fault_in, next_time}
 use Rattle.seq_log.specs.Indexed.{IsIndexOf}
+use Rattle.seq_log.specs.declared.admission.Admission.{Admission}
 use Rattle.seq_log.specs.Sequenced.{Sequenced, IsFor, fault_if}
 use Rattle.world_model.specs.Machine.{Machine}
 use Rattle.world_model.specs.Fits.{MayStand}
@@ -21,7 +23,7 @@ invariant_of-self-in-Ok c =
     let framed : Request → Bool = is_framed c.self.inside.topology.now in
     let message = c.args.message in
     let entry : Entry = record { time = c.next_time-time.result; message = message } in
-    let none = c.in-Ok-None.ensures.ok pen inv.0 inv.1 ∙ ap fault_if c.in-Ok-None.field-0-is in
+    let none = c.in-Ok-Taken.ensures.ok pen inv.0 inv.1 ∙ ap (λ (a : Admission). fault_if (refusal_of a)) c.in-Ok-Taken.field-0-is in
     let e = c.in-Ok.ensures in
     let items =
     c.push_reserved.ensures.items ∙ ap (λ l. l ++ c.again.result ∷ []) c.make_room.ensures.slips
@@ -56,7 +58,7 @@ returns-in-Ok-clause-behind c =
     let index = c.self.inside.index in
     let topology = c.self.inside.topology.now in
     let seen : Sequenced = record { row = pen.row; list = pen.list; capacity = index.capacity; topology = topology } in
-    let none = c.in-Ok-None.ensures.ok pen inv.0 inv.1 ∙ ap fault_if c.in-Ok-None.field-0-is in
+    let none = c.in-Ok-Taken.ensures.ok pen inv.0 inv.1 ∙ ap (λ (a : Admission). fault_if (refusal_of a)) c.in-Ok-Taken.field-0-is in
     let free = ap (λ (p : Params). fault_in (is_framed topology) index.capacity p pen.list c.args.message) (sym inv.4) ∙ none in
     let list = ap (λ (t : LogPrefix). t.list) (c.in-Ok.ensures).0 in
     let now = ap (next_time c.args.now c.args.message) c.make_room.ensures.numbers.1 in

@@ -1,5 +1,5 @@
 -- What the mediator's bytes tell, and that those of a framed request tell something.
-use Rattle.std.proofs.Common.{◌≡◌, length, false, Some, None, Result, Ok, Err, sym, ap, ◌∙◌}
+use Rattle.std.proofs.Common.{◌≡◌, length, false, Some, None, Result, Err, sym, ap, ◌∙◌}
 use Rattle.std.specs.Prelude.{◌&&◌, not, nat_lt}
 use Rattle.std.proofs.lemmas.Bool.{and_right}
 use Rattle.sha2.specs.Sha256.{sha256}
@@ -21,23 +21,26 @@ use Rattle.sealed_form.specs.SealedForm.{found, tree_in}
 use Rattle.framed_form.specs.Framed.{are_envelopes_framed, are_views_framed, hides_contents, is_framed, is_short, is_tree_framed}
 use Rattle.framed_form.specs.FramedForm.{forest_in, outline_in, root_in}
 use Rattle.framed_form.proofs.Outlined.{outlined}
-use Rattle.proto_model.specs.Notices.{IsOutline, listed_views}
-use Rattle.proto_model.specs.declared.outline.Outline.{Outline}
+use Rattle.framed_form.specs.Outlines.{IsOutline, IsTold, listed_views}
+use Rattle.framed_form.specs.declared.outline.Outline.{Outline}
+use Rattle.framed_form.specs.declared.told_tree.ToldTree.{ToldTree}
 
 pub narrow_of : (tree : Tree) → IsTree tree → IsNarrow tree.views
 narrow_of tree is = narrow_tree tree (spellable_tree tree is)
 
 module _ (request : Request) where
   -- what a tree that can be read tells
-  pub outline_is : (tree : Tree) (roles : RolesTree) (outline : Outline) → tree_in request.mediator ≡ Some tree → informee_tree_of tree ≡ Ok roles
-      → outline.root ≡ hash_of_root sha256 tree → outline.views ≡ roles.views → IsOutline request outline
-  outline_is tree roles outline is tells root views =
-      let o = outlined tree roles tells in
+  pub outline_is : (told : ToldTree) (outline : Outline) → IsTold request told → outline.root ≡ hash_of_root sha256 told.tree
+      → outline.views ≡ told.roles.views → IsOutline request outline
+  outline_is told outline is root views =
+      let o = outlined told.tree told.roles is.tells in
       record {
-        root = root ∙ sym (ap root_in is);
+        root = root ∙ sym (ap root_in is.spells);
         views =
             views
-            ∙ (o.views ∙ ap (λ (told : Forest Sets). listed_views told) (sym (ap outline_in is ∙ ap (λ (r : Result (Forest Sets) WireFault). forest_in r) o.outline_read)));
+            ∙ (o.views
+            ∙ ap (λ (f : Forest Sets). listed_views f)
+            (sym (ap outline_in is.spells ∙ ap (λ (r : Result (Forest Sets) WireFault). forest_in r) o.outline_read)));
       }
 
   module _ (topology : Topology) where
