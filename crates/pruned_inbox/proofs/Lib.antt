@@ -1,0 +1,14 @@
+pub mod Kept
+pub mod Decisions
+pub mod Counted
+pub mod Starts
+pub mod Firsts
+pub mod Actives
+pub mod Cleaned
+pub mod OfLog
+pub mod Pruned
+pub mod Later
+pub mod Again
+pub mod Retimed
+pub mod Duties
+pub mod Restarted
