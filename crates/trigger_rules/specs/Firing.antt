@@ -1,0 +1,71 @@
+-- What a rule causes when it is asked about contracts.
+use Rattle.std.specs.Prelude.{◌≡◌, ◌⊎◌, ℕ, ◌<◌, Bool, true, false, List, [], ◌∷◌, ◌++◌, Option, Some, None, Ok, length, map, take, slice_get, Contains}
+use Rattle.std.specs.Fmt.{decimal}
+use Rattle.std.specs.List.{list_any}
+use Rattle.std.specs.Str.{bytes_eq}
+use Rattle.ledger_terms.specs.declared.active_row.ActiveRow.{ActiveRow}
+use Rattle.ledger_terms.specs.declared.command.Command.{Command}
+use Rattle.ledger_terms.specs.declared.known.Known.{Known}
+use Rattle.ledger_terms.specs.declared.submission.Submission.{Submission}
+use Rattle.ledger_terms.specs.declared.what.What.TheVariants.{Commands}
+use Rattle.trigger_rules.specs.declared.caused.Caused.{Caused}
+use Rattle.trigger_rules.specs.declared.rule.Rule.{Rule}
+use Rattle.trigger_rules.specs.Answers.{Answers, IsExerciseOf}
+
+-- it has fired on that contract
+abbrev pub has_fired : List (List ℕ) → (id : List ℕ) → Bool
+has_fired fired id = list_any (bytes_eq id) fired
+
+abbrev pub contracts_of : List Caused → List (List ℕ)
+contracts_of caused = map (λ (one : Caused). one.contract) caused
+
+-- the id of a rule's command: its name, a hyphen, and how often it fired before
+abbrev pub command_id : (name : List ℕ) → (before : ℕ) → List ℕ
+command_id name before = name ++ (45 ∷ decimal before)
+
+-- what the rule submits with a command, for its party
+abbrev pub submission_by : Rule → (now before : ℕ) → Command → Submission
+submission_by rule now before command =
+    record {
+      participant = rule.participant;
+      command = command_id rule.name before;
+      act_as = rule.party ∷ [];
+      ledger_time = Some now;
+      what = Commands (command ∷ []);
+    }
+
+-- what it causes with a command on a contract
+abbrev pub caused_by : Rule → (round now before : ℕ) → Known → Command → Caused
+caused_by rule round now before known command =
+    record { round = round; rule = rule.name; contract = known.id; instance = known.instance; submission = submission_by rule now before command }
+
+-- The rule, which had fired on some contracts, fires on this one too: it hadn't before, and this command may be answered.
+pub record FiresOn (may : Answers) (rule : Rule) (round now : ℕ) (fired : List (List ℕ)) (known : Known) (one : Caused) : Type 0 where
+  pub command : Command
+  pub is : one ≡ caused_by rule round now (length fired) known command
+  pub fresh : has_fired fired known.id ≡ false
+  pub answered : may rule.name known (Ok (Some command))
+  pub exercises : IsExerciseOf known command
+
+-- What comes of a row about which a rule is asked: it had fired on its contract, it may be answered none, or it fires on it.
+abbrev pub AsksOne : Answers → Rule → (round now : ℕ) → (fired : List (List ℕ)) → ActiveRow → (caused : List Caused)
+    → (fired' : List (List ℕ)) → (caused' : List Caused) → Type 0
+AsksOne may rule round now fired row caused fired' caused' =
+    ((has_fired fired (row.known).id ≡ true) × (fired' ≡ fired) × (caused' ≡ caused))
+    ⊎ (may rule.name row.known (Ok None) × (fired' ≡ fired) × (caused' ≡ caused))
+    ⊎ ((one : Caused) × FiresOn may rule round now fired row.known one × (fired' ≡ fired ++ (row.known).id ∷ []) × (caused' ≡ caused ++ one ∷ []))
+
+-- each is below those behind it
+abbrev pub Rise : List ℕ → Type 0
+Rise places = (i j a b : ℕ) → i < j → slice_get places i ≡ Some a → slice_get places j ≡ Some b → a < b
+
+-- What a rule causes when it is asked about rows in their order, after it had fired on some contracts. Each row on whose
+-- contract it hasn't fired is asked about: it fires on it, or may be answered none.
+pub record Fires (may : Answers) (rule : Rule) (round now : ℕ) (fired : List (List ℕ)) (rows : List ActiveRow) (caused : List Caused) : Type 0 where
+  pub places : List ℕ  -- of the rows on which it fires
+  pub in_order : Rise places
+  pub each_place : length places ≡ length caused
+  pub each : (k at : ℕ) (one : Caused) → slice_get places k ≡ Some at → slice_get caused k ≡ Some one
+      → (row : ActiveRow) × (slice_get rows at ≡ Some row) × FiresOn may rule round now (fired ++ contracts_of (take k caused)) row.known one
+  pub asked : (row : ActiveRow) → Contains rows row → has_fired fired (row.known).id ≡ false
+      → ((one : Caused) × Contains caused one × (one.contract ≡ (row.known).id)) ⊎ may rule.name row.known (Ok None)
