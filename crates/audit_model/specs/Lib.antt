@@ -1,0 +1,5 @@
+pub mod Standard
+pub mod Rules
+pub mod Cases
+pub mod Judged
+pub mod Example

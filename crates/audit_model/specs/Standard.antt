@@ -1,0 +1,17 @@
+-- What a log is judged by.
+use Rattle.std.specs.Prelude.{Bool, List}
+use Rattle.ledger_model.specs.Terms.{Name, ParticipantId}
+use Rattle.canton_model.specs.Log.{Params}
+use Rattle.canton_model.specs.Reading.{Reading}
+
+-- a rule by which a participant submits for a party, and the commands that are kept for it
+pub record Rule : Type 0 where
+  pub participant : ParticipantId
+  pub party : Name
+  pub has_command : Name → Bool
+
+-- how requests are read, the times, and the rules of the participants
+pub record Standard : Type 0 where
+  pub reading : Reading
+  pub params : Params
+  pub rules : List Rule
