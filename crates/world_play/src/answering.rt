@@ -1,5 +1,5 @@
 //! What comes of a submission at its participant.
-ghost use Rattle.std.specs.Prelude.{◌≡◌, ℕ, false, IfOk, OnErr, OnOk};
+ghost use Rattle.std.specs.Prelude.{◌≡◌, ℕ, false, IfOk};
 ghost use Rattle.ledger_model.specs.Terms.{ParticipantId};
 ghost use Rattle.world_model.specs.Messages.{RequestMessage};
 ghost use Rattle.world_model.specs.Machine.{Machine};

@@ -1,12 +1,11 @@
 //! A participant's job that comes to its end after the request was decided.
-ghost use Rattle.std.specs.Prelude.{◌≡◌, ◌≤◌, ◌<◌, ◌^◌, true, ℕ, All, IfOk, IfSome, length, is_some};
+ghost use Rattle.std.specs.Prelude.{◌≡◌, true, ℕ, is_some};
 ghost use Rattle.ledger_model.specs.Terms.{ParticipantId};
 ghost use Rattle.canton_model.specs.Inbox.{notice_at};
 ghost use Rattle.world_model.specs.Lawful.{Lawful};
 ghost use Rattle.world_model.specs.Machine.{Machine};
 ghost use Rattle.world_model.specs.Mediator.{MediatorState};
 ghost use Rattle.node_core.specs.Participant.{items_of, owed_there, owes_there};
-ghost use Rattle.world_play.specs.Events.{CanHappen, advance_in};
 ghost use Rattle.world_play.specs.Standing.{IsParticipant};
 ghost use Rattle.world_play.specs.Worlds.{AreNodesOf, world_with};
 ghost use Rattle.world_play.specs.WorldOf.{IsWorldOf, world_of};
