@@ -12,7 +12,7 @@ use std::process::ExitCode;
 use std::random::RandomSource;
 use std::sync::Wait;
 use std::thread::Threads;
-use std::{env, io, mem};
+use std::{env, io};
 
 /// The words after the program's name.
 fn words_of(rt: &HostRuntime) -> io::Result<WordList> {
@@ -50,20 +50,25 @@ fn finish_of<R: Threads + Wait + Sync + RandomSource + AllocGlobal, S: Source, K
     }
 }
 
+/// Writes the line for an end with another status than 0, and lets the end go. Its status.
+fn tell(rt: &HostRuntime, finish: Finish) -> u8 {
+    let status = finish.status;
+    if status != 0 {
+        let _ = match line(rt.alloc(), &finish) {
+            Ok(text) => eprintln!(rt; "{text}"),
+            Err(_) => eprintln!(rt; "canton_cli: out of memory"),
+        };
+    }
+    // the process ends behind this, and gives all memory back at once
+    finish.forget();
+    status
+}
+
 fn main(rt: HostRuntime) -> ExitCode {
     let alloc = rt.alloc();
     let words = words_of(&rt);
     let mut source = ReadSource::new(rt.stdin());
     let mut sink = WriteSink::new(rt.stdout());
     let finish = finish_of(&rt, alloc, words, &mut source, &mut sink);
-    if finish.status != 0 {
-        let _ = match line(alloc, &finish) {
-            Ok(text) => eprintln!(rt; "{text}"),
-            Err(_) => eprintln!(rt; "canton_cli: out of memory"),
-        };
-    }
-    let status = finish.status;
-    // the process ends here, and gives all memory back at once
-    mem::forget(finish);
-    ExitCode::from(status)
+    ExitCode::from(tell(&rt, finish))
 }

@@ -8,6 +8,7 @@ use ledger_terms::U64List;
 use node_core::SubmitResultList;
 use script_read::ScriptFault;
 use std::alloc::Global;
+use std::mem;
 
 /// How a run ended: its status, the script's fault at status 3, and, at statuses 0 and 5, where the script was run, the log, the
 /// results of the submissions in script order, and the length of the log at the end of each round. `left` is what nobody asks for any
@@ -20,6 +21,16 @@ pub struct Finish {
     pub results: SubmitResultList,
     pub ends: U64List,
     pub left: Option<Leftovers>,
+}
+
+impl Finish {
+    /// Gives its memory back. Whoever lets an end go so, or by `forget`, proves nothing of how the many types in it are dropped.
+    pub fn give_back(self) {}
+
+    /// Gives no memory back, for a program that ends.
+    pub fn forget(self) {
+        mem::forget(self);
+    }
 }
 
 /// The end of a run.
