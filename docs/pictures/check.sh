@@ -1,10 +1,10 @@
 #!/bin/sh
-# check.sh PROGRAM..: draws each report of examples/ and those of reports.py with the program, `./canton chart` where none is given.
+# check.sh PROGRAM..: draws each report of examples/ and those of reports.py with the program, `./canton --quiet chart` where none is given.
 # A good report has to give a picture that xmllint (of Debian's libxml2-utils) parses, a broken one its line and its status and
 # nothing else. Prints what is amiss, and the number of faults. Not a part of the gate.
 set -u
 root=$(dirname "$(dirname "$(dirname "$(readlink -f "$0")")")")
-[ $# -gt 0 ] || set -- "$root/canton" chart
+[ $# -gt 0 ] || set -- "$root/canton" --quiet chart
 work=$(mktemp -d) || exit 1
 trap 'rm -rf "$work"' EXIT
 "$root/docs/pictures/reports.py" "$work" || exit 1
