@@ -1,9 +1,10 @@
 //! What became of a request.
-ghost use Rattle.std.specs.Prelude.{◌≡◌, ◌<◌, length, IfOk, OnOk, OnErr};
+ghost use Rattle.std.specs.Prelude.{◌≡◌, ◌<◌, length, IfNone, IfOk, IfSome, OnOk, OnErr};
 ghost use Rattle.canton_model.specs.Log.{decision_time_of};
 ghost use Rattle.canton_model.specs.Timeline.{outcome_of, timeline_of};
 ghost use Rattle.world_model.specs.Locks.{SequencerBehind};
 ghost use Rattle.node_core.specs.Completion.{completion_of};
+ghost use Rattle.sync_shared.specs.Slips.{IsNextIn};
 ghost use mathlib.Core.List.{IsPrefix};
 
 use crate::client::Client;
@@ -13,13 +14,36 @@ use crate::locked_nodes::LockedNodes;
 use crate::node_lock::NodeLock;
 use crate::session::Session;
 use crate::ticket::Ticket;
+use log_row::Slip;
 use node_core::Completion;
 use std::alloc::AllocError;
 use std::sync::{Mutex, Wait};
 
-// The participant reads at least what the client has seen, and past the ticket's request.
-fn read_past<'r, S: Session, const I: u8>(
+// What the participant reads next, where it hasn't read the log to its end. At the end it has read what the client has seen, and past
+// the ticket's request.
+fn unread<'r, S: Session, const I: u8>(
     log: &mut LockedLog<'r, S>,
+    node: &mut LockedNode<'r, S, I>,
+    client: &mut Client<'r, S>,
+    ticket: &mut Ticket<'r>,
+) -> Option<Slip<'r>>
+    requires { ticket.old.row ≡ S.history }
+    ensures same { (log.new ≡ log.old) × (node.new ≡ node.old) × (client.new ≡ client.old) × (ticket.new ≡ ticket.old) }
+    ensures some { IfSome result (IsNextIn S.history S.machine node.old) }
+    ensures seen { IfNone result (IsPrefix client.old.list node.old) }
+    ensures ticket { IfNone result (IsPrefix ticket.old.list node.old) }
+    ensures genuine { IfNone result (SequencerBehind S.machine node.old) }
+{
+    client.reaches(log);
+    ticket.reaches(log);
+    node.unread(log)
+}
+
+// The participant reads at least what the client has seen, and past the ticket's request. The log is locked for one slip at a time,
+// since reading takes long.
+fn read_past<'r, S: Session, R: Wait, const I: u8>(
+    rt: &R,
+    log: &Mutex<LockedLog<'r, S>>,
     node: &mut LockedNode<'r, S, I>,
     client: &mut Client<'r, S>,
     ticket: &mut Ticket<'r>,
@@ -30,9 +54,13 @@ fn read_past<'r, S: Session, const I: u8>(
     ensures ticket { OnOk result (IsPrefix ticket.old.list node.new) }
     ensures genuine { OnOk result (SequencerBehind S.machine node.new) }
 {
-    client.reaches(log);
-    ticket.reaches(log);
-    node.read_on(log)
+    'entries: loop {
+        let slip = unread(&mut *log.lock(rt), node, client, ticket);
+        match slip {
+            Some(slip) => node.read(slip)?,
+            None => return Ok(()),
+        }
+    }
 }
 
 // What became of the ticket's request at participant I.
@@ -58,7 +86,7 @@ fn complete_at<'r, S: Session, R: Wait, const I: u8>(
         unreachable!();
     };
     let mut node = lock.lock(rt);
-    read_past(&mut *log.lock(rt), &mut *node, client, ticket)?;
+    read_past(rt, log, &mut *node, client, ticket)?;
     let completion = node.completion_of(ticket.place())?;
     client.sees(node.last());
     Ok(completion)

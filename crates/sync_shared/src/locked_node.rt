@@ -1,5 +1,5 @@
 //! A participant as it lies behind its lock.
-ghost use Rattle.std.specs.Prelude.{◌≡◌, ◌≢◌, ◌+◌, ◌<◌, None, Some, length, is_some, true, IfOk, IfErr, IfSome, OnOk, OnErr};
+ghost use Rattle.std.specs.Prelude.{◌≡◌, ◌≢◌, ◌+◌, ◌<◌, None, Some, length, is_some, true, IfOk, IfErr, IfNone, IfSome, OnOk, OnErr};
 ghost use Rattle.lang_eval.specs.Named.{AreKnown};
 ghost use Rattle.canton_model.specs.Inbox.{inbox};
 ghost use Rattle.canton_model.specs.Log.{decision_time_of};
@@ -18,7 +18,7 @@ ghost use Rattle.node_core.specs.Completion.{completion_of};
 ghost use Rattle.sync_shared.specs.Answers.{fault_of};
 ghost use Rattle.sync_shared.specs.Behind.{IsNodeBehind};
 ghost use Rattle.sync_shared.specs.Clients.{IsRequestBy};
-ghost use Rattle.sync_shared.specs.Slips.{read_to, InRow};
+ghost use Rattle.sync_shared.specs.Slips.{read_to, InRow, IsNextIn};
 ghost use mathlib.Core.List.{IsPrefix};
 
 use crate::locked_log::LockedLog;
@@ -108,17 +108,15 @@ impl<'r, S: Session, const I: u8> LockedNode<'r, S, I> {
         Ok(())
     }
 
-    /// Reads the entries that it hasn't read. After want of memory it has read some of them.
-    pub fn read_on(&mut self, log: &mut LockedLog<'r, S>) -> Result<(), AllocError>
-        ensures same { log.new ≡ log.old }
-        ensures ok { OnOk result (self.new ≡ log.old) }
-        ensures genuine { OnOk result (SequencerBehind S.machine log.old) }
+    /// The slip of the entry that it reads next, where it hasn't read the log to its end.
+    pub fn unread(&mut self, log: &mut LockedLog<'r, S>) -> Option<Slip<'r>>
+        ensures same { (self.new ≡ self.old) × (log.new ≡ log.old) }
+        ensures some { IfSome result (IsNextIn S.history S.machine self.old) }
+        ensures none { IfNone result (self.old ≡ log.old) }
+        ensures genuine { SequencerBehind S.machine log.old }
     {
-        'entries: while let Some(slip) = log.entry(self.cursor()) {
-            self.read(slip)?;
-        }
         self.reaches(log);
-        Ok(())
+        log.entry(self.cursor())
     }
 
     /// Tells that what it has read begins the log.

@@ -1,5 +1,5 @@
 //! A submission in its two halves: the participant prepares the request under its own lock, and hands it in under the log's.
-ghost use Rattle.std.specs.Prelude.{◌≡◌, ◌≢◌, ◌+◌, ◌<◌, ◌≤◌, ◌^◌, List, ℕ, Some, None, true, false, length, IfOk, IfErr, IfSome, OnOk};
+ghost use Rattle.std.specs.Prelude.{◌≡◌, ◌≢◌, ◌+◌, ◌<◌, ◌≤◌, ◌^◌, List, ℕ, Some, None, true, false, length, IfOk, IfErr, IfNone, IfSome, OnOk};
 ghost use Rattle.lang_eval.specs.Named.{AreKnown};
 ghost use Rattle.canton_model.specs.Inbox.{inbox};
 ghost use Rattle.sealed_form.specs.Within.{is_hosted};
@@ -12,6 +12,7 @@ ghost use Rattle.prepare_request.specs.Causes.{HoldsNoMemory};
 ghost use Rattle.prepare_request.specs.Within.{parties_in_what};
 ghost use Rattle.prepare_request.specs.declared.submit_fault.SubmitFault.TheVariants.{Memory};
 ghost use Rattle.seq_log.specs.declared.fault.AppendFault.TheVariants.{TooLate, Unframed};
+ghost use Rattle.sync_shared.specs.Slips.{IsNextIn};
 ghost use Rattle.sync_shared.specs.Answers.{answer_of, fault_of, has_ticket, refused_at, seen_after, told_of};
 ghost use mathlib.Core.List.{IsPrefix};
 
@@ -25,23 +26,45 @@ use crate::submit_refusal::SubmitRefusal;
 use crate::ticket::Ticket;
 use canton_model::Request;
 use ledger_terms::Submission;
+use log_row::Slip;
 use node_core::SubmitFault;
 use seq_log::AppendFault;
 use std::alloc::AllocError;
 use std::sync::{Mutex, Wait};
 
-// The participant reads at least what the client has seen.
-fn catch_up<'r, S: Session, const I: u8>(
+// What the participant reads next, where it hasn't read the log to its end. At the end it has read what the client has seen.
+fn unread<'r, S: Session, const I: u8>(
     log: &mut LockedLog<'r, S>,
     node: &mut LockedNode<'r, S, I>,
     client: &mut Client<'r, S>,
+) -> Option<Slip<'r>>
+    ensures same { (log.new ≡ log.old) × (node.new ≡ node.old) × (client.new ≡ client.old) }
+    ensures some { IfSome result (IsNextIn S.history S.machine node.old) }
+    ensures seen { IfNone result (IsPrefix client.old.list node.old) }
+    ensures genuine { IfNone result (SequencerBehind S.machine node.old) }
+{
+    client.reaches(log);
+    node.unread(log)
+}
+
+// The participant reads at least what the client has seen. The log is locked for one slip at a time, since reading takes long.
+fn catch_up<'r, S: Session, R: Wait, const I: u8>(
+    rt: &R,
+    log: &Mutex<LockedLog<'r, S>>,
+    node: &mut LockedNode<'r, S, I>,
+    client: &mut Client<'r, S>,
 ) -> Result<(), AllocError>
-    ensures same { (log.new ≡ log.old) × (client.new ≡ client.old) }
+    ensures same { client.new ≡ client.old }
     ensures ok { OnOk result (IsPrefix client.old.list node.new) }
     ensures genuine { OnOk result (SequencerBehind S.machine node.new) }
 {
-    client.reaches(log);
-    node.read_on(log)
+    'entries: loop {
+        let slip = unread(&mut *log.lock(rt), node, client);
+        match slip {
+            Some(slip) => node.read(slip)?,
+            None => return Ok(()),
+        }
+    }
 }
 
 // What a client is told where the log takes no request. It has then seen the log to its end, unless there was no memory.
@@ -164,7 +187,7 @@ fn submit_at<'r, S: Session, R: Wait, const I: u8>(
         unreachable!();
     };
     let mut node = lock.lock(rt);
-    if catch_up(&mut *log.lock(rt), &mut *node, client).is_err() {
+    if catch_up(rt, log, &mut *node, client).is_err() {
         return Err(SubmitRefusal {
             fault: SubmitFault::Memory,
             read_to: client.seen(),
