@@ -1,4 +1,4 @@
-"""Writes the inputs and the expected outputs of crates/layer_cases and crates/run_cases from the tables of this folder.
+"""Writes the input and the expected output of crates/layer_cases from the tables of this folder.
 
 What a table says of a case by hand is compared with what is computed here, where both are there.
 """
@@ -20,9 +20,9 @@ import trees
 import world_cases
 from tables import bytes as byte_tables
 from tables import (
-    benches, checks, commits, edges, expressions, frames, openings, package_faults, raw_runs, requests, runs, script_faults, transactions, words, worlds)
+    benches, checks, commit_runs, commits, edges, expressions, frames, openings, package_faults, raw_runs, requests, runs, script_faults, transactions, words, worlds)
 
-CRATES = os.path.join(os.path.dirname(os.path.dirname(os.path.abspath(__file__))), 'crates')
+CRATE = os.path.join(os.path.dirname(os.path.dirname(os.path.abspath(__file__))), 'crates', 'layer_cases')
 
 
 def compact(form):
@@ -214,6 +214,14 @@ def raw_run_cases():
         yield name, words, source, 0, 0, 0, None, text
 
 
+def commit_run_cases():
+    """Runs of which the commitments are written, in the same form."""
+    yield from commit_runs.RUNS
+    for name, changes, text in commit_runs.LIES:
+        yield name, 'commitments', lying_transfer(changes), 0, 0, 0, None, text
+    yield from commit_runs.FAILING
+
+
 def run_rows(cases):
     for name, words, source, take, put, status, line, text in cases:
         if status == 0 and words.startswith('run'):
@@ -227,6 +235,9 @@ def sure_run_rows():
         agreed(name, plain_text('run', source), text)
         lines = ['run ' + name, 'status 0'] + ['|' + written for written in text.splitlines()]
         yield 'surely %s %d run %s' % (name, len(text), source), lines
+    for name, source, text in commit_runs.SURE:
+        lines = ['run ' + name, 'status 0'] + ['|' + written for written in text.splitlines()]
+        yield 'surely %s %d commitments %s' % (name, len(text), source), lines
     for name, source, line in runs.RUNS_WITHOUT_ROOM:
         yield 'surely %s 0 run %s' % (name, source), ['run ' + name, 'status 5', line]
 
@@ -273,9 +284,10 @@ def world_rows():
         else:
             agreed(name, lines, worked)
         yield 'play %s %s %s' % (name, words, compact(script)), ['play ' + name] + lines
-    for name, changes, lie, worked in worlds.CHANGED:
-        lines = agreed(name, world_cases.case_lines(lies.handed_in(worlds.TRANSFER, **lie), worlds.OWED + ',raw,settle'), worked)
-        yield 'change %s %s %s %s' % (name, changes, worlds.OWED + ',submit,settle', compact(worlds.TRANSFER)), ['change ' + name] + lines
+    for name, lie, worked in worlds.CHANGED:
+        script, words_ = lies.handed_in(worlds.TRANSFER, **lie), worlds.OWED + ',raw,settle'
+        lines = agreed(name, world_cases.case_lines(script, words_), worked)
+        yield 'play %s %s %s' % (name, words_, compact(script)), ['play ' + name] + lines
     for name, script, who, words, worked in worlds.LATE:
         lines = agreed(name, world_cases.case_lines(script, words, who), worked)
         yield 'late %s %s %s %s' % (name, who, words, compact(script)), ['late ' + name] + lines
@@ -326,6 +338,11 @@ def layer_rows():
             'Requests beside plain lists': call_rows('requests', check_cases.Requests, checks.REQUESTS)},
         'world': {'Events': world_rows()},
         'sharing': {'Clients of a shared synchroniser': sharing_rows()},
+        'run': {
+            'Whole runs': run_rows(runs.cases()), 'Whole runs with raw requests': run_rows(raw_run_cases()),
+            'Whole runs that commit': run_rows(commit_run_cases()), 'Whole runs within room': sure_run_rows(),
+            'Whole runs with workers in any order': count_rows(), 'Whole runs that pass a gate': gate_rows(), 'Whole runs with natives': native_rows(),
+            'Beginnings of a script': cut_rows(), 'Logs': log_rows(), 'Sources that fail': edges.SOURCES, 'Sinks that fail': edges.SINKS},
         'bench': {'Work of which the time is taken': bench_rows()}}
     for layer, parts in tables.items():
         yield from below('layer ' + layer, headed(parts))
@@ -337,24 +354,14 @@ def headed(parts):
         yield from below('# ' + heading, cases)
 
 
-def write(crate, cases):
-    """Writes the cases of a crate."""
+def main():
     asked, answered = [], []
-    for line, lines in cases:
+    for line, lines in layer_rows():
         asked.append(line)
         answered += lines
     for name, lines in [('stdin', asked), ('stdout', answered)]:
-        with open(os.path.join(CRATES, crate, name), 'w') as out:
+        with open(os.path.join(CRATE, name), 'w') as out:
             out.write('\n'.join(lines) + '\n')
-
-
-def main():
-    write('layer_cases', layer_rows())
-    write('run_cases', headed({
-        'Whole runs': run_rows(runs.cases()), 'Whole runs with raw requests': run_rows(raw_run_cases()),
-        'Whole runs within room': sure_run_rows(), 'Whole runs with workers in any order': count_rows(),
-        'Whole runs that pass a gate': gate_rows(), 'Whole runs with natives': native_rows(), 'Beginnings of a script': cut_rows(),
-        'Logs': log_rows(), 'Sources that fail': edges.SOURCES, 'Sinks that fail': edges.SINKS}))
 
 
 if __name__ == '__main__':

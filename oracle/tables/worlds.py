@@ -1,11 +1,8 @@
 """Events of a synchroniser, with the log or the whole report that they leave, or what becomes of a job behind them, worked out by hand
 from docs/PROTOCOL.md.
 """
-import struct
-
 import raws
 from tables.transactions import IOU, asked, create, does, exercise, fetch, iou, known, note, party, prepared, transfer
-from terms import name_bytes, set_bytes
 
 ONE = [{"name": "P1", "parties": ["Alice"]}]
 THREE = [{"name": "P1", "parties": ["Bank"]}, {"name": "P2", "parties": ["Alice", "Bob"]}, {"name": "P3", "parties": ["Carol"]}]
@@ -29,21 +26,6 @@ def answers(name, reads=1):
 def decides(reads):
     """The mediator reads so many entries, and gives its verdict."""
     return words(*['mediator'] * reads, 'verdict')
-
-
-def swap(old, new):
-    """A leaf of all trees with other bytes, which stand behind their length."""
-    return ':'.join(['swap'] + [(struct.pack('>I', len(data)) + data).hex() for data in (old, new)])
-
-
-def sent_by(name):
-    """The common leaf, with the ledger time 0."""
-    return name_bytes(name) + bytes(8)
-
-
-def seen_by(*informees):
-    """The informees leaf of the view 0.0, which the Bank confirms."""
-    return set_bytes(informees) + set_bytes(['Bank'])
 
 
 def with_raws(script, *changes):
@@ -153,18 +135,18 @@ LATE = [
         'place 3 left 2', 'pending, woken yes left 1', 'place 3 left 1', 'ready place 3', 'verdict 0 approve', 'verdict 0.0 approve',
         'place 3 left 2', 'pending, woken yes left 1', 'undecided', 'decided at 5', 'too late for 3', 'decided at 5', 'cancelled 3'])]
 
-# A name, the changes of the transfer's request by its bytes, the same by what they say, and all lines. The transfer has the views 0, which
-# Alice and the Bank confirm, and 0.0, of which Carol and the Bank are informees and which the Bank confirms.
+# A name, how the transfer's request is changed that is handed in in place of its submission, and all lines. The transfer has the views 0,
+# which Alice and the Bank confirm, and 0.0, of which Carol and the Bank are informees and which the Bank confirms.
 CHANGED = [
-    ('no-envelope', 'drop:P1', {'drop': ['P1']},
+    ('no-envelope', {'drop': ['P1']},
      rejected('P1 P2 P3', '0=ViewMissing 0.0=ViewMissing', '0=approve', 'rejected P1 0 ViewMissing')),
-    ('another-root', 'flip:P1', {'damage': ['P1']},
+    ('another-root', {'damage': ['P1']},
      rejected('P1 P2 P3', '0=RootMismatch 0.0=RootMismatch', '0=approve', 'rejected P1 0 RootMismatch')),
-    ('another-sender', swap(sent_by('P2'), sent_by('P1')), {'sender': 'P1'},
+    ('another-sender', {'sender': 'P1'},
      rejected('P1 P2 P3', '0=WrongSender 0.0=WrongSender', '0=WrongSender', 'rejected P1 0 WrongSender')),
-    ('unseen-by-carol', words(swap(seen_by('Bank', 'Carol'), seen_by('Bank')), 'drop:P3'), {'informees': [([0, 0], ['Bank'])]},
+    ('unseen-by-carol', {'informees': [([0, 0], ['Bank'])]},
      rejected('P1 P2', '0=approve 0.0=WrongCommon', '0=approve', 'rejected P1 0.0 WrongCommon')),
-    ('withheld-from-carol', 'drop:P3', {'drop': ['P3']}, approved(['withheld 3']))]
+    ('withheld-from-carol', {'drop': ['P3']}, approved(['withheld 3']))]
 
 # A name, the script, and all lines. The Bank's request stands at place 0 with its two entries behind it, and Alice's at place 3 with two
 # responses and a verdict. Who asks at once has seen the entries as far as the own request, and who asks behind the turns all. P2 has read

@@ -1,9 +1,8 @@
 -- The front of a list where something holds of each.
-use Rattle.std.proofs.Common.{◌≡◌, ◌<◌, List, [], ◌∷◌, ◌++◌, Option, length, sym, subst}
+use Rattle.std.proofs.Common.{◌≡◌, ◌<◌, List, [], ◌∷◌, ◌++◌, length, sym, subst}
 use Rattle.std.specs.Prelude.{All, slice_index_or}
 use Rattle.std.specs.List.{remove}
-use Rattle.std.specs.Option.{option_to_list}
-use Rattle.std.proofs.lemmas.List.Elements.{All-drop, All-nil, All-pop, All-push}
+use Rattle.std.proofs.lemmas.List.Elements.{All-drop, All-nil, All-push}
 use Rattle.ledger_terms.specs.declared.host.Host.{Host}
 use Rattle.script_read.specs.Kept.{IsRound, IsSubmission}
 use Rattle.script_read.specs.declared.round.Round.{Round}
@@ -17,9 +16,6 @@ module _ {X : Type 0} (P : X → Type 0) where
 
   pub one_more : (xs ys : List X) (x : X) → ys ≡ xs ++ x ∷ [] → All P xs → P x → All P ys
   one_more xs ys x is each holds = subst (All P) (sym is) (All-push P xs x each holds)
-
-  pub other_last : (xs ys zs : List X) (last : Option X) (x : X) → xs ≡ ys ++ option_to_list last → zs ≡ ys ++ x ∷ [] → All P xs → P x → All P zs
-  other_last xs ys zs last x was is each holds = one_more ys zs x is (All-pop P xs ys last was each).0 holds
 
   pub nothing : (xs : List X) → xs ≡ [] → All P xs
   nothing xs is = subst (All P) (sym is) (All-nil P)

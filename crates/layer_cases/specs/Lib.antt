@@ -1,1 +1,2 @@
 pub mod Sharings
+pub mod Surely

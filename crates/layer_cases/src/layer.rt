@@ -9,6 +9,7 @@ pub(crate) enum Layer {
     Check,
     World,
     Sharing,
+    Run,
     Bench,
 }
 
@@ -22,6 +23,7 @@ impl Layer {
             "check" => Some(Layer::Check),
             "world" => Some(Layer::World),
             "sharing" => Some(Layer::Sharing),
+            "run" => Some(Layer::Run),
             "bench" => Some(Layer::Bench),
             _ => None,
         }

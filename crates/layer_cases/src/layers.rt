@@ -2,11 +2,12 @@
 use crate::answer::Answer;
 use crate::check::Cases;
 use crate::layer::Layer;
-use crate::{bench, form, load, sharing, tree, world};
+use crate::{bench, form, load, run, sharing, tree, world};
 use futures::test::MockTask;
 use std::alloc::{AllocError, AllocGlobal, Global};
 use std::random::RandomSource;
 use std::sync::Wait;
+use std::thread::Threads;
 
 /// The layer that answers now, and what the cases of checks keep between their lines.
 #[derive(Drop)]
@@ -24,7 +25,7 @@ impl Layers {
     }
 
     /// The text that answers a line.
-    pub(crate) fn answer<R: Wait + RandomSource + AllocGlobal>(
+    pub(crate) fn answer<R: Threads + Wait + Sync + RandomSource + AllocGlobal>(
         &mut self,
         rt: &R,
         task: &MockTask,
@@ -41,7 +42,7 @@ impl Layers {
         out.finish()
     }
 
-    fn put_answer<R: Wait + RandomSource + AllocGlobal>(
+    fn put_answer<R: Threads + Wait + Sync + RandomSource + AllocGlobal>(
         &mut self,
         rt: &R,
         task: &MockTask,
@@ -56,6 +57,7 @@ impl Layers {
             Some(Layer::Check) => self.checks.put_answer(alloc, task, line, out),
             Some(Layer::World) => world::put_answer(alloc, task, line, out),
             Some(Layer::Sharing) => sharing::put_answer(rt, line, out),
+            Some(Layer::Run) => run::put_answer(rt, line, out),
             Some(Layer::Bench) => bench::put_answer(alloc, line, out),
             None => out.line(&[line]),
         }

@@ -9,6 +9,7 @@ mod form;
 mod layer;
 mod layers;
 mod load;
+mod run;
 mod sharing;
 mod tree;
 mod words;
@@ -20,6 +21,7 @@ use std::alloc::AllocGlobal;
 use std::io;
 use std::random::RandomSource;
 use std::sync::Wait;
+use std::thread::Threads;
 
 fn main(rt: HostRuntime) -> io::Result<()> {
     let task = MockTask::new(&rt)?;
@@ -27,7 +29,7 @@ fn main(rt: HostRuntime) -> io::Result<()> {
     answer_lines(&rt, &task, &mut layers)
 }
 
-fn answer_lines<R: Wait + RandomSource + AllocGlobal + Input + Print>(
+fn answer_lines<R: Threads + Wait + Sync + RandomSource + AllocGlobal + Input + Print>(
     rt: &R,
     task: &MockTask,
     layers: &mut Layers,

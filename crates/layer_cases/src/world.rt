@@ -6,17 +6,10 @@
 //! to its end, put back, claimed again and polled once, and put back and claimed once more. The participant reads an entry, and
 //! the last job comes to its end. A line that begins otherwise is written again.
 //!
-//! After the word `change`, a name and changes with commas between them it plays the events, the last of which is a submission, and takes
-//! the request that this brought. It plays the events again with the changed request handed in in place of the submission, and tells
-//! what `play` does. A change is `drop:` with the name of a participant that gets no envelope, `flip:` with the name of one whose
-//! envelope ends with another byte, or `swap:` with hexadecimal digits and those that stand in place of them in all trees.
-//!
 //! An event is `submit` or `raw`, the next submission or raw request of the script's first round; `advance:` with microseconds; `read:`, `validate:`,
 //! `reply:`, `lose:`, `pause:` or `wake:` with a participant's name; or `mediator`, `verdict` or `lose-verdict`.
 
 mod answers;
-mod changes;
-mod changing;
 mod events;
 mod handed_in;
 mod late;

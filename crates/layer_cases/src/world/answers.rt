@@ -6,7 +6,6 @@ ghost use Rattle.world_play.specs.Events.{CanHappen};
 use crate::answer::Answer;
 use crate::tree::script_in;
 use crate::words::Words;
-use crate::world::changing::with_changed;
 use crate::world::handed_in::handed_in;
 use crate::world::plan::{Asked, Plan, is_within_time, plan_of};
 use crate::world::playing::played;
@@ -19,15 +18,13 @@ use std::alloc::{AllocError, Global};
 pub(crate) fn put_answer(alloc: Global, task: &MockTask, line: &str, out: &mut Answer) {
     let mut words = Words::of(line);
     let word = words.next();
-    if word != "play" && word != "late" && word != "change" {
+    if word != "play" && word != "late" {
         return out.line(&[line]);
     }
     out.line(&[word, words.next()]);
     let late = if word == "late" { words.next() } else { "" };
-    let changes = if word == "change" { words.next() } else { "" };
     let asked = Asked {
         late,
-        changes,
         words: words.next(),
     };
     if let Some(script) = script_in(alloc, words.rest(), out) {
@@ -53,8 +50,7 @@ fn put_script(
     let setup = Setup { topology, checked };
     let left = handed_in(alloc, rounds)?;
     match plan_of(alloc, &setup, left, asked)? {
-        Some(plan) if asked.changes.is_empty() => put_plan(alloc, task, &setup, &plan, out),
-        Some(plan) => put_changed(alloc, task, &setup, plan, asked.changes, out),
+        Some(plan) => put_plan(alloc, task, &setup, &plan, out),
         None => {
             out.line(&["no events"]);
             Ok(())
@@ -77,28 +73,4 @@ fn put_plan(
         return Ok(());
     }
     played(alloc, task, setup, plan, out)
-}
-
-fn put_changed(
-    alloc: Global,
-    task: &MockTask,
-    setup: &Setup,
-    plan: Plan,
-    changes: &str,
-    out: &mut Answer,
-) -> Result<(), AllocError>
-    requires hosts { length setup.now.topology.hosts ≤ 256 }
-    requires within { All (CanHappen setup.now.topology setup.now.checked) plan.events }
-{
-    if !is_within_time(plan.events.as_slice()) {
-        out.line(&["too late"]);
-        return Ok(());
-    }
-    match with_changed(alloc, setup, plan, changes)? {
-        Some(plan) => put_plan(alloc, task, setup, &plan, out),
-        None => {
-            out.line(&["no change"]);
-            Ok(())
-        }
-    }
 }

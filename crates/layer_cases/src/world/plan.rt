@@ -20,12 +20,10 @@ pub(crate) struct Plan {
     pub(crate) late: Option<usize>,
 }
 
-/// The name of the participant whose job comes too late and the changes of the last request, each empty where there is none, and the
-/// words of the events.
+/// The name of the participant whose job comes too late, empty where there is none, and the words of the events.
 #[derive(Clone, Copy)]
 pub(crate) struct Asked<'a> {
     pub(crate) late: &'a str,
-    pub(crate) changes: &'a str,
     pub(crate) words: &'a str,
 }
 

@@ -44,10 +44,12 @@ pub(crate) fn played(
         MOST_PLACES as u64,
         &plan.events,
     )?;
-    match plan.late {
+    let put = match plan.late {
         Some(at) => put_late_in(alloc, task, &mut world, at, out),
         None => put_end(alloc, setup, &natives, &mut world, plan.settles, out),
-    }
+    };
+    world.give_back();
+    put
 }
 
 // It settles, where it shall.

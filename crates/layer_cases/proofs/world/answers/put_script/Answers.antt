@@ -10,7 +10,3 @@ plan_of-requires c =
 pub put_plan-requires-clause-hosts : goal.put_plan-requires-clause-hosts
 put_plan-requires-clause-hosts c =
     let few : length (c.args.script.topology).hosts ≤ 8 = ((c.requires).topology).few_hosts in omega (arith, few)
-
-pub put_changed-requires-clause-hosts : goal.put_changed-requires-clause-hosts
-put_changed-requires-clause-hosts c =
-    let few : length (c.args.script.topology).hosts ≤ 8 = ((c.requires).topology).few_hosts in omega (arith, few)

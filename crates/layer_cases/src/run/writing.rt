@@ -3,9 +3,9 @@
 //! - `mem-sink PIECE CALL TEXTS`: a sink that moves so many bytes a call, and fails at one.
 //! - `sure-sink ROOM EARLY TEXTS`: one that takes its room behind the early texts.
 //! - `writer TEXTS`: one over `HaltingWriter`.
-use crate::halting_writer::HaltingWriter;
-use crate::inputs::only;
-use crate::told::put_lines;
+use crate::run::halting_writer::HaltingWriter;
+use crate::run::inputs::only;
+use crate::run::told::put_lines;
 use cn_io::{MemSink, Sink, SureSink, WriteSink, write_all};
 use std::alloc::{AllocError, Global};
 

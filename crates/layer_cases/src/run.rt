@@ -1,6 +1,4 @@
-//! Reads cases from standard input, one a line, and writes what they answer. A line that is no case is written again.
-//!
-//! Whole runs, with their words between commas and then the bytes of the source:
+//! Cases of whole runs, with their words between commas and then the bytes of the source:
 //! - `run NAME TAKE PUT WORDS SOURCE` runs over a source and a sink that move 16 bytes a call and fail at these calls, 0 for none. The
 //!   answer is the status, the line for it, and what the sink was given, each of its lines behind a bar.
 //! - `surely NAME ROOM WORDS SOURCE`: the source never fails, and the sink has room for so many bytes.
@@ -10,9 +8,8 @@
 //! - `native NAME TEXT WORDS SOURCE`: the answer says in the end whether a native of Flash's `own` or of `another` text was asked.
 //! - `cut NAME SOURCE`: the answer has of how many beginnings of the source it is said that they aren't JSON.
 //!
-//! Calls of what is below: `append`, `mem-source`, `sure-source`, `reader`, `mem-sink`, `sure-sink` and `writer`, as `appending.rt`,
-//! `reading.rt` and `writing.rt` spell them.
-#![tactic(auto)]
+//! And of what runs stand on: `append`, `mem-source`, `sure-source`, `reader`, `mem-sink`, `sure-sink` and `writer`, as `appending.rt`,
+//! `reading.rt` and `writing.rt` spell them. A line that begins otherwise is written again.
 
 mod appending;
 mod case;
@@ -31,16 +28,29 @@ mod surely;
 mod told;
 mod writing;
 
+use crate::answer::Answer;
 use appending::append_answer;
 use cutting::cut_answer;
 use reading::{mem_source_answer, reader_answer, sure_source_answer};
 use runs::{count_answer, gate_answer, native_answer, run_answer, sure_answer};
 use std::alloc::{AllocError, AllocGlobal, Global};
-use std::io;
 use std::random::RandomSource;
 use std::sync::Wait;
 use std::thread::Threads;
 use writing::{mem_sink_answer, sure_sink_answer, writer_answer};
+
+/// Puts what answers a line at the end.
+pub(crate) fn put_answer<R: Threads + Wait + Sync + RandomSource + AllocGlobal>(
+    rt: &R,
+    line: &str,
+    out: &mut Answer,
+) {
+    match answer(rt, rt.alloc(), line) {
+        Ok(Some(told)) => out.put(told.as_str()),
+        Ok(None) => out.line(&[line]),
+        Err(_) => out.lack(),
+    }
+}
 
 /// The answer to a line that is a case.
 fn answer<R: Threads + Wait + Sync + RandomSource + AllocGlobal>(
@@ -65,16 +75,4 @@ fn answer<R: Threads + Wait + Sync + RandomSource + AllocGlobal>(
         "writer" => writer_answer(alloc, spelled),
         _ => Ok(None),
     }
-}
-
-fn main(rt: HostRuntime) -> io::Result<()> {
-    let alloc = rt.alloc();
-    for line in rt.lines(alloc) {
-        let line = line?;
-        match answer(&rt, alloc, line.as_str())? {
-            Some(answer) => print!(rt; "{answer}")?,
-            None => println!(rt; "{line}")?,
-        }
-    }
-    Ok(())
 }

@@ -1,12 +1,12 @@
 //! Answers to cases that are whole runs.
-use crate::case::Case;
-use crate::failing_case::FailingCase;
-use crate::inputs::{bytes_of, only, words_of};
-use crate::natives::{counting_run, program_run, run_words};
-use crate::noting_gate::NotingGate;
-use crate::patterns::put_counts;
-use crate::surely::sure_run;
-use crate::told::{run_told, status_told};
+use crate::run::case::Case;
+use crate::run::failing_case::FailingCase;
+use crate::run::inputs::{bytes_of, only, words_of};
+use crate::run::natives::{counting_run, program_run, run_words};
+use crate::run::noting_gate::NotingGate;
+use crate::run::patterns::put_counts;
+use crate::run::surely::{SureRun, sure_run};
+use crate::run::told::{named, put_lines};
 use cn_io::{MemSink, MemSource};
 use lang_eval::NativeList;
 use std::alloc::{AllocError, AllocGlobal, Global};
@@ -34,8 +34,10 @@ pub(crate) fn run_answer<R: Threads + Wait + Sync + RandomSource + AllocGlobal>(
     let bytes = bytes_of(alloc, case.source)?;
     let mut source = MemSource::new(bytes, PIECE, only(alloc, case.take)?);
     let mut sink = MemSink::new(alloc, PIECE, only(alloc, case.put)?);
-    let finish = run_words(rt, alloc, &words, &mut source, &mut sink)?;
-    Ok(Some(run_told(alloc, case.name, &finish, sink.written())?))
+    let end = run_words(rt, alloc, &words, &mut source, &mut sink)?;
+    let mut told = named(alloc, case.name, end.as_str())?;
+    put_lines(sink.written(), &mut told)?;
+    Ok(Some(told))
 }
 
 pub(crate) fn sure_answer<R: Threads + Wait + Sync + RandomSource + AllocGlobal>(
@@ -47,8 +49,8 @@ pub(crate) fn sure_answer<R: Threads + Wait + Sync + RandomSource + AllocGlobal>
         return Ok(None);
     };
     let room = case.given.parse().unwrap_or(0);
-    let ran = program_run(rt, alloc, &case, room)?;
-    let told = run_told(alloc, case.name, &ran.finish, ran.sink.written())?;
+    let SureRun { mut told, sink } = program_run(rt, alloc, &case, room)?;
+    put_lines(sink.written(), &mut told)?;
     Ok(Some(told))
 }
 
@@ -60,11 +62,10 @@ pub(crate) fn count_answer<R: Threads + Wait + Sync + RandomSource + AllocGlobal
     let Some(case) = Case::read(spelled) else {
         return Ok(None);
     };
-    let ran = program_run(rt, alloc, &case, ROOM)?;
-    let mut out = status_told(alloc, case.name, &ran.finish)?;
-    let text = str::from_utf8(ran.sink.written()).unwrap_or("no text");
-    put_counts(alloc, text, case.given, &mut out)?;
-    Ok(Some(out))
+    let SureRun { mut told, sink } = program_run(rt, alloc, &case, ROOM)?;
+    let text = str::from_utf8(sink.written()).unwrap_or("no text");
+    put_counts(alloc, text, case.given, &mut told)?;
+    Ok(Some(told))
 }
 
 pub(crate) fn gate_answer<R: Threads + Wait + Sync + RandomSource + AllocGlobal>(
@@ -76,10 +77,9 @@ pub(crate) fn gate_answer<R: Threads + Wait + Sync + RandomSource + AllocGlobal>
         return Ok(None);
     };
     let gate = NotingGate::new(case.given.parse().unwrap_or(0));
-    let ran = sure_run(rt, &gate, alloc, &case, ROOM, NativeList::new(alloc))?;
-    let mut out = status_told(alloc, case.name, &ran.finish)?;
-    put_noted(&gate, &mut out)?;
-    Ok(Some(out))
+    let SureRun { mut told, .. } = sure_run(rt, &gate, alloc, &case, ROOM, NativeList::new(alloc))?;
+    put_noted(&gate, &mut told)?;
+    Ok(Some(told))
 }
 
 fn put_noted(gate: &NotingGate, out: &mut String) -> Result<(), AllocError> {
@@ -107,12 +107,12 @@ pub(crate) fn native_answer<R: Threads + Wait + Sync + RandomSource + AllocGloba
         return Ok(None);
     };
     let asked = Arc::new(alloc, AtomicU64::new(0))?;
-    let ran = counting_run(rt, alloc, &case, ROOM, Arc::try_clone(&asked)?)?;
-    let mut out = run_told(alloc, case.name, &ran.finish, ran.sink.written())?;
-    out.push_str(if asked.load(Ordering::SeqCst) == 0 {
+    let SureRun { mut told, sink } = counting_run(rt, alloc, &case, ROOM, Arc::try_clone(&asked)?)?;
+    put_lines(sink.written(), &mut told)?;
+    told.push_str(if asked.load(Ordering::SeqCst) == 0 {
         "not asked\n"
     } else {
         "asked\n"
     })?;
-    Ok(Some(out))
+    Ok(Some(told))
 }

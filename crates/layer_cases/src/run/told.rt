@@ -3,14 +3,16 @@ use canton_run::{Finish, line};
 use std::alloc::{AllocError, Global};
 use std::str;
 
-/// The name of the case, the status, and the line for that, where it isn't 0.
-pub(crate) fn status_told(
-    alloc: Global,
-    name: &str,
-    finish: &Finish,
-) -> Result<String, AllocError> {
+/// The status of a run, and the line for it, where it isn't 0.
+pub(crate) fn end_told(alloc: Global, finish: Finish) -> Result<String, AllocError> {
+    let told = told_of(alloc, &finish);
+    finish.give_back();
+    told
+}
+
+fn told_of(alloc: Global, finish: &Finish) -> Result<String, AllocError> {
     let status = finish.status;
-    let mut out = format!(in alloc; "run {name}\nstatus {status}\n")?;
+    let mut out = format!(in alloc; "status {status}\n")?;
     if status != 0 {
         let line = line(alloc, finish)?;
         write!(out, "{line}\n")?;
@@ -18,16 +20,9 @@ pub(crate) fn status_told(
     Ok(out)
 }
 
-/// The same, and what the sink was given.
-pub(crate) fn run_told(
-    alloc: Global,
-    name: &str,
-    finish: &Finish,
-    written: &[u8],
-) -> Result<String, AllocError> {
-    let mut out = status_told(alloc, name, finish)?;
-    put_lines(written, &mut out)?;
-    Ok(out)
+/// The name of a case, and what is told of its end.
+pub(crate) fn named(alloc: Global, name: &str, end: &str) -> Result<String, AllocError> {
+    format!(in alloc; "run {name}\n{end}")
 }
 
 /// Puts each line of a text behind a bar at the end.

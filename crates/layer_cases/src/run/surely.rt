@@ -1,10 +1,11 @@
 //! A run that nothing but want of memory can stop.
 ghost use Rattle.std.specs.Prelude.{◌≡◌};
 ghost use Rattle.std.proofs.Common.{◌⊎◌};
-ghost use Rattle.run_cases.specs.Surely.{IsReady};
+ghost use Rattle.layer_cases.specs.Surely.{IsReady};
 
-use crate::case::Case;
-use crate::inputs::{bytes_of, words_of};
+use crate::run::case::Case;
+use crate::run::inputs::{bytes_of, words_of};
+use crate::run::told::{end_told, named};
 use canton_run::{Finish, run};
 use cli_words::WordList;
 use cn_io::{SureSink, SureSource};
@@ -30,10 +31,24 @@ pub(crate) fn run_surely<R: Threads + Wait + Sync + RandomSource + AllocGlobal, 
     run(rt, gate, words, source, sink, natives)
 }
 
-/// How a case ended, and what was written.
+// What is told of the end of such a run.
+fn surely_told<R: Threads + Wait + Sync + RandomSource + AllocGlobal, G: Gate + Sync>(
+    rt: &R,
+    gate: &G,
+    words: &WordList,
+    source: &mut SureSource,
+    sink: &mut SureSink,
+    natives: NativeList,
+) -> Result<String, AllocError> {
+    let alloc = *words.allocator();
+    let finish = run_surely(rt, gate, words, source, sink, natives);
+    end_told(alloc, finish)
+}
+
+/// What is told of how a case ended, and what was written.
 #[derive(Drop)]
 pub(crate) struct SureRun {
-    pub(crate) finish: Finish,
+    pub(crate) told: String,
     pub(crate) sink: SureSink,
 }
 
@@ -50,6 +65,7 @@ pub(crate) fn sure_run<R: Threads + Wait + Sync + RandomSource + AllocGlobal, G:
     let mut source = SureSource::new(bytes_of(alloc, case.source)?);
     let mut sink = SureSink::new(alloc);
     sink.reserve(room)?;
-    let finish = run_surely(rt, gate, &words, &mut source, &mut sink, natives);
-    Ok(SureRun { finish, sink })
+    let end = surely_told(rt, gate, &words, &mut source, &mut sink, natives)?;
+    let told = named(alloc, case.name, end.as_str())?;
+    Ok(SureRun { told, sink })
 }

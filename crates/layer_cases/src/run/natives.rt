@@ -1,8 +1,9 @@
 //! Runs with the natives of cases. Each makes its natives where it uses them up, since no function hands out what lies behind a trait object.
-use crate::case::Case;
-use crate::counting_native::CountingNative;
-use crate::surely::{SureRun, sure_run};
-use canton_run::{Finish, run};
+use crate::run::case::Case;
+use crate::run::counting_native::CountingNative;
+use crate::run::surely::{SureRun, sure_run};
+use crate::run::told::end_told;
+use canton_run::run;
 use cli_words::WordList;
 use cn_io::{Sink, Source};
 use lane_pool::FreeGate;
@@ -15,17 +16,30 @@ use std::sync::atomic::AtomicU64;
 use std::sync::{Arc, Wait};
 use std::thread::Threads;
 
-/// Runs words with the natives of the program.
+/// Runs words with the natives of the program. What is told of the end.
 pub(crate) fn run_words<R: Threads + Wait + Sync + RandomSource + AllocGlobal, S: Source, K: Sink>(
     rt: &R,
     alloc: Global,
     words: &WordList,
     source: &mut S,
     sink: &mut K,
-) -> Result<Finish, AllocError> {
+) -> Result<String, AllocError> {
     let mut natives = NativeList::new(alloc);
     natives.push(Box::new(alloc, FlashNative::new(alloc)?)?)?;
-    Ok(run(rt, &FreeGate, words, source, sink, natives))
+    run_told(rt, alloc, words, source, sink, natives)
+}
+
+// A function that holds the end of a run by value is dear to prove, so it does nothing else.
+fn run_told<R: Threads + Wait + Sync + RandomSource + AllocGlobal, S: Source, K: Sink>(
+    rt: &R,
+    alloc: Global,
+    words: &WordList,
+    source: &mut S,
+    sink: &mut K,
+    natives: NativeList,
+) -> Result<String, AllocError> {
+    let finish = run(rt, &FreeGate, words, source, sink, natives);
+    end_told(alloc, finish)
 }
 
 /// Runs a case with the natives of the program, into a sink with room for so many bytes.

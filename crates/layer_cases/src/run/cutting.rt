@@ -1,7 +1,6 @@
 //! `cut NAME SOURCE`: each beginning of the source that isn't all of it is run, and those are counted that aren't JSON.
-use crate::inputs::words_of;
-use crate::natives::run_words;
-use canton_run::line;
+use crate::run::inputs::words_of;
+use crate::run::natives::run_words;
 use cli_words::WordList;
 use cn_io::{SureSink, SureSource};
 use ledger_terms::Bytes;
@@ -11,6 +10,9 @@ use std::sync::Wait;
 use std::thread::Threads;
 
 const NOT_JSON: &str = "canton_cli: script NotJson";
+
+/// What is told of the end of a run whose script isn't JSON.
+const REFUSED: &str = "status 3\ncanton_cli: script NotJson\n";
 
 fn is_not_json<R: Threads + Wait + Sync + RandomSource + AllocGlobal>(
     rt: &R,
@@ -22,9 +24,8 @@ fn is_not_json<R: Threads + Wait + Sync + RandomSource + AllocGlobal>(
     bytes.extend(beginning)?;
     let mut source = SureSource::new(bytes);
     let mut sink = SureSink::new(alloc);
-    let finish = run_words(rt, alloc, words, &mut source, &mut sink)?;
-    let line = line(alloc, &finish)?;
-    Ok(finish.status == 3 && line.as_str() == NOT_JSON && sink.written().is_empty())
+    let end = run_words(rt, alloc, words, &mut source, &mut sink)?;
+    Ok(end.as_str() == REFUSED && sink.written().is_empty())
 }
 
 pub(crate) fn cut_answer<R: Threads + Wait + Sync + RandomSource + AllocGlobal>(

@@ -3,9 +3,9 @@
 //! - `mem-source PIECE CALL LIMITS BYTES`: a source that moves so many bytes a call, and fails at one.
 //! - `sure-source LIMITS BYTES`: one that never fails.
 //! - `reader LIMITS`: one over `HaltingReader`.
-use crate::halting_reader::HaltingReader;
-use crate::inputs::{bytes_of, only};
-use crate::told::put_lines;
+use crate::run::halting_reader::HaltingReader;
+use crate::run::inputs::{bytes_of, only};
+use crate::run::told::put_lines;
 use cn_io::{MemSource, ReadFault, ReadSource, Source, SureSource, read_all};
 use std::alloc::{AllocError, Global};
 
