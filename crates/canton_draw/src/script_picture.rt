@@ -1,4 +1,5 @@
 //! From a script to its picture.
+ghost use Rattle.canton_run.specs.Run.{script_with};
 ghost use Rattle.script_read.specs.Kept.{IsAccepted};
 
 use crate::end::End;
@@ -10,9 +11,9 @@ use lang_eval::NativeList;
 use ledger_terms::limits::MOST_PLACES;
 use ledger_terms::{Name, ParticipantId, Text, Topology};
 use log_row::LogRow;
-use script_read::Script;
+use script_read::{RoundList, Script};
 use shared_rounds::Workers;
-use std::alloc::AllocGlobal;
+use std::alloc::{AllocError, AllocGlobal};
 use std::random::RandomSource;
 use std::sync::Wait;
 use std::thread::Threads;
@@ -28,6 +29,25 @@ fn participant_of(topology: &Topology, name: Name) -> Option<ParticipantId> {
     None
 }
 
+/// The picture of the log that a script's run leaves.
+fn picture_text<R: Threads + Wait + Sync + RandomSource + AllocGlobal, G: Gate + Sync>(
+    workers: &Workers<'_, R, G>,
+    setup: &Setup,
+    rounds: &RoundList,
+    reader: Option<&ParticipantId>,
+) -> Result<Text, AllocError>
+    requires { IsAccepted (script_with setup.now rounds.now) }
+{
+    let alloc = workers.alloc;
+    let natives = NativeList::new(alloc);
+    let mut row = LogRow::new(alloc)?;
+    let capacity = MOST_PLACES as u64;
+    let played = run_script(workers, &natives, setup, rounds, capacity, &mut row)?;
+    let log = played.into_log();
+    let picture = picture_of(alloc, &setup.topology, &log, reader)?;
+    drawn(alloc, &picture)
+}
+
 /// Runs a script and draws its requests, for one participant where a name is given. Without a picture there is how the program ends.
 pub(crate) fn script_picture<R: Threads + Wait + Sync + RandomSource + AllocGlobal, G: Gate + Sync>(
     workers: &Workers<'_, R, G>,
@@ -36,7 +56,6 @@ pub(crate) fn script_picture<R: Threads + Wait + Sync + RandomSource + AllocGlob
 ) -> Result<Text, End>
     requires { IsAccepted script }
 {
-    let alloc = workers.alloc;
     let Script {
         topology,
         checked,
@@ -50,19 +69,8 @@ pub(crate) fn script_picture<R: Threads + Wait + Sync + RandomSource + AllocGlob
         None => None,
     };
     let setup = Setup { topology, checked };
-    let Ok(mut row) = LogRow::new(alloc) else {
-        return Err(End::of(70));
-    };
-    let natives = NativeList::new(alloc);
-    let capacity = MOST_PLACES as u64;
-    let Ok(played) = run_script(workers, &natives, &setup, &rounds, capacity, &mut row) else {
-        return Err(End::of(70));
-    };
-    let Ok(picture) = picture_of(alloc, &setup.topology, &played.record.log, me.as_ref()) else {
-        return Err(End::of(70));
-    };
-    match drawn(alloc, &picture) {
+    match picture_text(workers, &setup, &rounds, me.as_ref()) {
         Ok(text) => Ok(text),
-        Err(_) => Err(End::of(70)),
+        Err(AllocError) => Err(End::of(70)),
     }
 }

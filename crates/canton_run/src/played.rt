@@ -1,4 +1,6 @@
 //! What a run leaves behind.
+ghost use Rattle.std.specs.Prelude.{◌≡◌};
+
 use canton_model::EntryList;
 use ledger_terms::U64List;
 use node_core::SubmitResultList;
@@ -17,4 +19,13 @@ pub struct RunRecord {
 pub struct Played<'r> {
     pub record: RunRecord,
     pub nodes: NodeList<'r>,
+}
+
+impl Played<'_> {
+    /// The log alone. All else gives its memory back, of which a caller proves nothing.
+    pub fn into_log(self) -> EntryList
+        ensures { result ≡ (self.entry.record).log }
+    {
+        self.record.log
+    }
 }
