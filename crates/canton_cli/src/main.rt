@@ -50,18 +50,14 @@ fn finish_of<R: Threads + Wait + Sync + RandomSource + AllocGlobal, S: Source, K
     }
 }
 
-/// Writes the line for an end with another status than 0, and lets the end go. Its status.
-fn tell(rt: &HostRuntime, finish: Finish) -> u8 {
-    let status = finish.status;
-    if status != 0 {
-        let _ = match line(rt.alloc(), &finish) {
+/// Writes the line for an end with another status than 0.
+fn tell(rt: &HostRuntime, finish: &Finish) {
+    if finish.status != 0 {
+        let _ = match line(rt.alloc(), finish) {
             Ok(text) => eprintln!(rt; "{text}"),
             Err(_) => eprintln!(rt; "canton_cli: out of memory"),
         };
     }
-    // the process ends behind this, and gives all memory back at once
-    finish.forget();
-    status
 }
 
 fn main(rt: HostRuntime) -> ExitCode {
@@ -70,5 +66,9 @@ fn main(rt: HostRuntime) -> ExitCode {
     let mut source = ReadSource::new(rt.stdin());
     let mut sink = WriteSink::new(rt.stdout());
     let finish = finish_of(&rt, alloc, words, &mut source, &mut sink);
-    ExitCode::from(tell(&rt, finish))
+    tell(&rt, &finish);
+    let status = finish.status;
+    // the process ends here, and gives all memory back at once
+    finish.forget();
+    ExitCode::from(status)
 }

@@ -28,7 +28,7 @@ fn participant_line(alloc: Global, name: &str, missing: &Name) -> Result<String,
 /// The line of a run, which begins with the name of the program of runs, with another name.
 fn line_as_run(alloc: Global, name: &str, finish: Finish) -> Result<String, AllocError> {
     let line = canton_run::line(alloc, &finish);
-    finish.give_back();
+    finish.forget();
     let line = line?;
     let mut out = String::from_str(alloc, name)?;
     if let Some(why) = line.as_str().strip_prefix("canton_cli") {

@@ -24,10 +24,7 @@ pub struct Finish {
 }
 
 impl Finish {
-    /// Gives its memory back. Whoever lets an end go so, or by `forget`, proves nothing of how the many types in it are dropped.
-    pub fn give_back(self) {}
-
-    /// Gives no memory back, for a program that ends.
+    /// Gives no memory back, for a program that ends. Whoever lets an end go so proves nothing of how the many types in it are dropped.
     pub fn forget(self) {
         mem::forget(self);
     }

@@ -4,7 +4,7 @@ use canton_model::Message;
 use fixtures::request_of;
 use ledger_terms::RawRequest;
 use log_row::LogRow;
-use script_read::{Script, ScriptFault, read_script};
+use script_read::{RoundList, Script, ScriptFault, read_script};
 use seq_log::{AppendFault, Sequencer};
 use std::alloc::{AllocError, Global};
 
@@ -31,24 +31,44 @@ fn put_appended(
     }
 }
 
+fn put_each(
+    alloc: Global,
+    log: &mut Sequencer<'_>,
+    rounds: &RoundList,
+    out: &mut String,
+) -> Result<(), AllocError> {
+    for round in rounds.as_slice() {
+        for raw in round.raws.as_slice() {
+            put_appended(alloc, log, raw, out)?;
+        }
+    }
+    let count = log.len();
+    write!(out, "{count} entries\n")
+}
+
+// What holds a log by value is dear to prove.
 fn put_log(
     alloc: Global,
     script: &Script,
     capacity: u64,
+    row: &mut LogRow,
     out: &mut String,
 ) -> Result<(), AllocError> {
     if script.topology.hosts.len() > MOST_INDICES {
         return out.push_str("too many participants\n");
     }
+    let mut log = Sequencer::new(alloc, row, capacity, &script.topology)?;
+    put_each(alloc, &mut log, &script.rounds, out)
+}
+
+fn put_script(
+    alloc: Global,
+    script: &Script,
+    capacity: u64,
+    out: &mut String,
+) -> Result<(), AllocError> {
     let mut row = LogRow::new(alloc)?;
-    let mut log = Sequencer::new(alloc, &mut row, capacity, &script.topology)?;
-    for round in script.rounds.as_slice() {
-        for raw in round.raws.as_slice() {
-            put_appended(alloc, &mut log, raw, out)?;
-        }
-    }
-    let count = log.len();
-    write!(out, "{count} entries\n")
+    put_log(alloc, script, capacity, &mut row, out)
 }
 
 // A script that isn't read has no requests.
@@ -65,9 +85,13 @@ pub(crate) fn append_answer(alloc: Global, spelled: &str) -> Result<Option<Strin
     };
     let (capacity, text) = given.split_once(' ').unwrap_or(("0", ""));
     let mut out = format!(in alloc; "append {name}\n")?;
-    match read_script(alloc, text.as_bytes()) {
-        Ok(script) => put_log(alloc, &script, capacity.parse().unwrap_or(0), &mut out)?,
-        Err(fault) => put_fault(&fault, &mut out)?,
-    }
+    put_read(alloc, text, capacity.parse().unwrap_or(0), &mut out)?;
     Ok(Some(out))
+}
+
+fn put_read(alloc: Global, text: &str, capacity: u64, out: &mut String) -> Result<(), AllocError> {
+    match read_script(alloc, text.as_bytes()) {
+        Ok(script) => put_script(alloc, &script, capacity, out),
+        Err(fault) => put_fault(&fault, out),
+    }
 }

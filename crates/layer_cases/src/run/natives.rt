@@ -29,7 +29,7 @@ pub(crate) fn run_words<R: Threads + Wait + Sync + RandomSource + AllocGlobal, S
     run_told(rt, alloc, words, source, sink, natives)
 }
 
-// A function that holds the end of a run by value is dear to prove, so it does nothing else.
+// A function that holds the end of a run by value is dear to prove, so it does nothing else. The program ends soon and doesn't give it back.
 fn run_told<R: Threads + Wait + Sync + RandomSource + AllocGlobal, S: Source, K: Sink>(
     rt: &R,
     alloc: Global,
@@ -39,7 +39,9 @@ fn run_told<R: Threads + Wait + Sync + RandomSource + AllocGlobal, S: Source, K:
     natives: NativeList,
 ) -> Result<String, AllocError> {
     let finish = run(rt, &FreeGate, words, source, sink, natives);
-    end_told(alloc, finish)
+    let told = end_told(alloc, &finish);
+    finish.forget();
+    told
 }
 
 /// Runs a case with the natives of the program, into a sink with room for so many bytes.

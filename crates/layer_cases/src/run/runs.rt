@@ -49,7 +49,8 @@ pub(crate) fn sure_answer<R: Threads + Wait + Sync + RandomSource + AllocGlobal>
         return Ok(None);
     };
     let room = case.given.parse().unwrap_or(0);
-    let SureRun { mut told, sink } = program_run(rt, alloc, &case, room)?;
+    let ran = program_run(rt, alloc, &case, room)?;
+    let SureRun { mut told, sink } = ran;
     put_lines(sink.written(), &mut told)?;
     Ok(Some(told))
 }
@@ -62,7 +63,8 @@ pub(crate) fn count_answer<R: Threads + Wait + Sync + RandomSource + AllocGlobal
     let Some(case) = Case::read(spelled) else {
         return Ok(None);
     };
-    let SureRun { mut told, sink } = program_run(rt, alloc, &case, ROOM)?;
+    let ran = program_run(rt, alloc, &case, ROOM)?;
+    let SureRun { mut told, sink } = ran;
     let text = str::from_utf8(sink.written()).unwrap_or("no text");
     put_counts(alloc, text, case.given, &mut told)?;
     Ok(Some(told))
@@ -77,7 +79,8 @@ pub(crate) fn gate_answer<R: Threads + Wait + Sync + RandomSource + AllocGlobal>
         return Ok(None);
     };
     let gate = NotingGate::new(case.given.parse().unwrap_or(0));
-    let SureRun { mut told, .. } = sure_run(rt, &gate, alloc, &case, ROOM, NativeList::new(alloc))?;
+    let ran = sure_run(rt, &gate, alloc, &case, ROOM, NativeList::new(alloc))?;
+    let SureRun { mut told, .. } = ran;
     put_noted(&gate, &mut told)?;
     Ok(Some(told))
 }
@@ -107,7 +110,8 @@ pub(crate) fn native_answer<R: Threads + Wait + Sync + RandomSource + AllocGloba
         return Ok(None);
     };
     let asked = Arc::new(alloc, AtomicU64::new(0))?;
-    let SureRun { mut told, sink } = counting_run(rt, alloc, &case, ROOM, Arc::try_clone(&asked)?)?;
+    let ran = counting_run(rt, alloc, &case, ROOM, Arc::try_clone(&asked)?)?;
+    let SureRun { mut told, sink } = ran;
     put_lines(sink.written(), &mut told)?;
     told.push_str(if asked.load(Ordering::SeqCst) == 0 {
         "not asked\n"

@@ -42,7 +42,9 @@ fn surely_told<R: Threads + Wait + Sync + RandomSource + AllocGlobal, G: Gate + 
 ) -> Result<String, AllocError> {
     let alloc = *words.allocator();
     let finish = run_surely(rt, gate, words, source, sink, natives);
-    end_told(alloc, finish)
+    let told = end_told(alloc, &finish);
+    finish.forget();
+    told
 }
 
 /// What is told of how a case ended, and what was written.

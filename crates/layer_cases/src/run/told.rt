@@ -4,13 +4,7 @@ use std::alloc::{AllocError, Global};
 use std::str;
 
 /// The status of a run, and the line for it, where it isn't 0.
-pub(crate) fn end_told(alloc: Global, finish: Finish) -> Result<String, AllocError> {
-    let told = told_of(alloc, &finish);
-    finish.give_back();
-    told
-}
-
-fn told_of(alloc: Global, finish: &Finish) -> Result<String, AllocError> {
+pub(crate) fn end_told(alloc: Global, finish: &Finish) -> Result<String, AllocError> {
     let status = finish.status;
     let mut out = format!(in alloc; "status {status}\n")?;
     if status != 0 {

@@ -15,10 +15,10 @@ use world_play::World;
 /// How many entries the requests may need in all.
 pub(crate) const CAPACITY: u64 = 20;
 
-/// A synchroniser that isn't shared, with the ticket of its last client.
+/// A synchroniser that isn't shared, with the ticket of its last client. It has a box, since what holds one by value is dear to prove.
 #[derive(Drop)]
 pub(crate) struct Kept<'r> {
-    pub(crate) world: World<'r>,
+    pub(crate) world: Box<World<'r>>,
     pub(crate) ticket: Option<Ticket<'r>>,
 }
 
@@ -30,31 +30,35 @@ pub(crate) fn begun<'r>(
 ) -> Result<Kept<'r>, AllocError>
     requires { length setup.now.topology.hosts ≤ 256 }
     ensures world { IfOk result (λ k. CanBeShared setup.now.topology setup.now.checked
-        (machine_of setup.now.topology setup.now.checked 20) k.world) }
-    ensures row { IfOk result (λ k. (k.world.sequencer).row ≡ row.old) }
+        (machine_of setup.now.topology setup.now.checked 20) k.world.value) }
+    ensures row { IfOk result (λ k. (k.world.value.sequencer).row ≡ row.old) }
     ensures ticket { IfOk result (λ k. k.ticket ≡ None) }
 {
     let made = World::new(alloc, setup, row, CAPACITY)?;
+    let world = Box::new(alloc, made)?;
     Ok(Kept {
-        world: made,
+        world,
         ticket: None,
     })
 }
 
 /// Keeps what a sharing left, with its client. Puts at the end whether what that had seen stands in the log.
-pub(crate) fn keep<'r>(world: World<'r>, left: Left<'r>, out: &mut Answer) -> Kept<'r>
+pub(crate) fn keep<'r>(
+    alloc: Global,
+    world: World<'r>,
+    left: Left<'r>,
+    out: &mut Answer,
+) -> Result<Kept<'r>, AllocError>
     requires { InRow (world.sequencer).row left.last }
-    ensures world { result.world ≡ world.entry }
-    ensures ticket { result.ticket ≡ left.entry.ticket }
+    ensures world { IfOk result (λ k. k.world.value ≡ world.entry) }
+    ensures ticket { IfOk result (λ k. k.ticket ≡ left.entry.ticket) }
 {
     let Left { last, ticket } = left;
     let mut left = world;
     let stands = stands_in_log(&mut left, last);
     out.truth("seen in the log", Ok(stands));
-    Kept {
-        world: left,
-        ticket,
-    }
+    let world = Box::new(alloc, left)?;
+    Ok(Kept { world, ticket })
 }
 
 /// Whether what a client had seen stands in the log.

@@ -1,5 +1,5 @@
 //! Sharings, one after another.
-ghost use Rattle.std.specs.Prelude.{◌≡◌, IfSome};
+ghost use Rattle.std.specs.Prelude.{◌≡◌, IfOk, IfSome};
 ghost use Rattle.lang_eval.specs.Named.{AreKnown};
 ghost use Rattle.sealed_form.specs.Within.{is_hosted};
 ghost use Rattle.prepare_request.specs.Within.{parties_in_what};
@@ -40,20 +40,17 @@ pub(crate) fn put_sharings<R: Wait + RandomSource + AllocGlobal>(
     let mut row = LogRow::new(rt.alloc())?;
     let first = begun(rt.alloc(), setup, &mut row)?;
     let blank = Blank::new(LEDGER_PARTS);
-    let second = share::<Brand, _>(rt, setup, first, blank, before, out);
+    let second = share::<Brand, _>(rt, setup, first, blank, before, out)?;
     let blank = Blank::new(LEDGER_PARTS);
-    let last = share::<Brand, _>(rt, setup, second, blank, what, out);
-    let Kept { mut world, .. } = last;
+    let mut last = share::<Brand, _>(rt, setup, second, blank, what, out)?;
     let nobody = NodeViewList::new(rt.alloc());
-    let put = put_report(
+    put_report(
         rt.alloc(),
         &setup.topology,
-        &mut world.sequencer,
+        &mut last.world.sequencer,
         &nobody,
         out,
-    );
-    world.give_back();
-    put
+    )
 }
 
 // A synchroniser is shared. A client asks by the ticket of the last client, where there is one, and another one submits.
@@ -64,22 +61,23 @@ fn share<'r, S: Session, R: Wait + RandomSource + AllocGlobal>(
     blank: Blank,
     what: &Submission,
     out: &mut Answer,
-) -> Kept<'r>
+) -> Result<Kept<'r>, AllocError>
     requires topology { setup.now.topology ≡ S.topology }
     requires set_up { IsSetUp S.topology S.packages S.machine S.why }
-    requires world { CanBeShared S.topology S.packages S.machine last.world }
-    requires log { ((last.world.sequencer).row ≡ S.history) × ((last.world.sequencer).list ≡ S.start) }
+    requires world { CanBeShared S.topology S.packages S.machine last.world.value }
+    requires log { ((last.world.value.sequencer).row ≡ S.history) × ((last.world.value.sequencer).list ≡ S.start) }
     requires ticket { IfSome last.ticket (λ t. t.row ≡ S.history) }
     requires ledger { (blank.name ≡ S.name) × (blank.parts ≡ S.parts) × (S.parts ≡ 1025) }
     requires named { AreKnown (is_hosted S.topology) (parties_in_what what.now.what) }
-    ensures world { CanBeShared S.topology S.packages S.machine result.world }
-    ensures row { (result.world.sequencer).row ≡ S.history }
-    ensures ticket { IfSome result.ticket (λ t. t.row ≡ S.history) }
+    ensures world { IfOk result (λ k. CanBeShared S.topology S.packages S.machine k.world.value) }
+    ensures row { IfOk result (λ k. (k.world.value.sequencer).row ≡ S.history) }
+    ensures ticket { IfOk result (λ k. IfSome k.ticket (λ t. t.row ≡ S.history)) }
 {
     let Kept { world, ticket } = last;
-    let mut shared = Synchroniser::<'r, S>::of(rt.alloc(), world, blank);
+    let mut shared = Synchroniser::<'r, S>::of(rt.alloc(), Box::into_inner(world), blank);
     ask_by(rt, setup, &mut shared, ticket, out);
     let left = submit_and_ask(rt, setup, &mut shared, what, out);
     let world = shared.into_parts();
-    keep(world, left, out)
+    let next = keep(rt.alloc(), world, left, out)?;
+    Ok(next)
 }
