@@ -1,0 +1,4 @@
+pub mod CausedFacts
+pub mod CausedSteps
+pub mod RequestFacts
+pub mod PartsFacts

@@ -1,0 +1,40 @@
+-- What rules cause in a run whose rounds have two parts, and which requests are theirs.
+use Rattle.std.specs.Prelude.{◌≡◌, ℕ, suc, ◌+◌, false, List, [], ◌∷◌, All, map}
+use Rattle.ledger_terms.specs.declared.submission.Submission.{Submission}
+use Rattle.world_model.specs.Messages.{Entry, Request}
+use Rattle.world_model.specs.Machine.{Machine}
+use Rattle.world_model.specs.Rounds.{Why}
+use Rattle.trigger_model.specs.TwoParts.{RoundParts, RunInParts}
+use Rattle.trigger_rules.specs.declared.caused.Caused.{Caused}
+use Rattle.trigger_rules.specs.declared.rule.Rule.{Rule}
+use Rattle.trigger_rules.specs.Ids.{is_rule_command}
+use Rattle.trigger_rules.specs.Answers.{Answers}
+use Rattle.trigger_model.specs.CausedRun.{CausedHolds, FiredRound}
+
+abbrev pub submissions_in : List Caused → List Submission
+submissions_in caused = map (λ (one : Caused). one.submission) caused
+
+-- a round of a run as rules see it
+abbrev pub fired_round : {F : Type 0} → (number now : ℕ) → RoundParts F → List Caused → FiredRound
+fired_round number now x caused = record { number = number; now = now; paused = x.round.paused; end = x.end; caused = caused }
+
+-- They are the same rounds, counted from a number. `now` is the time of the round before.
+abbrev pub AreRounds : {F : Type 0} → (number now : ℕ) → List (RoundParts F) → List FiredRound → Type 0
+AreRounds number now [] [] = Unit {0}
+AreRounds number now [] (y ∷ ys) = ⊥
+AreRounds number now (x ∷ xs) [] = ⊥
+AreRounds number now (x ∷ xs) (y ∷ ys) =
+    (y ≡ fired_round number (now + x.round.advance) x y.caused) × (x.caused ≡ submissions_in y.caused)
+    × AreRounds (suc number) (now + x.round.advance) xs ys
+
+-- no submission and no raw request has an id that is kept for rules
+pub record HasOwnIds {F : Type 0} (rules : List Rule) (x : RoundParts F) : Type 0 where
+  pub submits : All (λ (what : Submission). is_rule_command rules what.participant what.command ≡ false) x.round.submits
+  pub raws : All (λ (request : Request). is_rule_command rules request.sender request.command ≡ false) x.round.raws
+
+-- A run with rules: a run in parts, whose second parts hand in what the rules caused.
+pub record RunWithRules {F : Type 0} (m : Machine) (why : Why F) (may : Answers) (rules : List Rule) (log : List Entry) (rounds : List (RoundParts F))
+    (fired : List FiredRound) : Type 0 where
+  pub run : RunInParts m why log rounds
+  pub same : AreRounds 0 0 rounds fired
+  pub causes : CausedHolds may rules m.reading m.params log fired

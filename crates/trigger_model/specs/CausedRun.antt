@@ -1,0 +1,97 @@
+-- What rules cause in a run.
+use Rattle.std.specs.Prelude.{◌≡◌, ◌⊎◌, ℕ, ◌≤◌, Bool, false, List, [], ◌∷◌, ◌++◌, Ok, Some, None, Contains, filter, flat_map, slice_get, take}
+use Rattle.std.specs.Str.{bytes_eq}
+use Rattle.ledger_terms.specs.declared.active_row.ActiveRow.{ActiveRow}
+use Rattle.ledger_terms.specs.declared.command.Command.{Command}
+use Rattle.ledger_model.specs.Terms.{ParticipantId}
+use Rattle.canton_model.specs.Log.{Params}
+use Rattle.canton_model.specs.Reading.{Reading}
+use Rattle.canton_model.specs.Inbox.{inbox, clean, node_active}
+use Rattle.world_model.specs.Messages.{Entry}
+use Rattle.world_model.specs.Places.{has_place}
+use Rattle.trigger_rules.specs.declared.caused.Caused.{Caused}
+use Rattle.trigger_rules.specs.declared.rule.Rule.{Rule}
+use Rattle.trigger_rules.specs.Answers.{Answers, IsExerciseOf}
+use Rattle.trigger_rules.specs.Firing.{Fires, caused_by, contracts_of, has_fired}
+
+-- A round as rules see it: its number, its time, who is paused, the length of the log once its own submissions had settled, and
+-- what rules caused then.
+pub record FiredRound : Type 0 where
+  pub number : ℕ
+  pub now : ℕ
+  pub paused : List ParticipantId
+  pub end : ℕ
+  pub caused : List Caused
+
+abbrev pub all_caused : List FiredRound → List Caused
+all_caused rounds = flat_map (λ (round : FiredRound). round.caused) rounds
+
+-- by the rule of a name
+abbrev pub is_by : (name : List ℕ) → Caused → Bool
+is_by name one = bytes_eq one.rule name
+
+-- the contracts on which the rule of a name fired
+abbrev pub fired_on : (name : List ℕ) → List Caused → List (List ℕ)
+fired_on name caused = contracts_of (filter (is_by name) caused)
+
+-- the contracts that are active at a participant's clean place when it has read so many items
+abbrev pub active_at_clean : Reading → Params → ParticipantId → (n : ℕ) → List Entry → List ActiveRow
+active_at_clean reading params p n log = node_active reading p (inbox reading p (take n log)) (clean params (inbox reading p (take n log)))
+
+-- how many entries a participant has read when rules are asked in a round: all, unless it is paused
+pub record HasReadTo (round : FiredRound) (p : ParticipantId) (n : ℕ) : Type 0 where
+  pub at_most : n ≤ round.end
+  pub awake : has_place round.paused p ≡ false → n ≡ round.end
+
+-- One rule after another is asked about the active contracts of its participant. `earlier` was caused in the rounds before.
+abbrev pub RulesFire : Answers → Reading → Params → List Entry → FiredRound → (earlier : List Caused) → List Rule → (caused : List Caused) → Type 0
+RulesFire may reading params log round earlier [] caused = caused ≡ []
+RulesFire may reading params log round earlier (rule ∷ rules) caused =
+    (own : List Caused) × (others : List Caused) × (caused ≡ own ++ others) × (n : ℕ) × HasReadTo round rule.participant n
+    × Fires may rule round.number round.now (fired_on rule.name earlier) (active_at_clean reading params rule.participant n log) own
+    × RulesFire may reading params log round earlier rules others
+
+-- round after round
+abbrev pub RoundsFire : Answers → Reading → Params → List Entry → List Rule → (earlier : List Caused) → List FiredRound → Type 0
+RoundsFire may reading params log rules earlier [] = Unit {0}
+RoundsFire may reading params log rules earlier (round ∷ rounds) =
+    RulesFire may reading params log round earlier rules round.caused × RoundsFire may reading params log rules (earlier ++ round.caused) rounds
+
+-- no two have one rule and one contract
+abbrev pub AreOnce : List Caused → Type 0
+AreOnce caused = (i j : ℕ) (a b : Caused) → slice_get caused i ≡ Some a → slice_get caused j ≡ Some b → a.rule ≡ b.rule → a.contract ≡ b.contract → i ≡ j
+
+-- One of what was caused in a round: a rule fired on a contract that was active at its participant's clean place, with a command
+-- that may be answered and exercises that contract, for the rule's party.
+pub record IsCausedIn (may : Answers) (rules : List Rule) (reading : Reading) (params : Params) (log : List Entry) (round : FiredRound)
+    (one : Caused) : Type 0 where
+  pub rule : Rule
+  pub is_rule : Contains rules rule
+  pub read_to : ℕ
+  pub has_read : HasReadTo round rule.participant read_to
+  pub row : ActiveRow
+  pub active : Contains (active_at_clean reading params rule.participant read_to log) row
+  pub before : ℕ  -- how often the rule fired before
+  pub command : Command
+  pub is : one ≡ caused_by rule round.number round.now before row.known command
+  pub answered : may rule.name row.known (Ok (Some command))
+  pub exercises : IsExerciseOf row.known command
+
+-- What rules caused in a run.
+pub record CausedHolds (may : Answers) (rules : List Rule) (reading : Reading) (params : Params) (log : List Entry) (rounds : List FiredRound) : Type 0 where
+  pub once : AreOnce (all_caused rounds)
+  pub each : (round : FiredRound) (one : Caused) → Contains rounds round → Contains round.caused one → IsCausedIn may rules reading params log round one
+  -- A contract that was active at the clean place of a rule's participant, which wasn't paused, and on which the rule hadn't
+  -- fired: it fired on it in this round, or none may be answered.
+  pub asked : (before after : List FiredRound) (round : FiredRound) (rule : Rule) (row : ActiveRow) → rounds ≡ before ++ round ∷ after
+      → Contains rules rule → has_place round.paused rule.participant ≡ false
+      → Contains (active_at_clean reading params rule.participant round.end log) row
+      → has_fired (fired_on rule.name (all_caused before)) (row.known).id ≡ false
+      → ((one : Caused) × Contains round.caused one × (one.rule ≡ rule.name) × (one.contract ≡ (row.known).id)) ⊎ may rule.name row.known (Ok None)
+
+-- So many of the rules were asked in a round, and this was caused. `fired` tells of each rule, by its number, on which contracts
+-- it has fired.
+pub record AreAskedSo (may : Answers) (reading : Reading) (params : Params) (log : List Entry) (round : FiredRound) (earlier : List Caused)
+    (rules : List Rule) (fired : ℕ → List (List ℕ)) (count : ℕ) (caused : List Caused) : Type 0 where
+  pub fires : RulesFire may reading params log round earlier (take count rules) caused
+  pub noted : (k : ℕ) (rule : Rule) → slice_get rules k ≡ Some rule → fired k ≡ fired_on rule.name (earlier ++ caused)

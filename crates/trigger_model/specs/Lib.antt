@@ -1,0 +1,3 @@
+pub mod TwoParts
+pub mod CausedRun
+pub mod CausedRequests

@@ -1,0 +1,46 @@
+-- Rounds of two parts: a round's own submissions, and what comes of them once the round has settled.
+use Rattle.std.specs.Prelude.{◌≡◌, ℕ, suc, List, [], ◌∷◌}
+use Rattle.std.specs.List.{flat_map}
+use Rattle.ledger_terms.specs.declared.submission.Submission.{Submission}
+use Rattle.world_model.specs.Messages.{Entry}
+use Rattle.world_model.specs.Machine.{Machine}
+use Rattle.world_model.specs.Rounds.{Round, Results, RoundAnswers, RunHolds, Sent, Refused, Why}
+
+-- A round with the results of its submissions and the length of the log then, and with the results of the submissions that were
+-- caused in it and the length of the log at its end.
+pub record RoundParts (F : Type 0) : Type 0 where
+  pub round : Round
+  pub results : Results F
+  pub end : ℕ
+  pub caused : List Submission
+  pub caused_results : Results F
+  pub caused_end : ℕ
+
+-- The second part is a round in which no time passes and no raw request comes: it has the round's lists.
+abbrev pub second_round : Round → List Submission → Round
+second_round round caused =
+    record { advance = 0; paused = round.paused; holds_verdicts = round.holds_verdicts; raws = []; submits = caused }
+
+abbrev pub both_parts : {F : Type 0} → RoundParts F → List (RoundAnswers F)
+both_parts x =
+    record { round = x.round; results = x.results; end = x.end }
+    ∷ record { round = second_round x.round x.caused; results = x.caused_results; end = x.caused_end } ∷ []
+
+abbrev pub parts_of : {F : Type 0} → List (RoundParts F) → List (RoundAnswers F)
+parts_of rounds = flat_map both_parts rounds
+
+-- the requests of the Sent results stand one after another from a place on, in order
+abbrev pub StandInOrder : {F : Type 0} → (start : ℕ) → Results F → Type 0
+StandInOrder start [] = Unit {0}
+StandInOrder start ((what, Sent place read_to) ∷ rest) = (place ≡ start) × StandInOrder (suc start) rest
+StandInOrder start ((what, Refused fault read_to) ∷ rest) = StandInOrder start rest
+
+-- in each round what was caused stands first in its part
+abbrev pub CausedStandFirst : {F : Type 0} → List (RoundParts F) → Type 0
+CausedStandFirst [] = Unit {0}
+CausedStandFirst (x ∷ rest) = StandInOrder x.end x.caused_results × CausedStandFirst rest
+
+-- The log is that of a run, cut at two ends a round, and what was caused stands first in its part.
+pub record RunInParts {F : Type 0} (m : Machine) (why : Why F) (log : List Entry) (rounds : List (RoundParts F)) : Type 0 where
+  pub run : RunHolds m why log (parts_of rounds)
+  pub first : CausedStandFirst rounds

@@ -1,0 +1,104 @@
+//! The laws of what rules cause, as the clauses of functions that do nothing.
+ghost use Rattle.std.specs.Prelude.{◌≡◌, ◌≢◌, ◌≤◌, ◌++◌, ◌∷◌, ◌+◌, ℕ, true, [], length, slice_get, List, Some, All, Contains};
+ghost use Rattle.canton_model.specs.Log.{Params, request_at};
+ghost use Rattle.canton_model.specs.Reading.{Reading};
+ghost use Rattle.world_model.specs.Machine.{Machine, IsMachine};
+ghost use Rattle.world_model.specs.Messages.{Entry, Request};
+ghost use Rattle.world_model.specs.Rounds.{Sent, Why};
+ghost use Rattle.world_model.specs.Plain.{PlainRounds};
+ghost use Rattle.trigger_model.specs.TwoParts.{RoundParts, RunInParts, parts_of};
+ghost use Rattle.trigger_rules.specs.declared.caused.Caused.{Caused};
+ghost use Rattle.ledger_terms.specs.declared.active_row.ActiveRow.{ActiveRow};
+ghost use Rattle.trigger_rules.specs.Firing.{Fires, contracts_of};
+ghost use Rattle.trigger_rules.specs.Ids.{is_rule_command};
+ghost use Rattle.trigger_model.specs.CausedRequests.{HasOwnIds, RunWithRules};
+ghost use Rattle.trigger_rules.specs.declared.rule.Rule.{Rule};
+ghost use Rattle.trigger_rules.specs.Kept.{AreNamed};
+ghost use Rattle.trigger_model.specs.CausedRun.{AreAskedSo, CausedHolds, FiredRound, HasReadTo, RoundsFire, RulesFire};
+ghost use Rattle.trigger_model.specs.CausedRun.{active_at_clean, all_caused, fired_on};
+
+use trigger_rules::Answering;
+
+/// One thread's rounds of two parts are a run in parts.
+pub fn one_thread_parts<F>()
+    ensures { (m : Machine) (why : Why F) (rounds : List (RoundParts F)) (log : List Entry)
+        → IsMachine m
+        → PlainRounds m why 0 [] (parts_of rounds) log
+        → RunInParts m why log rounds }
+{}
+
+/// Rules that are asked round after round cause what is said of a run.
+pub fn rules_cause<A: Answering>()
+    ensures { (answer : A) (rules : List Rule) (reading : Reading) (params : Params) (log : List Entry) (rounds : List FiredRound)
+        → AreNamed rules
+        → RoundsFire (A.may_answer answer) reading params log rules [] rounds
+        → CausedHolds (A.may_answer answer) rules reading params log rounds }
+{}
+
+/// Each request of a run with rules whose id is kept for a rule of its sender is that of something which a rule caused, where
+/// neither submissions nor raw requests have such an id.
+pub fn requests_are_caused<F, A: Answering>()
+    ensures { (m : Machine) (why : Why F) (answer : A) (rules : List Rule) (log : List Entry) (rounds : List (RoundParts F)) (fired : List FiredRound)
+        (k : ℕ) (request : Request)
+        → IsMachine m
+        → RunWithRules m why (A.may_answer answer) rules log rounds fired
+        → All (HasOwnIds rules) rounds
+        → request_at log k ≡ Some request
+        → is_rule_command rules request.sender request.command ≡ true
+        → (round : FiredRound) × Contains fired round × (one : Caused) × Contains round.caused one × (x : RoundParts F) × Contains rounds x
+        × (read_to : ℕ) × Contains x.caused_results (one.submission, Sent k read_to) }
+{}
+
+/// Rules that are asked one after another.
+pub fn rules_one_by_one<A: Answering>()
+    ensures none { (answer : A) (reading : Reading) (params : Params) (log : List Entry) (round : FiredRound) (earlier : List Caused)
+        → RulesFire (A.may_answer answer) reading params log round earlier [] [] }
+    ensures more { (answer : A) (reading : Reading) (params : Params) (log : List Entry) (round : FiredRound) (earlier : List Caused)
+        (rules : List Rule) (rule : Rule) (caused own : List Caused) (n : ℕ)
+        → RulesFire (A.may_answer answer) reading params log round earlier rules caused
+        → HasReadTo round rule.participant n
+        → Fires (A.may_answer answer) rule round.number round.now (fired_on rule.name earlier) (active_at_clean reading params rule.participant n log) own
+        → RulesFire (A.may_answer answer) reading params log round earlier (rules ++ rule ∷ []) (caused ++ own) }
+{}
+
+/// Rounds one after another.
+pub fn rounds_one_by_one<A: Answering>()
+    ensures { (answer : A) (reading : Reading) (params : Params) (log : List Entry) (rules : List Rule) (rounds : List FiredRound) (round : FiredRound)
+        → RoundsFire (A.may_answer answer) reading params log rules [] rounds
+        → RulesFire (A.may_answer answer) reading params log round (all_caused rounds) rules round.caused
+        → RoundsFire (A.may_answer answer) reading params log rules [] (rounds ++ round ∷ []) }
+{}
+
+/// On which contracts rules have fired, once one more was asked.
+pub fn fires_are_noted<A: Answering>()
+    ensures own { (answer : A) (rule : Rule) (round now : ℕ) (fired : List (List ℕ)) (rows : List ActiveRow) (before own : List Caused)
+        → Fires (A.may_answer answer) rule round now fired rows own
+        → fired_on rule.name (before ++ own) ≡ fired_on rule.name before ++ contracts_of own }
+    ensures others { (answer : A) (rule : Rule) (round now : ℕ) (fired : List (List ℕ)) (rows : List ActiveRow) (before own : List Caused) (name : List ℕ)
+        → Fires (A.may_answer answer) rule round now fired rows own
+        → name ≢ rule.name
+        → fired_on name (before ++ own) ≡ fired_on name before }
+{}
+
+/// What rules caused over a log they caused over every longer one.
+pub fn fires_stay<A: Answering>()
+    ensures { (answer : A) (reading : Reading) (params : Params) (log more : List Entry) (round : FiredRound) (earlier : List Caused)
+        (rules : List Rule) (caused : List Caused)
+        → round.end ≤ length log
+        → RulesFire (A.may_answer answer) reading params log round earlier rules caused
+        → RulesFire (A.may_answer answer) reading params (log ++ more) round earlier rules caused }
+{}
+
+/// The next rule is asked, which has fired on what it is known to have fired on.
+pub fn rules_are_asked_in_order<A: Answering>()
+    ensures { (answer : A) (reading : Reading) (params : Params) (log : List Entry) (round : FiredRound) (earlier : List Caused) (rules : List Rule)
+        (fired fired' : ℕ → List (List ℕ)) (count n : ℕ) (caused own : List Caused) (rule : Rule)
+        → AreNamed rules
+        → AreAskedSo (A.may_answer answer) reading params log round earlier rules fired count caused
+        → slice_get rules count ≡ Some rule
+        → HasReadTo round rule.participant n
+        → Fires (A.may_answer answer) rule round.number round.now (fired count) (active_at_clean reading params rule.participant n log) own
+        → fired' count ≡ fired count ++ contracts_of own
+        → ((other : ℕ) → other ≢ count → fired' other ≡ fired other)
+        → AreAskedSo (A.may_answer answer) reading params log round earlier rules fired' (count + 1) (caused ++ own) }
+{}
