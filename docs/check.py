@@ -1,8 +1,8 @@
 #!/usr/bin/env python3
 """Checks what can be counted of the repository: docs/check.py [--list]
 
-- Each path and each name in backticks in README.md and docs/*.md is there: a path from the root, from crates/ or from a crate's
-  folder, a name as a word of a source. Words of the kit and of the system stand in docs/foreign_words.txt.
+- Each path and each name in backticks in README.md, docs/*.md and examples/*.md is there: a path from the root, from crates/ or from a
+  crate's folder, a name as a word of a source. Words of the kit and of the system stand in docs/foreign_words.txt.
 - The table of crates in docs/ARCHITECTURE.md says what crates.txt says.
 - Files have under 500 lines, functions under 40 (clauses not counted) and at most six parameters, lines of src/ and specs/ under
   160 characters. No library but a crate of tests has tests, and no crate more than four edits.
@@ -47,7 +47,7 @@ def crates():
 # --- documents
 
 def documents():
-    return files('README.md', 'docs/*.md')
+    return files('README.md', 'docs/*.md', 'examples/*.md')
 
 
 def quoted(text):
