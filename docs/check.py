@@ -3,7 +3,7 @@
 
 - Each path and each name in backticks in README.md, docs/*.md and examples/*.md is there: a path from the root, from crates/ or from a
   crate's folder, a name as a word of a source. Words of the kit and of the system stand in docs/foreign_words.txt.
-- The table of crates in docs/ARCHITECTURE.md says what crates.txt says.
+- The table of crates in docs/ARCHITECTURE.md says what crates.txt says, and what docs/READING.md quotes stands in the crates.
 - Files have under 500 lines, functions under 40 (clauses not counted) and at most six parameters, lines of src/ and specs/ under
   160 characters. No library but a crate of tests has tests, and no crate more than four edits.
 
@@ -111,6 +111,14 @@ def table_faults():
     for name in table:
         if name not in crates():
             yield 'docs/ARCHITECTURE.md: crates.txt has no `%s`' % name
+
+
+def quote_faults():
+    """Where a block of docs/READING.md is no part of a source: the first line that no file has, or else the block itself."""
+    sources = [read(path) for path in files('crates/*/src/**/*.rt', 'crates/*/specs/**/*.antt')]
+    for block in re.findall(r'```rust\n(.*?)```', read('docs/READING.md'), re.S):
+        if not any(block in text for text in sources):
+            yield 'docs/READING.md: no source has the block that begins with %s' % block.split('\n')[0].strip()
 
 
 # --- shape
@@ -229,7 +237,7 @@ def shape_faults(is_listed):
 
 
 def main():
-    faults = list(document_faults()) + list(table_faults()) + list(shape_faults('--list' in sys.argv[1:]))
+    faults = list(document_faults()) + list(table_faults()) + list(quote_faults()) + list(shape_faults('--list' in sys.argv[1:]))
     print('\n'.join(faults + ['%d faults in documents and shape' % len(faults)]))
     sys.exit(1 if faults else 0)
 
