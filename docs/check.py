@@ -3,7 +3,8 @@
 
 - Each path and each name in backticks in README.md, docs/*.md and examples/*.md is there: a path from the root, from crates/ or from a
   crate's folder, a name as a word of a source. Words of the kit and of the system stand in docs/foreign_words.txt.
-- The table of crates in docs/ARCHITECTURE.md says what crates.txt says, and what docs/READING.md quotes stands in the crates.
+- The table of crates in docs/ARCHITECTURE.md says what crates.txt says, what docs/READING.md quotes stands in the crates, and docs/AUDIT.md has
+  the list of docs/reading_list.py, and trusts the kit's crates below the programs.
 - Files have under 500 lines, functions under 40 (clauses not counted) and at most six parameters, lines of src/ and specs/ under
   160 characters. No library but a crate of tests has tests, and no crate more than four edits.
 
@@ -14,6 +15,8 @@ import glob
 import os
 import re
 import sys
+
+import reading_list
 
 ROOT = os.path.dirname(os.path.dirname(os.path.abspath(__file__)))
 WORD = re.compile(r"[A-Za-z_][A-Za-z0-9_']*")
@@ -119,6 +122,24 @@ def quote_faults():
     for block in re.findall(r'```rust\n(.*?)```', read('docs/READING.md'), re.S):
         if not any(block in text for text in sources):
             yield 'docs/READING.md: no source has the block that begins with %s' % block.split('\n')[0].strip()
+
+
+def list_faults():
+    """Where the reading list of docs/AUDIT.md isn't that of today."""
+    text = read('docs/AUDIT.md')
+    if reading_list.written(text) != text:
+        yield 'docs/AUDIT.md: the reading list is another one; docs/reading_list.py --write writes it'
+
+
+def trust_faults():
+    """Where docs/AUDIT.md trusts other crates of the kit than those below the two programs."""
+    table, below = crates(), ['canton_cli', 'canton_draw']
+    for name in below:
+        below += [other for other in table.get(name, []) if other not in below]
+    row = re.search(r"\| the statements of the kit's crates used here \|(.*)\|", read('docs/AUDIT.md'))[1]
+    amiss = set(re.findall(r'`(\w+)`', row)) ^ ({'std'} | {name for name in below if name not in table})
+    if amiss:
+        yield 'docs/AUDIT.md: other crates of the kit are trusted than those below the programs: %s' % ' '.join(sorted(amiss))
 
 
 # --- shape
@@ -237,7 +258,7 @@ def shape_faults(is_listed):
 
 
 def main():
-    faults = list(document_faults()) + list(table_faults()) + list(quote_faults()) + list(shape_faults('--list' in sys.argv[1:]))
+    faults = [*document_faults(), *table_faults(), *quote_faults(), *list_faults(), *trust_faults(), *shape_faults('--list' in sys.argv[1:])]
     print('\n'.join(faults + ['%d faults in documents and shape' % len(faults)]))
     sys.exit(1 if faults else 0)
 
