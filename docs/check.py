@@ -2,7 +2,8 @@
 """Checks what can be counted of the repository: docs/check.py [--list]
 
 - Each path and each name in backticks in README.md, docs/*.md and examples/*.md is there: a path from the root, from crates/ or from a
-  crate's folder, a name as a word of a source. Words of the kit and of the system stand in docs/foreign_words.txt.
+  crate's folder, a name as a word of a source. A file in a table is in the folder of the path before it. Words of the kit and of the
+  system stand in docs/foreign_words.txt.
 - The table of crates in docs/ARCHITECTURE.md says what crates.txt says, what docs/READING.md quotes stands in the crates, and docs/AUDIT.md has
   the list of docs/reading_list.py, and trusts the kit's crates below the programs.
 - Files have under 500 lines, functions under 40 (clauses not counted) and at most six parameters, lines of src/ and specs/ under
@@ -88,6 +89,18 @@ def is_known(token, words, names):
     if not NAME.match(token):
         return True
     return token in names or all(part in words for part in WORD.findall(token))
+
+
+def folder_faults():
+    """Where a file that is named behind a path, as in `CRATE/specs/A.antt`, `B.antt`, isn't in the folder of that path."""
+    for path in documents():
+        for number, line in enumerate(read(path).split('\n'), 1):
+            for cell in line.split('|') if line.startswith('|') else []:
+                folder = None
+                for token in re.findall(r'`([\w/]+\.(?:antt|rt))`', cell):
+                    folder = os.path.dirname(token) or folder
+                    if folder and not is_there(os.path.join(folder, os.path.basename(token))):
+                        yield '%s:%d: `%s` is not in %s' % (path, number, token, folder)
 
 
 def document_faults():
@@ -258,7 +271,7 @@ def shape_faults(is_listed):
 
 
 def main():
-    faults = [*document_faults(), *table_faults(), *quote_faults(), *list_faults(), *trust_faults(), *shape_faults('--list' in sys.argv[1:])]
+    faults = [*document_faults(), *folder_faults(), *table_faults(), *quote_faults(), *list_faults(), *trust_faults(), *shape_faults('--list' in sys.argv[1:])]
     print('\n'.join(faults + ['%d faults in documents and shape' % len(faults)]))
     sys.exit(1 if faults else 0)
 
