@@ -4,8 +4,8 @@
 - Each path and each name in backticks in README.md, docs/*.md and examples/*.md is there: a path from the root, from crates/ or from a
   crate's folder, a name as a word of a source. A file in a table is in the folder of the path before it. Words of the kit and of the
   system stand in docs/foreign_words.txt.
-- The table of crates in docs/ARCHITECTURE.md says what crates.txt says, what docs/READING.md quotes stands in the crates, and docs/AUDIT.md has
-  the list of docs/reading_list.py, and trusts the kit's crates below the programs.
+- The table of crates and the layers in docs/ARCHITECTURE.md say what crates.txt says, what docs/READING.md quotes stands in the crates, and
+  docs/AUDIT.md has the list of docs/reading_list.py and trusts the kit's crates below the programs.
 - Files have under 500 lines, functions under 40 (clauses not counted) and at most six parameters, lines of src/ and specs/ under
   160 characters. No library but a crate of tests has tests, and no crate more than four edits.
 
@@ -17,6 +17,7 @@ import os
 import re
 import sys
 
+import layers
 import reading_list
 
 ROOT = os.path.dirname(os.path.dirname(os.path.abspath(__file__)))
@@ -129,6 +130,14 @@ def table_faults():
             yield 'docs/ARCHITECTURE.md: crates.txt has no `%s`' % name
 
 
+def layer_faults():
+    """Where docs/layers.py isn't as crates.txt is, or docs/ARCHITECTURE.md has other layers."""
+    text = read('docs/ARCHITECTURE.md')
+    yield from layers.faults()
+    if layers.written(text) != text:
+        yield 'docs/ARCHITECTURE.md: the layers are others; docs/layers.py --write writes them'
+
+
 def quote_faults():
     """Where a block of docs/READING.md is no part of a source: the first line that no file has, or else the block itself."""
     sources = [read(path) for path in files('crates/*/src/**/*.rt', 'crates/*/specs/**/*.antt')]
@@ -153,6 +162,9 @@ def trust_faults():
     amiss = set(re.findall(r'`(\w+)`', row)) ^ ({'std'} | {name for name in below if name not in table})
     if amiss:
         yield 'docs/AUDIT.md: other crates of the kit are trusted than those below the programs: %s' % ' '.join(sorted(amiss))
+
+
+DOCUMENT_RULES = [document_faults, folder_faults, table_faults, layer_faults, quote_faults, list_faults, trust_faults]
 
 
 # --- shape
@@ -271,7 +283,7 @@ def shape_faults(is_listed):
 
 
 def main():
-    faults = [*document_faults(), *folder_faults(), *table_faults(), *quote_faults(), *list_faults(), *trust_faults(), *shape_faults('--list' in sys.argv[1:])]
+    faults = [fault for rule in DOCUMENT_RULES for fault in rule()] + list(shape_faults('--list' in sys.argv[1:]))
     print('\n'.join(faults + ['%d faults in documents and shape' % len(faults)]))
     sys.exit(1 if faults else 0)
 
