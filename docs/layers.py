@@ -61,7 +61,7 @@ def faults():
 
 def block():
     """The layers as a picture in plain text, the uppermost first."""
-    rows = ['%-13s| %-48s| %s' % (name, what, '  '.join(members.split())) for name, what, members in LAYERS]
+    rows = ['%-13s| %-50s| %s' % (name, what, '  '.join(members.split())) for name, what, members in LAYERS]
     return '\n'.join([BEGIN, '```', *rows, '```', END])
 
 
