@@ -3,8 +3,8 @@ use Rattle.node_core.specs.Machines.{machine_of, offered_in}
 use Rattle.layer_cases.proofs.Worlds.{lawful}
 use Rattle.layer_cases.proofs.world.playing.played.Goals as goal
 
-pub put_end-requires : goal.put_end-requires
-put_end-requires c =
+pub put_end-put-requires : goal.put_end-put-requires
+put_end-put-requires c =
     let t = c.args.setup.now.topology in
     let p = c.args.setup.now.checked in
     let m = machine_of t p 20480 in
@@ -12,8 +12,8 @@ put_end-requires c =
     let machine = c.prepared_requests_make_a_machine.ensures t p 20480 (offered_in t p) in
     (m, w.0, w.1, lawful m machine (events_of c.args.plan.now.events) _ w.2)
 
-pub put_late_in-requires : goal.put_late_in-requires
-put_late_in-requires c =
+pub put_late_in-put-requires : goal.put_late_in-put-requires
+put_late_in-put-requires c =
     let t = c.args.setup.now.topology in
     let p = c.args.setup.now.checked in
     let m = machine_of t p 20480 in
