@@ -19,7 +19,7 @@ LAYERS = [
     ('requests', 'transactions in blinded envelopes, made and read', 'prepare_request whole_request proto_model framed_form sealed_form blind_tree'),
     ('checks', 'contracts, holds and local verdicts', 'validate_job confirm_reply inbox_standing request_track contract_store'),
     ('transactions', 'commands as trees of actions, and their tests', 'interpret authorise project consist view_split'),
-    ('triggers', 'rules that submit by themselves, and their laws', 'trigger_model trigger_rules'),
+    ('triggers', 'rules that submit by themselves, and their laws', 'trigger_loop trigger_model trigger_rules'),
     ('bytes', 'spellings and hashes', 'message_bytes wire_form hash_id'),
     ('scripts', 'packages and scripts from JSON', 'script_read lang_read lang_check json_walk'),
     ('language', 'what packages mean', 'native_choice lang_eval'),
