@@ -18,7 +18,7 @@ use Rattle.trigger_loop.specs.Seeing.{SeesActive}
 pub record AreAskedTo (may : Answers) (rows : ℕ → List ActiveRow) (round now : ℕ) (rules : List Rule) (first fired : ℕ → List (List ℕ)) (count : ℕ)
     (caused : List Caused) : Type 0 where
   pub asked : (reading : Reading) (params : Params) (log : List Entry) (r : FiredRound) (earlier : List Caused) → r.number ≡ round → r.now ≡ now → AreNamed rules
-      → SeesActive rows reading params log r
+      → SeesActive rows rules reading params log r
       → AreAskedSo may reading params log r earlier rules first 0 [] → AreAskedSo may reading params log r earlier rules fired count caused
   pub behind : (k : ℕ) → count ≤ k → fired k ≡ first k
 
@@ -34,7 +34,7 @@ pub next_asked : (may : Answers) (rows : ℕ → List ActiveRow) (round now : �
 next_asked may rows round now rules first fired fired' count caused own rule a there f its others =
     record {
       asked = λ reading params log r earlier number time named sees so.
-          let read = sees rule.participant in
+          let read = sees count rule there in
           let f' = subst (λ (n : ℕ). Fires may rule n now (fired count) (rows rule.participant) own) (sym number) f in
           let f'' = subst (λ (t : ℕ). Fires may rule r.number t (fired count) (rows rule.participant) own) (sym time) f' in
           let f''' = subst (λ (rs : List ActiveRow). Fires may rule r.number r.now (fired count) rs own) read.2 f'' in
