@@ -1,0 +1,5 @@
+pub mod ReadEntries
+pub mod Judgements
+pub mod Framing
+pub mod RuleUses
+pub mod Known
