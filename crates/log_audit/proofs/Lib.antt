@@ -1,0 +1,5 @@
+pub mod Knowing
+pub mod Hosts
+pub mod Told
+pub mod YesFacts
+pub mod Room

@@ -1,0 +1,27 @@
+-- When inboxes are those of the participants over a log.
+use Rattle.std.specs.Prelude.{◌≡◌, ◌<◌, ◌^◌, ◌++◌, ◌∷◌, ℕ, List, [], Some, length, slice_get}
+use Rattle.ledger_terms.specs.declared.topology.Topology.{Topology}
+use Rattle.lang_eval.specs.Found.{Packages}
+use Rattle.canton_model.specs.Genuine.{Genuine}
+use Rattle.canton_model.specs.Inbox.{inbox}
+use Rattle.world_model.specs.Messages.{Entry}
+use Rattle.node_inbox.specs.InboxState.{InboxState}
+use Rattle.framed_form.specs.FramedReading.{framed_reading}
+
+-- the inbox of a participant over a log
+abbrev pub inbox_of : Topology → Packages → List Entry → ℕ → InboxState
+inbox_of topology packages log p =
+    record { topology = topology; packages = packages; me = p; items = inbox (framed_reading topology packages) p log }
+
+pub record HaveRead (topology : Topology) (packages : Packages) (inboxes : List InboxState) (log : List Entry) : Type 0 where
+  pub hosts : length inboxes ≡ length topology.hosts
+  pub each : (p : ℕ) → p < length inboxes → slice_get inboxes p ≡ Some (inbox_of topology packages log p)
+
+-- they have read a log that stays genuine with this entry
+pub record MayRead (inboxes : List InboxState) (entry : Entry) : Type 0 where
+  pub topology : Topology
+  pub packages : Packages
+  pub log : List Entry
+  pub knows : HaveRead topology packages inboxes log
+  pub genuine : Genuine (framed_reading topology packages) topology.params (log ++ entry ∷ [])
+  pub few : length log < 2 ^ 63

@@ -1,0 +1,30 @@
+-- Scripts in dumps, and what a script's logs are judged by.
+use Rattle.std.specs.Prelude.{ℕ, ◌-◌, List, [], Option, Some, None, Result, Ok, Err, length, map}
+use Rattle.framed_form.specs.FramedReading.{framed_reading}
+use Rattle.audit_model.specs.Standard.{Standard}
+use Rattle.log_judge.specs.Known.{standard_for}
+use Rattle.log_judge.specs.RuleUses.{rule_of}
+use Rattle.script_read.specs.Script.{script_in}
+use Rattle.script_read.specs.declared.script.Script.{Script}
+use Rattle.script_read.specs.declared.script_fault.ScriptFault.{ScriptFault}
+use Rattle.trigger_rules.specs.declared.rule.Rule.{Rule}
+
+abbrev pub unless_fault : Result Script ScriptFault → Option Script
+unless_fault (Ok script) = Some script
+unless_fault (Err fault) = None
+
+-- the script that the bytes are
+unfoldable pub script_of : List ℕ → Option Script
+script_of bytes = unless_fault (script_in bytes)
+
+-- the greatest participant
+abbrev pub most_of : Script → ℕ
+most_of script = length (script.topology).hosts - 1
+
+-- the rules of a script, which has none yet
+abbrev pub rules_in : Script → List Rule
+rules_in script = []
+
+-- its logs are judged by its participants, packages, times and rules
+abbrev pub standard_of : Script → Standard
+standard_of script = standard_for (framed_reading script.topology script.checked) (script.topology).params (map rule_of (rules_in script))

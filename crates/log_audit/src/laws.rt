@@ -1,0 +1,51 @@
+//! What a yes says, as the clauses of functions that do nothing.
+ghost use Rattle.std.specs.Prelude.{◌≡◌, ◌<◌, ◌≤◌, ◌^◌, ℕ, true, List, Some, length};
+ghost use Rattle.ledger_terms.specs.declared.topology.Topology.{Topology};
+ghost use Rattle.ledger_model.specs.Authority.{is_commit_authorised};
+ghost use Rattle.ledger_model.specs.Conformance.{Conforms};
+ghost use Rattle.ledger_model.specs.Consistency.{Consistent};
+ghost use Rattle.ledger_model.specs.Forest.{Commit, ledger_acts};
+ghost use Rattle.ledger_model.specs.Language.{roles_of};
+ghost use Rattle.canton_model.specs.Genuine.{Genuine};
+ghost use Rattle.canton_model.specs.Ledger.{ledger, whole_at};
+ghost use Rattle.canton_model.specs.Timeline.{is_approved_in, timeline_of};
+ghost use Rattle.canton_model.specs.declared.entry.Entry.{Entry};
+ghost use Rattle.interpret.specs.Language.{the_language};
+ghost use Rattle.lang_eval.specs.Found.{Packages};
+ghost use Rattle.framed_form.specs.Collisions.{Collides};
+ghost use Rattle.framed_form.specs.FramedReading.{framed_reading};
+ghost use Rattle.audit_model.specs.Judged.{approved_in};
+ghost use Rattle.log_dump.specs.Spellable.{IsSpellableLog};
+ghost use Rattle.log_audit.specs.Audits.{IsAudit, SpellsProperLog};
+ghost use Rattle.log_audit.specs.Scripts.{most_of, script_of, standard_of};
+ghost use Rattle.log_audit.specs.declared.answer.Audit.TheVariants.{Yes};
+
+/// The dump of a proper log is judged yes, with the number of its entries and of its approved requests.
+pub fn dumps_of_proper_logs_are_judged_yes()
+    ensures { (bytes : List ℕ) (spelled : SpellsProperLog script_of most_of standard_of bytes)
+        → IsAudit script_of most_of standard_of bytes (Yes (length spelled.log) (approved_in spelled.log)) }
+{}
+
+/// A genuine log of a synchroniser with few participants has a spelling, where it has fewer than 2^32 entries: its requests are framed, and
+/// those have room.
+pub fn genuine_logs_can_be_dumped()
+    ensures { (topology : Topology) (packages : Packages) (log : List Entry)
+        → length topology.hosts ≤ 255
+        → Genuine (framed_reading topology packages) topology.params log
+        → length log < 2 ^ 32
+        → IsSpellableLog log }
+{}
+
+/// Where what is hashed in a log that is judged yes doesn't collide, its approved requests are one consistent ledger, and each commit of
+/// it conforms to the script's packages and is authorised.
+pub fn logs_that_are_judged_yes_are_ledgers()
+    ensures consistent { (bytes : List ℕ) (spelled : SpellsProperLog script_of most_of standard_of bytes)
+        → (Collides spelled.script.topology spelled.log → ⊥)
+        → Consistent (ledger_acts (ledger (framed_reading spelled.script.topology spelled.script.checked) spelled.log)) }
+    ensures lawful { (bytes : List ℕ) (spelled : SpellsProperLog script_of most_of standard_of bytes) (k : ℕ) (commit : Commit)
+        → (Collides spelled.script.topology spelled.log → ⊥)
+        → is_approved_in k (timeline_of spelled.log) ≡ true
+        → whole_at (framed_reading spelled.script.topology spelled.script.checked) spelled.log k ≡ Some commit
+        → Conforms (the_language spelled.script.checked) commit.roots
+        × (is_commit_authorised (roles_of (the_language spelled.script.checked)) commit ≡ true) }
+{}
