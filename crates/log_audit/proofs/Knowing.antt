@@ -130,7 +130,7 @@ module _ (first : List InboxState) (entry : Entry) (at : ℕ) (now : List InboxS
       let params = (may.topology).params in
       let same = was may.topology may.packages may.log may.knows in
       subst (λ (i : InboxState). (length i.items < 2 ^ 63) × (last_time i.items < entry.time)
-        × ((q : Request) → entry.message ≡ RequestMessage q → (reading_of i).is_framed q ≡ true)) (sym same)
+      × ((q : Request) → entry.message ≡ RequestMessage q → (reading_of i).is_framed q ≡ true)) (sym same)
       (few_items reading params may.log entry may.genuine at may.few, rises reading params may.log entry may.genuine at, framed_here reading params may.log entry may.genuine)
 
   pub reads_one : (new : InboxState) → new ≡ with_item old (item_from (reading_of old) old.me old.items entry)
@@ -147,10 +147,10 @@ module _ (first : List InboxState) (entry : Entry) (at : ℕ) (now : List InboxS
                   let here : at ≡ k = omega (arith, lt, above) in
                   let same = was topology packages log knows in
                   let value : new ≡ inbox_of topology packages (log ++ entry ∷ []) at =
-                      e
-                      ∙ (ap (λ (i : InboxState). with_item i (item_from (reading_of i) i.me i.items entry)) same
-                      ∙ ap (λ (items : List Item). record { topology = topology; packages = packages; me = at; items = items })
-                      (inbox_reads (framed_reading topology packages) at (inbox (framed_reading topology packages) at log) log entry refl)) in
+                  e
+                  ∙ (ap (λ (i : InboxState). with_item i (item_from (reading_of i) i.me i.items entry)) same
+                  ∙ ap (λ (items : List Item). record { topology = topology; packages = packages; me = at; items = items })
+                  (inbox_reads (framed_reading topology packages) at (inbox (framed_reading topology packages) at log) log entry refl)) in
                   subst (λ (i : ℕ). slice_get (slice_set now at new) i ≡ Some (inbox_of topology packages (log ++ entry ∷ []) i)) here
                   (get_set_same now at new within ∙ ap Some value)
             ];

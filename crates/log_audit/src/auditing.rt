@@ -45,7 +45,9 @@ fn judge_dump(alloc: Global, dump: Dump) -> Result<Judgement, AllocError>
 {
     let Dump { script, log } = dump;
     let Script {
-        topology, checked, ..
+        topology,
+        checked,
+        ..
     } = script;
     let setup = Setup { topology, checked };
     let rules = RuleList::new(alloc);

@@ -14,10 +14,7 @@ use node_inbox::Inbox;
 use std::alloc::{AllocError, Global};
 
 /// The inboxes of all participants, which have read nothing.
-pub(crate) fn new_inboxes<'s>(
-    alloc: Global,
-    setup: &'s Setup,
-) -> Result<Vec<Inbox<'s>>, AllocError>
+pub(crate) fn new_inboxes<'s>(alloc: Global, setup: &'s Setup) -> Result<Vec<Inbox<'s>>, AllocError>
     requires { length setup.now.topology.hosts ≤ 256 }
     ensures { IfOk result (λ inboxes. HaveRead setup.now.topology setup.now.checked inboxes.items []) }
 {
