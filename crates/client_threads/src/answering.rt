@@ -12,10 +12,10 @@ ghost use Rattle.sync_shared.specs.Answers.{fault_of, refused_at};
 ghost use mathlib.Core.List.{IsPrefix};
 
 use ledger_terms::Submission;
-use node_core::{SubmitFault, SubmitResult};
+use node_core::{SubmitFault, SubmitRefusal, SubmitResult};
 use std::alloc::AllocError;
 use std::sync::Wait;
-use sync_shared::{Client, Session, Shared, SubmitRefusal, Ticket};
+use sync_shared::{Client, Session, Shared, Ticket};
 
 // The request was sent. Its client asks once what became of it.
 fn sent<'r, S: Session, R: Wait>(

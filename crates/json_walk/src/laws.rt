@@ -2,7 +2,7 @@
 ghost use Rattle.std.specs.Prelude.{◌≡◌, ◌^◌};
 ghost use Rattle.json_walk.specs.declared.limits.TheConstants.{ACT_AS, ADVANCE, CHOICES, COMMANDS, DRAFTS, DRAFT_DEPTH, EXPRESSION_DEPTH};
 ghost use Rattle.json_walk.specs.declared.limits.TheConstants.{FIELDS, LABEL_STEPS, LEDGER_TIME, PACKAGES, PARAMETERS, PARTICIPANTS, PARTIES};
-ghost use Rattle.json_walk.specs.declared.limits.TheConstants.{RAW_BYTES, RAWS, ROUNDS, STATEMENTS, SUBMISSIONS, TEMPLATES, TEXT_BYTES, TIMEOUT};
+ghost use Rattle.json_walk.specs.declared.limits.TheConstants.{RAW_BYTES, RAWS, ROUNDS, RULE_NAME_BYTES, RULES, STATEMENTS, SUBMISSIONS, TEMPLATES, TEXT_BYTES, TIMEOUT};
 
 /// The limits of scripts and packages, as the formats have them: the number that a fault names, the least and the most.
 pub fn limits_are_those_of_scripts()
@@ -28,4 +28,6 @@ pub fn limits_are_those_of_scripts()
         × (LABEL_STEPS ≡ record { number = 20; least = 0; most = 16 }) }
     ensures raws { (RAWS ≡ record { number = 21; least = 0; most = 64 })
         × (RAW_BYTES ≡ record { number = 22; least = 0; most = 2 ^ 16 }) }
+    ensures rules { (RULES ≡ record { number = 23; least = 0; most = 16 })
+        × (RULE_NAME_BYTES ≡ record { number = 24; least = 0; most = 20 }) }
 {}

@@ -5,7 +5,8 @@ use ledger_terms::limits::{
     LEAST_WAIT, MOST_ACT_AS, MOST_ADVANCE, MOST_CHOICES, MOST_COMMANDS, MOST_DRAFT_DEPTH,
     MOST_DRAFTS, MOST_EXPRESSION_DEPTH, MOST_FIELDS, MOST_LABEL_STEPS, MOST_LEDGER_TIME,
     MOST_PACKAGES, MOST_PARAMETERS, MOST_PARTICIPANTS, MOST_PARTIES, MOST_RAW_BYTES, MOST_RAWS,
-    MOST_ROUNDS, MOST_STATEMENTS, MOST_SUBMISSIONS, MOST_TEMPLATES, MOST_TEXT_BYTES, MOST_WAIT,
+    MOST_ROUNDS, MOST_RULE_NAME_BYTES, MOST_RULES, MOST_STATEMENTS, MOST_SUBMISSIONS,
+    MOST_TEMPLATES, MOST_TEXT_BYTES, MOST_WAIT,
 };
 
 /// Participants of a script.
@@ -160,4 +161,18 @@ pub const RAW_BYTES: Limit = Limit {
     number: 22,
     least: 0,
     most: MOST_RAW_BYTES as u64,
+};
+
+/// Rules of a script.
+pub const RULES: Limit = Limit {
+    number: 23,
+    least: 0,
+    most: MOST_RULES as u64,
+};
+
+/// Bytes of a rule's name.
+pub const RULE_NAME_BYTES: Limit = Limit {
+    number: 24,
+    least: 0,
+    most: MOST_RULE_NAME_BYTES as u64,
 };

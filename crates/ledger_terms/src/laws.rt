@@ -7,8 +7,8 @@ ghost use Rattle.ledger_terms.specs.declared.limits.TheConstants.{MOST_CHOICES, 
 ghost use Rattle.ledger_terms.specs.declared.limits.TheConstants.{MOST_EXPRESSION_DEPTH, MOST_FIELDS, MOST_INSTANCE_BYTES};
 ghost use Rattle.ledger_terms.specs.declared.limits.TheConstants.{MOST_LABEL_STEP, MOST_LABEL_STEPS, MOST_LEDGER_TIME, MOST_NAME_BYTES};
 ghost use Rattle.ledger_terms.specs.declared.limits.TheConstants.{MOST_PACKAGES, MOST_PARAMETERS, MOST_PARTICIPANTS, MOST_PARTIES};
-ghost use Rattle.ledger_terms.specs.declared.limits.TheConstants.{MOST_PLACES, MOST_RAW_BYTES, MOST_RAWS, MOST_RESULT_BYTES, MOST_ROUNDS, MOST_SCRIPT_BYTES};
-ghost use Rattle.ledger_terms.specs.declared.limits.TheConstants.{MOST_SET_ITEMS, MOST_STATEMENTS, MOST_SUBMISSIONS, MOST_TEMPLATES};
+ghost use Rattle.ledger_terms.specs.declared.limits.TheConstants.{MOST_PLACES, MOST_RAW_BYTES, MOST_RAWS, MOST_RESULT_BYTES, MOST_ROUNDS};
+ghost use Rattle.ledger_terms.specs.declared.limits.TheConstants.{MOST_RULE_NAME_BYTES, MOST_RULES, MOST_SCRIPT_BYTES, MOST_SET_ITEMS, MOST_STATEMENTS, MOST_SUBMISSIONS, MOST_TEMPLATES};
 ghost use Rattle.ledger_terms.specs.declared.limits.TheConstants.{MOST_TEXT_BYTES, MOST_TREE_BYTES, MOST_WAIT};
 
 use crate::text::Text;
@@ -31,5 +31,6 @@ pub fn limits_are_those_of_the_formats()
     ensures submissions { (LEAST_COMMANDS ≡ 1) × (MOST_COMMANDS ≡ 16) × (MOST_ACT_AS ≡ 128) }
     ensures drafts { (MOST_DRAFTS ≡ 64) × (MOST_DRAFT_DEPTH ≡ 16) × (MOST_LABEL_STEPS ≡ 16) × (MOST_LABEL_STEP ≡ 63) }
     ensures raws { (MOST_RAWS ≡ 64) × (MOST_RAW_BYTES ≡ 2 ^ 16) }
+    ensures rules { (MOST_RULES ≡ 16) × (MOST_RULE_NAME_BYTES ≡ 20) }
     ensures times { (LEAST_WAIT ≡ 10 ^ 5) × (MOST_WAIT ≡ 10 ^ 12) × (MOST_ADVANCE ≡ 10 ^ 12) × (MOST_LEDGER_TIME ≡ 10 ^ 16) }
 {}

@@ -90,6 +90,12 @@ pub const MOST_RAWS: usize = 64;
 /// Bytes that a text of a raw request spells.
 pub const MOST_RAW_BYTES: usize = 65_536;
 
+/// Rules of a script.
+pub const MOST_RULES: usize = 16;
+
+/// Bytes of a rule's name. A command's name has room for it, a dash and the number of a contract.
+pub const MOST_RULE_NAME_BYTES: usize = 20;
+
 /// Bytes of a script.
 pub const MOST_SCRIPT_BYTES: usize = 4_194_304;
 

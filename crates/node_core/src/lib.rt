@@ -11,6 +11,7 @@ mod node;
 mod node_view;
 mod outbox;
 mod remains;
+mod submit_refusal;
 mod submit_result;
 
 pub use cancelled::Cancelled;
@@ -19,4 +20,5 @@ pub use node::Node;
 pub use node_view::{ActiveRowLists, NodeView, NodeViewList};
 pub use prepare_request::SubmitFault;
 pub use remains::NodeRemains;
+pub use submit_refusal::SubmitRefusal;
 pub use submit_result::{SubmitResult, SubmitResultList};

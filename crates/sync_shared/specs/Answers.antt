@@ -6,8 +6,8 @@ use Rattle.seq_log.specs.declared.fault.AppendFault.{AppendFault}
 use Rattle.seq_log.specs.declared.fault.AppendFault.TheVariants as append
 use Rattle.prepare_request.specs.declared.submit_fault.SubmitFault.{SubmitFault}
 use Rattle.prepare_request.specs.declared.submit_fault.SubmitFault.TheVariants.{Paused, NotHosted, Command, Split, Duplicate, LogFull, Memory}
+use Rattle.node_core.specs.declared.submit_refusal.SubmitRefusal.{SubmitRefusal}
 use Rattle.sync_shared.specs.Clients.{TicketValue}
-use Rattle.sync_shared.specs.declared.submit_refusal.SubmitRefusal.{SubmitRefusal}
 
 -- the fault in the words of the world model; want of memory is none there
 abbrev pub fault_of : SubmitFault → Option (r.SubmitFault SubmitFault)

@@ -2,7 +2,7 @@
 use Rattle.std.specs.Prelude.{◌≢◌, ℕ, ◌≤◌, List, [], All, Option, Some, None, length, slice_get}
 use Rattle.std.specs.List.{AllPairs}
 use Rattle.trigger_rules.specs.declared.rule.Rule.{Rule}
-use Rattle.trigger_rules.specs.declared.limits.TheConstants.{MOST_RULE_NAME_BYTES}
+use Rattle.ledger_terms.specs.declared.limits.TheConstants.{MOST_RULE_NAME_BYTES}
 use Rattle.trigger_rules.specs.Answers.{Answers, GivesExercises}
 
 -- Rules, who answers for them, and the contracts on which each has fired, in order, by the number of the rule. Of the last

@@ -2,7 +2,8 @@
 ghost use Rattle.std.specs.Prelude.{◌≡◌, ◌<◌, ◌≤◌, ◌+◌, ◌++◌, ◌∷◌, [], false, length, take, IfOk, OnErr, OnOk};
 ghost use Rattle.trigger_rules.specs.Firing.{AsksOne, Fires, caused_by, command_id, contracts_of, has_fired, submission_by};
 ghost use Rattle.trigger_rules.specs.Answers.{GivesExercises};
-ghost use Rattle.trigger_rules.specs.declared.limits.TheConstants.{MOST_FIRES, MOST_RULE_NAME_BYTES};
+ghost use Rattle.ledger_terms.specs.declared.limits.TheConstants.{MOST_RULE_NAME_BYTES};
+ghost use Rattle.trigger_rules.specs.declared.limits.TheConstants.{MOST_FIRES};
 
 use crate::answering::Answering;
 use crate::caused::{Caused, CausedList};
