@@ -1,3 +1,4 @@
 pub mod EntryLaws
 pub mod DumpLaws
 pub mod RoomLaws
+pub mod Written
