@@ -1,12 +1,14 @@
 //! A Canton synchroniser with its participants in one process: reads a script and writes the report of its run.
 #![tactic(auto)]
 
-use canton_run::{Finish, ended, line, run, status_without_words, words_after_name};
+use canton_run::{Finish, Platform, ended, line, run, status_without_words, words_after_name};
 use cli_words::WordList;
 use cn_io::{ReadSource, Sink, Source, WriteSink};
 use lane_pool::FreeGate;
 use lang_eval::NativeList;
+use ledger_terms::{Known, Name};
 use native_choice::FlashNative;
+use note_rule::flash_on_go;
 use std::alloc::{AllocError, AllocGlobal, Global};
 use std::process::ExitCode;
 use std::random::RandomSource;
@@ -20,7 +22,7 @@ fn words_of(rt: &HostRuntime) -> io::Result<WordList> {
     Ok(words_after_name(rt.alloc(), all.as_slice())?)
 }
 
-/// Runs the words, with the choices that are written in Rattle.
+/// Runs the words, with the choices that are written in Rattle, and with rules that flash notes.
 fn run_words<R: Threads + Wait + Sync + RandomSource + AllocGlobal, S: Source, K: Sink>(
     rt: &R,
     alloc: Global,
@@ -30,7 +32,12 @@ fn run_words<R: Threads + Wait + Sync + RandomSource + AllocGlobal, S: Source, K
 ) -> Result<Finish, AllocError> {
     let mut natives = NativeList::new(alloc);
     natives.push(Box::new(alloc, FlashNative::new(alloc)?)?)?;
-    Ok(run(rt, &FreeGate, words, source, sink, natives))
+    let platform = Platform {
+        rt,
+        gate: &FreeGate,
+    };
+    let rule = move |_name: Name, known: &Known| flash_on_go(alloc, known);
+    Ok(run(&platform, words, source, sink, natives, rule))
 }
 
 /// What the words ask for, where they and the natives can be had.

@@ -9,6 +9,7 @@ use Rattle.script_read.specs.declared.script.Script.{Script}
 use Rattle.shared_rounds.specs.Machine.{machine_in}
 use Rattle.shared_rounds.specs.declared.submitting.Answered.{Answered}
 use Rattle.threads_model.specs.Shared.{Joined}
+use Rattle.trigger_rules.specs.declared.rule.Rule.{Rule}
 use Rattle.run_model.proofs.Workers.{part_by_some}
 use Rattle.world_model.specs.Lawful.{Lawful}
 use Rattle.world_model.specs.Machine.{Machine}
@@ -24,8 +25,8 @@ use Rattle.canton_run.specs.Answered.{round_of}
 use Rattle.canton_run.specs.Between.{CanBeAnswered, IsAnsweredRound, IsSetupOf}
 use Rattle.canton_run.specs.Run.{machine_for, script_with, why_for}
 
-module _ (setup : Setup) (rounds : List Round) (capacity : ℕ) (round : Round) (world : World)
-    (can : CanBeAnswered (script_with setup rounds) capacity round world) where
+module _ (setup : Setup) (rules : List Rule) (rounds : List Round) (capacity : ℕ) (round : Round) (world : World)
+    (can : CanBeAnswered (script_with setup rules rounds) capacity round world) where
   abbrev own : Machine
   own = machine_of setup.topology setup.checked capacity
 
@@ -41,12 +42,12 @@ module _ (setup : Setup) (rounds : List Round) (capacity : ℕ) (round : Round) 
       → ((state : MediatorState) × IsWorldOf (machine_in setup world) state after × Lawful (machine_in setup world) (world_of state after))
       → AreSetUp setup.topology setup.checked (after.nodes).items → length results ≡ length round.submits → All IsPlainResult results
       → ((r : w.Round) → r.paused ≡ round.paused → r.submits ≡ round.submits
-      → Joined (machine_in setup world) (why_for (script_with setup rounds)) world.now r (world.sequencer).list (after.sequencer).list
+      → Joined (machine_in setup world) (why_for (script_with setup rules rounds)) world.now r (world.sequencer).list (after.sequencer).list
       (results_of round.submits results))
-      → IsAnsweredRound (script_with setup rounds) capacity workers round world after results
+      → IsAnsweredRound (script_with setup rules rounds) capacity workers round world after results
   answered_shared workers some after results now is set_up many plain joined =
-      let m = machine_for (script_with setup rounds) capacity in
-      let why = why_for (script_with setup rounds) in
+      let m = machine_for (script_with setup rules rounds) capacity in
+      let why = why_for (script_with setup rules rounds) in
       let s = subst (λ (m : Machine). (state : MediatorState) × IsWorldOf m state after × Lawful m (world_of state after)) (sym same_machine) is in
       record {
         state = s.0;
@@ -83,5 +84,5 @@ answered_by_clients workers some setup round world (Err lack) now set_up is many
 answered_by_clients workers some setup round world (Ok a) now set_up is many plain joined =
     λ script capacity same can.
     subst (λ (s : Script). IsAnsweredRound s capacity workers round world a.world a.results) (sym same)
-    (answered_shared setup script.rounds capacity round world (subst (λ (s : Script). CanBeAnswered s capacity round world) same can) workers some
+    (answered_shared setup script.triggers script.rounds capacity round world (subst (λ (s : Script). CanBeAnswered s capacity round world) same can) workers some
     a.world a.results now is set_up many plain joined)

@@ -46,7 +46,7 @@ module _ (topology : Topology) where
   named (Prepared borrowed roots) is = hosted _ (is.1).hosted
 
 -- what is submitted in an accepted script can be submitted
-pub can_submit : (script : Script) → IsAccepted script → (what : Submission) → IsSubmission (script.topology).hosts what
+pub can_submit : (script : Script) → IsAccepted script → (what : Submission) → IsSubmission (script.topology).hosts script.triggers what
     → CanSubmit script.topology script.checked what
 can_submit script accepted what is =
     record {

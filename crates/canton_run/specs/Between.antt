@@ -1,5 +1,5 @@
 -- What holds between two rounds of a run.
-use Rattle.std.specs.Prelude.{◌≡◌, ℕ, ◌<◌, ◌≤◌, ◌^◌, List, [], Some, All, length, slice_get, sum_by, take}
+use Rattle.std.specs.Prelude.{◌≡◌, ℕ, ◌<◌, ◌≤◌, ◌^◌, List, [], ◌∷◌, ◌++◌, Some, All, length, slice_get, sum_by}
 use Rattle.confirm_reply.specs.declared.setup.Setup.{Setup}
 use Rattle.ledger_terms.specs.Topologies.{IsValid}
 use Rattle.ledger_terms.specs.declared.submission.Submission.{Submission}
@@ -34,9 +34,15 @@ pub record IsRoundOf (script : Script) (count : ℕ) (round : Round) : Type 0 wh
   pub accepted : IsAccepted script
   pub there : slice_get script.rounds count ≡ Some round
 
+-- It is a part of a run of an accepted script: what it submits is within the topology.
+pub record IsPartOf (script : Script) (part : Round) : Type 0 where
+  pub accepted : IsAccepted script
+  pub within : All (CanSubmit script.topology script.checked) part.submits
+  pub there : All (λ (what : Submission). what.participant < length (script.topology).hosts) part.submits
+
 -- the script's participants and packages are those of the setup
 abbrev pub IsSetupOf : Script → Setup → Type 0
-IsSetupOf script setup = script ≡ script_with setup script.rounds
+IsSetupOf script setup = script ≡ script_with setup script.triggers script.rounds
 
 -- The round has begun on the script's synchroniser, and its submissions are within the topology.
 pub record CanBeAnswered (script : Script) (capacity : ℕ) (round : Round) (world : World) : Type 0 where
@@ -73,16 +79,27 @@ pub record IsAnsweredRound (script : Script) (capacity workers : ℕ) (round : R
   pub plain : All IsPlainResult results
   pub part : SettlesAsPart script capacity workers round before after results
 
--- So many rounds of the script were played on its synchroniser by so many workers, with these results and ends.
-pub record ArePlayed (script : Script) (capacity workers count : ℕ) (world : World) (results : List SubmitResult) (ends : List ℕ) : Type 0 where
+-- These parts were played on the script's synchroniser, one after another, by so many workers, with these results and ends.
+pub record ArePlayed (script : Script) (capacity workers : ℕ) (parts : List Round) (world : World) (results : List SubmitResult) (ends : List ℕ)
+    : Type 0 where
   pub machine : IsMachine (machine_for script capacity)
   pub state : MediatorState
   pub is : IsWorldOf (machine_for script capacity) state world
   pub lawful : Lawful (machine_for script capacity) (world_of state world)
   pub set_up : AreSetUp script.topology script.checked (world.nodes).items
-  pub now : world.now ≡ time_in (take count script.rounds)
-  pub each_result : length results ≡ submissions_in (take count script.rounds)
-  pub each_end : length ends ≡ length (take count script.rounds)
+  pub now : world.now ≡ time_in parts
+  pub each_result : length results ≡ submissions_in parts
+  pub each_end : length ends ≡ length parts
   pub plain : All IsPlainResult results
-  pub played : RoundsBy workers (machine_for script capacity) (why_for script) 0 [] (answered (take count script.rounds) results ends)
-      (world.sequencer).list
+  pub played : RoundsBy workers (machine_for script capacity) (why_for script) 0 [] (answered parts results ends) (world.sequencer).list
+
+-- One part more was played behind the others: the log goes on, and these are the results and the ends with its own behind the others.
+pub record IsPlayedOn (script : Script) (capacity workers : ℕ) (parts : List Round) (part : Round) (before after : World)
+    (results results' : List SubmitResult) (ends ends' : List ℕ) : Type 0 where
+  pub own : List SubmitResult
+  pub results_are : results' ≡ results ++ own
+  pub many : length own ≡ length part.submits
+  pub ends_are : ends' ≡ ends ++ length (after.sequencer).list ∷ []
+  pub more : List Entry
+  pub is_more : (after.sequencer).list ≡ (before.sequencer).list ++ more
+  pub played : ArePlayed script capacity workers (parts ++ part ∷ []) after results' ends'

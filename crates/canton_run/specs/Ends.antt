@@ -9,6 +9,7 @@ use Rattle.ledger_terms.specs.declared.limits.TheConstants.{MOST_SCRIPT_BYTES}
 use Rattle.script_read.specs.Script.{script_in}
 use Rattle.script_read.specs.declared.script.Script.{Script}
 use Rattle.script_read.specs.declared.script_fault.ScriptFault.{ScriptFault}
+use Rattle.trigger_rules.specs.Answers.{Answers}
 use Rattle.canton_run.specs.declared.finish.Finish.{Finish}
 use Rattle.canton_run.specs.Jobs.{GivesScript, ReadWhole, capacity_of, needs_source, text_of, workers_of}
 use Rattle.canton_run.specs.Run.{IsRun}
@@ -26,10 +27,10 @@ abbrev pub AsksForScript : List (List ℕ) → Type 0
 AsksForScript words = option_map needs_source (job_of words) ≡ Some true
 
 -- the script of the words' job was run, and the text is what that job writes
-abbrev pub Ran : List (List ℕ) → Option (List ℕ) → Option (List ℕ) → Finish → List ℕ → Type 0
-Ran words left left' finish text =
+abbrev pub Ran : Answers → List (List ℕ) → Option (List ℕ) → Option (List ℕ) → Finish → List ℕ → Type 0
+Ran may words left left' finish text =
     (job : Job) × (script : Script) × (job_of words ≡ Some job) × GivesScript job left left' script
-    × IsRun script (capacity_of job) (workers_of job) finish.log finish.results finish.ends × (text ≡ text_of job script finish)
+    × IsRun may script (capacity_of job) (workers_of job) finish.log finish.results finish.ends finish.caused × (text ≡ text_of job script finish)
 
 -- The source was read to its end within the limit, and the fault kept is the first fault of its bytes.
 abbrev pub ReadsFault : Option (List ℕ) → Option (List ℕ) → Finish → Type 0
@@ -53,7 +54,7 @@ TakesUpTo words left left' finish =
 
 -- nothing was run and nothing was written
 abbrev pub RanNothing : Option (List ℕ) → Option (List ℕ) → Finish → Type 0
-RanNothing held held' finish = (finish.log ≡ []) × (finish.results ≡ []) × (finish.ends ≡ []) × Keeps held held'
+RanNothing held held' finish = (finish.log ≡ []) × (finish.results ≡ []) × (finish.ends ≡ []) × (finish.caused ≡ []) × Keeps held held'
 
 -- the source gives a script within the limit
 abbrev pub OffersScript : Option (List ℕ) → Type 0

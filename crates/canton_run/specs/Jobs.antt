@@ -15,6 +15,7 @@ use Rattle.report_text.specs.Report.{report_of}
 use Rattle.report_text.specs.Totals.{summary_of}
 use Rattle.script_read.specs.Script.{script_in}
 use Rattle.script_read.specs.declared.script.Script.{Script}
+use Rattle.trigger_rules.specs.declared.caused.Caused.{Caused}
 use Rattle.canton_run.specs.declared.finish.Finish.{Finish}
 use Rattle.canton_run.specs.Run.{params_of, reading_for}
 
@@ -51,19 +52,23 @@ workers_of (Gen count seed workers) = workers
 workers_of (Commitments workers log) = workers
 
 -- the report of a run, its summary, or its commitments
-abbrev pub text_over : Job → Script → List Entry → List SubmitResult → List NodeView → List Knowledge → List ℕ
-text_over (Run workers log) script entries results views known = report_of script.topology script.rounds entries results views
-text_over (Gen count seed workers) script entries results views known = summary_of script.topology entries results views
-text_over (Commitments workers log) script entries results views known = commitments_of (reading_for script) (script.topology).hosts known
+abbrev pub text_over : Job → Script → List Entry → List SubmitResult → List NodeView → List Knowledge → List Caused → List ℕ
+text_over (Run workers log) script entries results views known caused = report_of script.topology script.rounds entries results views caused
+text_over (Gen count seed workers) script entries results views known caused = summary_of script.topology entries results views
+text_over (Commitments workers log) script entries results views known caused = commitments_of (reading_for script) (script.topology).hosts known
 
 -- what each participant knows at its clean place over the whole log
-abbrev pub views_in : Script → Finish → List NodeView
-views_in script finish = views_over (reading_for script) (params_of script) finish.log (length (script.topology).hosts)
+abbrev pub views_in : Script → List Entry → List NodeView
+views_in script log = views_over (reading_for script) (params_of script) log (length (script.topology).hosts)
 
 -- what each participant knows of active contracts over the whole log
-abbrev pub knowledge_in : Script → Finish → List Knowledge
-knowledge_in script finish = each_knowledge (reading_for script) (params_of script) finish.log (length (script.topology).hosts)
+abbrev pub knowledge_in : Script → List Entry → List Knowledge
+knowledge_in script log = each_knowledge (reading_for script) (params_of script) log (length (script.topology).hosts)
+
+-- what the job writes of a run of the script
+abbrev pub told_text : Job → Script → List Entry → List SubmitResult → List Caused → List ℕ
+told_text job script log results caused = text_over job script log results (views_in script log) (knowledge_in script log) caused
 
 -- what the job of the script writes
 abbrev pub text_of : Job → Script → Finish → List ℕ
-text_of job script finish = text_over job script finish.log finish.results (views_in script finish) (knowledge_in script finish)
+text_of job script finish = told_text job script finish.log finish.results finish.caused

@@ -1,7 +1,10 @@
 pub mod Actives
 pub mod Lines
 pub mod Answered
+pub mod Parts
+pub mod Seen
 pub mod Run
 pub mod Between
+pub mod RoundsPlayed
 pub mod Jobs
 pub mod Ends

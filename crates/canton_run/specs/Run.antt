@@ -1,5 +1,5 @@
 -- What a run of a script is.
-use Rattle.std.specs.Prelude.{◌≡◌, ℕ, List, [], All, Contains, Some, length, sum_by}
+use Rattle.std.specs.Prelude.{◌≡◌, ℕ, ◌+◌, ◌*◌, true, List, [], ◌∷◌, All, Contains, Some, length, sum_by, take}
 use Rattle.canton_model.specs.Log.{Params, request_at}
 use Rattle.canton_model.specs.Reading.{Reading}
 use Rattle.canton_model.specs.declared.entry.Entry.{Entry}
@@ -15,16 +15,23 @@ use Rattle.framed_form.specs.Collisions.{Collides}
 use Rattle.framed_form.specs.FramedReading.{framed_reading}
 use Rattle.world_model.specs.Headline.{Headline, OneLedger}
 use Rattle.world_model.specs.Machine.{Machine}
-use Rattle.world_model.specs.Plain.{PlainRounds}
-use Rattle.world_model.specs.Rounds.{RoundAnswers, RunHolds, Sent, Why}
+use Rattle.world_model.specs.Plain.{PlainPart, PlainRounds}
+use Rattle.world_model.specs.Rounds.{RoundAnswers, Sent, Why}
 use Rattle.node_core.specs.Machines.{machine_of, why_of}
 use Rattle.world_play.specs.OwnRequests.{IsOwnRequest}
 use Rattle.world_play.specs.Results.{IsPlainResult}
-use Rattle.canton_run.specs.Answered.{answered}
+use Rattle.trigger_model.specs.CausedRequests.{AreRounds}
+use Rattle.trigger_model.specs.CausedRun.{CausedHolds, FiredRound, all_caused}
+use Rattle.trigger_model.specs.TwoParts.{RoundParts, RunInParts, parts_of, second_round}
+use Rattle.trigger_rules.specs.Answers.{Answers}
+use Rattle.trigger_rules.specs.Ids.{is_rule_command}
+use Rattle.trigger_rules.specs.declared.caused.Caused.{Caused}
+use Rattle.trigger_rules.specs.declared.rule.Rule.{Rule}
+use Rattle.canton_run.specs.Parts.{round_parts}
 
--- the script of a setup and rounds
-abbrev pub script_with : Setup → List Round → Script
-script_with setup rounds = record { topology = setup.topology; checked = setup.checked; rounds = rounds }
+-- the script of a setup, rules and rounds
+abbrev pub script_with : Setup → List Rule → List Round → Script
+script_with setup rules rounds = record { topology = setup.topology; checked = setup.checked; triggers = rules; rounds = rounds }
 
 -- how its participants read requests
 abbrev pub reading_for : Script → Reading
@@ -45,23 +52,49 @@ why_for script = why_of script.topology script.checked
 abbrev pub submissions_in : List Round → ℕ
 submissions_in rounds = sum_by (λ (round : Round). length round.submits) rounds
 
--- The log, the results of the submissions and the ends of the rounds are those of a run of the script.
-pub record IsRun (script : Script) (capacity workers : ℕ) (log : List Entry) (results : List SubmitResult) (ends : List ℕ) : Type 0 where
-  -- what the log has to do with the script: it is genuine, within its capacity and cut at the ends, and each part and each
-  -- result is as its round says
-  pub cut : RunHolds (machine_for script capacity) (why_for script) log (answered script.rounds results ends)
-  -- without workers each part is its Tick, the raw requests, the submissions in script order, and passes until one appends nothing
-  pub alone : workers ≡ 0 → PlainRounds (machine_for script capacity) (why_for script) 0 [] (answered script.rounds results ends) log
-  pub each_result : length results ≡ submissions_in script.rounds
-  pub each_end : length ends ≡ length script.rounds
+-- the rounds of a run in their two parts
+abbrev pub parts_of_run : Script → List SubmitResult → (ends : List ℕ) → List Caused → List (RoundParts SubmitFault)
+parts_of_run script results ends caused = round_parts 0 script.rounds caused results ends
+
+-- The second part of each round is one thread's: the requests in order, and passes until one appends nothing. `now` is the time of the
+-- round before.
+abbrev pub SecondPartsArePlain : {F : Type 0} → Machine → Why F → (now : ℕ) → List Entry → List (RoundParts F) → Type 0
+SecondPartsArePlain m why now log [] = Unit {0}
+SecondPartsArePlain m why now log (x ∷ rest) =
+    PlainPart m why (now + (x.round).advance) (second_round x.round x.caused) x.caused_results (take x.end log) (take x.caused_end log)
+    × SecondPartsArePlain m why (now + (x.round).advance) log rest
+
+-- The log, the results of the submissions, the ends of the parts of rounds and what rules caused are those of a run of the script,
+-- whose rules may be answered so.
+pub record IsRun (may : Answers) (script : Script) (capacity workers : ℕ) (log : List Entry) (results : List SubmitResult) (ends : List ℕ)
+    (caused : List Caused) : Type 0 where
+  -- what the log has to do with the script: it is genuine, within its capacity and cut at the ends, each part and each result is as its
+  -- round says, and what was caused in a round stands first in its second part
+  pub cut : RunInParts (machine_for script capacity) (why_for script) log (parts_of_run script results ends caused)
+  -- without workers each first part is its Tick, the raw requests, the submissions in script order, and passes until one appends nothing
+  pub alone : workers ≡ 0
+      → PlainRounds (machine_for script capacity) (why_for script) 0 [] (parts_of (parts_of_run script results ends caused)) log
+  pub second : SecondPartsArePlain (machine_for script capacity) (why_for script) 0 log (parts_of_run script results ends caused)
+  pub each_result : length results ≡ submissions_in script.rounds + length caused
+  pub each_end : length ends ≡ 2 * length script.rounds
   pub plain : All IsPlainResult results
   -- a request, a submitted or a raw one, that nobody rejects, whose participants aren't paused and whose verdict isn't held, is approved
-  pub approved : AllRoundsApprove (machine_for script capacity) log 0 (answered script.rounds results ends)
+  pub approved : AllRoundsApprove (machine_for script capacity) log 0 (parts_of (parts_of_run script results ends caused))
   -- the request of each Sent result is of the transaction that its submission wants, and opens it by the rules
-  pub own : (round : RoundAnswers SubmitFault) (what : Submission) (place read_to : ℕ) → Contains (answered script.rounds results ends) round
-      → Contains round.results (what, Sent place read_to)
+  pub own : (round : RoundAnswers SubmitFault) (what : Submission) (place read_to : ℕ)
+      → Contains (parts_of (parts_of_run script results ends caused)) round → Contains round.results (what, Sent place read_to)
       → (now : ℕ) × (request : Request) × (request_at log place ≡ Some request)
       × IsOwnRequest script.topology script.checked now log what read_to request
+  -- what the script's rules caused, round after round
+  pub fired : List FiredRound
+  pub same : AreRounds 0 0 (parts_of_run script results ends caused) fired
+  pub whole : caused ≡ all_caused fired
+  pub causes : CausedHolds may script.triggers (reading_for script) (params_of script) log fired
+  -- each request with a command id that is kept for a rule of its sender is that of something that a rule caused
+  pub rules : (k : ℕ) (request : Request) → request_at log k ≡ Some request
+      → is_rule_command script.triggers request.sender request.command ≡ true
+      → (one : Caused) × Contains caused one × (x : RoundParts SubmitFault) × Contains (parts_of_run script results ends caused) x
+      × (read_to : ℕ) × Contains x.caused_results (one.submission, Sent k read_to)
   -- what holds of every genuine log
   pub headline : Headline (reading_for script) (params_of script) log
   -- what holds where no two different strings that are hashed in the log have one hash

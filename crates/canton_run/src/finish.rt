@@ -9,10 +9,11 @@ use node_core::SubmitResultList;
 use script_read::ScriptFault;
 use std::alloc::Global;
 use std::mem;
+use trigger_rules::CausedList;
 
 /// How a run ended: its status, the script's fault at status 3, and, at statuses 0 and 5, where the script was run, the log, the
-/// results of the submissions in script order, and the length of the log at the end of each round. `left` is what nobody asks for any
-/// more.
+/// results of the submissions in script order, the length of the log at both ends of each round, and what rules caused. `left` is what
+/// nobody asks for any more.
 #[derive(Drop)]
 pub struct Finish {
     pub status: u8,
@@ -20,6 +21,7 @@ pub struct Finish {
     pub log: EntryList,
     pub results: SubmitResultList,
     pub ends: U64List,
+    pub caused: CausedList,
     pub left: Option<Leftovers>,
 }
 
@@ -37,6 +39,7 @@ pub fn finished(status: u8, run_record: RunRecord, left: Leftovers) -> Finish
     ensures log { result.log ≡ run_record.log }
     ensures results { result.results ≡ run_record.results }
     ensures ends { result.ends ≡ run_record.ends }
+    ensures caused { result.caused ≡ run_record.caused }
 {
     Finish {
         status,
@@ -44,13 +47,15 @@ pub fn finished(status: u8, run_record: RunRecord, left: Leftovers) -> Finish
         log: run_record.log,
         results: run_record.results,
         ends: run_record.ends,
+        caused: run_record.caused,
         left: Some(left),
     }
 }
 
 /// An end before anything was run.
 pub fn ended(alloc: Global, status: u8, fault: Option<ScriptFault>) -> Finish
-    ensures { (result.status ≡ status) × (result.fault ≡ fault) × (result.log ≡ []) × (result.results ≡ []) × (result.ends ≡ []) }
+    ensures { (result.status ≡ status) × (result.fault ≡ fault) × (result.log ≡ []) × (result.results ≡ []) × (result.ends ≡ [])
+        × (result.caused ≡ []) }
 {
     Finish {
         status,
@@ -58,6 +63,7 @@ pub fn ended(alloc: Global, status: u8, fault: Option<ScriptFault>) -> Finish
         log: EntryList::new(alloc),
         results: SubmitResultList::new(alloc),
         ends: U64List::new(alloc),
+        caused: CausedList::new(alloc),
         left: None,
     }
 }

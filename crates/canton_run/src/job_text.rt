@@ -1,22 +1,24 @@
 //! The text of a job.
-ghost use Rattle.std.specs.Prelude.{◌≡◌, ◌≤◌, IfOk, length, map};
+ghost use Rattle.std.specs.Prelude.{◌≡◌, ◌≤◌, List, IfOk, length, map};
 ghost use Rattle.commitment_text.specs.Commitments.{commitments_of};
 ghost use Rattle.commitment_text.specs.Knowledge.{knowledge_of};
 ghost use Rattle.framed_form.specs.FramedReading.{framed_reading};
 ghost use Rattle.node_core.specs.Views.{view_of};
 ghost use Rattle.report_text.specs.Report.{report_of};
 ghost use Rattle.report_text.specs.Totals.{summary_of};
+ghost use Rattle.trigger_rules.specs.declared.rule.Rule.{Rule};
 ghost use Rattle.canton_run.specs.Jobs.{text_over};
 ghost use Rattle.canton_run.specs.Run.{script_with};
 
 use crate::played::RunRecord;
+use crate::run_plan::RunPlan;
 use crate::views::{actives_of, remains_of, views_of};
 use cli_words::Job;
 use commitment_text::commitments;
 use confirm_reply::Setup;
 use ledger_terms::{Text, Topology};
 use node_core::{NodeRemains, NodeViewList};
-use report_text::{report, summary};
+use report_text::{Submissions, report, summary};
 use script_read::RoundList;
 use std::alloc::{AllocError, Global};
 use world_play::NodeList;
@@ -36,16 +38,21 @@ fn report_text(
     run_record: &RunRecord,
     nodes: NodeList<'_>,
 ) -> Result<JobText, AllocError>
-    ensures { IfOk result (λ told. told.text ≡ report_of topology.now rounds.now run_record.now.log run_record.now.results (map view_of nodes.entry.items)) }
+    ensures { IfOk result (λ told. told.text ≡ report_of topology.now rounds.now run_record.now.log run_record.now.results (map view_of nodes.entry.items)
+        run_record.now.caused) }
 {
     let views = views_of(alloc, nodes)?;
+    let submissions = Submissions {
+        rounds,
+        results: &run_record.results,
+    };
     let text = report(
         alloc,
         topology,
-        rounds,
+        &submissions,
         &run_record.log,
-        &run_record.results,
         &views,
+        &run_record.caused,
     )?;
     Ok(JobText {
         text,
@@ -99,17 +106,18 @@ fn commitments_text(
 pub fn text_of(
     alloc: Global,
     job: Job,
-    setup: &Setup,
-    rounds: &RoundList,
+    plan: &RunPlan<'_>,
     run_record: &RunRecord,
     nodes: NodeList<'_>,
 ) -> Result<JobText, AllocError>
-    requires { length setup.now.topology.hosts ≤ 256 }
-    ensures { IfOk result (λ told. told.text ≡ text_over job (script_with setup.now rounds.now) run_record.now.log run_record.now.results
-        (map view_of nodes.entry.items) (map knowledge_of nodes.entry.items)) }
+    requires { length plan.now.setup.now.topology.hosts ≤ 256 }
+    ensures { (rules : List Rule) → IfOk result (λ told. told.text
+        ≡ text_over job (script_with plan.now.setup.now rules plan.now.rounds.now) run_record.now.log run_record.now.results
+        (map view_of nodes.entry.items) (map knowledge_of nodes.entry.items) run_record.now.caused) }
 {
+    let setup = plan.setup;
     match job {
-        Job::Run { .. } => report_text(alloc, &setup.topology, rounds, run_record, nodes),
+        Job::Run { .. } => report_text(alloc, &setup.topology, plan.rounds, run_record, nodes),
         Job::Gen { .. } => summary_text(alloc, &setup.topology, run_record, nodes),
         Job::Commitments { .. } => commitments_text(alloc, setup, nodes),
     }

@@ -8,16 +8,18 @@ ghost use Rattle.commitment_text.specs.Counterparties.{counterparty_over};
 ghost use Rattle.framed_form.specs.Collisions.{Collides};
 ghost use Rattle.node_core.specs.declared.submit_result.SubmitResult.{SubmitResult};
 ghost use Rattle.script_read.specs.declared.script.Script.{Script};
+ghost use Rattle.trigger_rules.specs.declared.caused.Caused.{Caused};
 ghost use Rattle.canton_run.specs.Run.{IsRun, params_of, reading_for};
 
 use commitment_text::laws::counterparties_are_told_equal;
+use trigger_rules::Answering;
 
 /// In a run whose log doesn't collide, the line of two participants among the commitments says that both share equally many contracts with
 /// the other, and `equal`, where nothing is withheld from either below the lesser of their clean places.
-pub fn counterparties_of_a_run_are_told_equal()
-    ensures { (script : Script) (capacity workers : ℕ) (log : List Entry) (results : List SubmitResult) (ends : List ℕ)
+pub fn counterparties_of_a_run_are_told_equal<A: Answering>()
+    ensures { (answer : A) (script : Script) (capacity workers : ℕ) (log : List Entry) (results : List SubmitResult) (ends : List ℕ) (caused : List Caused)
         (p q : ℕ) (name other : List ℕ) (place : ℕ)
-        → IsRun script capacity workers log results ends
+        → IsRun (A.may_answer answer) script capacity workers log results ends caused
         → (Collides script.topology log → ⊥)
         → place ≡ min (clean (params_of script) (inbox (reading_for script) p log)) (clean (params_of script) (inbox (reading_for script) q log))
         → ((k : ℕ) → k < place → is_withheld (reading_for script) log p k ≡ false)

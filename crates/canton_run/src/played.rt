@@ -4,14 +4,17 @@ ghost use Rattle.std.specs.Prelude.{◌≡◌};
 use canton_model::EntryList;
 use ledger_terms::U64List;
 use node_core::SubmitResultList;
+use trigger_rules::CausedList;
 use world_play::NodeList;
 
-/// The sequencer's log, the results of the submissions in script order, and the length of the log at the end of each round.
+/// The sequencer's log, the results of the submissions in script order, the length of the log at both ends of each round, and what
+/// rules caused. The results of what was caused in a round stand behind those of its submissions.
 #[derive(Drop)]
 pub struct RunRecord {
     pub log: EntryList,
     pub results: SubmitResultList,
     pub ends: U64List,
+    pub caused: CausedList,
 }
 
 /// The record of a run, and its participants, each of which has read the whole log.

@@ -1,29 +1,31 @@
 //! The rounds of a script, one after another.
-ghost use Rattle.std.specs.Prelude.{◌≡◌, ◌+◌, ◌++◌, ℕ, [], length, IfOk, OnOk};
+ghost use Rattle.std.specs.Prelude.{◌≡◌, ◌<◌, ◌≤◌, ◌+◌, ◌^◌, ◌++◌, ℕ, List, [], length, IfOk, OnOk};
+ghost use Rattle.ledger_terms.specs.declared.limits.TheConstants.{MOST_PLACES};
 ghost use Rattle.script_read.specs.Kept.{IsAccepted};
 ghost use Rattle.script_read.specs.declared.script.Script.{Script};
-ghost use Rattle.canton_run.specs.Between.{ArePlayed, CanBeAnswered, IsAnsweredRound, IsRoundOf, IsSetupOf};
+ghost use Rattle.script_read.specs.declared.round.Round.{Round as PartRound};
+ghost use Rattle.trigger_rules.specs.Kept.{fired_by};
+ghost use Rattle.canton_run.specs.Between.{ArePlayed, CanBeAnswered, IsAnsweredRound, IsPartOf, IsPlayedOn, IsSetupOf, time_in};
+ghost use Rattle.canton_run.specs.RoundsPlayed.{RoundsArePlayed};
+ghost use Rattle.canton_run.specs.Run.{script_with};
 
+use crate::answers::Answers;
 use crate::raws::hand_in_raws;
+use crate::run_plan::RunPlan;
+use crate::second_part::{ask_rules, play_caused};
 use confirm_reply::Setup;
 use lane_pool::Gate;
 use lang_eval::NativeList;
 use ledger_terms::U64List;
 use node_core::SubmitResultList;
-use script_read::{Round, RoundList};
+use script_read::Round;
 use shared_rounds::{Answered, Workers, submit_shared};
 use std::alloc::{AllocError, AllocGlobal, Global};
 use std::random::RandomSource;
 use std::sync::Wait;
 use std::thread::Threads;
+use trigger_rules::{Answering, CausedList, Rules};
 use world_play::{World, begin_round, settle, submit_each};
-
-/// The results of submissions, in their order, and the length of the log at the end of each round.
-#[derive(Drop)]
-pub struct Answers {
-    pub results: SubmitResultList,
-    pub ends: U64List,
-}
 
 /// The synchroniser after rounds, with what they answered.
 #[derive(Drop)]
@@ -93,11 +95,14 @@ fn play_round<'r, R: Threads + Wait + Sync + RandomSource + AllocGlobal, G: Gate
     round: &Round,
     answers: &mut Answers,
 ) -> Result<World<'r>, AllocError>
-    requires played { (script : Script) × (capacity : ℕ) × (count : ℕ) × IsSetupOf script setup.now × IsRoundOf script count round.now
-        × ArePlayed script capacity workers.now.count count world answers.old.results answers.old.ends }
-    ensures { IfOk result (λ played. (script : Script) (capacity count : ℕ) → IsSetupOf script setup.now → IsRoundOf script count round.now
-        → ArePlayed script capacity workers.now.count count world.entry answers.old.results answers.old.ends
-        → ArePlayed script capacity workers.now.count (count + 1) played answers.new.results answers.new.ends) }
+    requires played { (script : Script) × (capacity : ℕ) × (parts : List PartRound) × IsSetupOf script setup.now × IsPartOf script round.now
+        × (time_in parts + round.now.advance ≤ 10 ^ 16) × ArePlayed script capacity workers.now.count parts world answers.old.results answers.old.ends }
+    ensures on { IfOk result (λ played. (script : Script) (capacity : ℕ) (parts : List PartRound) → IsSetupOf script setup.now
+        → IsPartOf script round.now → time_in parts + round.now.advance ≤ 10 ^ 16
+        → ArePlayed script capacity workers.now.count parts world.entry answers.old.results answers.old.ends
+        → IsPlayedOn script capacity workers.now.count parts round.now world.entry played answers.old.results answers.new.results answers.old.ends
+        answers.new.ends) }
+    ensures caused { OnOk result (answers.new.caused ≡ answers.old.caused) }
 {
     let alloc = workers.alloc;
     let hold_verdicts = round.hold_verdicts;
@@ -112,28 +117,73 @@ fn play_round<'r, R: Threads + Wait + Sync + RandomSource + AllocGlobal, G: Gate
     Ok(world)
 }
 
-/// Plays the rounds of a script on its new synchroniser.
-pub fn play_rounds<'r, R: Threads + Wait + Sync + RandomSource + AllocGlobal, G: Gate + Sync>(
+// Both parts of the round of a number: its rules are asked between them.
+fn play_both<
+    'r,
+    R: Threads + Wait + Sync + RandomSource + AllocGlobal,
+    G: Gate + Sync,
+    A: Answering,
+>(
     workers: &Workers<'_, R, G>,
     natives: &'r NativeList,
-    setup: &Setup,
-    world: World<'r>,
-    rounds: &RoundList,
+    plan: &RunPlan<'_>,
+    number: u32,
+    rules: &mut Rules<A>,
+    played: PlayedRounds<'r>,
 ) -> Result<PlayedRounds<'r>, AllocError>
-    requires played { (script : Script) × (capacity : ℕ) × IsAccepted script × IsSetupOf script setup.now × (script.rounds ≡ rounds.now)
-        × ArePlayed script capacity workers.now.count 0 world [] [] }
-    ensures { IfOk result (λ played. (script : Script) (capacity : ℕ) → IsAccepted script → IsSetupOf script setup.now → script.rounds ≡ rounds.now
-        → ArePlayed script capacity workers.now.count 0 world.entry [] []
-        → ArePlayed script capacity workers.now.count (length rounds.now) played.world (played.answers).results (played.answers).ends) }
+    requires accepted { IsAccepted (script_with plan.now.setup.now rules.old.rules plan.now.rounds.now) }
+    requires room { plan.now.capacity ≤ MOST_PLACES }
+    requires there { number < length plan.now.rounds.now }
+    requires played { RoundsArePlayed (A.may_answer rules.old.answer) (script_with plan.now.setup.now rules.old.rules plan.now.rounds.now)
+        plan.now.capacity workers.now.count number played.world (fired_by rules.old) (played.answers).results (played.answers).ends
+        (played.answers).caused }
+    ensures rules { (rules.new.rules ≡ rules.old.rules) × (rules.new.answer ≡ rules.old.answer) }
+    ensures played { IfOk result (λ after. RoundsArePlayed (A.may_answer rules.old.answer)
+        (script_with plan.now.setup.now rules.old.rules plan.now.rounds.now) plan.now.capacity workers.now.count (number + 1) after.world
+        (fired_by rules.new) (after.answers).results (after.answers).ends (after.answers).caused) }
 {
     let alloc = workers.alloc;
-    let mut world = world;
-    let mut answers = Answers {
-        results: SubmitResultList::new(alloc),
-        ends: U64List::new(alloc),
-    };
-    'rounds: for round in rounds.as_slice() {
-        world = play_round(workers, natives, setup, world, round, &mut answers)?;
-    }
+    let round = &plan.rounds.as_slice()[number as usize];
+    let PlayedRounds { world, mut answers } = played;
+    let mut world = play_round(workers, natives, plan.setup, world, round, &mut answers)?;
+    let caused = ask_rules(alloc, &mut world, rules, round, number)?;
+    play_caused(alloc, natives, &mut world, round, caused, &mut answers)?;
     Ok(PlayedRounds { world, answers })
+}
+
+/// Plays the rounds of a script on its new synchroniser, both parts of each.
+pub fn play_rounds<
+    'r,
+    R: Threads + Wait + Sync + RandomSource + AllocGlobal,
+    G: Gate + Sync,
+    A: Answering,
+>(
+    workers: &Workers<'_, R, G>,
+    natives: &'r NativeList,
+    plan: &RunPlan<'_>,
+    rules: &mut Rules<A>,
+    world: World<'r>,
+) -> Result<PlayedRounds<'r>, AllocError>
+    requires accepted { IsAccepted (script_with plan.now.setup.now rules.old.rules plan.now.rounds.now) }
+    requires room { plan.now.capacity ≤ MOST_PLACES }
+    requires played { RoundsArePlayed (A.may_answer rules.old.answer) (script_with plan.now.setup.now rules.old.rules plan.now.rounds.now)
+        plan.now.capacity workers.now.count 0 world (fired_by rules.old) [] [] [] }
+    ensures { IfOk result (λ played. RoundsArePlayed (A.may_answer rules.old.answer)
+        (script_with plan.now.setup.now rules.old.rules plan.now.rounds.now) plan.now.capacity workers.now.count (length plan.now.rounds.now)
+        played.world (fired_by rules.new) (played.answers).results (played.answers).ends (played.answers).caused) }
+{
+    let alloc = workers.alloc;
+    let mut played = PlayedRounds {
+        world,
+        answers: Answers {
+            results: SubmitResultList::new(alloc),
+            ends: U64List::new(alloc),
+            caused: CausedList::new(alloc),
+        },
+    };
+    let count = plan.rounds.as_slice().len() as u32;
+    'rounds: for number in 0..count {
+        played = play_both(workers, natives, plan, number, rules, played)?;
+    }
+    Ok(played)
 }

@@ -1,5 +1,5 @@
 //! A whole script, from an empty log on.
-ghost use Rattle.std.specs.Prelude.{◌≡◌, ◌≤◌, IfOk, length, map};
+ghost use Rattle.std.specs.Prelude.{◌≡◌, ◌≤◌, [], IfOk, length, map};
 ghost use Rattle.commitment_text.specs.Knowledge.{each_knowledge, knowledge_of};
 ghost use Rattle.ledger_terms.specs.declared.limits.TheConstants.{MOST_PLACES};
 ghost use Rattle.node_core.specs.Views.{view_of, views_over};
@@ -9,46 +9,54 @@ ghost use Rattle.canton_run.specs.Run.{IsRun, reading_for, script_with};
 use crate::log_copy::log_of;
 use crate::played::{Played, RunRecord};
 use crate::rounds::{PlayedRounds, play_rounds};
-use confirm_reply::Setup;
+use crate::run_plan::RunPlan;
 use lane_pool::Gate;
 use lang_eval::NativeList;
 use log_row::LogRow;
 use prepare_request::laws::prepared_requests_make_a_machine;
-use script_read::RoundList;
 use shared_rounds::Workers;
 use std::alloc::{AllocError, AllocGlobal};
 use std::random::RandomSource;
 use std::sync::Wait;
 use std::thread::Threads;
+use trigger_rules::{Answering, Rules};
 use world_play::World;
 use world_play::laws::sent_requests_open_by_the_rules;
 
 /// Plays the rounds of a script over a new synchroniser with its log in `row`, whose requests may need so many places of the log
-/// in all. A choice that `natives` has is asked of them in place of the language by the thread that plays the rounds, and by no
-/// worker. In the end every participant, paused or not, reads the whole log.
-pub fn run_script<'r, R: Threads + Wait + Sync + RandomSource + AllocGlobal, G: Gate + Sync>(
+/// in all. Once a round has settled its rules are asked, and what they cause is handed in and settles. A choice that `natives` has is
+/// asked of them in place of the language by the thread that plays the rounds, and by no worker. In the end every participant, paused
+/// or not, reads the whole log.
+pub fn run_script<
+    'r,
+    R: Threads + Wait + Sync + RandomSource + AllocGlobal,
+    G: Gate + Sync,
+    A: Answering,
+>(
     workers: &Workers<'_, R, G>,
     natives: &'r NativeList,
-    setup: &'r Setup,
-    rounds: &RoundList,
-    capacity: u64,
+    plan: &RunPlan<'r>,
+    rules: &mut Rules<A>,
     row: &'r mut LogRow,
 ) -> Result<Played<'r>, AllocError>
-    requires accepted { IsAccepted (script_with setup.now rounds.now) }
-    requires room { capacity ≤ MOST_PLACES }
-    ensures run { IfOk result (λ played. IsRun (script_with setup.now rounds.now) capacity workers.now.count (played.record).log (played.record).results
-        (played.record).ends) }
+    requires accepted { IsAccepted (script_with plan.now.setup.now rules.old.rules plan.now.rounds.now) }
+    requires room { plan.now.capacity ≤ MOST_PLACES }
+    requires fresh { rules.old.fired ≡ [] }
+    ensures run { IfOk result (λ played. IsRun (A.may_answer rules.old.answer) (script_with plan.now.setup.now rules.old.rules plan.now.rounds.now)
+        plan.now.capacity workers.now.count (played.record).log (played.record).results (played.record).ends (played.record).caused) }
     ensures views { IfOk result (λ played. map view_of (played.nodes).items
-        ≡ views_over (reading_for (script_with setup.now rounds.now)) setup.now.topology.params (played.record).log (length setup.now.topology.hosts)) }
+        ≡ views_over (reading_for (script_with plan.now.setup.now rules.old.rules plan.now.rounds.now)) plan.now.setup.now.topology.params
+        (played.record).log (length plan.now.setup.now.topology.hosts)) }
     ensures knowledge { IfOk result (λ played. map knowledge_of (played.nodes).items
-        ≡ each_knowledge (reading_for (script_with setup.now rounds.now)) setup.now.topology.params (played.record).log (length setup.now.topology.hosts)) }
+        ≡ each_knowledge (reading_for (script_with plan.now.setup.now rules.old.rules plan.now.rounds.now)) plan.now.setup.now.topology.params
+        (played.record).log (length plan.now.setup.now.topology.hosts)) }
 {
     // the prover learns from these calls that there is a machine, and of what the requests of submissions are
     prepared_requests_make_a_machine();
     sent_requests_open_by_the_rules();
     let alloc = workers.alloc;
-    let new = World::new(alloc, setup, row, capacity)?;
-    let rounds_played = play_rounds(workers, natives, setup, new, rounds)?;
+    let new = World::new(alloc, plan.setup, row, plan.capacity)?;
+    let rounds_played = play_rounds(workers, natives, plan, rules, new)?;
     let PlayedRounds { mut world, answers } = rounds_played;
     world.catch_up()?;
     let World {
@@ -61,6 +69,7 @@ pub fn run_script<'r, R: Threads + Wait + Sync + RandomSource + AllocGlobal, G: 
         log,
         results: answers.results,
         ends: answers.ends,
+        caused: answers.caused,
     };
     Ok(Played { record, nodes })
 }

@@ -4,12 +4,14 @@ ghost use Rattle.std.proofs.Common.{◌⊎◌};
 ghost use Rattle.std.specs.Io.KnownBytes.{Appends};
 ghost use Rattle.cli_words.specs.Jobs.{job_of};
 ghost use Rattle.cli_words.specs.declared.job.Job.{Job};
+ghost use Rattle.cli_words.specs.declared.job.Job.TheVariants.{Gen};
 ghost use Rattle.cn_io.specs.Faults.{Rose};
 ghost use Rattle.ledger_terms.specs.declared.limits.TheConstants.{MOST_PLACES, MOST_SUBMISSIONS};
 ghost use Rattle.load_gen.specs.Generated.{generated};
 ghost use Rattle.script_read.specs.Kept.{IsAccepted};
 ghost use Rattle.script_read.specs.Script.{script_in};
 ghost use Rattle.script_read.specs.declared.script.Script.{Script};
+ghost use Rattle.trigger_rules.specs.Answers.{CanAsk, GivesExercises, MayAnswer};
 ghost use Rattle.canton_run.specs.Run.{IsRun};
 ghost use Rattle.canton_run.specs.Jobs.{ReadsScript, capacity_of, text_of, workers_of};
 ghost use Rattle.canton_run.specs.Ends.{AsksForScript, HasScript, IsReadWhole, IsRunStatus, IsStatus, KeepsFault, NoReadFault};
@@ -18,22 +20,27 @@ ghost use Rattle.canton_run.specs.Ends.{OffersScript, Ran, RanNothing, ReadsFaul
 use crate::finish::{Finish, ended, finished};
 use crate::job_text::{JobText, text_of};
 use crate::leftovers::Leftovers;
+use crate::platform::Platform;
 use crate::played::Played;
+use crate::run_plan::RunPlan;
+use crate::script_parts::{ScriptParts, parts_of};
 use crate::script_run::run_script;
+use crate::writing::write;
 use cli_words::{Job, WordList, WordsFault, read_words};
-use cn_io::{ReadFault, Sink, Source, read_all, write_all};
-use confirm_reply::Setup;
+use cn_io::{ReadFault, Sink, Source, read_all};
 use lane_pool::Gate;
 use lang_eval::NativeList;
 use ledger_terms::limits::{MOST_PLACES, MOST_SCRIPT_BYTES};
+use ledger_terms::{Command, Known, Name};
 use load_gen::{generate, generated_scripts_are_accepted};
 use log_row::LogRow;
 use script_read::{Script, ScriptFault, read_script};
 use shared_rounds::Workers;
-use std::alloc::AllocGlobal;
+use std::alloc::{AllocError, AllocGlobal};
 use std::random::RandomSource;
 use std::sync::Wait;
 use std::thread::Threads;
+use trigger_rules::{Answering, Closure, Rules};
 
 // How many places of the log the requests of a job may need.
 fn capacity_of(job: Job) -> u64
@@ -56,51 +63,58 @@ fn workers_of(job: Job) -> u32
 }
 
 /// Runs the script and writes the text of the job. The text is made whole before anything of it is written.
-fn carry_out<R: Threads + Wait + Sync + RandomSource + AllocGlobal, G: Gate + Sync, K: Sink>(
+fn carry_out<
+    R: Threads + Wait + Sync + RandomSource + AllocGlobal,
+    G: Gate + Sync,
+    K: Sink,
+    A: Answering,
+>(
     workers: &Workers<'_, R, G>,
     natives: &NativeList,
     job: Job,
     script: Script,
     sink: &mut K,
+    answer: A,
 ) -> Finish
     requires accepted { IsAccepted script }
     requires room { capacity_of job ≤ MOST_PLACES }
+    requires askable { A.can_ask answer }
+    requires exercises { GivesExercises (A.may_answer answer) }
     ensures status { (result.status ≡ 0) ⊎ ((result.status ≡ 5) ⊎ (result.status ≡ 70)) }
     ensures fault { result.fault ≡ None }
     ensures memory { result.status ≡ 70 → RanNothing (K.held sink.old) (K.held sink.new) result }
-    ensures ran { result.status ≢ 70 → IsRun script (capacity_of job) workers.now.count result.log result.results result.ends }
+    ensures ran { result.status ≢ 70
+        → IsRun (A.may_answer answer) script (capacity_of job) workers.now.count result.log result.results result.ends result.caused }
     ensures done { result.status ≡ 0 → Appends (K.held sink.old) (K.held sink.new) (text_of job script result) }
     ensures cut { result.status ≡ 5 → (n : ℕ) × Appends (K.held sink.old) (K.held sink.new) (take n (text_of job script result)) }
     ensures rose { result.status ≡ 5 → Rose (K.faults sink.old) (K.faults sink.new) }
     ensures sure { result.status ≡ 5 → K.room sink.old < length (text_of job script result) }
     ensures count { K.faults sink.old ≤ K.faults sink.new }
 {
-    let Script {
-        topology,
-        checked,
+    let ScriptParts {
+        setup,
+        triggers,
         rounds,
-    } = script;
-    let alloc = workers.alloc;
-    let setup = Setup { topology, checked };
-    let Ok(mut row) = LogRow::new(alloc) else {
-        return ended(alloc, 70, None);
+    } = parts_of(script);
+    let Ok(mut row) = LogRow::new(workers.alloc) else {
+        return ended(workers.alloc, 70, None);
     };
-    let capacity = capacity_of(job);
-    let Ok(Played { record, nodes }) = run_script(
-        workers, natives, &setup, &rounds, capacity, &mut row,
-    ) else {
-        return ended(alloc, 70, None);
+    let mut rules = Rules::new(triggers, answer);
+    let plan = RunPlan {
+        setup: &setup,
+        rounds: &rounds,
+        capacity: capacity_of(job),
     };
-    let Ok(told) = text_of(alloc, job, &setup, &rounds, &record, nodes) else {
-        return ended(alloc, 70, None);
+    let Ok(Played { record, nodes }) = run_script(workers, natives, &plan, &mut rules, &mut row)
+    else {
+        return ended(workers.alloc, 70, None);
+    };
+    let Ok(told) = text_of(workers.alloc, job, &plan, &record, nodes) else {
+        return ended(workers.alloc, 70, None);
     };
     let JobText { text, views, nodes } = told;
-    let status = match write_all(sink, text.as_str().as_bytes()) {
-        Ok(()) => 0,
-        Err(_) => 5,
-    };
     let left = Leftovers::new(row, views, nodes, setup, rounds);
-    finished(status, record, left)
+    finished(write(sink, text.as_str().as_bytes()), record, left)
 }
 
 // Reads a script from the source and runs it.
@@ -109,14 +123,18 @@ fn run_source<
     G: Gate + Sync,
     S: Source,
     K: Sink,
+    A: Answering,
 >(
     workers: &Workers<'_, R, G>,
     natives: &NativeList,
     job: Job,
     source: &mut S,
     sink: &mut K,
+    answer: A,
 ) -> Finish
     requires room { capacity_of job ≤ MOST_PLACES }
+    requires askable { A.can_ask answer }
+    requires exercises { GivesExercises (A.may_answer answer) }
     ensures status { IsRunStatus result.status }
     ensures script { result.status ≡ 3 → ReadsFault (S.left source.old) (S.left source.new) result }
     ensures kept { result.status ≢ 3 → result.fault ≡ None }
@@ -125,10 +143,10 @@ fn run_source<
     ensures taken { (bytes : List ℕ) × TakesAtMost (S.left source.old) (S.left source.new) result.status bytes }
     ensures nothing { result.status ≢ 0 → result.status ≢ 5 → RanNothing (K.held sink.old) (K.held sink.new) result }
     ensures done { result.status ≡ 0 → (script : Script) × ReadsScript (S.left source.old) (S.left source.new) script
-        × IsRun script (capacity_of job) workers.now.count result.log result.results result.ends
+        × IsRun (A.may_answer answer) script (capacity_of job) workers.now.count result.log result.results result.ends result.caused
         × Appends (K.held sink.old) (K.held sink.new) (text_of job script result) }
     ensures cut { result.status ≡ 5 → (script : Script) × ReadsScript (S.left source.old) (S.left source.new) script
-        × IsRun script (capacity_of job) workers.now.count result.log result.results result.ends
+        × IsRun (A.may_answer answer) script (capacity_of job) workers.now.count result.log result.results result.ends result.caused
         × (K.room sink.old < length (text_of job script result))
         × ((n : ℕ) × Appends (K.held sink.old) (K.held sink.new) (take n (text_of job script result))) }
     ensures count { (S.faults source.old ≤ S.faults source.new) × (K.faults sink.old ≤ K.faults sink.new) }
@@ -140,7 +158,7 @@ fn run_source<
     let alloc = workers.alloc;
     match read_all(alloc, source, MOST_SCRIPT_BYTES) {
         Ok(bytes) => match read_script(alloc, bytes.as_slice()) {
-            Ok(script) => carry_out(workers, natives, job, script, sink),
+            Ok(script) => carry_out(workers, natives, job, script, sink, answer),
             Err(ScriptFault::Memory) => ended(alloc, 70, None),
             Err(fault) => ended(alloc, 3, Some(fault)),
         },
@@ -151,30 +169,44 @@ fn run_source<
 }
 
 // Runs a generated script. Nothing is read.
-fn run_generated<R: Threads + Wait + Sync + RandomSource + AllocGlobal, G: Gate + Sync, K: Sink>(
+fn run_generated<
+    R: Threads + Wait + Sync + RandomSource + AllocGlobal,
+    G: Gate + Sync,
+    K: Sink,
+    A: Answering,
+>(
     workers: &Workers<'_, R, G>,
     natives: &NativeList,
     count: u32,
     seed: u64,
-    job: Job,
     sink: &mut K,
+    answer: A,
 ) -> Finish
     requires few { 2 * count ≤ MOST_SUBMISSIONS }
-    requires room { capacity_of job ≤ MOST_PLACES }
+    requires askable { A.can_ask answer }
+    requires exercises { GivesExercises (A.may_answer answer) }
     ensures status { (result.status ≡ 0) ⊎ ((result.status ≡ 5) ⊎ (result.status ≡ 70)) }
     ensures fault { result.fault ≡ None }
     ensures memory { result.status ≡ 70 → RanNothing (K.held sink.old) (K.held sink.new) result }
-    ensures ran { result.status ≢ 70 → IsRun (generated seed count) (capacity_of job) workers.now.count result.log result.results result.ends }
-    ensures done { result.status ≡ 0 → Appends (K.held sink.old) (K.held sink.new) (text_of job (generated seed count) result) }
-    ensures cut { result.status ≡ 5 → (n : ℕ) × Appends (K.held sink.old) (K.held sink.new) (take n (text_of job (generated seed count) result)) }
+    ensures ran { result.status ≢ 70
+        → IsRun (A.may_answer answer) (generated seed count) MOST_PLACES workers.now.count result.log result.results result.ends result.caused }
+    ensures done { (n : ℕ) → result.status ≡ 0
+        → Appends (K.held sink.old) (K.held sink.new) (text_of (Gen count seed n) (generated seed count) result) }
+    ensures cut { (n : ℕ) → result.status ≡ 5
+        → (some : ℕ) × Appends (K.held sink.old) (K.held sink.new) (take some (text_of (Gen count seed n) (generated seed count) result)) }
     ensures rose { result.status ≡ 5 → Rose (K.faults sink.old) (K.faults sink.new) }
-    ensures sure { result.status ≡ 5 → K.room sink.old < length (text_of job (generated seed count) result) }
+    ensures sure { (n : ℕ) → result.status ≡ 5 → K.room sink.old < length (text_of (Gen count seed n) (generated seed count) result) }
     ensures count { K.faults sink.old ≤ K.faults sink.new }
 {
     generated_scripts_are_accepted();
     let alloc = workers.alloc;
+    let job = Job::Gen {
+        count,
+        seed,
+        workers: workers.count,
+    };
     match generate(alloc, count, seed) {
-        Ok(script) => carry_out(workers, natives, job, script, sink),
+        Ok(script) => carry_out(workers, natives, job, script, sink, answer),
         Err(_) => ended(alloc, 70, None),
     }
 }
@@ -182,13 +214,24 @@ fn run_generated<R: Threads + Wait + Sync + RandomSource + AllocGlobal, G: Gate 
 /// Does what the words ask for: reads a script from the source, runs it and writes the report or the commitments to the sink; or runs a
 /// generated script and writes the summary. With workers each round's submissions come from clients in threads of their own, beside so many
 /// lanes, which pass the gate before each view that they check; without, one thread does all the work and passes no gate. That thread asks
-/// `natives` for a choice that they have, in place of the language; lanes and clients ask the language. Memory is that of the words.
+/// `natives` for a choice that they have, in place of the language; lanes and clients ask the language. `rule` says what the script's
+/// rules do about a contract. Memory is that of the words.
 pub fn run<
     R: Threads + Wait + Sync + RandomSource + AllocGlobal,
     G: Gate + Sync,
     S: Source,
     K: Sink,
->(rt: &R, gate: &G, words: &WordList, source: &mut S, sink: &mut K, natives: NativeList) -> Finish
+    F: Fn(Name, &Known) -> Result<Option<Command>, AllocError> + Drop,
+>(
+    platform: &Platform<'_, R, G>,
+    words: &WordList,
+    source: &mut S,
+    sink: &mut K,
+    natives: NativeList,
+    rule: F,
+) -> Finish
+    requires askable { CanAsk (F.pre rule) }
+    requires exercises { GivesExercises (MayAnswer (F.post rule)) }
     ensures status { IsStatus result.status }
     ensures words { result.status ≢ 70 → (result.status ≡ 2 ↔ job_of words.now ≡ None) }
     ensures script { result.status ≡ 3 → KeepsFault words.now (S.left source.old) (S.left source.new) result }
@@ -197,9 +240,9 @@ pub fn run<
     ensures write { result.status ≡ 5 → Rose (K.faults sink.old) (K.faults sink.new) }
     ensures taken { TakesUpTo words.now (S.left source.old) (S.left source.new) result }
     ensures nothing { result.status ≢ 0 → result.status ≢ 5 → RanNothing (K.held sink.old) (K.held sink.new) result }
-    ensures done { result.status ≡ 0 → (text : List ℕ) × Ran words.now (S.left source.old) (S.left source.new) result text
+    ensures done { result.status ≡ 0 → (text : List ℕ) × Ran (MayAnswer (F.post rule)) words.now (S.left source.old) (S.left source.new) result text
         × Appends (K.held sink.old) (K.held sink.new) text }
-    ensures cut { result.status ≡ 5 → (text : List ℕ) × Ran words.now (S.left source.old) (S.left source.new) result text
+    ensures cut { result.status ≡ 5 → (text : List ℕ) × Ran (MayAnswer (F.post rule)) words.now (S.left source.old) (S.left source.new) result text
         × (K.room sink.old < length text) × ((n : ℕ) × Appends (K.held sink.old) (K.held sink.new) (take n text)) }
     ensures count { (S.faults source.old ≤ S.faults source.new) × (K.faults sink.old ≤ K.faults sink.new) }
     ensures faulty { (bytes : List ℕ) → S.left source.old ≡ Some bytes → AsksForScript words.now → IsReadWhole result.status
@@ -209,19 +252,20 @@ pub fn run<
         → (result.status ≡ 0) ⊎ (result.status ≡ 70) }
 {
     let alloc = *words.allocator();
+    let answer = Closure { call: rule };
     match read_words(alloc, words) {
         Ok(job) => {
             let workers = Workers {
-                rt,
-                gate,
+                rt: platform.rt,
+                gate: platform.gate,
                 alloc,
                 count: workers_of(job),
             };
             match job {
                 Job::Gen { count, seed, .. } => run_generated(
-                    &workers, &natives, count, seed, job, sink,
+                    &workers, &natives, count, seed, sink, answer,
                 ),
-                _ => run_source(&workers, &natives, job, source, sink),
+                _ => run_source(&workers, &natives, job, source, sink, answer),
             }
         }
         Err(WordsFault::Usage) => ended(alloc, 2, None),

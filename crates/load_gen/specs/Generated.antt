@@ -16,5 +16,6 @@ generated seed count =
     record {
       topology = record { hosts = hosts; params = params };
       checked = packages;
+      triggers = [];
       rounds = round_of (debts seed count) ∷ round_of (transfers count) ∷ [];
     }

@@ -8,6 +8,7 @@ use crate::topology::generated_topology;
 use ledger_terms::{ParticipantIdList, RawRequestList, SubmissionList};
 use script_read::{Round, RoundList, Script};
 use std::alloc::{AllocError, Global};
+use trigger_rules::RuleList;
 
 /// A round in which nobody is paused, no verdict is held back, the time isn't moved, and no raw request is handed in.
 fn round_of(alloc: Global, submits: SubmissionList) -> Round
@@ -22,7 +23,7 @@ fn round_of(alloc: Global, submits: SubmissionList) -> Round
     }
 }
 
-/// The script of a count and a seed: so many debts in one round, and their transfers in the next.
+/// The script of a count and a seed: so many debts in one round, and their transfers in the next. It has no rules.
 pub fn generate(alloc: Global, count: u32, seed: u64) -> Result<Script, AllocError>
     ensures { IfOk result (λ script. script ≡ generated seed count) }
 {
@@ -34,6 +35,7 @@ pub fn generate(alloc: Global, count: u32, seed: u64) -> Result<Script, AllocErr
     Ok(Script {
         topology,
         checked,
+        triggers: RuleList::new(alloc),
         rounds,
     })
 }

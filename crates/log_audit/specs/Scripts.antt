@@ -1,5 +1,5 @@
 -- Scripts in dumps, and what a script's logs are judged by.
-use Rattle.std.specs.Prelude.{ℕ, ◌-◌, List, [], Option, Some, None, Result, Ok, Err, length, map}
+use Rattle.std.specs.Prelude.{ℕ, ◌-◌, List, Option, Some, None, Result, Ok, Err, length, map}
 use Rattle.framed_form.specs.FramedReading.{framed_reading}
 use Rattle.audit_model.specs.Standard.{Standard}
 use Rattle.log_judge.specs.Known.{standard_for}
@@ -7,7 +7,6 @@ use Rattle.log_judge.specs.RuleUses.{rule_of}
 use Rattle.script_read.specs.Script.{script_in}
 use Rattle.script_read.specs.declared.script.Script.{Script}
 use Rattle.script_read.specs.declared.script_fault.ScriptFault.{ScriptFault}
-use Rattle.trigger_rules.specs.declared.rule.Rule.{Rule}
 
 abbrev pub unless_fault : Result Script ScriptFault → Option Script
 unless_fault (Ok script) = Some script
@@ -21,10 +20,6 @@ script_of bytes = unless_fault (script_in bytes)
 abbrev pub most_of : Script → ℕ
 most_of script = length (script.topology).hosts - 1
 
--- the rules of a script, which has none yet
-abbrev pub rules_in : Script → List Rule
-rules_in script = []
-
 -- its logs are judged by its participants, packages, times and rules
 abbrev pub standard_of : Script → Standard
-standard_of script = standard_for (framed_reading script.topology script.checked) (script.topology).params (map rule_of (rules_in script))
+standard_of script = standard_for (framed_reading script.topology script.checked) (script.topology).params (map rule_of script.triggers)

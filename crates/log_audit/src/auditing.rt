@@ -47,11 +47,11 @@ fn judge_dump(alloc: Global, dump: Dump) -> Result<Judgement, AllocError>
     let Script {
         topology,
         checked,
+        triggers,
         ..
     } = script;
     let setup = Setup { topology, checked };
-    let rules = RuleList::new(alloc);
-    judge_for(alloc, &setup, &rules, log)
+    judge_for(alloc, &setup, &triggers, log)
 }
 
 fn told(judgement: Judgement) -> Audit
@@ -77,7 +77,7 @@ fn audited(alloc: Global, bytes: &[u8]) -> Result<Audit, AllocError>
 
 /// Audits a dump: whether its log is one that a synchroniser over its script's participants and packages may have written, whoever
 /// wrote it. The audit makes its own participants and mediator of the script, and trusts nobody else's. It vouches for no submitter:
-/// whether anybody asked for what a request says isn't in a log. A script has no rules yet, so no request is a rule's.
+/// whether anybody asked for what a request says isn't in a log.
 pub fn audit(alloc: Global, bytes: &[u8]) -> Result<Audit, AllocError>
     ensures exact { IfOk result (IsAudit script_of most_of standard_of bytes.now) }
     ensures yes { IfOk result (λ a. IsYes a ↔ SpellsProperLog script_of most_of standard_of bytes.now) }

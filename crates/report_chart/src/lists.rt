@@ -2,9 +2,9 @@
 use crate::counts::is_refused;
 use crate::heading::{label, quiet};
 use crate::layout::{LEFT, LINE_HEIGHT, LIST_GAP, at};
-use crate::limits::{MOST_ACTIVES, MOST_REFUSED};
+use crate::limits::{MOST_ACTIVES, MOST_FIRED, MOST_REFUSED};
 use crate::sheet::Sheet;
-use report_read::{Active, Answer, Report, Standing, SubmitResult};
+use report_read::{Active, Answer, Fired, Report, Standing, SubmitResult};
 use std::alloc::AllocError;
 use svg_text::{Font, Mark};
 
@@ -49,6 +49,24 @@ fn draw_refusal(
     sheet.svg.mark(at(LEFT + 7, y), Mark::Rejected)?;
     let words = format!(in sheet.alloc; "round {round}: {name} {command} refused, {fault}")?;
     draw_line(sheet, words.as_str(), Font::Plain)
+}
+
+/// Lists the rules that fired, if there are any.
+pub fn draw_fired(sheet: &mut Sheet, report: &Report<'_>) -> Result<(), AllocError> {
+    if report.fired.is_empty() {
+        return Ok(());
+    }
+    draw_title(sheet, "Rules that fired, each on a contract, as a command")?;
+    for fired in report.fired.as_slice().iter().take(MOST_FIRED) {
+        draw_one_fired(sheet, fired)?;
+    }
+    draw_rest(sheet, "rules that fired", report.fired.len(), MOST_FIRED)
+}
+
+fn draw_one_fired(sheet: &mut Sheet, fired: &Fired<'_>) -> Result<(), AllocError> {
+    let Fired { round, rule, words } = fired;
+    let told = format!(in sheet.alloc; "round {round}: {rule} on {words}")?;
+    draw_line(sheet, told.as_str(), Font::Code)
 }
 
 /// Lists what each participant knows at the end, with its active contracts.

@@ -3,8 +3,8 @@ use crate::counts::{Counts, endings_of, title_of};
 use crate::entry_rows::draw_entries;
 use crate::heading::draw_heading;
 use crate::layout::{LINE_HEIGHT, LIST_GAP, Lanes, ROW_HEIGHT, WIDTH};
-use crate::limits::{MOST_ACTIVES, MOST_REFUSED, MOST_ROWS};
-use crate::lists::{draw_refused, draw_standings};
+use crate::limits::{MOST_ACTIVES, MOST_FIRED, MOST_REFUSED, MOST_ROWS};
+use crate::lists::{draw_fired, draw_refused, draw_standings};
 use crate::shortened::{fits, shortened};
 use ledger_terms::Text;
 use ledger_terms::limits::MOST_PARTICIPANTS;
@@ -47,6 +47,7 @@ pub fn draw(alloc: Global, report: &Report<'_>) -> Result<Text, AllocError> {
     draw_heading(&mut sheet, report, &counts)?;
     draw_entries(&mut sheet, report)?;
     draw_refused(&mut sheet, report, counts.refused)?;
+    draw_fired(&mut sheet, report)?;
     draw_standings(&mut sheet, report)?;
     let Sheet { svg, .. } = sheet;
     svg.finish()
@@ -70,18 +71,25 @@ fn begin(alloc: Global, report: &Report<'_>, counts: &Counts) -> Result<Sheet, A
 
 /// How high the picture is.
 fn height_of(report: &Report<'_>, counts: &Counts) -> u32 {
-    let refused = if counts.refused == 0 {
-        0
-    } else {
-        list_height(listed(counts.refused, MOST_REFUSED))
-    };
+    let refused = height_if_any(counts.refused, MOST_REFUSED);
+    let fired = height_if_any(report.fired.len(), MOST_FIRED);
     let actives = listed(report.actives.len(), MOST_ACTIVES);
     let standings = report.standings.len().min(MOST_PARTICIPANTS) as u32;
     HEADING_HEIGHT
         .saturating_add(rows_height(report.entries.len()))
         .saturating_add(ROW_HEIGHT)
         .saturating_add(refused)
+        .saturating_add(fired)
         .saturating_add(list_height(standings.saturating_add(actives)))
+}
+
+/// How high a list of so many is, of which so many are drawn, where it is drawn at all.
+fn height_if_any(count: usize, most: usize) -> u32 {
+    if count == 0 {
+        0
+    } else {
+        list_height(listed(count, most))
+    }
 }
 
 /// How many lines a list of so many has, of which so many are drawn: a line more says that there are others.

@@ -21,6 +21,8 @@ pub enum Expected {
     Round,
     Answer,
     Fault,
+    Rule,
+    Fired,
     OutcomeOrParticipant,
     ParticipantOrEnd,
     Clean,
@@ -52,7 +54,10 @@ impl Expected {
             Expected::Round => "the number of a round",
             Expected::Answer => "'sent' and a place, or 'refused' and a fault",
             Expected::Fault => "the name of a fault",
-            Expected::OutcomeOrParticipant => "a result, an outcome or a participant",
+            Expected::Rule => "the name of a rule",
+            Expected::Fired => "an instance, 'as' and the name of a command",
+            Expected::OutcomeOrParticipant =>
+                "a result, a rule that fired, an outcome or a participant",
             Expected::ParticipantOrEnd =>
                 "a withheld place, a commit, an active contract, a participant or 'end'",
             Expected::Clean => "'clean' and a place, 'time' and a time",

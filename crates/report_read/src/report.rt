@@ -4,11 +4,12 @@ use crate::entries::read_entries;
 use crate::entry::EntryList;
 use crate::expected::Expected;
 use crate::finals::{Finals, read_finals};
+use crate::fired::FiredList;
 use crate::hosts::Hosts;
 use crate::lines::Lines;
 use crate::outcome::OutcomeList;
 use crate::report_fault::ReportFault;
-use crate::results::{read_outcomes, read_results};
+use crate::results::{read_fired, read_outcomes, read_results};
 use crate::standing::StandingList;
 use crate::submit_result::SubmitResultList;
 use crate::withheld::WithheldList;
@@ -20,6 +21,7 @@ pub struct Report<'t> {
     pub hosts: Hosts<'t>,
     pub entries: EntryList<'t>,
     pub results: SubmitResultList<'t>,
+    pub fired: FiredList<'t>,
     pub outcomes: OutcomeList<'t>,
     pub standings: StandingList,
     pub withheld: WithheldList,
@@ -32,6 +34,7 @@ pub fn read_report<'t>(alloc: Global, text: &'t str) -> Result<Report<'t>, Repor
     let mut lines = Lines::new(text);
     let entries = read_entries(alloc, &mut lines, &hosts)?;
     let results = read_results(alloc, &mut lines, &hosts)?;
+    let fired = read_fired(alloc, &mut lines)?;
     let outcomes = read_outcomes(alloc, &mut lines, &hosts)?;
     let finals = read_finals(alloc, &mut lines, &hosts)?;
     read_end(&mut lines)?;
@@ -44,6 +47,7 @@ pub fn read_report<'t>(alloc: Global, text: &'t str) -> Result<Report<'t>, Repor
         hosts,
         entries,
         results,
+        fired,
         outcomes,
         standings,
         withheld,

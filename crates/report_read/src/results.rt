@@ -1,10 +1,12 @@
-//! The lines of results and outcomes.
+//! The lines of results, of rules that fired, and of outcomes.
 use crate::decision::read_decision;
 use crate::expected::Expected;
+use crate::fired::{Fired, FiredList};
 use crate::hosts::Hosts;
 use crate::lines::Lines;
 use crate::outcome::{Outcome, OutcomeList};
 use crate::report_fault::ReportFault;
+use crate::scan::is_instance_as_name;
 use crate::submit_result::{Answer, SubmitResult, SubmitResultList};
 use crate::words::{Words, is_name, number_of};
 use std::alloc::Global;
@@ -92,6 +94,34 @@ fn is_number(word: Option<&str>) -> bool {
     match word {
         Some(word) => number_of(word).is_some(),
         None => false,
+    }
+}
+
+/// The rules that fired, of which the lines come next.
+pub(crate) fn read_fired<'t>(
+    alloc: Global,
+    lines: &mut Lines<'t>,
+) -> Result<FiredList<'t>, ReportFault> {
+    let mut fired = FiredList::new(alloc);
+    for _ in 0..u64::MAX {
+        if !lines.begins_with("fired ") {
+            break;
+        }
+        let line = lines.next(Expected::OutcomeOrParticipant)?;
+        let one = lines.read(read_one_fired(line))?;
+        fired.push(one)?;
+    }
+    Ok(fired)
+}
+
+fn read_one_fired(line: &str) -> Result<Fired<'_>, Expected> {
+    let mut words = Words::of(line);
+    words.literal("fired", Expected::OutcomeOrParticipant)?;
+    let round = words.number(Expected::Round)?;
+    let rule = words.name(Expected::Rule)?;
+    match words.rest() {
+        Some(words) if is_instance_as_name(words) => Ok(Fired { round, rule, words }),
+        _ => Err(Expected::Fired),
     }
 }
 

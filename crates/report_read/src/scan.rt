@@ -38,6 +38,12 @@ pub(crate) fn is_instance(text: &str) -> bool {
     scan.instance() && scan.is_at_end()
 }
 
+/// Whether a text is an instance with ` as ` and a name behind it.
+pub(crate) fn is_instance_as_name(text: &str) -> bool {
+    let mut scan = Scan::new(text.as_bytes());
+    scan.instance() && scan.literal(b" as ") && scan.name() && scan.is_at_end()
+}
+
 /// The bytes that are left. Each method takes what it is named after from their front, and tells whether it stood there.
 #[derive(Drop)]
 struct Scan<'b> {

@@ -2,6 +2,7 @@ pub mod FaultNames
 pub mod Values
 pub mod Actions
 pub mod Entries
+pub mod Fired
 pub mod Results
 pub mod Decided
 pub mod Outcomes

@@ -1,5 +1,5 @@
 -- The lines of the submissions' results.
-use Rattle.std.specs.Prelude.{ℕ, ◌+◌, List, [], ◌∷◌, ◌++◌, codes, decimal, map}
+use Rattle.std.specs.Prelude.{ℕ, ◌+◌, List, [], ◌∷◌, ◌++◌, codes, decimal, filter, map, nat_eq}
 use Rattle.std.specs.List.{flat_map, zip}
 use Rattle.ledger_terms.specs.declared.host.Host.{Host}
 use Rattle.ledger_terms.specs.declared.submission.Submission.{Submission}
@@ -8,6 +8,7 @@ use Rattle.prepare_request.specs.declared.submit_fault.SubmitFault.{SubmitFault}
 use Rattle.prepare_request.specs.declared.submit_fault.SubmitFault.TheVariants.{Paused, NotHosted, Command, Split, Duplicate, LogFull, Memory}
 use Rattle.node_core.specs.declared.submit_result.SubmitResult.{SubmitResult}
 use Rattle.node_core.specs.declared.submit_result.SubmitResult.TheVariants.{Sent, Refused}
+use Rattle.trigger_rules.specs.declared.caused.Caused.{Caused}
 use Rattle.report_text.specs.FaultNames.{command_fault_name, split_fault_name}
 use Rattle.report_text.specs.Entries.{host_text}
 
@@ -32,16 +33,26 @@ pub record Submitted : Type 0 where
 abbrev pub submitted_in : ℕ → List Submission → List Submitted
 submitted_in round submissions = map (λ submission. record { round = round; submission = submission }) submissions
 
--- the submissions of the rounds in order, the first of them with this number
-abbrev pub submitted_from : ℕ → List Round → List Submitted
-submitted_from number [] = []
-submitted_from number (round ∷ rounds) = submitted_in number round.submits ++ submitted_from (number + 1) rounds
+-- what rules caused in the round of a number
+abbrev pub of_round : ℕ → List Caused → List Caused
+of_round number caused = filter (λ (one : Caused). nat_eq one.round number) caused
+
+-- the same as submissions of the round
+abbrev pub caused_in : ℕ → List Caused → List Submitted
+caused_in number caused = submitted_in number (map (λ (one : Caused). one.submission) (of_round number caused))
+
+-- the submissions of the rounds in order, the first of them with this number; behind those of a round what rules caused in it
+abbrev pub submitted_from : ℕ → List Round → List Caused → List Submitted
+submitted_from number [] caused = []
+submitted_from number (round ∷ rounds) caused =
+    submitted_in number round.submits ++ (caused_in number caused ++ submitted_from (number + 1) rounds caused)
 
 abbrev pub result_line : List Host → Submitted × SubmitResult → List ℕ
 result_line hosts (submitted, answer) =
     codes "result " ++ decimal submitted.round ++ codes " " ++ host_text hosts submitted.submission.participant ++ codes " "
     ++ submitted.submission.command ++ codes " " ++ answer_text answer ++ codes "\n"
 
--- The results are those of the submissions in script order. Where they are fewer, the last submissions have no line.
-abbrev pub result_lines : List Host → List Round → List SubmitResult → List ℕ
-result_lines hosts rounds results = flat_map (result_line hosts) (zip (submitted_from 0 rounds) results)
+-- The results are those of the submissions in script order, behind those of a round those of what rules caused in it. Where they are
+-- fewer, the last submissions have no line.
+abbrev pub result_lines : List Host → List Round → List Caused → List SubmitResult → List ℕ
+result_lines hosts rounds caused results = flat_map (result_line hosts) (zip (submitted_from 0 rounds caused) results)

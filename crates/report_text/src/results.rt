@@ -1,15 +1,16 @@
 //! The lines of the submissions' results.
-ghost use Rattle.std.specs.Prelude.{◌≡◌, ◌++◌, OnOk, string_bytes, option_copied, slice_get, drop};
+ghost use Rattle.std.specs.Prelude.{◌≡◌, ◌∷◌, [], ◌++◌, IfOk, OnOk, length, string_bytes, option_copied, slice_get, drop};
 ghost use Rattle.std.specs.List.{flat_map, zip};
-ghost use Rattle.report_text.specs.Results.{fault_text, answer_text, result_line, result_lines, submitted_in};
+ghost use Rattle.report_text.specs.Results.{fault_text, answer_text, caused_in, of_round, result_line, result_lines, submitted_in};
 
 use crate::entries::put_host;
 use crate::fault_names::{command_fault_name, split_fault_name};
+use crate::submissions::Submissions;
 use crate::values::put_number;
 use ledger_terms::{HostList, Submission, SubmissionList};
-use node_core::{SubmitFault, SubmitResult, SubmitResultList};
-use script_read::RoundList;
+use node_core::{SubmitFault, SubmitResult};
 use std::alloc::AllocError;
+use trigger_rules::{Caused, CausedList};
 
 fn put_fault(out: &mut String, fault: &SubmitFault) -> Result<(), AllocError>
     ensures { OnOk result (string_bytes out.new ≡ string_bytes out.old ++ fault_text fault.now) }
@@ -79,7 +80,7 @@ fn answer_at(answers: &[SubmitResult], at: usize) -> Option<&SubmitResult>
 }
 
 /// Puts a line for each submission of a round at the end that has an answer; they are answered in order.
-fn put_round(
+fn put_submits(
     out: &mut String,
     hosts: &HostList,
     round: u64,
@@ -107,19 +108,61 @@ fn answers_after(answers: &[SubmitResult], count: usize) -> &[SubmitResult]
     }
 }
 
+// Puts the line of what a rule caused, if that was in the round and has an answer, and gives the answers behind its own.
+fn put_one_caused<'a>(
+    out: &mut String,
+    hosts: &HostList,
+    round: u64,
+    one: &Caused,
+    answers: &'a [SubmitResult],
+) -> Result<&'a [SubmitResult], AllocError>
+    ensures text { OnOk result (string_bytes out.new ≡ string_bytes out.old
+        ++ flat_map (result_line hosts.now) (zip (caused_in round (one.now ∷ [])) answers.now)) }
+    ensures rest { IfOk result (λ rest. rest.now ≡ drop (length (of_round round (one.now ∷ []))) answers.now) }
+{
+    if u64::from(one.round) != round {
+        return Ok(answers);
+    }
+    if let Some(answer) = answer_at(answers, 0) {
+        put_result(out, hosts, round, &one.submission, answer)?;
+    }
+    Ok(answers_after(answers, 1))
+}
+
+// Puts a line for each of what rules caused in a round that has an answer, and gives the answers behind those.
+fn put_caused<'a>(
+    out: &mut String,
+    hosts: &HostList,
+    round: u64,
+    caused: &CausedList,
+    answers: &'a [SubmitResult],
+) -> Result<&'a [SubmitResult], AllocError>
+    ensures text { OnOk result (string_bytes out.new ≡ string_bytes out.old
+        ++ flat_map (result_line hosts.now) (zip (caused_in round caused.now) answers.now)) }
+    ensures rest { IfOk result (λ rest. rest.now ≡ drop (length (of_round round caused.now)) answers.now) }
+{
+    let mut rest = answers;
+    'caused: for one in caused.as_slice() {
+        rest = put_one_caused(out, hosts, round, one, rest)?;
+    }
+    Ok(rest)
+}
+
 /// Puts a line for each result at the end.
 pub fn put_results(
     out: &mut String,
     hosts: &HostList,
-    rounds: &RoundList,
-    results: &SubmitResultList,
+    submissions: &Submissions<'_>,
+    caused: &CausedList,
 ) -> Result<(), AllocError>
-    ensures { OnOk result (string_bytes out.new ≡ string_bytes out.old ++ result_lines hosts.now rounds.now results.now) }
+    ensures { OnOk result (string_bytes out.new ≡ string_bytes out.old
+        ++ result_lines hosts.now submissions.now.rounds.now caused.now submissions.now.results.now) }
 {
-    let mut rest = results.as_slice();
-    'rounds: for (number, round) in rounds.as_slice().iter().enumerate() {
-        put_round(out, hosts, number as u64, &round.submits, rest)?;
-        rest = answers_after(rest, round.submits.len());
+    let mut rest = submissions.results.as_slice();
+    'rounds: for (number, round) in submissions.rounds.as_slice().iter().enumerate() {
+        put_submits(out, hosts, number as u64, &round.submits, rest)?;
+        let behind = answers_after(rest, round.submits.len());
+        rest = put_caused(out, hosts, number as u64, caused, behind)?;
     }
     Ok(())
 }

@@ -11,10 +11,12 @@ pub mod Lists
 pub mod NewHosts
 pub mod ObservingHosts
 pub mod PackageLaws
+pub mod Participating
 pub mod RawLaws
 pub mod References
 pub mod RoundLaws
 pub mod RoundWalks
+pub mod RuleWalk
 pub mod SameHosts
 pub mod Submissions
 pub mod Topologies

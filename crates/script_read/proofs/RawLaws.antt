@@ -11,16 +11,18 @@ use Rattle.ledger_terms.specs.declared.raw_envelope.RawEnvelope.{RawEnvelope}
 use Rattle.ledger_terms.specs.declared.raw_request.RawRequest.{RawRequest}
 use Rattle.json_walk.specs.declared.limits.TheConstants.{RAW_BYTES, RAWS}
 use Rattle.json_walk.specs.Lists.{list_of}
-use Rattle.json_walk.specs.Walk.{Place, within_limit, name_in, items_of, two_of, member_of}
+use Rattle.json_walk.specs.Walk.{Place, within_limit, items_of, two_of, member_of}
 use Rattle.json_walk.specs.declared.walk_fault.WalkFault.TheVariants.{Shape}
 use Rattle.json_walk.proofs.Kept.{after, given, limit_kept, list_kept, few_kept}
 use Rattle.script_read.specs.Kept.{IsRawEnvelope, IsRaw}
 use Rattle.script_read.specs.Participants.{participant_of, participant_member, participant_in}
 use Rattle.script_read.specs.Raws.{bytes_named, bytes_of, envelope_of, envelopes_in, confirming_in, mediator_in, has_raw_members, raw_of, raws_if}
 use Rattle.script_read.proofs.Lists.{all_of}
-use Rattle.script_read.proofs.References.{member_name}
 use Rattle.script_read.proofs.SameHosts.{AreSame}
-use Rattle.script_read.proofs.Submissions.{participant_within}
+use Rattle.script_read.proofs.Participating.{participant_within}
+use Rattle.script_read.proofs.RuleWalk.{own_command}
+use Rattle.script_read.specs.Triggers.{own_command_in}
+use Rattle.trigger_rules.specs.declared.rule.Rule.{Rule}
 
 few_bytes : (at : Place) (d : Data) (bytes : List ℕ) → bytes_of at d ≡ Ok bytes → length bytes ≤ 2 ^ 16
 unfolding bytes_of
@@ -44,12 +46,13 @@ module _ (read kept : List Host) (same : AreSame read kept) where
         few = few_bytes (at_item at 1) t.0.1 b.0 b.1;
       })
 
-  raw_read : (at : Place) (d : Data) (r : RawRequest) → raw_of read at d ≡ Ok r → IsRaw kept r
+  raw_read : (rules : List Rule) (at : Place) (d : Data) (r : RawRequest) → raw_of read rules at d ≡ Ok r → IsRaw kept rules r
   unfolding raw_of participant_in participant_member confirming_in mediator_in envelopes_in
-  raw_read at d r h =
+  raw_read rules at d r h =
       let a = after (check (has_raw_members d) (Shape at)) _ r h in
       let p = after (participant_in read at d) _ r a.2 in
-      let c = after (name_in at (codes "command") d) _ r p.2 in
+      let c = after (own_command_in rules p.0 at d) _ r p.2 in
+      let own = own_command rules p.0 at d c.0 c.1 in
       let f = after (confirming_in read at d) _ r c.2 in
       let m = after (mediator_in at d) _ r f.2 in
       let e = after (envelopes_in read at d) _ r m.2 in
@@ -59,19 +62,20 @@ module _ (read kept : List Host) (same : AreSame read kept) where
       let e_at = after (member_of at (codes "envelopes") d) _ e.0 e.1 in
       rw (given (record { participant = p.0; command = c.0; confirming = f.0; mediator = m.0; envelopes = e.0 }) r e.2) (record {
         participant = participant_within read kept same (at_member at (codes "participant")) p_at.0 p.0 p_at.2;
-        command = member_name at (codes "command") d c.0 c.1;
+        command = own.0;
+        own = own.1;
         confirming = all_of (λ p. p < length kept) f.0 (list_kept (participant_of read) (λ p. p < length kept) (participant_within read kept same) (at_member at (codes "confirming")) f_at.0 f.0 f_at.2);
         mediator = few_bytes (at_member at (codes "mediator")) m_at.0 m.0 m_at.2;
         envelopes = all_of (IsRawEnvelope kept) e.0 (list_kept (envelope_of read) (IsRawEnvelope kept) envelope_read (at_member at (codes "envelopes")) e_at.0 e.0 e_at.2);
       })
 
   -- the raw requests of a round
-  pub record AreHandedIn (raws : List RawRequest) : Type 0 where
+  pub record AreHandedIn (rules : List Rule) (raws : List RawRequest) : Type 0 where
     pub few : length raws ≤ 64
-    pub each : AllByRecursion (IsRaw kept) raws
+    pub each : AllByRecursion (IsRaw kept rules) raws
 
-  pub raws_read : (at : Place) (o : Option Data) (raws : List RawRequest) → raws_if read at o ≡ Ok raws → AreHandedIn raws
-  raws_read at None raws h = rw (given [] raws h) (record { few = omega arith; each = tt })
-  raws_read at (Some d) raws h =
-      let few = few_kept (raw_of read) (IsRaw kept) raw_read at RAWS d raws h in
+  pub raws_read : (rules : List Rule) (at : Place) (o : Option Data) (raws : List RawRequest) → raws_if read rules at o ≡ Ok raws → AreHandedIn rules raws
+  raws_read rules at None raws h = rw (given [] raws h) (record { few = omega arith; each = tt })
+  raws_read rules at (Some d) raws h =
+      let few = few_kept (raw_of read rules) (IsRaw kept rules) (raw_read rules) at RAWS d raws h in
       record { few = omega (arith, few.1); each = few.2 }

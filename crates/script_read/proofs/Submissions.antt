@@ -27,35 +27,22 @@ use Rattle.script_read.specs.Commands.{command_of}
 use Rattle.script_read.specs.Drafts.{tree_of}
 use Rattle.script_read.specs.Hosts.{is_participant}
 use Rattle.script_read.specs.Kept.{IsSubmission}
-use Rattle.script_read.specs.Participants.{participant_named, participant_of, participant_member, participant_in}
+use Rattle.script_read.specs.Participants.{participant_member, participant_in}
+use Rattle.script_read.specs.Triggers.{own_command_in}
+use Rattle.trigger_rules.specs.declared.rule.Rule.{Rule}
 use Rattle.script_read.specs.Rounds.{act_as_in, time_of, time_if, time_in, ledger_time_in, commands_in, seed_of_of, some_seed_of, seed_of_if, seed_of_in, trees_in, prepared_in, are_commands, is_prepared, what_in, submission_of}
 use Rattle.script_read.proofs.Actions.{IsDraftRead}
 use Rattle.script_read.proofs.Arguments.{IsCommandRead, command_read, party_hosted}
 use Rattle.script_read.proofs.Cases.{by_test}
 use Rattle.script_read.proofs.Lists.{all_of, each_weaker, tests_all, flat_known, some_read}
 use Rattle.script_read.proofs.NewHosts.{set_length}
-use Rattle.script_read.proofs.References.{name_read, member_name}
+use Rattle.script_read.proofs.Participating.{participant_within}
+use Rattle.script_read.proofs.References.{name_read}
+use Rattle.script_read.proofs.RuleWalk.{own_command}
 use Rattle.script_read.proofs.RoundWalks.{few_read, set_some}
 use Rattle.script_read.proofs.SameHosts.{AreSame}
 use Rattle.script_read.proofs.Topologies.{integer_range}
 use Rattle.script_read.proofs.TreeSizes.{trees_read}
-
--- ---- who
-
-named_within : (hosts : List Host) (name : List ℕ) (k : ℕ) → participant_named hosts name ≡ Some k → k < length hosts
-named_within [] name k h = absurd (cc)
-named_within (x ∷ xs) name k h = here (same_name x.name name) (participant_named xs name) k (named_within xs name) h
-  where
-    here : (b : Bool) (o : Option ℕ) (k : ℕ) → ((j : ℕ) → o ≡ Some j → j < length xs) → (if b then Some 0 else option_map suc o) ≡ Some k → k < length (x ∷ xs)
-    here true o k f e = let zero_ : k ≡ 0 = cc in omega arith
-    here false None k f e = absurd (cc)
-    here false (Some j) k f e = let next : k ≡ suc j = cc in omega (arith, f j refl)
-
-pub participant_within : (read kept : List Host) → AreSame read kept → (at : Place) (d : Data) (k : ℕ) → participant_of read at d ≡ Ok k → k < length kept
-unfolding participant_of
-participant_within read kept same at d k h =
-    let s = after (name_of at d) _ k h in
-    omega (arith, same.many, named_within read s.0 k (some_read (participant_named read s.0) _ k s.2))
 
 -- ---- when
 
@@ -168,12 +155,13 @@ module _ (read kept : List Host) (same : AreSame read kept) where
 
   -- ---- the whole
 
-  pub submission_read : (at : Place) (d : Data) (s : Submission) → submission_of read at d ≡ Ok s → IsSubmission kept s
+  pub submission_read : (rules : List Rule) (at : Place) (d : Data) (s : Submission) → submission_of read rules at d ≡ Ok s → IsSubmission kept rules s
   unfolding submission_of participant_in participant_member ledger_time_in time_in
-  submission_read at d s h =
+  submission_read rules at d s h =
       let a = after (check (are_commands d || is_prepared d) (Shape at)) _ s h in
       let p = after (participant_in read at d) _ s a.2 in
-      let c = after (name_in at (codes "command") d) _ s p.2 in
+      let c = after (own_command_in rules p.0 at d) _ s p.2 in
+      let own = own_command rules p.0 at d c.0 c.1 in
       let x = after (act_as_in read at d) _ s c.2 in
       let t = after (ledger_time_in at d) _ s x.2 in
       let w = after (what_in read at d) _ s t.2 in
@@ -181,7 +169,8 @@ module _ (read kept : List Host) (same : AreSame read kept) where
       let acting = acting_read at d x.0 x.1 in
       rw (given (record { participant = p.0; command = c.0; act_as = x.0; ledger_time = t.0; what = w.0 }) s w.2) (record {
         participant = participant_within read kept same (at_member at (codes "participant")) m.0 p.0 m.2;
-        command = member_name at (codes "command") d c.0 c.1;
+        command = own.0;
+        own = own.1;
         someone = acting.someone;
         few = acting.few;
         hosted = acting.hosted;

@@ -23,6 +23,8 @@ use Rattle.json_walk.specs.declared.limit.Limit.{Limit}
 use Rattle.script_read.specs.Hosts.{participants_at, participants_of, hosts_of, hosts_in, wait_if, wait_in, response_in, reaction_in, skew_in, params_of, vetting_step, vetting_in}
 use Rattle.script_read.specs.Observing.{observing_step, observing_of}
 use Rattle.script_read.specs.Rounds.{rounds_in}
+use Rattle.script_read.specs.Triggers.{triggers_in}
+use Rattle.trigger_rules.specs.declared.rule.Rule.{Rule}
 use Rattle.script_read.specs.Script.{has_script_members, topology_in, checked_in, script_of, script_in}
 use Rattle.script_read.specs.declared.round.Round.{Round}
 use Rattle.script_read.specs.declared.script.Script.{Script}
@@ -163,13 +165,15 @@ pub record IsRead (s : Script) : Type 0 where
   pub known : Topology
   pub checked : List PackageForm
   pub hosts : List Host
+  pub triggers : List Rule
   pub rounds : List Round
   pub found : AreRead d known.hosts
   pub times : AreTimes known.params
   pub checked_is : checked_in known.hosts d ≡ Ok checked
   pub hosts_are : vetting_in checked known.hosts d ≡ Ok hosts
-  pub rounds_are : rounds_in known.hosts d ≡ Ok rounds
-  pub whole : s ≡ record { topology = record { hosts = hosts; params = known.params }; checked = checked; rounds = rounds }
+  pub triggers_are : triggers_in known.hosts d ≡ Ok triggers
+  pub rounds_are : rounds_in known.hosts triggers d ≡ Ok rounds
+  pub whole : s ≡ record { topology = record { hosts = hosts; params = known.params }; checked = checked; triggers = triggers; rounds = rounds }
 
 pub script_parts : (bytes : List ℕ) (s : Script) → script_in bytes ≡ Ok s → IsRead s
 unfolding script_in script_of topology_in
@@ -179,7 +183,8 @@ script_parts bytes s h =
     let known = after_walk (topology_in v.0) _ s a.2 in
     let checked = after (checked_in known.0.hosts v.0) _ s known.2 in
     let hosts = after_walk (vetting_in checked.0 known.0.hosts v.0) _ s checked.2 in
-    let rounds = after_walk (rounds_in known.0.hosts v.0) _ s hosts.2 in
+    let triggers = after_walk (triggers_in known.0.hosts v.0) _ s hosts.2 in
+    let rounds = after_walk (rounds_in known.0.hosts triggers.0 v.0) _ s triggers.2 in
     let x = after (hosts_in v.0) _ known.0 known.1 in
     let y = after (params_of v.0) _ known.0 x.2 in
     let whole = given (record { hosts = x.0; params = y.0 }) known.0 y.2 in
@@ -190,13 +195,15 @@ script_parts bytes s h =
       known = known.0;
       checked = checked.0;
       hosts = hosts.0;
+      triggers = triggers.0;
       rounds = rounds.0;
       found = rw own (hosts_read v.0 x.0 x.1);
       times = rw times (times_valid v.0 y.0 y.1);
       checked_is = checked.1;
       hosts_are = hosts.1;
+      triggers_are = triggers.1;
       rounds_are = rounds.1;
-      whole = given (record { topology = record { hosts = hosts.0; params = known.0.params }; checked = checked.0; rounds = rounds.0 }) s rounds.2;
+      whole = given (record { topology = record { hosts = hosts.0; params = known.0.params }; checked = checked.0; triggers = triggers.0; rounds = rounds.0 }) s rounds.2;
     }
 
 pub same_hosts : (s : Script) (r : IsRead s) → AreSame r.known.hosts r.hosts

@@ -1,5 +1,6 @@
--- What holds of a script that is read: its rounds are within their limits, and name participants and parties that there are.
-use Rattle.std.specs.Prelude.{◌<◌, ◌≤◌, List, length, sum_by, All, MatchOption}
+-- What holds of a script that is read: its rules and its rounds are within their limits, and name participants and parties that
+-- there are.
+use Rattle.std.specs.Prelude.{◌≡◌, ◌<◌, ◌≤◌, ℕ, false, true, List, length, sum_by, All, MatchOption}
 use Rattle.ledger_terms.specs.Names.{IsName}
 use Rattle.ledger_terms.specs.Topologies.{IsValid}
 use Rattle.ledger_terms.specs.declared.host.Host.{Host}
@@ -10,14 +11,34 @@ use Rattle.ledger_terms.specs.declared.raw_request.RawRequest.{RawRequest}
 use Rattle.ledger_terms.specs.declared.submission.Submission.{Submission}
 use Rattle.lang_eval.specs.Named.{AreKnown}
 use Rattle.lang_read.specs.Parties.{is_hosted}
+use Rattle.trigger_rules.specs.Ids.{is_rule_command}
+use Rattle.trigger_rules.specs.Kept.{AreNamed}
+use Rattle.ledger_terms.specs.declared.limits.TheConstants.{MOST_RULE_NAME_BYTES, MOST_RULES}
+use Rattle.trigger_rules.specs.declared.rule.Rule.{Rule}
 use Rattle.script_read.specs.Accepted.{IsWhat}
 use Rattle.script_read.specs.PackageLimits.{AreAccepted}
 use Rattle.script_read.specs.declared.round.Round.{Round}
 use Rattle.script_read.specs.declared.script.Script.{Script}
 
-pub record IsSubmission (hosts : List Host) (s : Submission) : Type 0 where
+pub record IsRule (hosts : List Host) (rule : Rule) : Type 0 where
+  pub short : length rule.name ≤ MOST_RULE_NAME_BYTES
+  pub participant : rule.participant < length hosts
+  pub hosted : is_hosted hosts rule.party ≡ true
+
+-- at most 16 rules with names of their own
+pub record AreRules (hosts : List Host) (rules : List Rule) : Type 0 where
+  pub few : length rules ≤ MOST_RULES
+  pub each : All (IsRule hosts) rules
+  pub named : AreNamed rules
+
+-- the id is kept for no rule of the participant
+abbrev pub IsOwn : List Rule → (participant : ℕ) → (command : List ℕ) → Type 0
+IsOwn rules participant command = is_rule_command rules participant command ≡ false
+
+pub record IsSubmission (hosts : List Host) (rules : List Rule) (s : Submission) : Type 0 where
   pub participant : s.participant < length hosts
   pub command : IsName s.command
+  pub own : IsOwn rules s.participant s.command
   pub someone : 1 ≤ length s.act_as
   pub few : length s.act_as ≤ MOST_ACT_AS
   pub hosted : AreKnown (is_hosted hosts) s.act_as
@@ -29,29 +50,31 @@ pub record IsRawEnvelope (hosts : List Host) (e : RawEnvelope) : Type 0 where
   pub few : length e.bytes ≤ MOST_RAW_BYTES
 
 -- a raw request names participants that there are, and its bytes are few
-pub record IsRaw (hosts : List Host) (r : RawRequest) : Type 0 where
+pub record IsRaw (hosts : List Host) (rules : List Rule) (r : RawRequest) : Type 0 where
   pub participant : r.participant < length hosts
   pub command : IsName r.command
+  pub own : IsOwn rules r.participant r.command
   pub confirming : All (λ p. p < length hosts) r.confirming
   pub mediator : length r.mediator ≤ MOST_RAW_BYTES
   pub envelopes : All (IsRawEnvelope hosts) r.envelopes
 
-pub record IsRound (hosts : List Host) (r : Round) : Type 0 where
+pub record IsRound (hosts : List Host) (rules : List Rule) (r : Round) : Type 0 where
   pub advance : r.advance ≤ MOST_ADVANCE
   pub paused : All (λ p. p < length hosts) r.paused
-  pub submits : All (IsSubmission hosts) r.submits
+  pub submits : All (IsSubmission hosts rules) r.submits
   pub few_raws : length r.raws ≤ MOST_RAWS
-  pub raws : All (IsRaw hosts) r.raws
+  pub raws : All (IsRaw hosts rules) r.raws
 
 -- at most 2,048 rounds with at most 2,048 submissions in all
 pub record AreRounds (s : Script) : Type 0 where
   pub few : length s.rounds ≤ MOST_ROUNDS
   pub submits : sum_by (λ (r : Round). length r.submits) s.rounds ≤ MOST_SUBMISSIONS
-  pub each : All (IsRound (s.topology).hosts) s.rounds
+  pub each : All (IsRound (s.topology).hosts s.triggers) s.rounds
 
--- A script that is accepted: a synchroniser can be made for its topology, and its packages and rounds are within their limits
--- and name only parties and participants of it.
+-- A script that is accepted: a synchroniser can be made for its topology, and its packages, rules and rounds are within their
+-- limits and name only parties and participants of it.
 pub record IsAccepted (s : Script) : Type 0 where
   pub topology : IsValid s.topology
   pub packages : AreAccepted (s.topology).hosts s.checked
+  pub triggers : AreRules (s.topology).hosts s.triggers
   pub rounds : AreRounds s

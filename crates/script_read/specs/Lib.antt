@@ -12,3 +12,4 @@ pub mod Raws
 pub mod Refs
 pub mod Rounds
 pub mod Script
+pub mod Triggers

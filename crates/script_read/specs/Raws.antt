@@ -11,10 +11,12 @@ use Rattle.ledger_terms.specs.declared.raw_request.RawRequest.{RawRequest}
 use Rattle.ledger_terms.specs.Answers.{◌>>=◌, check}
 use Rattle.json_walk.specs.declared.limits.TheConstants.{RAW_BYTES, RAWS}
 use Rattle.json_walk.specs.Lists.{list_of, few_of}
-use Rattle.json_walk.specs.Walk.{Place, within_limit, name_in, has_members, items_of, two_of, member_of}
+use Rattle.json_walk.specs.Walk.{Place, within_limit, has_members, items_of, two_of, member_of}
 use Rattle.json_walk.specs.declared.walk_fault.WalkFault.{WalkFault}
 use Rattle.json_walk.specs.declared.walk_fault.WalkFault.TheVariants.{Shape}
 use Rattle.script_read.specs.Participants.{participant_of, participant_in}
+use Rattle.script_read.specs.Triggers.{own_command_in}
+use Rattle.trigger_rules.specs.declared.rule.Rule.{Rule}
 
 -- ---- bytes
 
@@ -63,20 +65,20 @@ unfoldable pub has_raw_members : Data → Bool
 has_raw_members d =
     has_members (codes "participant" ∷ codes "command" ∷ codes "confirming" ∷ codes "mediator" ∷ codes "envelopes" ∷ []) [] d
 
-unfoldable pub raw_of : List Host → Place → Data → Result RawRequest WalkFault
-raw_of hosts at d = do
+unfoldable pub raw_of : List Host → List Rule → Place → Data → Result RawRequest WalkFault
+raw_of hosts rules at d = do
   _ ← check (has_raw_members d) (Shape at)
   participant ← participant_in hosts at d
-  command ← name_in at (codes "command") d
+  command ← own_command_in rules participant at d
   confirming ← confirming_in hosts at d
   mediator ← mediator_in at d
   envelopes ← envelopes_in hosts at d
   Ok (record { participant = participant; command = command; confirming = confirming; mediator = mediator; envelopes = envelopes })
 
 -- none where the member is absent
-abbrev pub raws_if : List Host → Place → Option Data → Result (List RawRequest) WalkFault
-raws_if hosts at None = Ok []
-raws_if hosts at (Some d) = few_of (raw_of hosts) at RAWS d
+abbrev pub raws_if : List Host → List Rule → Place → Option Data → Result (List RawRequest) WalkFault
+raws_if hosts rules at None = Ok []
+raws_if hosts rules at (Some d) = few_of (raw_of hosts rules) at RAWS d
 
-unfoldable pub raws_in : List Host → Place → Data → Result (List RawRequest) WalkFault
-raws_in hosts at d = raws_if hosts (at_member at (codes "raw")) (get (codes "raw") d)
+unfoldable pub raws_in : List Host → List Rule → Place → Data → Result (List RawRequest) WalkFault
+raws_in hosts rules at d = raws_if hosts rules (at_member at (codes "raw")) (get (codes "raw") d)

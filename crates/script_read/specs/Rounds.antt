@@ -12,7 +12,7 @@ use Rattle.ledger_terms.specs.declared.what.What.TheVariants as what
 use Rattle.ledger_terms.specs.declared.submission.Submission.{Submission}
 use Rattle.ledger_terms.specs.Answers.{◌>>=◌, check}
 use Rattle.json_walk.specs.declared.limits.TheConstants.{ACT_AS, ADVANCE, COMMANDS, LEDGER_TIME, ROUNDS, SUBMISSIONS}
-use Rattle.json_walk.specs.Walk.{Place, within_limit, name_of, name_in, truth_or, integer_of, has_members}
+use Rattle.json_walk.specs.Walk.{Place, within_limit, name_of, truth_or, integer_of, has_members}
 use Rattle.json_walk.specs.Walk.{items_of, few_items_of, walk_items, item_count, two_of, member_of}
 use Rattle.json_walk.specs.Lists.{item_step, list_of, few_of, counted_of}
 use Rattle.lang_read.specs.Parties.{party_of}
@@ -23,7 +23,9 @@ use Rattle.script_read.specs.Commands.{command_of}
 use Rattle.script_read.specs.Drafts.{tree_of}
 use Rattle.script_read.specs.Participants.{participant_of, participant_in}
 use Rattle.script_read.specs.Raws.{raws_in}
+use Rattle.script_read.specs.Triggers.{own_command_in}
 use Rattle.script_read.specs.declared.round.Round.{Round}
+use Rattle.trigger_rules.specs.declared.rule.Rule.{Rule}
 
 -- ---- submissions
 
@@ -102,30 +104,30 @@ is_prepared d = has_members (codes "participant" ∷ codes "command" ∷ codes "
 unfoldable pub what_in : List Host → Place → Data → Result What WalkFault
 what_in hosts at d = if are_commands d then commands_in hosts at d else prepared_in hosts at d
 
-unfoldable pub submission_of : List Host → Place → Data → Result Submission WalkFault
-submission_of hosts at d = do
+unfoldable pub submission_of : List Host → List Rule → Place → Data → Result Submission WalkFault
+submission_of hosts rules at d = do
   _ ← check (are_commands d || is_prepared d) (Shape at)
   participant ← participant_in hosts at d
-  command ← name_in at (codes "command") d
+  command ← own_command_in rules participant at d
   act_as ← act_as_in hosts at d
   time ← ledger_time_in at d
   what ← what_in hosts at d
   Ok (record { participant = participant; command = command; act_as = act_as; ledger_time = time; what = what })
 
 -- The submissions of a list, which keep the limit with so many before. Beside them stands their number with those before.
-unfoldable pub submits_of : List Host → ℕ → Place → Data → Result (List Submission × ℕ) WalkFault
-submits_of hosts before at d = do
+unfoldable pub submits_of : List Host → List Rule → ℕ → Place → Data → Result (List Submission × ℕ) WalkFault
+submits_of hosts rules before at d = do
   items ← items_of at d
   _ ← within_limit at SUBMISSIONS (before + item_count items)
-  submits ← walk_items (item_step (submission_of hosts) at) 0 [] items
+  submits ← walk_items (item_step (submission_of hosts rules) at) 0 [] items
   Ok (submits, before + item_count items)
 
-abbrev pub submits_if : List Host → ℕ → Place → Option Data → Result (List Submission × ℕ) WalkFault
-submits_if hosts before at None = Ok ([], before)
-submits_if hosts before at (Some d) = submits_of hosts before at d
+abbrev pub submits_if : List Host → List Rule → ℕ → Place → Option Data → Result (List Submission × ℕ) WalkFault
+submits_if hosts rules before at None = Ok ([], before)
+submits_if hosts rules before at (Some d) = submits_of hosts rules before at d
 
-unfoldable pub submits_in : List Host → ℕ → Place → Data → Result (List Submission × ℕ) WalkFault
-submits_in hosts before at d = submits_if hosts before (at_member at (codes "submits")) (get (codes "submits") d)
+unfoldable pub submits_in : List Host → List Rule → ℕ → Place → Data → Result (List Submission × ℕ) WalkFault
+submits_in hosts rules before at d = submits_if hosts rules before (at_member at (codes "submits")) (get (codes "submits") d)
 
 -- ---- rounds
 
@@ -149,18 +151,18 @@ hold_in at d = truth_or at (codes "hold_verdicts") d
 unfoldable pub has_round_members : Data → Bool
 has_round_members d = has_members [] (codes "advance" ∷ codes "paused" ∷ codes "hold_verdicts" ∷ codes "submits" ∷ codes "raw" ∷ []) d
 
-unfoldable pub round_of : List Host → ℕ → Place → Data → Result (Round × ℕ) WalkFault
-round_of hosts before at d = do
+unfoldable pub round_of : List Host → List Rule → ℕ → Place → Data → Result (Round × ℕ) WalkFault
+round_of hosts rules before at d = do
   _ ← check (has_round_members d) (Shape at)
   advance ← advance_in at d
   paused ← paused_in hosts at d
   hold ← hold_in at d
-  submits ← submits_in hosts before at d
-  raws ← raws_in hosts at d
+  submits ← submits_in hosts rules before at d
+  raws ← raws_in hosts rules at d
   Ok (record { advance = advance; paused = paused; hold_verdicts = hold; submits = submits.0; raws = raws }, submits.1)
 
-unfoldable pub rounds_in : List Host → Data → Result (List Round) WalkFault
-rounds_in hosts d = do
+unfoldable pub rounds_in : List Host → List Rule → Data → Result (List Round) WalkFault
+rounds_in hosts rules d = do
   m ← member_of [] (codes "rounds") d
-  rounds ← counted_of (round_of hosts) (at_member [] (codes "rounds")) ROUNDS m
+  rounds ← counted_of (round_of hosts rules) (at_member [] (codes "rounds")) ROUNDS m
   Ok rounds.0

@@ -19,6 +19,7 @@ use Rattle.script_read.specs.declared.script_fault.ScriptFault.TheVariants.{Shap
 use Rattle.script_read.specs.Faults.{from_walk}
 use Rattle.script_read.specs.Hosts.{hosts_in, params_of, vetting_in}
 use Rattle.script_read.specs.Rounds.{rounds_in}
+use Rattle.script_read.specs.Triggers.{triggers_in}
 use Rattle.script_read.specs.declared.script.Script.{Script}
 
 -- ---- packages
@@ -54,7 +55,8 @@ checked_in hosts d = do
 
 unfoldable pub has_script_members : Data → Bool
 has_script_members d =
-    has_members (codes "participants" ∷ codes "rounds" ∷ []) (codes "response_timeout" ∷ codes "reaction_timeout" ∷ codes "skew" ∷ codes "packages" ∷ []) d
+    has_members (codes "participants" ∷ codes "rounds" ∷ [])
+    (codes "response_timeout" ∷ codes "reaction_timeout" ∷ codes "skew" ∷ codes "packages" ∷ codes "triggers" ∷ []) d
 
 -- the participants, but for what they have vetted, and the times
 unfoldable pub topology_in : Data → Result Topology WalkFault
@@ -63,15 +65,16 @@ topology_in d = do
   params ← params_of d
   Ok (record { hosts = hosts; params = params })
 
--- the participants, the times, the packages and their check, what is vetted, and the rounds
+-- the participants, the times, the packages and their check, what is vetted, the rules, and the rounds
 unfoldable pub script_of : Data → Result Script ScriptFault
 script_of d = do
   _ ← check (has_script_members d) (Shape [])
   known ← from_walk (topology_in d)
   checked ← checked_in known.hosts d
   hosts ← from_walk (vetting_in checked known.hosts d)
-  rounds ← from_walk (rounds_in known.hosts d)
-  Ok (record { topology = record { hosts = hosts; params = known.params }; checked = checked; rounds = rounds })
+  triggers ← from_walk (triggers_in known.hosts d)
+  rounds ← from_walk (rounds_in known.hosts triggers d)
+  Ok (record { topology = record { hosts = hosts; params = known.params }; checked = checked; triggers = triggers; rounds = rounds })
 
 -- the script that bytes are, or its first fault
 unfoldable pub script_in : List ℕ → Result Script ScriptFault

@@ -19,6 +19,7 @@ mod script_fault;
 mod submission;
 mod times;
 mod tree;
+mod triggers;
 mod vetting;
 mod what;
 

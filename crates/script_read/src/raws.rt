@@ -6,16 +6,18 @@ ghost use Rattle.script_read.specs.Raws.{bytes_named, bytes_of, envelope_of, env
 ghost use Rattle.script_read.specs.Raws.{has_raw_members, raw_of, raws_in};
 
 use crate::participant::{participant_in, read_participant};
+use crate::triggers::own_command_in;
 use hex::{FromHexError, decode};
 use json_walk::{
-    Place, RAW_BYTES, RAWS, WalkFault, check_limit, fits, member, name_in, read_few, read_items,
-    read_list, read_two, shape,
+    Place, RAW_BYTES, RAWS, WalkFault, check_limit, fits, member, read_few, read_items, read_list,
+    read_two, shape,
 };
 use ledger_terms::{
     Bytes, ParticipantIdList, RawEnvelope, RawEnvelopeList, RawRequest, RawRequestList, Topology,
 };
 use serde_json::Value;
 use std::alloc::{AllocError, Global};
+use trigger_rules::RuleList;
 
 /// The bytes that hexadecimal digits of either case spell, two digits a byte.
 fn bytes_named(alloc: Global, text: &str) -> Result<Option<Bytes>, AllocError>
@@ -129,15 +131,16 @@ fn read_raw(
     value: &Value,
     at: &Place,
     topology: &Topology,
+    rules: &RuleList,
 ) -> Result<RawRequest, WalkFault>
     requires { length topology.now.hosts ≤ 256 }
-    ensures { Follows WalkFault.Memory result (raw_of topology.now.hosts at.now (view value.now)) }
+    ensures { Follows WalkFault.Memory result (raw_of topology.now.hosts rules.now at.now (view value.now)) }
 {
     if !has_raw_members(value) {
         return shape(at);
     }
     let participant = participant_in(alloc, value, at, topology)?;
-    let command = name_in(value, at, "command")?;
+    let command = own_command_in(value, at, rules, participant)?;
     let confirming = confirming_in(alloc, value, at, topology)?;
     let mediator = mediator_in(alloc, value, at)?;
     let envelopes = envelopes_in(alloc, value, at, topology)?;
@@ -157,9 +160,10 @@ pub fn raws_in(
     value: &Value,
     at: &Place,
     topology: &Topology,
+    rules: &RuleList,
 ) -> Result<RawRequestList, WalkFault>
     requires { length topology.now.hosts ≤ 256 }
-    ensures { Follows WalkFault.Memory result (raws_in topology.now.hosts at.now (view value.now)) }
+    ensures { Follows WalkFault.Memory result (raws_in topology.now.hosts rules.now at.now (view value.now)) }
 {
     match value.get("raw") {
         Some(found) => read_few(
@@ -167,7 +171,7 @@ pub fn raws_in(
             found,
             &at.member("raw"),
             RAWS,
-            |item, here| read_raw(alloc, item, here, topology),
+            |item, here| read_raw(alloc, item, here, topology, rules),
         ),
         None => Ok(RawRequestList::new(alloc)),
     }

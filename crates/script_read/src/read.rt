@@ -12,6 +12,7 @@ use crate::rounds::rounds_in;
 use crate::script::Script;
 use crate::script_fault::ScriptFault;
 use crate::times::read_params;
+use crate::triggers::triggers_in;
 use crate::vetting::vetting_in;
 use json_walk::{
     PACKAGES, PARTICIPANTS, Place, TEMPLATES, WalkFault, fits, read_counted, read_json,
@@ -106,7 +107,13 @@ fn has_script_members(value: &Value) -> bool
     fits(
         value,
         &["participants", "rounds"],
-        &["response_timeout", "reaction_timeout", "skew", "packages"],
+        &[
+            "response_timeout",
+            "reaction_timeout",
+            "skew",
+            "packages",
+            "triggers",
+        ],
     )
 }
 
@@ -133,19 +140,21 @@ fn read_value(alloc: Global, value: &Value) -> Result<Script, ScriptFault>
     let known = topology_in(alloc, value)?;
     let checked = checked_in(alloc, value, &known)?;
     let hosts = vetting_in(alloc, value, checked.as_slice(), known.hosts.as_slice())?;
-    let rounds = rounds_in(alloc, value, &known)?;
+    let triggers = triggers_in(alloc, value, &known)?;
+    let rounds = rounds_in(alloc, value, &known, &triggers)?;
     Ok(Script {
         topology: Topology {
             hosts,
             params: known.params,
         },
         checked,
+        triggers,
         rounds,
     })
 }
 
 /// The script that the bytes are, or its first fault in the order of the walk: the participants, the times, the packages and
-/// their check, what the participants have vetted, and the rounds. A script that is accepted keeps every limit and names only
+/// their check, what the participants have vetted, the rules, and the rounds. A script that is accepted keeps every limit and names only
 /// parties and participants of its topology.
 #[tactic(auto, unfolding(crate::specs::Script::script_in))]
 pub fn read_script(alloc: Global, bytes: &[u8]) -> Result<Script, ScriptFault>

@@ -16,6 +16,7 @@ use json_walk::{
 use ledger_terms::{ParticipantIdList, Topology};
 use serde_json::Value;
 use std::alloc::Global;
+use trigger_rules::RuleList;
 
 #[tactic(auto, unfolding(crate::specs::Rounds::advance_in))]
 fn advance_in(value: &Value, at: &Place) -> Result<u64, WalkFault>
@@ -74,10 +75,11 @@ fn read_round(
     at: &Place,
     before: u64,
     topology: &Topology,
+    rules: &RuleList,
 ) -> Result<(Round, u64), WalkFault>
     requires known { length topology.now.hosts ≤ 256 }
     requires few { before ≤ SUBMISSIONS.most }
-    ensures first { Follows WalkFault.Memory result (round_of topology.now.hosts before at.now (view value.now)) }
+    ensures first { Follows WalkFault.Memory result (round_of topology.now.hosts rules.now before at.now (view value.now)) }
     ensures few { IfOk result (λ s. s.1 ≤ SUBMISSIONS.most) }
 {
     if !has_round_members(value) {
@@ -86,8 +88,8 @@ fn read_round(
     let advance = advance_in(value, at)?;
     let paused = paused_in(alloc, value, at, topology)?;
     let hold_verdicts = hold_in(value, at)?;
-    let (submits, count) = submits_in(alloc, value, at, before, topology)?;
-    let raws = raws_in(alloc, value, at, topology)?;
+    let (submits, count) = submits_in(alloc, value, at, before, topology, rules)?;
+    let raws = raws_in(alloc, value, at, topology, rules)?;
     let round = Round {
         advance,
         paused,
@@ -103,9 +105,10 @@ fn read_rounds(
     value: &Value,
     at: &Place,
     topology: &Topology,
+    rules: &RuleList,
 ) -> Result<(RoundList, u64), WalkFault>
     requires { length topology.now.hosts ≤ 256 }
-    ensures { Follows WalkFault.Memory result (counted_of (round_of topology.now.hosts) at.now ROUNDS (view value.now)) }
+    ensures { Follows WalkFault.Memory result (counted_of (round_of topology.now.hosts rules.now) at.now ROUNDS (view value.now)) }
 {
     read_counted(
         alloc,
@@ -116,18 +119,23 @@ fn read_rounds(
         |item, here, before|
             requires known { length topology.now.hosts ≤ 256 }
             requires few { before ≤ SUBMISSIONS.most }
-        { read_round(alloc, item, here, before, topology) },
+        { read_round(alloc, item, here, before, topology, rules) },
     )
 }
 
 /// The rounds of a script.
 #[tactic(auto, unfolding(crate::specs::Rounds::rounds_in))]
-pub fn rounds_in(alloc: Global, value: &Value, topology: &Topology) -> Result<RoundList, WalkFault>
+pub fn rounds_in(
+    alloc: Global,
+    value: &Value,
+    topology: &Topology,
+    rules: &RuleList,
+) -> Result<RoundList, WalkFault>
     requires { length topology.now.hosts ≤ 256 }
-    ensures { Follows WalkFault.Memory result (rounds_in topology.now.hosts (view value.now)) }
+    ensures { Follows WalkFault.Memory result (rounds_in topology.now.hosts rules.now (view value.now)) }
 {
     let root = Place::root(alloc);
     let found = member(value, &root, "rounds")?;
-    let (rounds, _) = read_rounds(alloc, found, &root.member("rounds"), topology)?;
+    let (rounds, _) = read_rounds(alloc, found, &root.member("rounds"), topology, rules)?;
     Ok(rounds)
 }

@@ -5,15 +5,17 @@ ghost use Rattle.ledger_terms.specs.Answers.{Follows};
 ghost use Rattle.script_read.specs.Rounds.{act_as_in, time_of, time_in, ledger_time_in, is_prepared, submission_of, submits_of, submits_in};
 
 use crate::participant::participant_in;
+use crate::triggers::own_command_in;
 use crate::what::{are_commands, what_in};
 use json_walk::{
-    ACT_AS, LEDGER_TIME, Place, SUBMISSIONS, WalkFault, check_limit, fits, member, name_in,
-    read_each, read_few, read_integer, read_items, shape,
+    ACT_AS, LEDGER_TIME, Place, SUBMISSIONS, WalkFault, check_limit, fits, member, read_each,
+    read_few, read_integer, read_items, shape,
 };
 use lang_read::read_party;
 use ledger_terms::{PartySet, Submission, SubmissionList, Topology};
 use serde_json::Value;
 use std::alloc::Global;
+use trigger_rules::RuleList;
 
 #[tactic(auto, unfolding(crate::specs::Rounds::act_as_in))]
 fn act_as_in(
@@ -77,15 +79,16 @@ fn read_submission(
     value: &Value,
     at: &Place,
     topology: &Topology,
+    rules: &RuleList,
 ) -> Result<Submission, WalkFault>
     requires { length topology.now.hosts ≤ 256 }
-    ensures { Follows WalkFault.Memory result (submission_of topology.now.hosts at.now (view value.now)) }
+    ensures { Follows WalkFault.Memory result (submission_of topology.now.hosts rules.now at.now (view value.now)) }
 {
     if !(are_commands(value) || is_prepared(value)) {
         return shape(at);
     }
     let participant = participant_in(alloc, value, at, topology)?;
-    let command = name_in(value, at, "command")?;
+    let command = own_command_in(value, at, rules, participant)?;
     let act_as = act_as_in(alloc, value, at, topology)?;
     let ledger_time = ledger_time_in(value, at)?;
     let what = what_in(alloc, value, at, topology)?;
@@ -105,10 +108,11 @@ fn read_submits(
     at: &Place,
     before: u64,
     topology: &Topology,
+    rules: &RuleList,
 ) -> Result<(SubmissionList, u64), WalkFault>
     requires known { length topology.now.hosts ≤ 256 }
     requires few { before ≤ SUBMISSIONS.most }
-    ensures first { Follows WalkFault.Memory result (submits_of topology.now.hosts before at.now (view value.now)) }
+    ensures first { Follows WalkFault.Memory result (submits_of topology.now.hosts rules.now before at.now (view value.now)) }
     ensures few { IfOk result (λ s. s.1 ≤ SUBMISSIONS.most) }
 {
     let items = read_items(value, at)?;
@@ -118,7 +122,7 @@ fn read_submits(
         alloc,
         items,
         at,
-        |item, here| read_submission(alloc, item, here, topology),
+        |item, here| read_submission(alloc, item, here, topology, rules),
     )?;
     Ok((submits, count))
 }
@@ -131,14 +135,15 @@ pub fn submits_in(
     at: &Place,
     before: u64,
     topology: &Topology,
+    rules: &RuleList,
 ) -> Result<(SubmissionList, u64), WalkFault>
     requires known { length topology.now.hosts ≤ 256 }
     requires few { before ≤ SUBMISSIONS.most }
-    ensures first { Follows WalkFault.Memory result (submits_in topology.now.hosts before at.now (view value.now)) }
+    ensures first { Follows WalkFault.Memory result (submits_in topology.now.hosts rules.now before at.now (view value.now)) }
     ensures few { IfOk result (λ s. s.1 ≤ SUBMISSIONS.most) }
 {
     match value.get("submits") {
-        Some(found) => read_submits(alloc, found, &at.member("submits"), before, topology),
+        Some(found) => read_submits(alloc, found, &at.member("submits"), before, topology, rules),
         None => Ok((SubmissionList::new(alloc), before)),
     }
 }

@@ -10,7 +10,7 @@ use Rattle.world_model.proofs.RunFacts.{run_holds}
 use Rattle.trigger_model.specs.TwoParts.{RoundParts, RunInParts, CausedStandFirst, StandInOrder, parts_of, second_round}
 
 module _ {F : Type 0} (m : Machine) (why : Why F) (now : ℕ) (round : Round) where
-  stand_in_order : (log : List Entry) (answers : Results F) (after : List Entry) → Submitted m why now round log answers after
+  pub stand_in_order : (log : List Entry) (answers : Results F) (after : List Entry) → Submitted m why now round log answers after
       → StandInOrder (length log) answers
   stand_in_order log [] after h = tt
   stand_in_order log (x ∷ rest) after h = by_answer h.1 (stand_in_order h.0 rest after h.2)

@@ -18,6 +18,7 @@ pub mod Happened
 pub mod Submits
 pub mod Plays
 pub mod Flagged
+pub mod ReadsAwake
 pub mod Begins
 pub mod OwnFaults
 pub mod Awake

@@ -14,3 +14,4 @@ pub mod Flags
 pub mod Answering
 pub mod ActiveAt
 pub mod OwnRequests
+pub mod Submitted

@@ -1,7 +1,8 @@
 -- Results of submissions, in the words of the world model.
-use Rattle.std.specs.Prelude.{◌≢◌, List, map}
+use Rattle.std.specs.Prelude.{◌≢◌, ◌<◌, List, length, map}
 use Rattle.std.specs.List.{zip}
 use Rattle.ledger_terms.specs.declared.submission.Submission.{Submission}
+use Rattle.canton_model.specs.declared.entry.Entry.{Entry}
 use Rattle.prepare_request.specs.Causes.{HoldsNoMemory}
 use Rattle.prepare_request.specs.declared.submit_fault.SubmitFault.{SubmitFault}
 use Rattle.prepare_request.specs.declared.submit_fault.SubmitFault.TheVariants.{Paused, NotHosted, Command, Split, Duplicate, LogFull, Memory}
@@ -26,6 +27,11 @@ result_of (Refused fault read_to) = w.Refused (fault_of fault) read_to
 -- submissions with their results
 abbrev pub results_of : List Submission → List SubmitResult → w.Results SubmitFault
 results_of submits results = zip submits (map result_of results)
+
+-- where it is sent, it stands in the log
+abbrev pub IsPlaced : List Entry → SubmitResult → Type 0
+IsPlaced log (Sent place read_to) = place < length log
+IsPlaced log (Refused fault read_to) = Unit {0}
 
 -- it isn't want of memory, and doesn't hold one
 abbrev pub IsPlainResult : SubmitResult → Type 0

@@ -11,7 +11,7 @@ ghost use Rattle.world_model.specs.Sequencing.{append_fault};
 ghost use Rattle.seq_log.specs.Sequenced.{IsFor};
 ghost use Rattle.node_core.specs.Participant.{with_state};
 ghost use Rattle.world_play.specs.Answering.{AnswersAwake, CanAnswer, IsAnswer};
-ghost use Rattle.world_play.specs.Results.{IsPlainResult, result_of};
+ghost use Rattle.world_play.specs.Results.{IsPlaced, IsPlainResult, result_of};
 ghost use Rattle.world_play.specs.Standing.{GoesOn, IsParticipant};
 
 use crate::reading::read_to_end;
@@ -27,6 +27,7 @@ use std::alloc::AllocError;
 fn send(sequencer: &mut Sequencer<'_>, request: Request) -> Result<SubmitResult, AllocError>
     ensures on { GoesOn sequencer.old sequencer.new }
     ensures plain { IfOk result IsPlainResult }
+    ensures placed { IfOk result (IsPlaced sequencer.new.list) }
     ensures handed_in { IfOk result (λ answer. (m : Machine) (now : ℕ) → IsFor m sequencer.old
         → HandedIn now sequencer.old.list request (append_fault m sequencer.old.list (RequestMessage request)) (result_of answer) sequencer.new.list) }
     ensures behind { (m : Machine) → IsFor m sequencer.old → SequencerBehind m sequencer.old.list → SequencerBehind m sequencer.new.list }
@@ -69,6 +70,7 @@ fn answer_awake(
     ensures flag { node.new.state.is_paused ≡ node.old.state.is_paused }
     ensures keeps { (m : Machine) (p : ParticipantId) → IsParticipant m p node.old sequencer.old → IsParticipant m p node.new sequencer.new }
     ensures plain { IfOk result IsPlainResult }
+    ensures placed { IfOk result (IsPlaced sequencer.new.list) }
     ensures answers { IfOk result (λ answer. (m : Machine) → IsParticipant m what.now.participant node.old sequencer.old
         → AnswersAwake m node.old.topology node.old.packages now sequencer.old.list what.now answer sequencer.new.list) }
 {
@@ -100,6 +102,7 @@ pub fn answer(
     ensures flag { node.new.state.is_paused ≡ node.old.state.is_paused }
     ensures keeps { (m : Machine) (p : ParticipantId) → IsParticipant m p node.old sequencer.old → IsParticipant m p node.new sequencer.new }
     ensures plain { IfOk result IsPlainResult }
+    ensures placed { IfOk result (IsPlaced sequencer.new.list) }
     ensures answers { IfOk result (λ answer. (m : Machine) (round : Round) → IsParticipant m what.now.participant node.old sequencer.old
         → node.old.state.is_paused ≡ has_place round.paused what.now.participant
         → IsAnswer m node.old.topology node.old.packages now round sequencer.old.list what.now answer sequencer.new.list) }

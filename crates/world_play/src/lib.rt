@@ -15,6 +15,7 @@ mod moving;
 mod pass;
 mod playing;
 mod reading;
+mod reading_awake;
 mod resuming;
 mod scanning;
 mod sending;

@@ -1,5 +1,5 @@
 //! What comes of a round's submissions.
-ghost use Rattle.std.specs.Prelude.{◌≡◌, ◌<◌, ◌++◌, ℕ, All, List, length, IfOk, OnOk};
+ghost use Rattle.std.specs.Prelude.{◌≡◌, ◌⊎◌, ◌<◌, ◌++◌, ℕ, All, List, length, IfOk, OnOk};
 ghost use Rattle.ledger_terms.specs.declared.submission.Submission.{Submission};
 ghost use Rattle.ledger_terms.specs.declared.topology.Topology.{Topology};
 ghost use Rattle.ledger_model.specs.Terms.{ParticipantId};
@@ -13,7 +13,8 @@ ghost use Rattle.node_core.specs.declared.submit_result.SubmitResult.{SubmitResu
 ghost use Rattle.world_play.specs.Answering.{IsAnswer};
 ghost use Rattle.world_play.specs.Flags.{ArePaused};
 ghost use Rattle.node_core.specs.Machines.{why_of};
-ghost use Rattle.world_play.specs.Results.{IsPlainResult, results_of};
+ghost use Rattle.world_play.specs.Results.{IsPlaced, IsPlainResult, results_of};
+ghost use Rattle.world_play.specs.Submitted.{IsAnsweredBy, IsOutOfMemory, IsSlipOf};
 ghost use Rattle.world_play.specs.Standing.{GoesOn};
 ghost use Rattle.world_play.specs.Submitting.{AreSetUp, CanSubmit};
 ghost use Rattle.world_play.specs.WorldOf.{IsWorldOf, world_of};
@@ -23,7 +24,8 @@ use crate::answering::answer;
 use crate::world::{NodeList, World};
 use lang_eval::NativeList;
 use ledger_terms::{Submission, SubmissionList};
-use node_core::{Node, SubmitResult, SubmitResultList};
+use log_row::Slip;
+use node_core::{Node, SubmitFault, SubmitRefusal, SubmitResult, SubmitResultList};
 use seq_log::Sequencer;
 use std::alloc::AllocError;
 
@@ -46,6 +48,7 @@ fn answer_slice(
     ensures set_up { (topology : Topology) (packages : Packages) → AreSetUp topology packages nodes.old → AreSetUp topology packages nodes.new }
     ensures paused { (paused : List ParticipantId) → ArePaused paused nodes.old → ArePaused paused nodes.new }
     ensures plain { IfOk result IsPlainResult }
+    ensures placed { IfOk result (IsPlaced sequencer.new.list) }
     ensures answers { IfOk result (λ answer. (m : Machine) (time : ℕ) (state : MediatorState) (topology : Topology) (packages : Packages) (round : Round)
         → AreNodesOf m nodes.old sequencer.old → Lawful m (world_with time state nodes.old sequencer.old) → AreSetUp topology packages nodes.old
         → ArePaused round.paused nodes.old → IsAnswer m topology packages now round sequencer.old.list what.now answer sequencer.new.list) }
@@ -73,6 +76,7 @@ fn answer_list(
     ensures set_up { (topology : Topology) (packages : Packages) → AreSetUp topology packages nodes.old.items → AreSetUp topology packages nodes.new.items }
     ensures paused { (paused : List ParticipantId) → ArePaused paused nodes.old.items → ArePaused paused nodes.new.items }
     ensures plain { IfOk result IsPlainResult }
+    ensures placed { IfOk result (IsPlaced sequencer.new.list) }
     ensures answers { IfOk result (λ answer. (m : Machine) (time : ℕ) (state : MediatorState) (topology : Topology) (packages : Packages) (round : Round)
         → AreNodesOf m nodes.old.items sequencer.old → Lawful m (world_with time state nodes.old.items sequencer.old)
         → AreSetUp topology packages nodes.old.items → ArePaused round.paused nodes.old.items
@@ -99,10 +103,8 @@ fn submit_one(
         → AreSetUp topology packages (world.new.nodes).items }
     ensures paused { (paused : List ParticipantId) → ArePaused paused (world.old.nodes).items → ArePaused paused (world.new.nodes).items }
     ensures plain { IfOk result IsPlainResult }
-    ensures answers { IfOk result (λ answer. (m : Machine) (state : MediatorState) (topology : Topology) (packages : Packages) (round : Round)
-        → IsWorldOf m state world.old → Lawful m (world_of state world.old) → AreSetUp topology packages (world.old.nodes).items
-        → ArePaused round.paused (world.old.nodes).items
-        → IsAnswer m topology packages world.old.now round (world.old.sequencer).list what.now answer (world.new.sequencer).list) }
+    ensures placed { IfOk result (IsPlaced (world.new.sequencer).list) }
+    ensures answers { IfOk result (λ answer. IsAnsweredBy answer world.old what.now world.new) }
 {
     answer_list(
         natives,
@@ -111,6 +113,54 @@ fn submit_one(
         what,
         world.now,
     )
+}
+
+// The slip of a request that was sent, or why none was.
+fn slip_of<'r>(
+    sequencer: &mut Sequencer<'r>,
+    answer: SubmitResult,
+) -> Result<Slip<'r>, SubmitRefusal>
+    requires { IsPlaced sequencer.old.list answer }
+    ensures same { sequencer.new ≡ sequencer.old }
+    ensures slip { IsSlipOf answer sequencer.old result }
+{
+    match answer {
+        SubmitResult::Sent { place, .. } => Ok(sequencer.entry(place).unwrap()),
+        SubmitResult::Refused { fault, read_to } => Err(SubmitRefusal { fault, read_to }),
+    }
+}
+
+impl<'r> World<'r> {
+    /// What comes of a submission: its participant, unless it is paused, reads to the end of the log, and hands in the request that the
+    /// submission wants. The slip is that of the request, which was appended when just the entries before it had been read. After want of
+    /// memory the participant may have read some of the log.
+    pub fn submit(
+        &mut self,
+        natives: &NativeList,
+        what: &Submission,
+    ) -> Result<Slip<'r>, SubmitRefusal>
+        requires lawful { (m : Machine) × (state : MediatorState) × IsWorldOf m state self.old × Lawful m (world_of state self.old) }
+        requires within { (topology : Topology) × (packages : Packages) × AreSetUp topology packages (self.old.nodes).items
+            × CanSubmit topology packages what.now }
+        requires there { what.now.participant < length (self.old.nodes).items }
+        ensures on { GoesOn self.old.sequencer self.new.sequencer }
+        ensures now { self.new.now ≡ self.old.now }
+        ensures lawful { (m : Machine) (state : MediatorState) → IsWorldOf m state self.old → Lawful m (world_of state self.old)
+            → IsWorldOf m state self.new × Lawful m (world_of state self.new) }
+        ensures set_up { (topology : Topology) (packages : Packages) → AreSetUp topology packages (self.old.nodes).items
+            → AreSetUp topology packages (self.new.nodes).items }
+        ensures paused { (paused : List ParticipantId) → ArePaused paused (self.old.nodes).items → ArePaused paused (self.new.nodes).items }
+        ensures answers { IsOutOfMemory result ⊎ ((answer : SubmitResult) × IsPlainResult answer × IsSlipOf answer self.new.sequencer result
+            × IsAnsweredBy answer self.old what.now self.new) }
+    {
+        match submit_one(natives, self, what) {
+            Ok(answer) => slip_of(&mut self.sequencer, answer),
+            Err(AllocError) => Err(SubmitRefusal {
+                fault: SubmitFault::Memory,
+                read_to: 0,
+            }),
+        }
+    }
 }
 
 /// What comes of submissions, in their order. A participant that isn't paused reads to the end of the log before its request is

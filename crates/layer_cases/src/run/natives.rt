@@ -3,20 +3,21 @@ use crate::run::case::Case;
 use crate::run::counting_native::CountingNative;
 use crate::run::surely::{SureRun, sure_run};
 use crate::run::told::end_told;
-use canton_run::run;
+use canton_run::{Platform, run};
 use cli_words::WordList;
 use cn_io::{Sink, Source};
 use lane_pool::FreeGate;
 use lang_eval::{NativeList, flash_choice};
-use ledger_terms::StmtList;
+use ledger_terms::{Known, Name, StmtList};
 use native_choice::FlashNative;
+use note_rule::flash_on_go;
 use std::alloc::{AllocError, AllocGlobal, Global};
 use std::random::RandomSource;
 use std::sync::atomic::AtomicU64;
 use std::sync::{Arc, Wait};
 use std::thread::Threads;
 
-/// Runs words with the natives of the program. What is told of the end.
+/// Runs words with the natives and the rules of the program. What is told of the end.
 pub(crate) fn run_words<R: Threads + Wait + Sync + RandomSource + AllocGlobal, S: Source, K: Sink>(
     rt: &R,
     alloc: Global,
@@ -38,7 +39,12 @@ fn run_told<R: Threads + Wait + Sync + RandomSource + AllocGlobal, S: Source, K:
     sink: &mut K,
     natives: NativeList,
 ) -> Result<String, AllocError> {
-    let finish = run(rt, &FreeGate, words, source, sink, natives);
+    let platform = Platform {
+        rt,
+        gate: &FreeGate,
+    };
+    let rule = move |_name: Name, known: &Known| flash_on_go(alloc, known);
+    let finish = run(&platform, words, source, sink, natives, rule);
     let told = end_told(alloc, &finish);
     finish.forget();
     told

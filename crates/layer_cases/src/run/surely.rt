@@ -1,16 +1,19 @@
 //! A run that nothing but want of memory can stop.
 ghost use Rattle.std.specs.Prelude.{◌≡◌};
 ghost use Rattle.std.proofs.Common.{◌⊎◌};
+ghost use Rattle.trigger_rules.specs.Answers.{CanAsk, GivesExercises, MayAnswer};
 ghost use Rattle.layer_cases.specs.Surely.{IsReady};
 
 use crate::run::case::Case;
 use crate::run::inputs::{bytes_of, words_of};
 use crate::run::told::{end_told, named};
-use canton_run::{Finish, run};
+use canton_run::{Finish, Platform, run};
 use cli_words::WordList;
 use cn_io::{SureSink, SureSource};
 use lane_pool::Gate;
 use lang_eval::NativeList;
+use ledger_terms::{Command, Known, Name};
+use note_rule::flash_on_go;
 use std::alloc::{AllocError, AllocGlobal, Global};
 use std::random::RandomSource;
 use std::sync::Wait;
@@ -18,17 +21,23 @@ use std::thread::Threads;
 
 /// Runs words over a source that never fails and a sink that has taken its room ahead. Where the source gives the job's script and the room
 /// is enough for the text, nothing but want of memory is in the way.
-pub(crate) fn run_surely<R: Threads + Wait + Sync + RandomSource + AllocGlobal, G: Gate + Sync>(
-    rt: &R,
-    gate: &G,
+pub(crate) fn run_surely<
+    R: Threads + Wait + Sync + RandomSource + AllocGlobal,
+    G: Gate + Sync,
+    F: Fn(Name, &Known) -> Result<Option<Command>, AllocError> + Drop,
+>(
+    platform: &Platform<'_, R, G>,
     words: &WordList,
     source: &mut SureSource,
     sink: &mut SureSink,
     natives: NativeList,
+    rule: F,
 ) -> Finish
-    ensures ready { IsReady words.now source.old sink.old.room → (result.status ≡ 0) ⊎ (result.status ≡ 70) }
+    requires askable { CanAsk (F.pre rule) }
+    requires exercises { GivesExercises (MayAnswer (F.post rule)) }
+    ensures ready { IsReady (MayAnswer (F.post rule)) words.now source.old sink.old.room → (result.status ≡ 0) ⊎ (result.status ≡ 70) }
 {
-    run(rt, gate, words, source, sink, natives)
+    run(platform, words, source, sink, natives, rule)
 }
 
 // What is told of the end of such a run.
@@ -41,7 +50,8 @@ fn surely_told<R: Threads + Wait + Sync + RandomSource + AllocGlobal, G: Gate + 
     natives: NativeList,
 ) -> Result<String, AllocError> {
     let alloc = *words.allocator();
-    let finish = run_surely(rt, gate, words, source, sink, natives);
+    let rule = move |_name: Name, known: &Known| flash_on_go(alloc, known);
+    let finish = run_surely(&Platform { rt, gate }, words, source, sink, natives, rule);
     let told = end_told(alloc, &finish);
     finish.forget();
     told

@@ -21,6 +21,7 @@ pub(crate) fn parts_of(script: Script) -> (Setup, RoundList)
         topology,
         checked,
         rounds,
+        ..
     } = script;
     (Setup { topology, checked }, rounds)
 }

@@ -46,6 +46,7 @@ fn put_script(
         topology,
         checked,
         rounds,
+        ..
     } = script;
     let setup = Setup { topology, checked };
     let left = handed_in(alloc, rounds)?;

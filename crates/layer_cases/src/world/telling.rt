@@ -4,10 +4,11 @@ use canton_model::EntryList;
 use consist::find_inconsistent;
 use ledger_terms::Topology;
 use node_core::{Node, NodeView, NodeViewList, SubmitResultList};
-use report_text::report;
+use report_text::{Submissions, report};
 use script_read::RoundList;
 use seq_log::Sequencer;
 use std::alloc::{AllocError, Global};
+use trigger_rules::CausedList;
 use world_play::World;
 
 /// Puts the report at the end, and whether each participant has applied what is consistent.
@@ -43,7 +44,12 @@ pub(crate) fn put_report(
     let log = log_of(alloc, sequencer)?;
     let rounds = RoundList::new(alloc);
     let results = SubmitResultList::new(alloc);
-    let text = report(alloc, topology, &rounds, &log, &results, views)?;
+    let submissions = Submissions {
+        rounds: &rounds,
+        results: &results,
+    };
+    let caused = CausedList::new(alloc);
+    let text = report(alloc, topology, &submissions, &log, views, &caused)?;
     out.put(text.as_str());
     Ok(())
 }

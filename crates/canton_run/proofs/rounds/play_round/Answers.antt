@@ -1,24 +1,24 @@
 use Rattle.std.proofs.Common.{ℕ, ◌+◌, List, ◌++◌, refl, sym, subst}
 use Rattle.node_core.specs.declared.submit_result.SubmitResult.{SubmitResult}
 use Rattle.canton_run.specs.Answered.{round_of}
-use Rattle.canton_run.specs.Between.{ArePlayed}
+use Rattle.canton_run.specs.Between.{IsPlayedOn}
 use Rattle.canton_run.specs.Run.{machine_for}
 use Rattle.canton_run.proofs.Begins.{has_begun}
-use Rattle.canton_run.proofs.PlaysOn.{time_fits, can_be_answered, plays_on}
+use Rattle.canton_run.proofs.PlaysOn.{begins_in_time, can_be_answered, plays_on}
 use Rattle.canton_run.proofs.rounds.play_round.Goals as goal
 
 pub begin_round-requires-clause-time : goal.begin_round-requires-clause-time
-begin_round-requires-clause-time g c = let r = c.requires.played in time_fits r.0 r.2 c.args.round.now r.4 (c.args.world).now (r.5).now
+begin_round-requires-clause-time g c = let r = c.requires.played in begins_in_time r.0 r.2 c.args.round.now r.4 r.5 (c.args.world).now (r.6).now
 
 pub begin_round-requires-clause-lawful : goal.begin_round-requires-clause-lawful
-begin_round-requires-clause-lawful g c = let r = c.requires.played in (machine_for r.0 r.1, (r.5).state, (r.5).is, (r.5).lawful)
+begin_round-requires-clause-lawful g c = let r = c.requires.played in (machine_for r.0 r.1, (r.6).state, (r.6).is, (r.6).lawful)
 
 pub submit_round-requires-clause-answerable : goal.submit_round-requires-clause-answerable
 submit_round-requires-clause-answerable g c κs within =
     let r = c.requires.played in
     let b = c.in_ok-begin_round.ensures in
     let h = c.in_ok-hand_in_raws.ensures in
-    let p = r.5 in
+    let p = r.6 in
     let m = machine_for r.0 r.1 in
     let round = c.args.round.now in
     let w0 = c.begin_round.new.world in
@@ -31,7 +31,7 @@ submit_round-requires-clause-answerable g c κs within =
       r.0,
       r.1,
       r.3,
-      can_be_answered r.0 r.2 round r.4 r.1 c.args.workers.now.count c.args.world w1 (c.args.answers.now).results (c.args.answers.now).ends p
+      can_be_answered r.0 r.2 round r.4 r.5 r.1 c.args.workers.now.count c.args.world w1 (c.args.answers.now).results (c.args.answers.now).ends p
           begun.now begun.is begun.set_up begun.paused,
     )
 
@@ -40,7 +40,7 @@ settle-requires g c =
     let r = c.requires.played in
     let b = c.in_ok-begin_round.ensures in
     let h = c.in_ok-hand_in_raws.ensures in
-    let p = r.5 in
+    let p = r.6 in
     let m = machine_for r.0 r.1 in
     let round = c.args.round.now in
     let w0 = c.begin_round.new.world in
@@ -51,12 +51,12 @@ settle-requires g c =
     (b.log m p.state (round_of round) p.is refl) h.now h.nodes (h.lawful m p.state)
     (h.log m ((c.args.world).now + round.advance) ((is.0).nodes).is_for) in
     let can =
-    can_be_answered r.0 r.2 round r.4 r.1 c.args.workers.now.count c.args.world w1 (c.args.answers.now).results (c.args.answers.now).ends p
+    can_be_answered r.0 r.2 round r.4 r.5 r.1 c.args.workers.now.count c.args.world w1 (c.args.answers.now).results (c.args.answers.now).ends p
     begun.now begun.is begun.set_up begun.paused in
     let a = c.in_ok-answered.ensures r.0 r.1 r.3 can in record { lawful = (m, a.state, a.is, a.lawful) }
 
-pub returns : goal.returns
-returns g c = λ script capacity count setup is p.
+pub returns-clause-on : goal.returns-clause-on
+returns-clause-on g c = λ script capacity parts setup is fits p.
     let b = c.in_ok-begin_round.ensures in
     let h = c.in_ok-hand_in_raws.ensures in
     let m = machine_for script capacity in
@@ -70,18 +70,22 @@ returns g c = λ script capacity count setup is p.
     (b.log m p.state (round_of round) p.is refl) h.now h.nodes (h.lawful m p.state)
     (h.log m ((c.args.world).now + round.advance) ((world0.0).nodes).is_for) in
     let can =
-    can_be_answered script count round is capacity c.args.workers.now.count c.args.world w1 (c.args.answers.now).results
+    can_be_answered script parts round is fits capacity c.args.workers.now.count c.args.world w1 (c.args.answers.now).results
     (c.args.answers.now).ends p begun.now begun.is begun.set_up begun.paused in
     let a = c.in_ok-answered.ensures script capacity setup can in
     let s = c.in_ok-settle.ensures in
     let answered = c.in_ok-answered.answered in
     let on =
-    plays_on script count round is capacity c.args.workers.now.count c.args.world w1 answered.world
+    plays_on script parts round is fits capacity c.args.workers.now.count c.args.world w1 answered.world
     c.settle.new.world (c.args.answers.now).results answered.results (c.args.answers.now).ends c.len.result p begun.now a.now s.now begun.begins
     a.each_result a.plain a.part (s.passes m a.state a.is a.lawful) c.len.ensures (s.lawful m a.state a.is a.lawful) (s.set_up t k a.set_up) in
-    subst (λ (xs : List SubmitResult). ArePlayed script capacity c.args.workers.now.count (count + 1) c.settle.new.world xs c.push.new.self)
+    let old = c.args.answers.now in
+    subst
+    (λ (xs : List SubmitResult).
+    IsPlayedOn script capacity c.args.workers.now.count parts round c.args.world c.settle.new.world old.results xs old.ends c.push.new.self)
     (sym c.in_ok-append.ensures)
     (subst
     (λ (xs : List ℕ).
-    ArePlayed script capacity c.args.workers.now.count (count + 1) c.settle.new.world ((c.args.answers.now).results ++ answered.results) xs)
+    IsPlayedOn script capacity c.args.workers.now.count parts round c.args.world c.settle.new.world old.results (old.results ++ answered.results)
+    old.ends xs)
     (sym c.in_ok-push.ensures.ok) on)

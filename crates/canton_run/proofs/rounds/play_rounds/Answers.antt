@@ -1,32 +1,20 @@
-use Rattle.std.proofs.Common.{◌≡◌, List, Some, sym, ap, ◌∙◌, subst}
-use Rattle.std.specs.Prelude.{slice_get}
-use Rattle.script_read.specs.declared.round.Round.{Round}
-use Rattle.world_play.proofs.Passing.{item_at}
+use Rattle.std.proofs.Common.{◌≡◌, ◌≤◌, ℕ, ap, arith, length, subst}
+use Rattle.trigger_rules.specs.Kept.{fired_by}
+use Rattle.canton_run.specs.RoundsPlayed.{RoundsArePlayed}
+use Rattle.canton_run.specs.Run.{script_with}
 use Rattle.canton_run.proofs.rounds.play_rounds.Goals as goal
 
-pub play_round-requires-clause-played : goal.play_round-requires-clause-played
-play_round-requires-clause-played g c κs within =
-    let r = c.requires.played in
-    let k = c.rounds.round-index in
-    let x = c.round-item.result in
-    let at =
-    subst (λ (xs : List Round). slice_get xs k ≡ Some x) c.as_slice-round-items.ensures
-    (item_at c.as_slice-round-items.result.now k x c.rounds-test.true ∙ ap Some (sym c.round-item.is)) in (
-      r.0,
-      r.1,
-      k,
-      r.3,
-      record { accepted = r.2; there = subst (λ (xs : List Round). slice_get xs k ≡ Some x) (sym r.4) at },
-      c.rounds.invariant r.0 r.1 r.2 r.3 r.4 r.5,
-    )
-
-pub rounds-preserved : goal.rounds-preserved
-rounds-preserved g c = λ script capacity accepted setup same none.
-    let k = c.rounds.round-index in
-    let x = c.round-item.result in
-    let at =
-    subst (λ (xs : List Round). slice_get xs k ≡ Some x) c.as_slice-round-items.ensures
-    (item_at c.as_slice-round-items.result.now k x c.rounds-test.true ∙ ap Some (sym c.round-item.is)) in
-    c.in_ok-world.ensures script capacity k setup
-    (record { accepted = accepted; there = subst (λ (xs : List Round). slice_get xs k ≡ Some x) (sym same) at })
-    (c.rounds.invariant script capacity accepted setup same none)
+pub returns : goal.returns
+returns g c =
+    let plan = c.args.plan.now in
+    let rules = c.args.rules.now in
+    let played = c.rounds.played in
+    let script = script_with plan.setup.now rules.rules plan.rounds.now in
+    let few : length plan.rounds.now ≤ 2048 = (c.requires.accepted.rounds).few in
+    let e = ap length c.as_slice.ensures in
+    let all : c.rounds.number ≡ length plan.rounds.now = omega (arith, c.rounds-test.false, c.rounds.auto.number-end, e, few) in
+    subst
+    (λ (k : ℕ).
+    RoundsArePlayed (g.A.Answering.may_answer rules.answer) script plan.capacity c.args.workers.now.count k played.world (fired_by c.rounds.rules)
+    (played.answers).results (played.answers).ends (played.answers).caused)
+    all (c.rounds.invariant.2)

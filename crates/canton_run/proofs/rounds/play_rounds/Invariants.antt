@@ -1,11 +1,12 @@
-use Rattle.std.proofs.Common.{◌≡◌, ℕ, []}
-use Rattle.script_read.specs.Kept.{IsAccepted}
-use Rattle.script_read.specs.declared.script.Script.{Script}
-use Rattle.canton_run.specs.Between.{ArePlayed, IsSetupOf}
+use Rattle.std.proofs.Common.{◌≡◌}
+use Rattle.trigger_rules.specs.Kept.{fired_by}
+use Rattle.canton_run.specs.RoundsPlayed.{RoundsArePlayed}
+use Rattle.canton_run.specs.Run.{script_with}
 use Rattle.canton_run.proofs.rounds.play_rounds.Given as goal
 
 abbrev pub invariant-rounds : goal.invariant-rounds
 invariant-rounds g l =
-    (script : Script) (capacity : ℕ) → IsAccepted script → IsSetupOf script l.setup → script.rounds ≡ l.rounds
-    → ArePlayed script capacity l.workers.count 0 l.fn.world [] []
-    → ArePlayed script capacity l.workers.count l.round-index l.world (l.answers).results (l.answers).ends
+    (l.rules.rules ≡ l.fn.rules.rules) × (l.rules.answer ≡ l.fn.rules.answer)
+    × RoundsArePlayed (g.A.Answering.may_answer l.fn.rules.answer) (script_with l.plan.setup.now l.fn.rules.rules l.plan.rounds.now)
+    l.plan.capacity l.workers.count l.number l.played.world (fired_by l.rules) (l.played.answers).results (l.played.answers).ends
+    (l.played.answers).caused

@@ -11,7 +11,7 @@ submit_alone-requires g c = let r = c.requires.answerable in (r.0, r.1, r.3)
 pub submit_shared-requires-clause-world : goal.submit_shared-requires-clause-world
 submit_shared-requires-clause-world g c κs within =
     let r = c.requires.answerable in
-    for_world c.args.setup.now (r.0).rounds r.1 c.args.round.now c.args.world
+    for_world c.args.setup.now (r.0).triggers (r.0).rounds r.1 c.args.round.now c.args.world
     (subst (λ (s : Script). CanBeAnswered s r.1 c.args.round.now c.args.world) r.2 r.3)
 
 pub returns-then-workers-eq0 : goal.returns-then-workers-eq0

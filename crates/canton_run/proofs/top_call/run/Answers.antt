@@ -4,9 +4,8 @@ use Rattle.cli_words.specs.declared.job.Job.{Job}
 use Rattle.cli_words.specs.declared.job.Job.TheVariants.{Gen}
 use Rattle.load_gen.specs.Generated.{generated}
 use Rattle.canton_run.specs.Jobs.{capacity_of, needs_source, text_of, workers_of}
-use Rattle.canton_run.specs.Run.{IsRun}
 use Rattle.canton_run.proofs.Generated.{never_six}
-use Rattle.canton_run.proofs.Sources.{asks, from_source, gives, has_room, needed, same_job}
+use Rattle.canton_run.proofs.Sources.{asks, from_source, gives, has_room, needed, same_job, with_workers}
 use Rattle.canton_run.proofs.top_call.run.Goals as goal
 
 pub returns-in-Gen-clause-taken : goal.returns-in-Gen-clause-taken
@@ -20,18 +19,31 @@ returns-in-Gen-clause-taken g c = (
   λ unasked. refl,
 )
 
+pub returns-in-Gen-clause-done : goal.returns-in-Gen-clause-done
+returns-in-Gen-clause-done g c at =
+    let job = Gen c.in-Gen.count c.in-Gen.seed c.in-Gen.workers in
+    let script = generated c.in-Gen.seed c.in-Gen.count in
+    let finish = c.run_generated.result in
+    let ran =
+    with_workers _ script (capacity_of job) _ (workers_of job) finish (c.workers_of.ensures ∙ ap workers_of c.in-Gen.is)
+    (c.run_generated.ensures.ran (omega (arith, at))) in (
+      text_of job script finish,
+      (job, script, search rules, (Keeps-refl _, refl), ran, refl),
+      c.run_generated.ensures.done c.in-Gen.workers at,
+    )
+
 pub returns-in-Gen-clause-cut : goal.returns-in-Gen-clause-cut
 returns-in-Gen-clause-cut g c at =
     let job = Gen c.in-Gen.count c.in-Gen.seed c.in-Gen.workers in
     let script = generated c.in-Gen.seed c.in-Gen.count in
     let finish = c.run_generated.result in
     let ran =
-    subst (λ (n : ℕ). IsRun script (capacity_of job) n finish.log finish.results finish.ends) (c.workers_of.ensures ∙ ap workers_of c.in-Gen.is)
+    with_workers _ script (capacity_of job) _ (workers_of job) finish (c.workers_of.ensures ∙ ap workers_of c.in-Gen.is)
     (c.run_generated.ensures.ran (omega (arith, at))) in (
       text_of job script finish,
       (job, script, search rules, (Keeps-refl _, refl), ran, refl),
-      c.run_generated.ensures.sure at,
-      c.run_generated.ensures.cut at,
+      c.run_generated.ensures.sure c.in-Gen.workers at,
+      c.run_generated.ensures.cut c.in-Gen.workers at,
     )
 
 pub run_source-requires-clause-room : goal.run_source-requires-clause-room
@@ -53,8 +65,7 @@ returns-in-Ok-clause-done g c at =
     let job = c.in-Ok.job in
     let found = c.run_source.ensures.done at in
     let finish = c.run_source.result in
-    let ran =
-    subst (λ (n : ℕ). IsRun found.0 (capacity_of job) n finish.log finish.results finish.ends) c.workers_of.ensures found.2 in
+    let ran = with_workers _ found.0 (capacity_of job) _ (workers_of job) finish c.workers_of.ensures found.2 in
     let given = gives job _ _ found.0 (from_source job c.in_default.not-Gen) found.1 in
     (text_of job found.0 finish, (job, found.0, c.in-Ok.ensures.job, given, ran, refl), found.3)
 
@@ -63,8 +74,7 @@ returns-in-Ok-clause-cut g c at =
     let job = c.in-Ok.job in
     let found = c.run_source.ensures.cut at in
     let finish = c.run_source.result in
-    let ran =
-    subst (λ (n : ℕ). IsRun found.0 (capacity_of job) n finish.log finish.results finish.ends) c.workers_of.ensures found.2 in
+    let ran = with_workers _ found.0 (capacity_of job) _ (workers_of job) finish c.workers_of.ensures found.2 in
     let given = gives job _ _ found.0 (from_source job c.in_default.not-Gen) found.1 in
     (text_of job found.0 finish, (job, found.0, c.in-Ok.ensures.job, given, ran, refl), found.3, found.4)
 

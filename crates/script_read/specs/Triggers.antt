@@ -1,0 +1,74 @@
+-- The rules of a script: their first fault, or the rules.
+use Rattle.std.specs.Prelude.{ℕ, Bool, not, List, [], ◌∷◌, ◌++◌, Option, Some, None, Result, Ok, codes, length}
+use Rattle.std.specs.List.{list_any}
+use Rattle.serde_json.specs.Data.{Data}
+use Rattle.serde_json.specs.Find.{get}
+use Rattle.ledger_terms.specs.Answers.{◌>>=◌, check}
+use Rattle.ledger_terms.specs.Parties.{same_name}
+use Rattle.ledger_terms.specs.Pointers.{at_item, at_member}
+use Rattle.ledger_terms.specs.declared.host.Host.{Host}
+use Rattle.json_walk.specs.Walk.{Place, few_items_of, has_members, member_of, name_in, walk_items, within_limit}
+use Rattle.json_walk.specs.declared.walk_fault.WalkFault.{WalkFault}
+use Rattle.json_walk.specs.declared.walk_fault.WalkFault.TheVariants.{Repeated, Shape}
+use Rattle.lang_read.specs.Parties.{party_of}
+use Rattle.trigger_rules.specs.Ids.{is_rule_command}
+use Rattle.trigger_rules.specs.declared.rule.Rule.{Rule}
+use Rattle.script_read.specs.Participants.{participant_of}
+use Rattle.json_walk.specs.declared.limits.TheConstants.{RULE_NAME_BYTES, RULES}
+
+-- one of the rules has the name
+abbrev pub is_rule : List Rule → List ℕ → Bool
+is_rule rules name = list_any (λ (rule : Rule). same_name rule.name name) rules
+
+unfoldable pub has_rule_members : Data → Bool
+has_rule_members d = has_members (codes "name" ∷ codes "participant" ∷ codes "party" ∷ []) [] d
+
+-- the name of a rule, which keeps its limit and which none so far has
+unfoldable pub rule_name_in : List Rule → Place → Data → Result (List ℕ) WalkFault
+rule_name_in before at d = do
+  name ← name_in at (codes "name") d
+  _ ← within_limit (at_member at (codes "name")) RULE_NAME_BYTES (length name)
+  _ ← check (not (is_rule before name)) (Repeated (at_member at (codes "name")))
+  Ok name
+
+unfoldable pub rule_participant_in : List Host → Place → Data → Result ℕ WalkFault
+rule_participant_in hosts at d = do
+  m ← member_of at (codes "participant") d
+  participant_of hosts (at_member at (codes "participant")) m
+
+unfoldable pub rule_party_in : List Host → Place → Data → Result (List ℕ) WalkFault
+rule_party_in hosts at d = do
+  m ← member_of at (codes "party") d
+  party_of hosts (at_member at (codes "party")) m
+
+-- one rule more
+unfoldable pub rule_of : List Host → List Rule → Place → Data → Result (List Rule) WalkFault
+rule_of hosts before at d = do
+  _ ← check (has_rule_members d) (Shape at)
+  name ← rule_name_in before at d
+  participant ← rule_participant_in hosts at d
+  party ← rule_party_in hosts at d
+  Ok (before ++ record { name = name; participant = participant; party = party } ∷ [])
+
+abbrev pub rule_step : List Host → Place → ℕ → List Rule → Data → Result (List Rule) WalkFault
+rule_step hosts at i before d = rule_of hosts before (at_item at i) d
+
+unfoldable pub rules_of : List Host → Place → Data → Result (List Rule) WalkFault
+rules_of hosts at d = do
+  items ← few_items_of at RULES d
+  walk_items (rule_step hosts at) 0 [] items
+
+abbrev pub rules_if : List Host → Place → Option Data → Result (List Rule) WalkFault
+rules_if hosts at None = Ok []
+rules_if hosts at (Some d) = rules_of hosts at d
+
+-- the rules of a script, of which there are none where the member is absent
+unfoldable pub triggers_in : List Host → Data → Result (List Rule) WalkFault
+triggers_in hosts d = rules_if hosts (at_member [] (codes "triggers")) (get (codes "triggers") d)
+
+-- the id of a command, which isn't kept for a rule of the participant
+unfoldable pub own_command_in : List Rule → (participant : ℕ) → Place → Data → Result (List ℕ) WalkFault
+own_command_in rules participant at d = do
+  command ← name_in at (codes "command") d
+  _ ← check (not (is_rule_command rules participant command)) (Repeated (at_member at (codes "command")))
+  Ok command

@@ -1,0 +1,37 @@
+use Rattle.std.proofs.Common.{List, rules, sym, subst}
+use Rattle.std.proofs.lemmas.List.{with_items_is, places}
+use Rattle.world_model.specs.Lawful.{Lawful}
+use Rattle.node_core.specs.Participant.{Participant as NodeValue}
+use Rattle.world_play.specs.Flags.{ArePaused, HaveAwakeRead}
+use Rattle.world_play.specs.Submitting.{AreSetUp}
+use Rattle.world_play.specs.Worlds.{world_with, AreNodesOf}
+use Rattle.world_play.proofs.Answered.{on_ok}
+use Rattle.world_play.proofs.reading_awake.read_awake_list.Goals as goal
+
+pub returns-clause-lawful : goal.returns-clause-lawful
+returns-clause-lawful c = λ m now state a l.
+    let at = sym c.as_mut_slice.ensures.value in
+    let s = c.args.sequencer.now in
+    let all = with_items_is c.args.nodes.now c.read_awake_slice.new.nodes (search (rules, places)) in
+    subst (λ (xs : List NodeValue). Lawful m (world_with now state xs s)) (sym all)
+    (c.read_awake_slice.ensures.lawful m now state (subst (λ (xs : List NodeValue). AreNodesOf m xs s) at a)
+    (subst (λ (xs : List NodeValue). Lawful m (world_with now state xs s)) at l))
+
+pub returns-clause-ok : goal.returns-clause-ok
+returns-clause-ok c =
+    on_ok c.read_awake_slice.result _ _ c.read_awake_slice.ensures.ok
+    (λ ok.
+    let all = with_items_is c.args.nodes.now c.read_awake_slice.new.nodes (search (rules, places)) in
+    subst (HaveAwakeRead c.args.sequencer.now.list) (sym all) ok)
+
+pub returns-clause-paused : goal.returns-clause-paused
+returns-clause-paused c = λ paused p.
+    let all = with_items_is c.args.nodes.now c.read_awake_slice.new.nodes (search (rules, places)) in
+    subst (λ (xs : List NodeValue). ArePaused paused xs) (sym all)
+    (c.read_awake_slice.ensures.paused paused (subst (λ (xs : List NodeValue). ArePaused paused xs) (sym c.as_mut_slice.ensures.value) p))
+
+pub returns-clause-set_up : goal.returns-clause-set_up
+returns-clause-set_up c = λ topology packages u.
+    let all = with_items_is c.args.nodes.now c.read_awake_slice.new.nodes (search (rules, places)) in
+    subst (λ (xs : List NodeValue). AreSetUp topology packages xs) (sym all)
+    (c.read_awake_slice.ensures.set_up topology packages (subst (λ (xs : List NodeValue). AreSetUp topology packages xs) (sym c.as_mut_slice.ensures.value) u))
