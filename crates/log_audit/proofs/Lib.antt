@@ -3,3 +3,8 @@ pub mod Hosts
 pub mod Told
 pub mod YesFacts
 pub mod Room
+pub mod Ranges
+pub mod RuleNames
+pub mod OneExercise
+pub mod RuleRuns
+pub mod Reach

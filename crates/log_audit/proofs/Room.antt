@@ -16,7 +16,7 @@ use Rattle.log_dump.specs.Room.{HasRoom}
 use Rattle.log_dump.specs.Spellable.{IsSpellableEnvelope, IsSpellableLog, IsSpellableRequest}
 use Rattle.log_dump.proofs.RoomLaws.{spellable_genuine}
 
-short : (n : ℕ) → n ≤ 4194304 → n < 2 ^ 32
+pub short : (n : ℕ) → n ≤ 4194304 → n < 2 ^ 32
 short n le = let most : 4194304 < 2 ^ 32 = lit< tt in omega (arith, le, most)
 
 spellable : (topology : Topology) (request : Request) → length topology.hosts ≤ 255 → IsFramed topology request → IsSpellableRequest request

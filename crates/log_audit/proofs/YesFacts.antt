@@ -1,19 +1,16 @@
 -- An audit says yes exactly of a dump of a proper log; and what is written of such a log is judged yes.
-use Rattle.std.proofs.Common.{◌≡◌, ℕ, zero, suc, ◌-◌, ◌<◌, List, [], ◌∷◌, get_or, arith, Result, Ok, Err, Option, Some, length, refl, sym, ap, ◌∙◌, subst, inl, inr}
+use Rattle.std.proofs.Common.{◌≡◌, ℕ, ◌<◌, List, arith, Result, Ok, Err, Option, length, refl, sym, ap, ◌∙◌, subst, inl, inr}
 use Rattle.std.specs.Prelude.{All}
 use Rattle.std.proofs.lemmas.Bool.{cases_lt}
 use Rattle.std.proofs.lemmas.List.{get_or_past}
 use Rattle.std.proofs.lemmas.List.Elements.{All-get_or}
 use Rattle.world_model.specs.Messages.{Entry}
 use Rattle.wire_form.proofs.FormatLaws.{IsBytes, ok_is}
-use Rattle.log_dump.specs.InRange.{IsBlock, IsLog}
-use Rattle.log_dump.specs.Spelling.{spell_dump}
 use Rattle.log_dump.specs.Dumps.{dump_in}
 use Rattle.log_dump.proofs.DumpLaws.{dump_is_read, read_is_dump}
 use Rattle.audit_model.specs.Standard.{Standard}
-use Rattle.audit_model.specs.Judged.{IsProper, FailsAt, approved_in}
+use Rattle.audit_model.specs.Judged.{IsProper, approved_in}
 use Rattle.audit_model.proofs.Judging.{not_both}
-use Rattle.audit_model.specs.declared.why.Why.{Why}
 use Rattle.log_audit.specs.declared.answer.Audit.{Audit}
 use Rattle.log_audit.specs.declared.answer.Audit.TheVariants.{Yes, No, Bad}
 use Rattle.log_audit.specs.Audits.{IsAudit, SpellsProperLog, IsYes}

@@ -1,5 +1,5 @@
 //! Reading a dump.
-ghost use Rattle.std.specs.Prelude.{◌≡◌, length, IfOk};
+ghost use Rattle.std.specs.Prelude.{◌≡◌, IfOk};
 ghost use Rattle.script_read.specs.Kept.{IsAccepted};
 ghost use Rattle.wire_form.specs.Formats.{Gives};
 ghost use Rattle.log_dump.specs.Dumps.{dump_in, known_or, script_block_at};

@@ -1,5 +1,5 @@
 //! The participants of an audit.
-ghost use Rattle.std.specs.Prelude.{◌≡◌, ◌≤◌, [], List, length, IfOk};
+ghost use Rattle.std.specs.Prelude.{◌≤◌, length};
 
 use crate::owing::owed;
 use crate::reading::read_each;

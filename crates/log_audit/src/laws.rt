@@ -1,5 +1,5 @@
 //! What a yes says, as the clauses of functions that do nothing.
-ghost use Rattle.std.specs.Prelude.{◌≡◌, ◌<◌, ◌≤◌, ◌^◌, ℕ, true, List, Some, length};
+ghost use Rattle.std.specs.Prelude.{◌≡◌, ◌-◌, ◌<◌, ◌≤◌, ◌^◌, ℕ, true, List, Ok, Some, All, length};
 ghost use Rattle.ledger_terms.specs.declared.topology.Topology.{Topology};
 ghost use Rattle.ledger_model.specs.Authority.{is_commit_authorised};
 ghost use Rattle.ledger_model.specs.Conformance.{Conforms};
@@ -14,11 +14,24 @@ ghost use Rattle.interpret.specs.Language.{the_language};
 ghost use Rattle.lang_eval.specs.Found.{Packages};
 ghost use Rattle.framed_form.specs.Collisions.{Collides};
 ghost use Rattle.framed_form.specs.FramedReading.{framed_reading};
+ghost use Rattle.world_model.specs.Machine.{IsMachine, Machine};
+ghost use Rattle.world_model.specs.Rounds.{Why};
+ghost use Rattle.trigger_model.specs.CausedRequests.{HasOwnIds, RunWithRules};
+ghost use Rattle.trigger_model.specs.CausedRun.{FiredRound};
+ghost use Rattle.trigger_model.specs.TwoParts.{RoundParts};
+ghost use Rattle.script_read.specs.Kept.{IsAccepted};
+ghost use Rattle.script_read.specs.Script.{script_in};
+ghost use Rattle.script_read.specs.declared.script.Script.{Script};
 ghost use Rattle.audit_model.specs.Judged.{approved_in};
+ghost use Rattle.log_dump.specs.InRange.{IsBlock, IsLog, IsTyped};
+ghost use Rattle.log_dump.specs.Spelling.{spell_dump};
 ghost use Rattle.log_dump.specs.Spellable.{IsSpellableLog};
 ghost use Rattle.log_audit.specs.Audits.{IsAudit, SpellsProperLog};
+ghost use Rattle.log_audit.specs.RuleRuns.{AreOpened, UsesRulesRightly};
 ghost use Rattle.log_audit.specs.Scripts.{most_of, script_of, standard_of};
 ghost use Rattle.log_audit.specs.declared.answer.Audit.TheVariants.{Yes};
+
+use trigger_rules::Answering;
 
 /// The dump of a proper log is judged yes, with the number of its entries and of its approved requests.
 pub fn dumps_of_proper_logs_are_judged_yes()
@@ -48,4 +61,42 @@ pub fn logs_that_are_judged_yes_are_ledgers()
         → whole_at (framed_reading spelled.script.topology spelled.script.checked) spelled.log k ≡ Some commit
         → Conforms (the_language spelled.script.checked) commit.roots
         × (is_commit_authorised (roles_of (the_language spelled.script.checked)) commit ≡ true) }
+{}
+
+/// A genuine log of a synchroniser with few participants is in range, where its times have eight bytes and its commands are names: its
+/// participants are some that there are, and what is owed and decided has small numbers.
+pub fn genuine_logs_are_in_range()
+    ensures { (topology : Topology) (packages : Packages) (log : List Entry)
+        → 0 < length topology.hosts
+        → length topology.hosts ≤ 255
+        → Genuine (framed_reading topology packages) topology.params log
+        → length log < 2 ^ 32
+        → All IsTyped log
+        → IsLog (length topology.hosts - 1) log }
+{}
+
+/// The dump of a genuine log of a script's synchroniser is judged yes, where each request of a rule is what that rule may cause.
+pub fn genuine_logs_are_judged_yes()
+    ensures { (bytes : List ℕ) (script : Script) (log : List Entry)
+        → script_in bytes ≡ Ok script
+        → IsAccepted script
+        → IsBlock bytes
+        → Genuine (framed_reading script.topology script.checked) script.topology.params log
+        → length log < 2 ^ 32
+        → All IsTyped log
+        → UsesRulesRightly script log
+        → IsAudit script_of most_of standard_of (spell_dump bytes log) (Yes (length log) (approved_in log)) }
+{}
+
+/// In the log of a run with rules each request of a rule is what that rule may cause, where neither submissions nor raw requests have a
+/// rule's id.
+pub fn runs_use_rules_rightly<F, A: Answering>()
+    ensures { (m : Machine) (why : Why F) (answer : A) (script : Script) (log : List Entry) (rounds : List (RoundParts F)) (fired : List FiredRound)
+        → IsMachine m
+        → m.reading ≡ framed_reading script.topology script.checked
+        → IsAccepted script
+        → RunWithRules m why (A.may_answer answer) script.triggers log rounds fired
+        → All (HasOwnIds script.triggers) rounds
+        → AreOpened script log rounds
+        → UsesRulesRightly script log }
 {}

@@ -6,9 +6,11 @@ mod auditing;
 mod dump;
 mod inboxes;
 pub mod laws;
+mod line;
 mod owing;
 mod reading;
 
 pub use answer::Audit;
 pub use auditing::audit;
 pub use dump::{Dump, read_dump};
+pub use line::audit_line;

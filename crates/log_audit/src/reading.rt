@@ -1,5 +1,5 @@
 //! The inboxes of all participants.
-ghost use Rattle.std.specs.Prelude.{◌≡◌, ◌++◌, ◌∷◌, ◌≤◌, [], List, length, option_copied, IfOk, OnOk};
+ghost use Rattle.std.specs.Prelude.{◌++◌, ◌∷◌, ◌≤◌, [], List, length, option_copied, IfOk, OnOk};
 ghost use Rattle.ledger_terms.specs.declared.topology.Topology.{Topology};
 ghost use Rattle.lang_eval.specs.Found.{Packages};
 ghost use Rattle.world_model.specs.Messages.{Entry as EntryValue};

@@ -1,5 +1,5 @@
 -- What the auditor's tests decide, and what it knows after one entry more.
-use Rattle.std.proofs.Common.{◌≡◌, ◌≢◌, ℕ, Bool, true, false, not, List, [], ◌∷◌, ◌++◌, Option, Some, None, refl, sym, ap, ◌∙◌, subst}
+use Rattle.std.proofs.Common.{◌≡◌, ◌≢◌, Bool, true, false, not, List, [], ◌∷◌, ◌++◌, Option, Some, None, refl, sym, ap, ◌∙◌, subst}
 use Rattle.std.specs.Prelude.{Decides, IfOk, OnOk, Result, Ok, Err}
 use Rattle.std.proofs.lemmas.Bool.Decides.{Decides-not, Decides-like}
 use Rattle.std.proofs.lemmas.Option.{none-some, same_Some}
@@ -7,7 +7,7 @@ use Rattle.ledger_terms.specs.declared.params.Params.{Params}
 use Rattle.canton_model.specs.Mediation.{scan}
 use Rattle.canton_model.specs.Reading.{Reading}
 use Rattle.canton_model.specs.Genuine.{Genuine}
-use Rattle.world_model.specs.Messages.{Entry, Message, RequestMessage, ResponseMessage, VerdictMessage, Tick, Request, Verdict, Decision}
+use Rattle.world_model.specs.Messages.{Entry, Message, RequestMessage, ResponseMessage, VerdictMessage, Tick, Verdict, Decision}
 use Rattle.world_model.specs.Machine.{Machine}
 use Rattle.world_model.specs.Mediator.{MediatorState, read_by_mediator}
 use Rattle.world_model.proofs.Steps.{mediator_has_read}
@@ -15,7 +15,7 @@ use Rattle.mediator.specs.Kept.{Kept, Keeps, Knows, known_decision}
 use Rattle.mediator.proofs.Known.{decision_is}
 use Rattle.framed_form.specs.Outlines.{IsOutlined}
 use Rattle.framed_form.specs.declared.outline.Outline.{Outline}
-use Rattle.audit_model.specs.Cases.{IsOtherDecision, IsUnframed, ShowsNone, is_repeated}
+use Rattle.audit_model.specs.Cases.{IsOtherDecision, IsUnframed, is_repeated}
 use Rattle.audit_model.specs.Standard.{Rule}
 use Rattle.audit_model.proofs.Fitting.{no_verdict}
 use Rattle.log_judge.specs.Framing.{IsFramingOf}

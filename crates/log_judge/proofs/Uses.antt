@@ -1,5 +1,5 @@
 -- What is kept of the requests of rules tells which of them is wrong.
-use Rattle.std.proofs.Common.{◌≡◌, ℕ, ◌≤◌, length, arith, Bool, true, false, ◌&&◌, ◌||◌, List, [], ◌∷◌, ◌++◌, map, Option, Some, None, refl, sym, ap, ◌∙◌, subst, inl, inr}
+use Rattle.std.proofs.Common.{◌≡◌, ℕ, ◌≤◌, length, arith, Bool, true, false, ◌&&◌, ◌||◌, List, [], ◌∷◌, ◌++◌, map, Option, Some, None, refl, sym, ap, ◌∙◌, inl, inr}
 use Rattle.std.specs.Prelude.{if◌then◌else◌}
 use Rattle.std.specs.List.{list_any}
 use Rattle.std.specs.Str.{bytes_eq}
@@ -12,8 +12,7 @@ use Rattle.ledger_terms.specs.declared.tree.Tree.{Tree}
 use Rattle.ledger_model.specs.Terms.{Hash}
 use Rattle.ledger_model.specs.Opening.{Transaction}
 use Rattle.canton_model.specs.Reading.{Reading}
-use Rattle.world_model.specs.Messages.{Entry, Message, RequestMessage, ResponseMessage, VerdictMessage, Tick, Request}
-use Rattle.audit_model.specs.Cases.{IsUnframed}
+use Rattle.world_model.specs.Messages.{Entry, Message, RequestMessage, Request}
 use Rattle.audit_model.specs.Rules as rules
 use Rattle.audit_model.specs.Rules.{exercised_for, exercised_in, has_exercised, is_caused_by, is_contract, is_wrongly_caused_by}
 use Rattle.audit_model.proofs.Deciding.{true_false, true_from}

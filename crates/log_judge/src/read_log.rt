@@ -1,5 +1,5 @@
 //! What was read of a log.
-ghost use Rattle.std.specs.Prelude.{◌≡◌, ◌++◌, ◌∷◌, ◌<◌, ◌^◌, [], false, length, Decides, option_copied, nat_lt, slice_get, OnOk, OnErr};
+ghost use Rattle.std.specs.Prelude.{◌≡◌, ◌++◌, ◌∷◌, ◌<◌, [], false, Decides, option_copied, nat_lt, slice_get, OnOk, OnErr};
 ghost use Rattle.canton_model.specs.Log.{decision_time_of, request_at, time_of};
 ghost use Rattle.audit_model.specs.Cases.{AnswersNothing, IsAsked, IsMistimed, IsTooLate, is_repeated};
 

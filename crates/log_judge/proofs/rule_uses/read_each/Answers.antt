@@ -1,8 +1,8 @@
-use Rattle.std.proofs.Common.{◌≡◌, List, ap, ◌∙◌, sym, arith, length, option_map}
+use Rattle.std.proofs.Common.{ap, ◌∙◌, arith, option_map}
 use Rattle.std.specs.Prelude.{slice_set}
 use Rattle.whole_request.specs.Completes.{transaction}
 use Rattle.log_judge.specs.RuleUses.{Used, used_after}
-use Rattle.log_judge.proofs.Mapped.{long, mapped_next, mapped_all, mapped_to}
+use Rattle.log_judge.proofs.Mapped.{mapped_next, mapped_all}
 use Rattle.log_judge.proofs.rule_uses.read_each.Goals as goal
 
 pub loop-at-preserved : goal.loop-at-preserved

@@ -3,7 +3,7 @@ use Rattle.world_model.specs.Mediator.{new_mediator}
 use Rattle.audit_model.specs.Standard.{Rule}
 use Rattle.log_judge.specs.Known.{standard_for}
 use Rattle.log_judge.specs.ReadEntries.{ReadEntries}
-use Rattle.log_judge.specs.RuleUses.{AreUsed, Used, rules_of}
+use Rattle.log_judge.specs.RuleUses.{AreUsed, rules_of}
 use Rattle.log_judge.proofs.Uses.{unused_are, unused_rules}
 use Rattle.log_judge.proofs.auditor.Auditor.new.Goals as goal
 

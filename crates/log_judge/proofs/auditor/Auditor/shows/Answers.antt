@@ -1,8 +1,8 @@
-use Rattle.std.proofs.Common.{◌≡◌, Bool, true, List, arith, sym, subst}
+use Rattle.std.proofs.Common.{◌≡◌, true, List, arith, subst}
 use Rattle.std.specs.Prelude.{Decides}
 use Rattle.ledger_terms.specs.declared.params.Params.{Params}
 use Rattle.world_model.specs.Messages.{Entry}
-use Rattle.audit_model.specs.Cases.{AnswersNothing, IsMistimed, IsTooLate, Shows, is_repeated}
+use Rattle.audit_model.specs.Cases.{AnswersNothing, IsMistimed, IsTooLate, is_repeated}
 use Rattle.audit_model.specs.declared.why.Why.TheVariants.{Unframed, Repeated}
 use Rattle.audit_model.proofs.Deciding.{false_from}
 use Rattle.log_judge.proofs.Knowing.{decides_test, if_ok_map}
