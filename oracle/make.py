@@ -20,7 +20,7 @@ import trees
 import world_cases
 from tables import bytes as byte_tables
 from tables import (
-    benches, checks, commit_runs, commits, edges, expressions, frames, openings, package_faults, raw_runs, requests, runs, script_faults, transactions, words, worlds)
+    benches, checks, commit_runs, commits, edges, expressions, frames, openings, package_faults, raw_runs, requests, runs, script_faults, transactions, trigger_runs, words, worlds)
 
 CRATE = os.path.join(os.path.dirname(os.path.dirname(os.path.abspath(__file__))), 'crates', 'layer_cases')
 
@@ -222,6 +222,12 @@ def commit_run_cases():
     yield from commit_runs.FAILING
 
 
+def trigger_run_cases():
+    """Runs of scripts with rules, in the same form."""
+    for name, words, source, text in trigger_runs.RUNS:
+        yield name, words, source, 0, 0, 0, None, text
+
+
 def run_rows(cases):
     for name, words, source, take, put, status, line, text in cases:
         if status == 0 and words.startswith('run'):
@@ -231,7 +237,8 @@ def run_rows(cases):
 
 
 def sure_run_rows():
-    for name, source, text in runs.SURE_RUNS + [(name, lying_transfer(changes), text) for name, changes, text in raw_runs.SURE]:
+    lying = [(name, lying_transfer(changes), text) for name, changes, text in raw_runs.SURE]
+    for name, source, text in runs.SURE_RUNS + lying + trigger_runs.SURE:
         agreed(name, plain_text('run', source), text)
         lines = ['run ' + name, 'status 0'] + ['|' + written for written in text.splitlines()]
         yield 'surely %s %d run %s' % (name, len(text), source), lines
@@ -340,7 +347,8 @@ def layer_rows():
         'sharing': {'Clients of a shared synchroniser': sharing_rows()},
         'run': {
             'Whole runs': run_rows(runs.cases()), 'Whole runs with raw requests': run_rows(raw_run_cases()),
-            'Whole runs that commit': run_rows(commit_run_cases()), 'Whole runs within room': sure_run_rows(),
+            'Whole runs that commit': run_rows(commit_run_cases()), 'Whole runs with rules': run_rows(trigger_run_cases()),
+            'Whole runs within room': sure_run_rows(),
             'Whole runs with workers in any order': count_rows(), 'Whole runs that pass a gate': gate_rows(), 'Whole runs with natives': native_rows(),
             'Beginnings of a script': cut_rows(), 'Logs': log_rows(), 'Sources that fail': edges.SOURCES, 'Sinks that fail': edges.SINKS},
         'bench': {'Work of which the time is taken': bench_rows()}}

@@ -1,6 +1,7 @@
 """The report of a script that one thread runs: each round's Tick, its raw requests, its submissions in order, and passes until one appends
-nothing."""
+nothing; then what rules cause, in order, and passes again."""
 import ledger
+import rules
 import trees
 import world_cases
 from framed import is_framed, read_raw
@@ -14,15 +15,31 @@ class Run(world_cases.World):
     def __init__(self, script, capacity):
         world_cases.World.__init__(self, {**script, 'rounds': [{}]})
         self.rounds, self.capacity, self.results = script['rounds'], capacity, []
+        self.rules, self.fired, self.fired_lines = script.get('triggers', []), {}, []
         for number, round_ in enumerate(self.rounds):
             self.paused, self.is_held = set(round_.get('paused', [])), round_.get('hold_verdicts', False)
             self.advance(round_.get('advance', 0))
             for raw in round_.get('raw', []):
                 self.take(raw)
-            for submission in round_.get('submits', []):
-                told = 'result %d %s %s ' % (number, submission['participant'], submission['command'])
-                self.results.append(told + self.answer(submission))
-            self.settle()
+            self.answer_each(number, round_.get('submits', []))
+            self.answer_each(number, [submission for rule in self.rules for submission in self.caused(number, rule)])
+
+    def answer_each(self, number, submissions):
+        """Takes submissions of a round, and all that is due comes. Who isn't paused has read all of it then."""
+        for submission in submissions:
+            told = 'result %d %s %s ' % (number, submission['participant'], submission['command'])
+            self.results.append(told + self.answer(submission))
+        self.settle()
+        for host in self.awake():
+            self.read[host['name']] = len(self.log)
+
+    def caused(self, number, rule):
+        """What a rule asks for in a round."""
+        fired = self.fired.setdefault(rule['name'], [])
+        for contract in list(rules.due(self, rule, self.read[rule['participant']], fired)):
+            self.fired_lines.append(rules.fired_line(number, rule, contract, len(fired)))
+            yield rules.submission(rule, contract, len(fired))
+            fired.append(contract['id'])
 
     def refusal(self, sender, command, confirming):
         """Why the log refuses a framed request, or None."""
@@ -63,7 +80,7 @@ class Run(world_cases.World):
     def report(self):
         lines = list(world_cases.World.report(self))
         end = lines.index('end')
-        return lines[:1 + len(self.log)] + self.results + lines[1 + len(self.log):end + 1]
+        return lines[:1 + len(self.log)] + self.results + self.fired_lines + lines[1 + len(self.log):end + 1]
 
 
 def report(script, capacity=20_480):

@@ -4,12 +4,14 @@ The entries are taken one after another, and each is tried against those before 
 the time; of a request that it is the next raw one, at the beginning of its round, or that a result says that it was sent and what its
 participant may have read gives it; of a raw request that has no entry, that it is refused at its step; of a response its
 verdicts, of a verdict its decision, that neither comes twice or too late, and that it may stand in a round in which its participant
-isn't paused, or which doesn't hold verdicts. Before an entry of a later round nothing was due any more at some place, nor is at the end.
+isn't paused, or which doesn't hold verdicts. Before an entry of a later part of a round nothing was due any more at some place, nor is at
+the end. Where a first part ends the script's rules were asked, and what they caused stands in order at the beginning of the second part.
 Each refusal has its cause. All that the report says below its results is then worked out again from the entries, and of the ledger what
 audit.py says.
 """
 import audit
 import ledger
+import rules
 import trees
 import world_cases
 from framed import is_framed, read_raw
@@ -26,54 +28,60 @@ def want(holds, line, why):
         raise Misfit('%s: %s' % (line, why))
 
 
-class Report(world_cases.World):
-    """A log that is read from the report of a script's run, whose requests may need so many places of the log."""
+def parts_of(round_):
+    """A round's first part, and its second, in which no time passes and no raw request comes."""
+    return [round_, {key: round_[key] for key in ('paused', 'hold_verdicts') if key in round_}]
 
-    def __init__(self, script, capacity):
+
+class Report(world_cases.World):
+    """A log that is read from the report of a script's run, whose requests may need so many places of the log and whose rules are told of so."""
+
+    def __init__(self, script, capacity, told):
         world_cases.World.__init__(self, {**script, 'rounds': [{'submits': []}]})
-        self.rounds, self.capacity, self.times, self.begun = script['rounds'], capacity, [], {}
-        self.spans, self.round, self.round_place, self.raw_rounds = [], 0, 0, {}
-        self.raws = [(number, raw) for number, round_ in enumerate(self.rounds) for raw in round_.get('raw', [])]
+        self.parts, self.capacity, self.times, self.begun = [part for round_ in script['rounds'] for part in parts_of(round_)], capacity, [], {}
+        self.spans, self.part, self.part_place, self.raw_parts = [], 0, 0, {}
+        self.raws = [(number, raw) for number, part in enumerate(self.parts) for raw in part.get('raw', [])]
+        self.rules, self.told_of_rules, self.fired, self.asked, self.asked_at = script.get('triggers', []), told, {}, 0, 0
         now = 0
-        for round_ in self.rounds:
-            now += round_.get('advance', 0)
+        for part in self.parts:
+            now += part.get('advance', 0)
             self.times.append(now)
 
     def with_tick(self):
-        """The rounds that move the time."""
-        return [number for number, round_ in enumerate(self.rounds) if round_.get('advance', 0)]
+        """The parts that move the time."""
+        return [number for number, part in enumerate(self.parts) if part.get('advance', 0)]
 
     def span_entries(self, lines, results):
-        """The rounds in which each entry may stand, by the requests and Ticks before and behind it."""
-        sent = {result['sent']: result['round'] for result in results}
+        """The parts in which each entry may stand, by the requests and Ticks before and behind it."""
+        sent = {result['sent']: result['part'] for result in results}
         ticks, known = iter(self.with_tick()), []
         for place, line in enumerate(lines):
             _, _, kind, *rest = line.split(' ')
-            known.append(self.rounds_of_request(sent.get(place), rest) if kind == 'request' else [next(ticks, 0)] if kind == 'tick' else [])
-        firsts, lasts, first, last = [], [], 0, len(self.rounds) - 1
-        for rounds in known:
-            first = max([first] + rounds[:1])
+            known.append(self.parts_of_request(sent.get(place), rest) if kind == 'request' else [next(ticks, 0)] if kind == 'tick' else [])
+        firsts, lasts, first, last = [], [], 0, len(self.parts) - 1
+        for parts in known:
+            first = max([first] + parts[:1])
             firsts.append(first)
-        for rounds in reversed(known):
-            last = min([last] + rounds[-1:])
+        for parts in reversed(known):
+            last = min([last] + parts[-1:])
             lasts.append(last)
         self.spans = list(zip(firsts, reversed(lasts)))
 
-    def rounds_of_request(self, sent, rest):
-        """The round of the result that tells of a request, or those that have such a raw one."""
+    def parts_of_request(self, sent, rest):
+        """The part of the result that tells of a request, or those that have such a raw one."""
         return [sent] if sent is not None else [number for number, raw in self.raws if [raw['participant'], raw['command']] == rest[:2]]
 
-    def rounds_here(self):
-        """The rounds in which the next entry may stand."""
+    def parts_here(self):
+        """The parts in which the next entry may stand."""
         first, last = self.spans[len(self.log)]
-        return self.rounds[first:last + 1]
+        return self.parts[first:last + 1]
 
     def goes_on(self, line, number, is_begin=False):
-        """The next entry is of this round, perhaps its first, in front of which nothing was due at some place."""
-        if number > self.round:
-            ends = range(len(self.log) if is_begin else self.round_place, len(self.log) + 1)
-            want(any(self.is_settled(self.rounds[number - 1], end) for end in ends), line, 'more was due in the round before it')
-        self.round, self.round_place = number, len(self.log) + 1
+        """The next entry is of this part, perhaps its first, in front of which nothing was due at some place."""
+        if number > self.part:
+            ends = range(len(self.log) if is_begin else self.part_place, len(self.log) + 1)
+            want(any(self.is_settled(self.parts[number - 1], end) for end in ends), line, 'more was due in the part before it')
+        self.part, self.part_place = number, len(self.log) + 1
 
     # entries
 
@@ -101,30 +109,31 @@ class Report(world_cases.World):
             return
         want((name, command) == (result['name'], result['command']), line, 'its result is another submission\'s')
         want(not self.stands(name, command), line, 'its command stands already')
-        want(name not in self.rounds[result['round']].get('paused', []), line, 'its participant is paused')
-        self.has_begun(line, result['round'])
-        self.pass_raws(line, result['round'] + 1)
-        self.goes_on(line, result['round'])
+        want(name not in self.parts[result['part']].get('paused', []), line, 'its participant is paused')
+        self.has_begun(line, result['part'])
+        self.pass_raws(line, result['part'] + 1)
+        self.goes_on(line, result['part'])
+        self.ask_rules(line, (result['part'] + 1) // 2, results)
         wanted = [request for request in self.wanted(result, len(self.log)) if isinstance(request, Received)]
         want(wanted, line, 'nothing that its participant can have read gives it')
         want(rest == [name, command, 'to'] + wanted[0].recipients(), line, 'its recipients are others')
         self.append('request', request=wanted[0])
 
     def read_raw(self, line, rest):
-        """The next raw request that isn't refused, behind its round's Tick and its other raw ones."""
+        """The next raw request that isn't refused, behind its part's Tick and its other raw ones."""
         while self.raws and ([self.raws[0][1]['participant'], self.raws[0][1]['command']] != rest[:2] or self.refuses_next()):
             self.pass_raw(line)
         want(self.raws, line, 'no result says that it was sent, and no raw request is like it')
         number, raw = self.raws.pop(0)
         self.has_begun(line, number)
         last = len(self.log) - 1
-        is_next = self.begun.get(number) == last or self.raw_rounds.get(last) == number
-        is_first = not self.rounds[number].get('advance', 0) and (number > self.round or last < 0)
+        is_next = self.begun.get(number) == last or self.raw_parts.get(last) == number
+        is_first = not self.parts[number].get('advance', 0) and (number > self.part or last < 0)
         want(is_next or is_first, line, 'it stands elsewhere than at the beginning of its round')
         self.goes_on(line, number, True)
         request = Received(self.script, self.packages, read_raw(raw))
         want(rest[2:] == ['to'] + request.recipients(), line, 'its recipients are others')
-        self.raw_rounds[len(self.log)] = number
+        self.raw_parts[len(self.log)] = number
         self.append('request', request=request)
 
     def refuses_next(self):
@@ -139,13 +148,13 @@ class Report(world_cases.World):
         self.raws.pop(0)
 
     def pass_raws(self, line, before):
-        """So are all before a round."""
+        """So are all before a part."""
         while self.raws and self.raws[0][0] < before:
             self.pass_raw(line)
 
     def has_begun(self, line, number):
-        """The Ticks up to its round stand before it, and no others."""
-        due = {at for at, round_ in enumerate(self.rounds[:number + 1]) if round_.get('advance', 0)}
+        """The Ticks up to its part stand before it, and no others."""
+        due = {at for at, part in enumerate(self.parts[:number + 1]) if part.get('advance', 0)}
         want(set(self.begun) == due, line, 'it stands in another round')
 
     def wanted(self, result, end):
@@ -153,25 +162,31 @@ class Report(world_cases.World):
         name, submission = result['name'], result['submission']
         if not set(submission['act_as']) <= set(confirmed(self.host(name))):
             return ['NotHosted']
-        raws = [place + 1 for place, number in self.raw_rounds.items() if number <= result['round']]
-        start = max([result['after']] + raws + [k + 1 for n, k in self.begun.items() if n <= result['round']])
         found = []
-        for read in range(end, start - 1, -1):
+        for read in self.reads(result, end):
             known = [contract for _, contract in self.active(name, read, read)]
             try:
-                found.append(world_cases.wanted(self, submission, self.times[result['round']], known))
+                found.append(world_cases.wanted(self, submission, self.times[result['part']], known))
             except ledger.Refused as refused:
                 found.append(refused.line.split(' ')[0])
             except trees.NoViews:
                 found.append('NoRoles')
         return found
 
+    def reads(self, result, end):
+        """How much the participant of a submission may have read by an end: all that stood, where a rule caused it."""
+        if 'read' in result:
+            return [result['read']]
+        raws = [place + 1 for place, number in self.raw_parts.items() if number <= result['part']]
+        start = max([result['after']] + raws + [k + 1 for n, k in self.begun.items() if n <= result['part']])
+        return range(end, start - 1, -1)
+
     def read_response(self, line, time, rest, results):
         name, place = rest[0], int(rest[2])
         want(place < len(self.log) and self.log[place]['kind'] == 'request', line, 'it answers no request')
         want(name in self.log[place]['request'].confirming(), line, 'its participant is not asked')
         want(self.response(name, place) is None, line, 'its participant has answered')
-        want(any(name not in round_.get('paused', []) for round_ in self.rounds_here()), line, 'its participant is paused')
+        want(any(name not in part.get('paused', []) for part in self.parts_here()), line, 'its participant is paused')
         want(time <= self.decision_time(place), line, 'it comes too late')
         verdicts = self.reasons(name, place)
         want(rest[3:] == ['%s=%s' % v for v in verdicts], line, 'its verdicts are others: %s' % verdicts)
@@ -181,15 +196,64 @@ class Report(world_cases.World):
         place, decision = int(rest[1]), ' '.join(rest[2:])
         want(place < len(self.log) and self.log[place]['kind'] == 'request', line, 'it decides no request')
         want(self.verdict(place, len(self.log)) is None, line, 'the request has a verdict')
-        want(any(not round_.get('hold_verdicts', False) for round_ in self.rounds_here()), line, 'its round holds verdicts')
+        want(any(not part.get('hold_verdicts', False) for part in self.parts_here()), line, 'its round holds verdicts')
         want(time <= self.decision_time(place), line, 'it comes too late')
         want(decision == self.decision(place, len(self.log)), line, 'the mediator decides otherwise')
         self.append('verdict', of=place, decision=decision)
 
+    # rules
+
+    def ask_rules(self, line, count, results):
+        """The rules of so many rounds are asked, each round's where its first part ends."""
+        for number in range(self.asked, count):
+            caused = [result for result in results if result['part'] == 2 * number + 1]
+            asked = ((end, self.firings(number, end)) for end in self.first_ends(number, caused))
+            end, firings = next((each for each in asked if each[1] is not None), (0, None))
+            want(firings is not None, line, 'rules fire otherwise in round %d' % number)
+            self.cause(line, end, firings, caused)
+            paused = self.parts[2 * number].get('paused', [])
+            self.read.update((host['name'], end) for host in self.hosts if host['name'] not in paused)
+            self.asked, self.asked_at = number + 1, end
+
+    def first_ends(self, number, caused):
+        """Where a round's first part can end: where what rules caused stands, or where nothing is due."""
+        sent = [result['sent'] for result in caused if result['sent'] is not None]
+        least = max([self.asked_at] + [place + 1 for place, (_, last) in enumerate(self.spans) if last <= 2 * number])
+        most = min([len(self.log)] + [place for place, (first, _) in enumerate(self.spans) if first > 2 * number])
+        return [end for end in sent[:1] or range(least, most + 1) if least <= end <= most and self.is_settled(self.parts[2 * number], end)]
+
+    def firings(self, number, end):
+        """What each rule fires on where a round's first part has this end, if the report says so. A paused participant may have read less."""
+        found = []
+        for rule in self.rules:
+            name = rule['participant']
+            reads = range(self.read[name], end + 1) if name in self.parts[2 * number].get('paused', []) else [end]
+            told = [line for one, line in self.told_of_rules[number] if one is rule]
+            fitting = (each for each in (self.firings_of(number, rule, read) for read in reads) if [line for line, _ in each] == told)
+            found.append(next(fitting, None))
+        firings = [firing for each in found for firing in each or []]
+        return firings if None not in found and [line for line, _ in firings] == [line for _, line in self.told_of_rules[number]] else None
+
+    def firings_of(self, number, rule, read):
+        """The lines of what a rule fires on in a round whose participant has read so much, each with the rule and the contract."""
+        fired = self.fired.get(rule['name'], [])
+        due = enumerate(rules.due(self, rule, read, fired), len(fired))
+        return [(rules.fired_line(number, rule, contract, fires), (rule, contract)) for fires, contract in due]
+
+    def cause(self, line, end, firings, caused):
+        """What rules cause from an end on: its requests stand first in the second part, in order, and each has been read by all that come behind."""
+        sent = 0
+        for (_, (rule, contract)), result in zip(firings, caused):
+            fired = self.fired.setdefault(rule['name'], [])
+            result.update(submission=rules.submission(rule, contract, len(fired)), read=end + sent)
+            fired.append(contract['id'])
+            want(result['sent'] in (None, result['read']), line, 'what rules caused stands elsewhere than at the beginning of its part')
+            sent += result['sent'] is not None
+
     # results
 
     def result(self, line, result):
-        paused = result['name'] in self.rounds[result['round']].get('paused', [])
+        paused = result['name'] in self.parts[result['part']].get('paused', [])
         word, *rest = result['answer']
         want((word == 'refused' and rest[0] == 'Paused') == paused, line, 'it is Paused exactly where the round says so')
         if word == 'sent':
@@ -216,14 +280,14 @@ class Report(world_cases.World):
             sums.append(sums[-1] + self.need(request))
         return sums
 
-    def is_settled(self, round_, end):
-        """Whether nothing more is due over the entries before an end, by the rules of a round."""
+    def is_settled(self, part, end):
+        """Whether nothing more is due over the entries before an end, by the rules of a part."""
         whole, self.log = self.log, self.log[:end]
         for host in self.hosts:
             name = host['name']
-            for place in [] if name in round_.get('paused', []) else self.owed(name, end):
+            for place in [] if name in part.get('paused', []) else self.owed(name, end):
                 self.hand_in('response', place, by=name, verdicts=[])
-        for place, _ in [] if round_.get('hold_verdicts', False) else self.requests(end):
+        for place, _ in [] if part.get('hold_verdicts', False) else self.requests(end):
             decision = self.decision(place, end)
             if decision is not None:
                 self.hand_in('verdict', place, decision=decision)
@@ -231,20 +295,42 @@ class Report(world_cases.World):
         return settled
 
 
-def results_of(script, lines):
-    """The results of the report, each with its submission and with the place behind the participant's request before it in the round."""
-    submitted = [(number, s) for number, round_ in enumerate(script['rounds']) for s in round_.get('submits', [])]
+def told_of_rules(script, lines):
+    """The lines that say on what rules fired, by rounds, each with its rule."""
+    named, told = {rule['name']: rule for rule in script.get('triggers', [])}, [[] for _ in script['rounds']]
+    first = sum(line.startswith('result ') for line in lines)
+    given = [line for line in lines if line.startswith('fired ')]
+    want(given == lines[first:first + len(given)], 'fired', 'they stand behind the results')
+    for line in given:
+        _, number, name, _ = line.split(' ', 3)
+        want(int(number) < len(told) and name in named, line, 'there is no such round or no such rule')
+        told[int(number)].append((named[name], line))
+    want(given == [line for each in told for _, line in each], 'fired', 'they stand in the order of rounds')
+    return told
+
+
+def submitted(script, told):
+    """What is submitted in each part, of which rules say only later what it asks for."""
+    for number, round_ in enumerate(script['rounds']):
+        yield from ((2 * number, submission) for submission in round_.get('submits', []))
+        for rule, line in told[number]:
+            yield 2 * number + 1, {'participant': rule['participant'], 'command': line.rsplit(' ', 1)[1]}
+
+
+def results_of(script, lines, told):
+    """The results of the report, each with its submission and with the place behind the participant's request before it in the part."""
+    wanted = list(submitted(script, told))
     given = [line for line in lines if line.startswith('result ')]
-    want(len(given) == len(submitted), 'results', 'there is one for each submission')
+    want(len(given) == len(wanted), 'results', 'there is one for each submission')
     want(given == lines[:len(given)], 'results', 'they stand behind the entries')
     found, behind = [], {}
-    for line, (number, submission) in zip(given, submitted):
+    for line, (part, submission) in zip(given, wanted):
         _, round_, name, command, *answer = line.split(' ')
-        want((int(round_), name, command) == (number, submission['participant'], submission['command']), line, 'it is the next submission\'s')
-        sent, after = int(answer[1]) if answer[0] == 'sent' else None, behind.get((number, name), 0)
+        want((int(round_), name, command) == (part // 2, submission['participant'], submission['command']), line, 'it is the next submission\'s')
+        sent, after = int(answer[1]) if answer[0] == 'sent' else None, behind.get((part, name), 0)
         if sent is not None:
-            behind[number, name] = sent + 1
-        found.append((line, {'round': number, 'name': name, 'command': command, 'submission': submission, 'answer': answer, 'sent': sent,
+            behind[part, name] = sent + 1
+        found.append((line, {'part': part, 'name': name, 'command': command, 'submission': submission, 'answer': answer, 'sent': sent,
                              'after': after}))
     return found
 
@@ -254,21 +340,23 @@ def misfit(script, text, capacity=20_480):
     lines = text.split('\n')[:-1]
     try:
         count = int(lines[0].split(' ')[1])
-        report = Report(script, capacity)
-        results = results_of(script, lines[count + 1:])
+        told = told_of_rules(script, lines[count + 1:])
+        report = Report(script, capacity, told)
+        results = results_of(script, lines[count + 1:], told)
         report.span_entries(lines[1:count + 1], [result for _, result in results])
         for line in lines[1:count + 1]:
             report.entry(line, [result for _, result in results])
+        report.ask_rules('end', len(script['rounds']), [result for _, result in results])
         for line, result in results:
             report.result(line, result)
-        report.pass_raws('end', len(script['rounds']))
+        report.pass_raws('end', len(report.parts))
         sent = sum(result['sent'] is not None for _, result in results)
-        want(sent + len(report.raw_rounds) == len(report.requests(count)), 'results', 'each request is sent by one, or a raw one')
-        want(report.is_settled(script['rounds'][-1] if script['rounds'] else {}, count), 'end', 'more was due')
+        want(sent + len(report.raw_parts) == len(report.requests(count)), 'results', 'each request is sent by one, or a raw one')
+        want(report.is_settled(report.parts[-1] if report.parts else {}, count), 'end', 'more was due')
         below = [line for line in report.report() if not line.startswith(('consistent ', 'inconsistent '))][count + 1:]
-        told = [line for line in lines[count + 1:] if not line.startswith('result ')]
-        apart = next((pair for pair in zip(told, below) if pair[0] != pair[1]), ('more or fewer lines', ''))
-        want(told == below, apart[0], 'it has to be %s' % apart[1])
+        rest = [line for line in lines[count + 1:] if not line.startswith(('result ', 'fired '))]
+        apart = next((pair for pair in zip(rest, below) if pair[0] != pair[1]), ('more or fewer lines', ''))
+        want(rest == below, apart[0], 'it has to be %s' % apart[1])
         unlike = audit.unlike(report)
         want(unlike is None, 'end', unlike)
     except Misfit as misfit_:

@@ -5,9 +5,9 @@
 
 Of two spends of one contract with 4 workers, COUNT times (100), the first has to be approved, and the second rejected as Locked or Inactive
 or refused as ContractUnknown; gen 1 7 and gen 1000 7 with 4 workers have to write as often what one thread writes; and twice as many
-runs of scripts with 1 to 8 workers, drawn from a seed, have to end with status 0. Scripts are made here, half of them with raw requests, and in each
-second run one is taken from the folders: NAME.json, with the words in the lines of NAME.args, which one thread runs to status 0. The report of each
-script is tried by report_check.py, which knows the rules and not the program."""
+runs of scripts with 1 to 8 workers, drawn from a seed, have to end with status 0. Scripts are made here, half of them with raw requests and half
+of them with rules, and in each second run one is taken from the folders: NAME.json, with the words in the lines of NAME.args, which one thread
+runs to status 0. The report of each script is tried by report_check.py, which knows the rules and not the program."""
 import glob
 import json
 import os
@@ -101,11 +101,18 @@ class Made:
         if self.random.random() < 0.4:
             self.observe(self.random.choice(self.hosts))
         self.issued, self.packages, self.commands = [], packages, 0
+        self.rules = [self.rule(f'r{n}') for n in range(self.random.randint(1, 3))] if self.random.random() < 0.5 else []
 
     def observe(self, host):
         """A participant also hosts some parties only to observe them."""
         others = [party for party in PARTIES if party not in host['parties']]
         host['observing'] = self.random.sample(others, self.random.randint(0, min(3, len(others))))
+
+    def rule(self, name):
+        """A rule, mostly for a party of its participant."""
+        host = self.random.choice(self.hosts)
+        parties = host['parties'] if self.random.random() < 0.9 else PARTIES
+        return {'name': name, 'participant': host['name'], 'party': self.random.choice(parties)}
 
     def home(self, party):
         return next(h['name'] for h in self.hosts if party in h['parties'])
@@ -118,8 +125,9 @@ class Made:
     def submit(self):
         party, other = self.random.choice(PARTIES), self.random.choice(PARTIES)
         kind = self.random.random()
-        if kind < 0.2:
-            return self.submission(party, {'create': {'template': 'Note.Note', 'fields': [{'party': party}, {'party': other}, 'hi']}})
+        if kind < (0.4 if self.rules else 0.2):
+            text = 'go' if self.random.random() < 0.7 else 'hi'
+            return self.submission(party, {'create': {'template': 'Note.Note', 'fields': [{'party': party}, {'party': other}, text]}})
         if kind < 0.5 or not self.issued:
             amount = self.random.randint(0 if self.random.random() < 0.1 else 1, 99)
             made = self.submission(party, {'create': {'template': 'Iou.Iou', 'fields': [{'party': party}, {'party': other}, amount]}})
@@ -153,7 +161,8 @@ class Made:
                 round_['submits'] = [s for s in round_['submits'] if s is not each.submission]
 
     def source(self):
-        script = {'participants': self.hosts, 'packages': self.packages, 'rounds': [self.round() for _ in range(self.random.randint(1, 5))]}
+        script = {'participants': self.hosts, 'packages': self.packages, 'triggers': self.rules,
+                  'rounds': [self.round() for _ in range(self.random.randint(1, 5))]}
         if self.random.random() < 0.5:
             self.lie(script)
         return json.dumps(script).encode()

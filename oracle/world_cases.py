@@ -317,7 +317,10 @@ class World:
             yield '%s %s' % ('consistent' if found is None else 'inconsistent', host['name'])
 
     def clean(self, name):
-        end = len(self.log)
+        return self.clean_before(name, len(self.log))
+
+    def clean_before(self, name, end):
+        """The clean place of a participant that has read up to an end."""
         return min([k for k, r in self.requests(end) if name in r.recipients() and not self.is_decided(k, end)] + [end])
 
     def applied(self, name):

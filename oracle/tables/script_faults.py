@@ -55,7 +55,7 @@ MEMBERS = [
     ('"rounds":{}', 'Shape /rounds'),
     ('"rounds":[],"more":1', 'Shape '),
     ('"packages":[]', 'Shape '),
-    ('"rounds":[],"triggers":[]', 'Shape '),
+    ('"rounds":[],"triggers":[]', None),
     ('"rounds":[],"packages":null', 'Shape /packages'),
     ('"rounds":[],"skew":null', 'Shape /skew'),
     ('"rounds":[],"skew":0', 'Limit 16 0 /skew'),
@@ -116,6 +116,34 @@ OBSERVING = [
     ('[{"name":"P1","parties":[],"observing":["B","B","Zed"]},{"name":"P2","parties":["B"]}]', 'Repeated /participants/0/observing/1'),
     ('[{"name":"P1","parties":["A"],"observing":["B","A"]},{"name":"P2","parties":["B"],"observing":["Zed"]}]', 'Repeated /participants/0/observing/1'),
     ('[{"name":"P1","parties":[],"observing":["Zed"],"vetted":7}]', 'Unknown Zed /participants/0/observing/0'),
+]
+
+# the rules of a script, with places below their list; what stands behind them is read later
+RULE = '{"name":"r","participant":"P1","party":"Alice"}'
+RULES = [
+    ('null', 'Shape '),
+    ('{}', 'Shape '),
+    ('[7]', 'Shape /0'),
+    (many('7', 16), 'Shape /0'),
+    (many('7', 17), 'Limit 23 17 '),
+    ('[{"name":"r","participant":"P1"}]', 'Shape /0'),
+    ('[{"name":"r","participant":"P1","party":"Alice","when":7}]', 'Shape /0'),
+    ('[{"name":7,"participant":7,"party":7}]', 'Shape /0/name'),
+    ('[{"name":"1","participant":7,"party":7}]', 'Shape /0/name'),
+    ('[{"name":"%s","participant":7,"party":7}]' % ('n' * 20), 'Shape /0/participant'),
+    ('[{"name":"%s","participant":7,"party":7}]' % ('n' * 21), 'Limit 24 21 /0/name'),
+    ('[{"name":"%s","participant":7,"party":7}]' % ('n' * 33), 'Shape /0/name'),
+    ('[{"name":"r","participant":"P3","party":7}]', 'Unknown P3 /0/participant'),
+    ('[{"name":"r","participant":"P1","party":7}]', 'Shape /0/party'),
+    ('[{"name":"r","participant":"P1","party":"Zed"}]', 'Unknown Zed /0/party'),
+    ('[%s,%s,{"name":"r","participant":7,"party":7}]' % (RULE, RULE.replace('r"', 's"', 1)), 'Repeated /2/name'),
+    ('[%s,{"name":"r","participant":"P2","party":"Bob"},7]' % RULE, 'Repeated /1/name'),
+]
+
+# the command of a submission or a raw request of P1, which has the rule r, and one of P2, which has the rule s
+NO_RULE_COMMANDS = [
+    ('P1', 'r', False), ('P1', 'r-', False), ('P1', 'r-0', True), ('P1', 'r-00', True), ('P1', 'r-1', True), ('P1', 'r-%s' % ('9' * 30), True),
+    ('P1', 'r-1x', False), ('P1', 'r-x1', False), ('P1', 'r1', False), ('P1', 'rr-1', False), ('P1', 's-1', False), ('P2', 'r-1', False), ('P2', 's-1', True),
 ]
 
 # the raw requests of a round, with places below their list
@@ -306,6 +334,23 @@ def vetted():
         yield '{"participants":[{"name":"P1","parties":[],"vetted":7}],"packages":%s,"rounds":7}' % packages, fault
 
 
+def with_rules():
+    """Rules are read behind the vetted packages and before the rounds, and keep commands for themselves."""
+    yield script('"rounds":[],"trigger":[]'), 'Shape '
+    yield '{"participants":[{"name":"P1","parties":[],"vetted":["Nope"]}],"triggers":7,"rounds":7}', 'Unknown Nope /participants/0/vetted/0'
+    yield script('"rounds":7,"triggers":7,"packages":[{"name":"Note","templates":[]}]'), 'Package DuplicateName /0/name'
+    yield from below('/triggers', RULES, lambda text: script('"rounds":7,"triggers":%s' % text))
+    rules = '[%s,{"name":"s","participant":"P2","party":"Alice"}]' % RULE
+    yield script('"rounds":[],"triggers":' + rules), None
+    for participant, command, is_kept in NO_RULE_COMMANDS:
+        asked = '{"participant":"%s","command":"%s","act_as":[],"commands":[]}' % (participant, command)
+        fault = 'Repeated /rounds/1/submits/0/command' if is_kept else 'Limit 14 0 /rounds/1/submits/0/act_as'
+        yield script('"rounds":[{},{"submits":[%s]}],"triggers":%s' % (asked, rules)), fault
+        raw = '{"participant":"%s","command":"%s","confirming":7,"mediator":"","envelopes":[]}' % (participant, command)
+        fault = 'Repeated /rounds/0/raw/0/command' if is_kept else 'Shape /rounds/0/raw/0/confirming'
+        yield script('"rounds":[{"raw":[%s]}],"triggers":%s' % (raw, rules)), fault
+
+
 def cases():
     """All scripts with their faults."""
     yield '{"rounds":[}', 'NotJson '
@@ -332,3 +377,4 @@ def cases():
     yield from below(DRAFT, FORGED, lambda text: prepared(
         '{"fetch":{"contract":{"id":null,"salt":"%s","instance":{"template":"K.T","fields":%s}},"actors":[]}}' % (HASH, text)))
     yield from below('/rounds/0/submits/0/seed_of', SEEDS, lambda text: asking('"prepared":[%s],"seed_of":%s' % (CREATE, text)))
+    yield from with_rules()
