@@ -6,6 +6,7 @@ use Rattle.std.proofs.lemmas.List.Elements.{All-drop, All-nil, All-push}
 use Rattle.ledger_terms.specs.declared.host.Host.{Host}
 use Rattle.script_read.specs.Kept.{IsRound, IsSubmission}
 use Rattle.script_read.specs.declared.round.Round.{Round}
+use Rattle.trigger_rules.specs.declared.rule.Rule.{Rule}
 
 module _ {X : Type 0} (P : X → Type 0) where
   pub front_holds : (xs : List X) (x : X) → 0 < length xs → x ≡ slice_index_or xs 0 x → All P xs → P x
@@ -20,6 +21,6 @@ module _ {X : Type 0} (P : X → Type 0) where
   pub nothing : (xs : List X) → xs ≡ [] → All P xs
   nothing xs is = subst (All P) (sym is) (All-nil P)
 
-pub submissions_hold : (hosts : List Host) (rounds : List Round) (round : Round) → 0 < length rounds → round ≡ slice_index_or rounds 0 round
-    → All (IsRound hosts) rounds → All (IsSubmission hosts) round.submits
-submissions_hold hosts rounds round some is each = (front_holds (IsRound hosts) rounds round some is each).submits
+pub submissions_hold : (hosts : List Host) (rules : List Rule) (rounds : List Round) (round : Round) → 0 < length rounds
+    → round ≡ slice_index_or rounds 0 round → All (IsRound hosts rules) rounds → All (IsSubmission hosts rules) round.submits
+submissions_hold hosts rules rounds round some is each = (front_holds (IsRound hosts rules) rounds round some is each).submits

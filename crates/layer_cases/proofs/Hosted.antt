@@ -48,7 +48,7 @@ module _ (topology : Topology) where
   named (Prepared borrowed roots) is = hosted _ (is.1).hosted
 
 -- what is submitted in an accepted script can be submitted
-pub can_submit : (script : Script) → IsAccepted script → (what : Submission) → IsSubmission (script.topology).hosts what
+pub can_submit : (script : Script) → IsAccepted script → (what : Submission) → IsSubmission (script.topology).hosts script.triggers what
     → CanSubmit script.topology script.checked what
 can_submit script accepted what is =
     record {
@@ -57,7 +57,7 @@ can_submit script accepted what is =
       named_by_input = named script.topology what.what is.what;
     }
 
-pub can_submit_each : (script : Script) → IsAccepted script → (submits : List Submission) → All (IsSubmission (script.topology).hosts) submits
+pub can_submit_each : (script : Script) → IsAccepted script → (submits : List Submission) → All (IsSubmission (script.topology).hosts script.triggers) submits
     → All (CanSubmit script.topology script.checked) submits
 can_submit_each script accepted submits each k d there = can_submit script accepted _ (each k d there)
 
@@ -67,7 +67,7 @@ names_hosted script accepted =
       valid = accepted.topology;
       packages = hosted script.topology _ (accepted.packages).hosted;
       submits = λ j k round what at there.
-          let round_is = each_of (IsRound (script.topology).hosts) script.rounds j round (accepted.rounds).each at in
-          let what_is = each_of (IsSubmission (script.topology).hosts) round.submits k what round_is.submits there in
+          let round_is = each_of (IsRound (script.topology).hosts script.triggers) script.rounds j round (accepted.rounds).each at in
+          let what_is = each_of (IsSubmission (script.topology).hosts script.triggers) round.submits k what round_is.submits there in
           named script.topology what.what what_is.what;
     }

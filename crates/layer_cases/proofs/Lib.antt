@@ -5,3 +5,4 @@ pub mod Fronts
 mod Hosted
 mod LateJobs
 mod Worlds
+mod Surely

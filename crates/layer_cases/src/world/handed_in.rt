@@ -2,6 +2,7 @@
 ghost use Rattle.std.specs.Prelude.{List, All, IfOk};
 ghost use Rattle.ledger_terms.specs.declared.host.Host.{Host};
 ghost use Rattle.script_read.specs.Kept.{IsRound, IsSubmission};
+ghost use Rattle.trigger_rules.specs.declared.rule.Rule.{Rule};
 
 use canton_model::Request;
 use fixtures::request_of;
@@ -19,7 +20,8 @@ pub(crate) struct HandedIn {
 /// What is handed in in the first round, nothing where there is no round.
 #[tactic(auto, using(crate::proofs::Fronts::nothing, crate::proofs::Fronts::submissions_hold))]
 pub(crate) fn handed_in(alloc: Global, rounds: RoundList) -> Result<HandedIn, AllocError>
-    ensures { IfOk result (λ left. (hosts : List Host) → All (IsRound hosts) rounds → All (IsSubmission hosts) left.submits.items) }
+    ensures { IfOk result (λ left. (hosts : List Host) (rules : List Rule) → All (IsRound hosts rules) rounds
+        → All (IsSubmission hosts rules) left.submits.items) }
 {
     let mut rounds = rounds.into_vec();
     if rounds.is_empty() {

@@ -5,7 +5,7 @@ use Rattle.layer_cases.proofs.world.answers.put_script.Goals as goal
 pub plan_of-requires : goal.plan_of-requires
 plan_of-requires c =
     let script = c.args.script in
-    can_submit_each script c.requires _ (c.in_ok-left.ensures (script.topology).hosts ((c.requires).rounds).each)
+    can_submit_each script c.requires _ (c.in_ok-left.ensures (script.topology).hosts script.triggers ((c.requires).rounds).each)
 
 pub put_plan-requires-clause-hosts : goal.put_plan-requires-clause-hosts
 put_plan-requires-clause-hosts c =
