@@ -2,7 +2,8 @@
 ghost use Rattle.std.specs.Prelude.{◌≡◌, ◌^◌};
 ghost use Rattle.json_walk.specs.declared.limits.TheConstants.{ACT_AS, ADVANCE, CHOICES, COMMANDS, DRAFTS, DRAFT_DEPTH, EXPRESSION_DEPTH};
 ghost use Rattle.json_walk.specs.declared.limits.TheConstants.{FIELDS, LABEL_STEPS, LEDGER_TIME, PACKAGES, PARAMETERS, PARTICIPANTS, PARTIES};
-ghost use Rattle.json_walk.specs.declared.limits.TheConstants.{RAW_BYTES, RAWS, ROUNDS, RULE_NAME_BYTES, RULES, STATEMENTS, SUBMISSIONS, TEMPLATES, TEXT_BYTES, TIMEOUT};
+ghost use Rattle.json_walk.specs.declared.limits.TheConstants.{RAW_BYTES, RAWS, ROUNDS, RULE_NAME_BYTES, RULES};
+ghost use Rattle.json_walk.specs.declared.limits.TheConstants.{STATEMENTS, SUBMISSIONS, TEMPLATES, TEXT_BYTES, TIMEOUT};
 
 /// The limits of scripts and packages, as the formats have them: the number that a fault names, the least and the most.
 pub fn limits_are_those_of_scripts()

@@ -8,7 +8,8 @@ ghost use Rattle.ledger_terms.specs.declared.limits.TheConstants.{MOST_EXPRESSIO
 ghost use Rattle.ledger_terms.specs.declared.limits.TheConstants.{MOST_LABEL_STEP, MOST_LABEL_STEPS, MOST_LEDGER_TIME, MOST_NAME_BYTES};
 ghost use Rattle.ledger_terms.specs.declared.limits.TheConstants.{MOST_PACKAGES, MOST_PARAMETERS, MOST_PARTICIPANTS, MOST_PARTIES};
 ghost use Rattle.ledger_terms.specs.declared.limits.TheConstants.{MOST_PLACES, MOST_RAW_BYTES, MOST_RAWS, MOST_RESULT_BYTES, MOST_ROUNDS};
-ghost use Rattle.ledger_terms.specs.declared.limits.TheConstants.{MOST_RULE_NAME_BYTES, MOST_RULES, MOST_SCRIPT_BYTES, MOST_SET_ITEMS, MOST_STATEMENTS, MOST_SUBMISSIONS, MOST_TEMPLATES};
+ghost use Rattle.ledger_terms.specs.declared.limits.TheConstants.{MOST_RULE_NAME_BYTES, MOST_RULES, MOST_SCRIPT_BYTES, MOST_SET_ITEMS};
+ghost use Rattle.ledger_terms.specs.declared.limits.TheConstants.{MOST_STATEMENTS, MOST_SUBMISSIONS, MOST_TEMPLATES};
 ghost use Rattle.ledger_terms.specs.declared.limits.TheConstants.{MOST_TEXT_BYTES, MOST_TREE_BYTES, MOST_WAIT};
 
 use crate::text::Text;
