@@ -1,17 +1,12 @@
 -- What was played is a run of its script.
-use Rattle.std.proofs.Common.{◌≡◌, ℕ, ◌+◌, ◌*◌, ◌≤◌, false, List, [], ◌∷◌, ◌++◌, length, take, refl, sym, ap, ◌∙◌, subst, inl, inr, arith, append-nil, le_refl}
-use Rattle.std.specs.Prelude.{All}
+use Rattle.std.proofs.Common.{◌≡◌, ℕ, ◌+◌, ◌*◌, ◌≤◌, List, [], ◌∷◌, ◌++◌, length, take, refl, sym, ap, ◌∙◌, subst, inl, inr, arith, append-nil, le_refl}
 use Rattle.std.proofs.lemmas.List.{take_all}
-use Rattle.std.proofs.lemmas.List.Elements.{All-cons, All-head, All-nil, All-tail}
 use Rattle.ledger_model.proofs.Lists.{In, contains_from_In, in_append_left, in_append_right, in_from_Contains}
-use Rattle.ledger_terms.specs.declared.host.Host.{Host}
-use Rattle.ledger_terms.specs.declared.raw_request.RawRequest.{RawRequest}
 use Rattle.canton_model.specs.declared.entry.Entry.{Entry}
-use Rattle.canton_model.specs.declared.request.Request.{Request}
 use Rattle.node_core.specs.declared.submit_result.SubmitResult.{SubmitResult}
 use Rattle.prepare_request.specs.declared.submit_fault.SubmitFault.{SubmitFault}
 use Rattle.run_model.proofs.Ends.{run_approves_all}
-use Rattle.script_read.specs.Kept.{IsAccepted, IsRaw, IsRound}
+use Rattle.script_read.specs.Kept.{IsAccepted}
 use Rattle.script_read.specs.declared.round.Round.{Round}
 use Rattle.script_read.specs.declared.script.Script.{Script}
 use Rattle.framed_form.proofs.Lawful.{are_framed}
@@ -19,15 +14,13 @@ use Rattle.framed_form.proofs.NoCollision.{no_collision}
 use Rattle.run_model.specs.Workers.{RoundsBy}
 use Rattle.run_model.proofs.Workers.{rounds_are_plain, rounds_are_shared}
 use Rattle.threads_model.proofs.RunShared.{run_holds}
-use Rattle.trigger_model.specs.CausedRequests.{AreRounds, HasOwnIds}
+use Rattle.trigger_model.specs.CausedRequests.{AreRounds}
 use Rattle.trigger_model.specs.CausedRun.{FiredRound, RoundsFire, all_caused}
 use Rattle.trigger_model.specs.TwoParts.{CausedStandFirst, RoundParts, RunInParts, parts_of}
 use Rattle.trigger_model.proofs.CausedFacts.{caused_holds}
 use Rattle.trigger_model.proofs.RequestFacts.{request_is_caused}
 use Rattle.trigger_rules.specs.Answers.{Answers}
-use Rattle.trigger_rules.specs.Ids.{is_rule_command}
 use Rattle.trigger_rules.specs.declared.caused.Caused.{Caused}
-use Rattle.trigger_rules.specs.declared.rule.Rule.{Rule}
 use Rattle.world_model.specs.Machine.{Machine, IsMachine}
 use Rattle.world_model.specs.Mediator.{new_mediator}
 use Rattle.world_model.specs.Rounds.{RoundAnswers}
@@ -38,35 +31,16 @@ use Rattle.world_model.proofs.Steps.{new_lawful}
 use Rattle.world_play.specs.Submitting.{AreSetUp}
 use Rattle.world_play.specs.WorldOf.{IsWorldOf, world_of}
 use Rattle.world_play.specs.declared.world.World.{World}
-use Rattle.canton_run.specs.Answered.{answered, request_of, requests_of}
+use Rattle.canton_run.specs.Answered.{answered}
 use Rattle.canton_run.specs.Between.{ArePlayed}
 use Rattle.canton_run.specs.Parts.{parts_in, round_parts}
 use Rattle.canton_run.specs.RoundsPlayed.{RoundsArePlayed}
 use Rattle.canton_run.specs.Run.{IsRun, SecondPartsArePlain, machine_for, params_of, parts_of_run, reading_for, submissions_in, why_for}
 use Rattle.canton_run.proofs.OneMore.{answers_are_as_many}
 use Rattle.canton_run.proofs.Own.{SentLaw, sent_is_own}
+use Rattle.canton_run.proofs.OwnIds.{own_ids}
 use Rattle.canton_run.proofs.Parts.{parts_are_rounds}
 use Rattle.canton_run.proofs.PartsMore.{length_parts}
-
--- ---- neither submissions nor raw requests have an id that is kept for rules
-
-module _ (hosts : List Host) (rules : List Rule) where
-  raws_own : (raws : List RawRequest) → All (IsRaw hosts rules) raws
-      → All (λ (request : Request). is_rule_command rules request.sender request.command ≡ false) (requests_of raws)
-  raws_own [] h = All-nil (λ (request : Request). is_rule_command rules request.sender request.command ≡ false)
-  raws_own (raw ∷ raws) h =
-      All-cons (λ (request : Request). is_rule_command rules request.sender request.command ≡ false) (request_of raw) (requests_of raws)
-      (All-head (IsRaw hosts rules) raw raws h).own (raws_own raws (All-tail (IsRaw hosts rules) raw raws h))
-
-  pub own_ids : (number : ℕ) (rounds : List Round) (caused : List Caused) (results : List SubmitResult) (ends : List ℕ) → All (IsRound hosts rules) rounds
-      → All (HasOwnIds rules) (round_parts number rounds caused results ends)
-  own_ids number [] caused results ends h = All-nil (HasOwnIds rules)
-  own_ids number (x ∷ rounds) caused results [] h = All-nil (HasOwnIds rules)
-  own_ids number (x ∷ rounds) caused results (e ∷ []) h = All-nil (HasOwnIds rules)
-  own_ids number (x ∷ rounds) caused results (e ∷ f ∷ ends) h =
-      let is = All-head (IsRound hosts rules) x rounds h in
-      All-cons (HasOwnIds rules) _ _ (record { submits = λ k d lt. (is.submits k d lt).own; raws = raws_own x.raws is.raws })
-      (own_ids (number + 1) rounds caused _ ends (All-tail (IsRound hosts rules) x rounds h))
 
 in_all : (fired : List FiredRound) (round : FiredRound) (one : Caused) → In round fired → In one round.caused → In one (all_caused fired)
 in_all [] round one i j = absurd i

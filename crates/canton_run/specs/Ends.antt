@@ -1,73 +1,132 @@
 -- How a run may end.
-use Rattle.std.specs.Prelude.{◌≡◌, ◌≢◌, ◌↔◌, ℕ, ◌+◌, ◌≤◌, ◌<◌, Bool, true, false, List, [], length, Option, option_map, Some, Ok, Err}
+use Rattle.std.specs.Prelude.{◌≡◌, ◌≢◌, ◌↔◌, ℕ, ◌+◌, ◌≤◌, ◌<◌, Bool, true, false, List, [], length, Option, option_map, Some, None, Ok, Err}
 use Rattle.std.proofs.Common.{◌⊎◌}
 use Rattle.std.specs.Io.KnownBytes.{Consumes, Keeps}
 use Rattle.cli_words.specs.Jobs.{job_of}
 use Rattle.cli_words.specs.declared.job.Job.{Job}
+use Rattle.cli_words.specs.declared.job.Job.TheVariants as jobs
 use Rattle.cn_io.specs.Faults.{Rose}
+use Rattle.audit_model.specs.Judged.{approved_in}
 use Rattle.ledger_terms.specs.declared.limits.TheConstants.{MOST_SCRIPT_BYTES}
+use Rattle.log_audit.specs.Audits.{IsAudit, IsYes, SpellsProperLog}
+use Rattle.log_audit.specs.Lines.{line_of}
+use Rattle.log_audit.specs.Scripts.{most_of, script_of, standard_of}
+use Rattle.log_audit.specs.declared.answer.Audit.{Audit}
+use Rattle.log_audit.specs.declared.answer.Audit.TheVariants.{Yes}
+use Rattle.log_dump.specs.declared.limits.TheConstants.{MOST_DUMP_BYTES}
 use Rattle.script_read.specs.Script.{script_in}
 use Rattle.script_read.specs.declared.script.Script.{Script}
 use Rattle.script_read.specs.declared.script_fault.ScriptFault.{ScriptFault}
 use Rattle.trigger_rules.specs.Answers.{Answers}
 use Rattle.canton_run.specs.declared.finish.Finish.{Finish}
-use Rattle.canton_run.specs.Jobs.{GivesScript, ReadWhole, capacity_of, needs_source, text_of, workers_of}
+use Rattle.canton_run.specs.Jobs.{GivesScript, ReadWhole, capacity_of, most_bytes, needs_script, needs_source, text_of, workers_of}
 use Rattle.canton_run.specs.Run.{IsRun}
 
 -- one of the statuses
 abbrev pub IsStatus : ℕ → Type 0
 IsStatus s = (s ≡ 0) ⊎ ((s ≡ 2) ⊎ ((s ≡ 3) ⊎ ((s ≡ 4) ⊎ ((s ≡ 5) ⊎ ((s ≡ 6) ⊎ (s ≡ 70))))))
 
+-- one of those that an audit may end with
+abbrev pub IsAuditStatus : ℕ → Type 0
+IsAuditStatus s = (s ≡ 0) ⊎ ((s ≡ 4) ⊎ ((s ≡ 5) ⊎ ((s ≡ 6) ⊎ (s ≡ 70))))
+
 -- one of those that a run of the source's script may end with
 abbrev pub IsRunStatus : ℕ → Type 0
 IsRunStatus s = (s ≡ 0) ⊎ ((s ≡ 3) ⊎ ((s ≡ 4) ⊎ ((s ≡ 5) ⊎ ((s ≡ 6) ⊎ (s ≡ 70)))))
 
+-- the words ask for a job that reads the source
+abbrev pub AsksForSource : List (List ℕ) → Type 0
+AsksForSource words = option_map needs_source (job_of words) ≡ Some true
+
 -- the words ask for a job that takes its script from the source
 abbrev pub AsksForScript : List (List ℕ) → Type 0
-AsksForScript words = option_map needs_source (job_of words) ≡ Some true
+AsksForScript words = option_map needs_script (job_of words) ≡ Some true
 
--- the script of the words' job was run, and the text is what that job writes
+-- nothing was run
+abbrev pub HasRunNothing : Finish → Type 0
+HasRunNothing finish = (finish.log ≡ []) × (finish.results ≡ []) × (finish.ends ≡ []) × (finish.caused ≡ [])
+
+-- the line says what an audit says of the bytes, which is yes exactly where they spell a script and a proper log
+abbrev pub TellsAudit : (bytes line : List ℕ) → Type 0
+TellsAudit bytes line =
+    (audit : Audit) × IsAudit script_of most_of standard_of bytes audit
+    × (IsYes audit ↔ SpellsProperLog script_of most_of standard_of bytes) × (line ≡ line_of audit)
+
+-- The bytes of the source were audited, and this line tells it. Nothing was run.
+abbrev pub Audited : Option (List ℕ) → Option (List ℕ) → Finish → (line : List ℕ) → Type 0
+Audited left left' finish line =
+    (bytes : List ℕ) × ReadWhole MOST_DUMP_BYTES left left' bytes × TellsAudit bytes line × HasRunNothing finish
+
+-- the job's script was run, and the text is what that job writes
+abbrev pub RanScript : Answers → Job → Option (List ℕ) → Option (List ℕ) → Finish → List ℕ → Type 0
+RanScript may job left left' finish text =
+    (bytes : List ℕ) × (script : Script) × GivesScript job left left' bytes script
+    × IsRun may script (capacity_of job) (workers_of job) finish.log finish.results finish.ends finish.caused × (text ≡ text_of job bytes script finish)
+
+-- what a job did, and the text that it writes
+abbrev pub Did : Answers → Job → Option (List ℕ) → Option (List ℕ) → Finish → List ℕ → Type 0
+Did may jobs.Audit left left' finish text = Audited left left' finish text
+Did may (jobs.Run workers log) left left' finish text = RanScript may (jobs.Run workers log) left left' finish text
+Did may (jobs.Gen count seed workers) left left' finish text = RanScript may (jobs.Gen count seed workers) left left' finish text
+Did may (jobs.Commitments workers log) left left' finish text = RanScript may (jobs.Commitments workers log) left left' finish text
+Did may (jobs.Dump workers log) left left' finish text = RanScript may (jobs.Dump workers log) left left' finish text
+
+-- the job that the words ask for was done, and the text is what it writes
 abbrev pub Ran : Answers → List (List ℕ) → Option (List ℕ) → Option (List ℕ) → Finish → List ℕ → Type 0
-Ran may words left left' finish text =
-    (job : Job) × (script : Script) × (job_of words ≡ Some job) × GivesScript job left left' script
-    × IsRun may script (capacity_of job) (workers_of job) finish.log finish.results finish.ends finish.caused × (text ≡ text_of job script finish)
+Ran may words left left' finish text = (job : Job) × (job_of words ≡ Some job) × Did may job left left' finish text
+
+-- what was written is judged to be the dump of the run's log
+abbrev pub IsJudgedYes : Finish → (dump : List ℕ) → Type 0
+IsJudgedYes finish dump = IsAudit script_of most_of standard_of dump (Yes (length finish.log) (approved_in finish.log))
 
 -- The source was read to its end within the limit, and the fault kept is the first fault of its bytes.
 abbrev pub ReadsFault : Option (List ℕ) → Option (List ℕ) → Finish → Type 0
 ReadsFault left left' finish =
-    (bytes : List ℕ) × (fault : ScriptFault) × ReadWhole left left' bytes × (script_in bytes ≡ Err fault) × (finish.fault ≡ Some fault)
+    (bytes : List ℕ) × (fault : ScriptFault) × ReadWhole MOST_SCRIPT_BYTES left left' bytes × (script_in bytes ≡ Err fault)
+    × (finish.fault ≡ Some fault)
 
 -- the words ask for a script of the source, and the fault kept is that of its bytes
 abbrev pub KeepsFault : List (List ℕ) → Option (List ℕ) → Option (List ℕ) → Finish → Type 0
 KeepsFault words left left' finish = AsksForScript words × ReadsFault left left' finish
 
 -- the bytes were taken: at most one past the limit, and that one exactly at status 6
-abbrev pub TakesAtMost : Option (List ℕ) → Option (List ℕ) → (status : ℕ) → List ℕ → Type 0
-TakesAtMost left left' status bytes =
-    Consumes left left' bytes × (length bytes ≤ MOST_SCRIPT_BYTES + 1) × (status ≡ 6 ↔ (MOST_SCRIPT_BYTES < length bytes))
+abbrev pub TakesAtMost : (most : ℕ) → Option (List ℕ) → Option (List ℕ) → (status : ℕ) → List ℕ → Type 0
+TakesAtMost most left left' status bytes = Consumes left left' bytes × (length bytes ≤ most + 1) × (status ≡ 6 ↔ (most < length bytes))
 
--- At most one byte past the limit was taken, and that one exactly at status 6. Where the words don't ask for a script of the source none
--- was.
+-- how many bytes are read where words ask for this
+abbrev pub most_asked : Option Job → ℕ
+most_asked None = MOST_SCRIPT_BYTES
+most_asked (Some job) = most_bytes job
+
+-- At most one byte past the job's limit was taken, and that one exactly at status 6. Where the words don't ask for the source none was.
 abbrev pub TakesUpTo : List (List ℕ) → Option (List ℕ) → Option (List ℕ) → Finish → Type 0
 TakesUpTo words left left' finish =
-    (bytes : List ℕ) × TakesAtMost left left' finish.status bytes × (¬ AsksForScript words → bytes ≡ [])
+    (bytes : List ℕ) × TakesAtMost (most_asked (job_of words)) left left' finish.status bytes × (¬ AsksForSource words → bytes ≡ [])
 
 -- nothing was run and nothing was written
 abbrev pub RanNothing : Option (List ℕ) → Option (List ℕ) → Finish → Type 0
-RanNothing held held' finish = (finish.log ≡ []) × (finish.results ≡ []) × (finish.ends ≡ []) × (finish.caused ≡ []) × Keeps held held'
+RanNothing held held' finish = HasRunNothing finish × Keeps held held'
 
 -- the source gives a script within the limit
 abbrev pub OffersScript : Option (List ℕ) → Type 0
 OffersScript left = (bytes : List ℕ) × (script : Script) × (left ≡ Some bytes) × (length bytes ≤ MOST_SCRIPT_BYTES) × (script_in bytes ≡ Ok script)
+
+-- the source gives bytes within the limit of dumps
+abbrev pub OffersBytes : Option (List ℕ) → Type 0
+OffersBytes left = (bytes : List ℕ) × (left ≡ Some bytes) × (length bytes ≤ MOST_DUMP_BYTES)
 
 -- a fact, where a test says that it is asked for
 abbrev pub Where : Bool → Type 0 → Type 0
 Where true fact = fact
 Where false fact = Unit {0}
 
--- the same, where the job needs a source
-abbrev pub HasScript : Job → Option (List ℕ) → Type 0
-HasScript job left = Where (needs_source job) (OffersScript left)
+-- the source gives what the job reads
+abbrev pub HasInput : Job → Option (List ℕ) → Type 0
+HasInput jobs.Audit left = OffersBytes left
+HasInput (jobs.Run workers log) left = OffersScript left
+HasInput (jobs.Gen count seed workers) left = Unit {0}
+HasInput (jobs.Commitments workers log) left = OffersScript left
+HasInput (jobs.Dump workers log) left = OffersScript left
 
 -- the source's count didn't rise, where the job needs a source
 abbrev pub NoReadFault : Job → (before after : ℕ) → Type 0

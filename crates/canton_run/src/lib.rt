@@ -2,7 +2,9 @@
 #![tactic(auto)]
 
 mod answers;
+mod audit_job;
 mod finish;
+mod given_script;
 mod job_text;
 pub mod laws;
 mod leftovers;
@@ -13,10 +15,10 @@ mod played;
 mod raws;
 mod rounds;
 mod run_plan;
-mod script_parts;
 mod script_run;
 mod second_part;
 mod seen;
+mod told_run;
 mod top_call;
 mod views;
 mod words;

@@ -1,64 +1,53 @@
 //! The top call: words, a source and a sink in, a status and what was run out.
-ghost use Rattle.std.specs.Prelude.{◌≡◌, ◌≢◌, ◌↔◌, ◌<◌, ◌≤◌, ◌*◌, List, ℕ, Some, None, Ok, length, take, IsErr};
+ghost use Rattle.std.specs.Prelude.{◌≡◌, ◌≢◌, ◌↔◌, ◌<◌, ◌≤◌, ◌*◌, List, [], ℕ, Some, None, Ok, All, length, take, IsErr};
 ghost use Rattle.std.proofs.Common.{◌⊎◌};
 ghost use Rattle.std.specs.Io.KnownBytes.{Appends};
 ghost use Rattle.cli_words.specs.Jobs.{job_of};
 ghost use Rattle.cli_words.specs.declared.job.Job.{Job};
-ghost use Rattle.cli_words.specs.declared.job.Job.TheVariants.{Gen};
+ghost use Rattle.cli_words.specs.declared.job.Job.TheVariants.{Dump, Gen};
 ghost use Rattle.cn_io.specs.Faults.{Rose};
-ghost use Rattle.ledger_terms.specs.declared.limits.TheConstants.{MOST_PLACES, MOST_SUBMISSIONS};
+ghost use Rattle.ledger_terms.specs.declared.limits.TheConstants.{MOST_PLACES, MOST_SCRIPT_BYTES, MOST_SUBMISSIONS};
 ghost use Rattle.load_gen.specs.Generated.{generated};
+ghost use Rattle.log_dump.specs.InRange.{IsBlock, IsTyped};
 ghost use Rattle.script_read.specs.Kept.{IsAccepted};
 ghost use Rattle.script_read.specs.Script.{script_in};
 ghost use Rattle.script_read.specs.declared.script.Script.{Script};
 ghost use Rattle.trigger_rules.specs.Answers.{CanAsk, GivesExercises, MayAnswer};
 ghost use Rattle.canton_run.specs.Run.{IsRun};
 ghost use Rattle.canton_run.specs.Jobs.{ReadsScript, capacity_of, text_of, workers_of};
-ghost use Rattle.canton_run.specs.Ends.{AsksForScript, HasScript, IsReadWhole, IsRunStatus, IsStatus, KeepsFault, NoReadFault};
+ghost use Rattle.canton_run.specs.Ends.{AsksForScript, HasInput, IsJudgedYes, IsReadWhole, IsRunStatus, IsStatus, KeepsFault, NoReadFault};
 ghost use Rattle.canton_run.specs.Ends.{OffersScript, Ran, RanNothing, ReadsFault, TakesAtMost, TakesUpTo};
 
+use crate::audit_job::run_audit;
 use crate::finish::{Finish, ended, finished};
-use crate::job_text::{JobText, text_of};
-use crate::leftovers::Leftovers;
+use crate::given_script::GivenScript;
 use crate::platform::Platform;
-use crate::played::Played;
-use crate::run_plan::RunPlan;
-use crate::script_parts::{ScriptParts, parts_of};
-use crate::script_run::run_script;
+use crate::told_run::{ToldRun, told_run};
 use crate::writing::write;
 use cli_words::{Job, WordList, WordsFault, read_words};
 use cn_io::{ReadFault, Sink, Source, read_all};
 use lane_pool::Gate;
 use lang_eval::NativeList;
 use ledger_terms::limits::{MOST_PLACES, MOST_SCRIPT_BYTES};
-use ledger_terms::{Command, Known, Name};
+use ledger_terms::{Bytes, Command, Known, Name};
 use load_gen::{generate, generated_scripts_are_accepted};
-use log_row::LogRow;
+use prepare_request::laws::prepared_requests_make_a_machine;
 use script_read::{Script, ScriptFault, read_script};
 use shared_rounds::Workers;
 use std::alloc::{AllocError, AllocGlobal};
 use std::random::RandomSource;
 use std::sync::Wait;
 use std::thread::Threads;
-use trigger_rules::{Answering, Closure, Rules};
-
-// How many places of the log the requests of a job may need.
-fn capacity_of(job: Job) -> u64
-    ensures { result ≡ capacity_of job }
-{
-    match job {
-        Job::Run { log, .. } | Job::Commitments { log, .. } => log,
-        Job::Gen { .. } => MOST_PLACES as u64,
-    }
-}
+use trigger_rules::{Answering, Closure};
 
 // How many lanes work beside the clients of a round.
 fn workers_of(job: Job) -> u32
     ensures { result ≡ workers_of job }
 {
     match job {
-        Job::Run { workers, .. } | Job::Gen { workers, .. } | Job::Commitments { workers, .. } =>
-            workers,
+        Job::Run { workers, .. } | Job::Gen { workers, .. } => workers,
+        Job::Commitments { workers, .. } | Job::Dump { workers, .. } => workers,
+        Job::Audit => 0,
     }
 }
 
@@ -72,11 +61,12 @@ fn carry_out<
     workers: &Workers<'_, R, G>,
     natives: &NativeList,
     job: Job,
-    script: Script,
+    given: GivenScript,
     sink: &mut K,
     answer: A,
 ) -> Finish
-    requires accepted { IsAccepted script }
+    requires accepted { IsAccepted given.script }
+    requires short { length given.bytes ≤ MOST_SCRIPT_BYTES }
     requires room { capacity_of job ≤ MOST_PLACES }
     requires askable { A.can_ask answer }
     requires exercises { GivesExercises (A.may_answer answer) }
@@ -84,37 +74,19 @@ fn carry_out<
     ensures fault { result.fault ≡ None }
     ensures memory { result.status ≡ 70 → RanNothing (K.held sink.old) (K.held sink.new) result }
     ensures ran { result.status ≢ 70
-        → IsRun (A.may_answer answer) script (capacity_of job) workers.now.count result.log result.results result.ends result.caused }
-    ensures done { result.status ≡ 0 → Appends (K.held sink.old) (K.held sink.new) (text_of job script result) }
-    ensures cut { result.status ≡ 5 → (n : ℕ) × Appends (K.held sink.old) (K.held sink.new) (take n (text_of job script result)) }
+        → IsRun (A.may_answer answer) given.script (capacity_of job) workers.now.count result.log result.results result.ends result.caused }
+    ensures done { result.status ≡ 0 → Appends (K.held sink.old) (K.held sink.new) (text_of job given.bytes given.script result) }
+    ensures cut { result.status ≡ 5 → (n : ℕ) × Appends (K.held sink.old) (K.held sink.new) (take n (text_of job given.bytes given.script result)) }
     ensures rose { result.status ≡ 5 → Rose (K.faults sink.old) (K.faults sink.new) }
-    ensures sure { result.status ≡ 5 → K.room sink.old < length (text_of job script result) }
+    ensures sure { result.status ≡ 5 → K.room sink.old < length (text_of job given.bytes given.script result) }
     ensures count { K.faults sink.old ≤ K.faults sink.new }
+    ensures spelled { (count log : ℕ) → job ≡ Dump count log → result.status ≢ 70 → IsBlock given.bytes × All IsTyped result.log }
 {
-    let ScriptParts {
-        setup,
-        triggers,
-        rounds,
-    } = parts_of(script);
-    let Ok(mut row) = LogRow::new(workers.alloc) else {
+    let Ok(run) = told_run(workers, natives, job, given, answer) else {
         return ended(workers.alloc, 70, None);
     };
-    let mut rules = Rules::new(triggers, answer);
-    let plan = RunPlan {
-        setup: &setup,
-        rounds: &rounds,
-        capacity: capacity_of(job),
-    };
-    let Ok(Played { record, nodes }) = run_script(workers, natives, &plan, &mut rules, &mut row)
-    else {
-        return ended(workers.alloc, 70, None);
-    };
-    let Ok(told) = text_of(workers.alloc, job, &plan, &record, nodes) else {
-        return ended(workers.alloc, 70, None);
-    };
-    let JobText { text, views, nodes } = told;
-    let left = Leftovers::new(row, views, nodes, setup, rounds);
-    finished(write(sink, text.as_str().as_bytes()), record, left)
+    let ToldRun { record, text, left } = run;
+    finished(write(sink, text.as_slice()), record, left)
 }
 
 // Reads a script from the source and runs it.
@@ -140,25 +112,32 @@ fn run_source<
     ensures kept { result.status ≢ 3 → result.fault ≡ None }
     ensures read { result.status ≡ 4 → Rose (S.faults source.old) (S.faults source.new) }
     ensures write { result.status ≡ 5 → Rose (K.faults sink.old) (K.faults sink.new) }
-    ensures taken { (bytes : List ℕ) × TakesAtMost (S.left source.old) (S.left source.new) result.status bytes }
+    ensures taken { (bytes : List ℕ) × TakesAtMost MOST_SCRIPT_BYTES (S.left source.old) (S.left source.new) result.status bytes }
     ensures nothing { result.status ≢ 0 → result.status ≢ 5 → RanNothing (K.held sink.old) (K.held sink.new) result }
-    ensures done { result.status ≡ 0 → (script : Script) × ReadsScript (S.left source.old) (S.left source.new) script
+    ensures done { result.status ≡ 0 → (bytes : List ℕ) × (script : Script) × ReadsScript (S.left source.old) (S.left source.new) bytes script
         × IsRun (A.may_answer answer) script (capacity_of job) workers.now.count result.log result.results result.ends result.caused
-        × Appends (K.held sink.old) (K.held sink.new) (text_of job script result) }
-    ensures cut { result.status ≡ 5 → (script : Script) × ReadsScript (S.left source.old) (S.left source.new) script
+        × Appends (K.held sink.old) (K.held sink.new) (text_of job bytes script result) }
+    ensures cut { result.status ≡ 5 → (bytes : List ℕ) × (script : Script) × ReadsScript (S.left source.old) (S.left source.new) bytes script
         × IsRun (A.may_answer answer) script (capacity_of job) workers.now.count result.log result.results result.ends result.caused
-        × (K.room sink.old < length (text_of job script result))
-        × ((n : ℕ) × Appends (K.held sink.old) (K.held sink.new) (take n (text_of job script result))) }
+        × (K.room sink.old < length (text_of job bytes script result))
+        × ((n : ℕ) × Appends (K.held sink.old) (K.held sink.new) (take n (text_of job bytes script result))) }
+    ensures judged { (count log : ℕ) → job ≡ Dump count log → result.status ≡ 0
+        → (dump : List ℕ) × Appends (K.held sink.old) (K.held sink.new) dump × IsJudgedYes result dump }
     ensures count { (S.faults source.old ≤ S.faults source.new) × (K.faults sink.old ≤ K.faults sink.new) }
     ensures faulty { (bytes : List ℕ) → S.left source.old ≡ Some bytes → IsReadWhole result.status
         → (result.status ≡ 3 ↔ IsErr (script_in bytes)) }
     ensures complete { OffersScript (S.left source.old) → ¬ Rose (S.faults source.old) (S.faults source.new)
         → ¬ Rose (K.faults sink.old) (K.faults sink.new) → (result.status ≡ 0) ⊎ (result.status ≡ 70) }
 {
+    // the prover learns from this call that there is a machine
+    prepared_requests_make_a_machine();
     let alloc = workers.alloc;
     match read_all(alloc, source, MOST_SCRIPT_BYTES) {
         Ok(bytes) => match read_script(alloc, bytes.as_slice()) {
-            Ok(script) => carry_out(workers, natives, job, script, sink, answer),
+            Ok(script) => {
+                let given = GivenScript { script, bytes };
+                carry_out(workers, natives, job, given, sink, answer)
+            }
             Err(ScriptFault::Memory) => ended(alloc, 70, None),
             Err(fault) => ended(alloc, 3, Some(fault)),
         },
@@ -191,11 +170,11 @@ fn run_generated<
     ensures ran { result.status ≢ 70
         → IsRun (A.may_answer answer) (generated seed count) MOST_PLACES workers.now.count result.log result.results result.ends result.caused }
     ensures done { (n : ℕ) → result.status ≡ 0
-        → Appends (K.held sink.old) (K.held sink.new) (text_of (Gen count seed n) (generated seed count) result) }
+        → Appends (K.held sink.old) (K.held sink.new) (text_of (Gen count seed n) [] (generated seed count) result) }
     ensures cut { (n : ℕ) → result.status ≡ 5
-        → (some : ℕ) × Appends (K.held sink.old) (K.held sink.new) (take some (text_of (Gen count seed n) (generated seed count) result)) }
+        → (some : ℕ) × Appends (K.held sink.old) (K.held sink.new) (take some (text_of (Gen count seed n) [] (generated seed count) result)) }
     ensures rose { result.status ≡ 5 → Rose (K.faults sink.old) (K.faults sink.new) }
-    ensures sure { (n : ℕ) → result.status ≡ 5 → K.room sink.old < length (text_of (Gen count seed n) (generated seed count) result) }
+    ensures sure { (n : ℕ) → result.status ≡ 5 → K.room sink.old < length (text_of (Gen count seed n) [] (generated seed count) result) }
     ensures count { K.faults sink.old ≤ K.faults sink.new }
 {
     generated_scripts_are_accepted();
@@ -206,16 +185,20 @@ fn run_generated<
         workers: workers.count,
     };
     match generate(alloc, count, seed) {
-        Ok(script) => carry_out(workers, natives, job, script, sink, answer),
+        Ok(script) => {
+            let bytes = Bytes::new(alloc);
+            let given = GivenScript { script, bytes };
+            carry_out(workers, natives, job, given, sink, answer)
+        }
         Err(_) => ended(alloc, 70, None),
     }
 }
 
-/// Does what the words ask for: reads a script from the source, runs it and writes the report or the commitments to the sink; or runs a
-/// generated script and writes the summary. With workers each round's submissions come from clients in threads of their own, beside so many
-/// lanes, which pass the gate before each view that they check; without, one thread does all the work and passes no gate. That thread asks
-/// `natives` for a choice that they have, in place of the language; lanes and clients ask the language. `rule` says what the script's
-/// rules do about a contract. Memory is that of the words.
+/// Does what the words ask for: reads a script from the source, runs it and writes the report, the commitments or a dump to the sink;
+/// runs a generated script and writes the summary; or reads a dump and writes what an audit says of it. With workers each round's
+/// submissions come from clients in threads of their own, beside so many lanes, which pass the gate before each view that they check;
+/// without, one thread does all the work and passes no gate. That thread asks `natives` for a choice that they have, in place of the
+/// language; lanes and clients ask the language. `rule` says what the script's rules do about a contract. Memory is that of the words.
 pub fn run<
     R: Threads + Wait + Sync + RandomSource + AllocGlobal,
     G: Gate + Sync,
@@ -247,7 +230,9 @@ pub fn run<
     ensures count { (S.faults source.old ≤ S.faults source.new) × (K.faults sink.old ≤ K.faults sink.new) }
     ensures faulty { (bytes : List ℕ) → S.left source.old ≡ Some bytes → AsksForScript words.now → IsReadWhole result.status
         → (result.status ≡ 3 ↔ IsErr (script_in bytes)) }
-    ensures complete { (job : Job) → job_of words.now ≡ Some job → HasScript job (S.left source.old)
+    ensures judged { (count log : ℕ) → job_of words.now ≡ Some (Dump count log) → result.status ≡ 0
+        → (dump : List ℕ) × Appends (K.held sink.old) (K.held sink.new) dump × IsJudgedYes result dump }
+    ensures complete { (job : Job) → job_of words.now ≡ Some job → HasInput job (S.left source.old)
         → NoReadFault job (S.faults source.old) (S.faults source.new) → ¬ Rose (K.faults sink.old) (K.faults sink.new)
         → (result.status ≡ 0) ⊎ (result.status ≡ 70) }
 {
@@ -265,6 +250,7 @@ pub fn run<
                 Job::Gen { count, seed, .. } => run_generated(
                     &workers, &natives, count, seed, sink, answer,
                 ),
+                Job::Audit => run_audit(alloc, source, sink),
                 _ => run_source(&workers, &natives, job, source, sink, answer),
             }
         }

@@ -1,5 +1,5 @@
--- The job that words ask for: `run [--workers N] [--log N]`, `commitments [--workers N] [--log N]` or
--- `gen COUNT SEED [--workers N]`.
+-- The job that words ask for: `run [--workers N] [--log N]`, `commitments [--workers N] [--log N]`, `dump [--workers N] [--log N]`,
+-- `audit` or `gen COUNT SEED [--workers N]`.
 use Rattle.std.specs.Prelude.{ℕ, Bool, ◌&&◌, List, [], ◌∷◌, length, Option, Some, None, if◌then◌else◌, nat_le, option_map, codes}
 use Rattle.std.specs.Borrow.{Bor}
 use Rattle.std.specs.List.{list_all}
@@ -10,7 +10,7 @@ use Rattle.ledger_terms.specs.declared.limits.TheConstants.{MOST_PLACES}
 use Rattle.cli_words.specs.Arguments.{Text, Argument, text_of, arguments_of}
 use Rattle.cli_words.specs.declared.limits.TheConstants.{MOST_DIGITS, MOST_WORKERS, MOST_COUNT, MOST_SEED}
 use Rattle.cli_words.specs.declared.job.Job.{Job}
-use Rattle.cli_words.specs.declared.job.Job.TheVariants.{Run, Gen, Commitments}
+use Rattle.cli_words.specs.declared.job.Job.TheVariants.{Run, Gen, Commitments, Dump, Audit}
 use Rattle.cli_words.specs.declared.run_options.RunOptions.{RunOptions}
 
 infixl 10 ◌>>=◌
@@ -89,6 +89,20 @@ commitments_of given = do
   options ← options_of given
   Some (Commitments options.workers options.log)
 
+unfoldable pub dump_of : Given → Option Job
+dump_of given = do
+  options ← options_of given
+  Some (Dump options.workers options.log)
+
+-- an audit takes no argument
+unfoldable pub audit_of : Given → Option Job
+audit_of given = do
+  _ ← absent given.workers
+  _ ← absent given.log
+  _ ← absent given.count
+  _ ← absent given.seed
+  Some Audit
+
 unfoldable pub gen_of : Given → Option Job
 gen_of given = do
   _ ← absent given.log
@@ -101,6 +115,8 @@ abbrev pub job_by : Text → Given → Option Job
 job_by command given =
     if bytes_eq command (codes "run") then run_of given
     else if bytes_eq command (codes "commitments") then commitments_of given
+    else if bytes_eq command (codes "dump") then dump_of given
+    else if bytes_eq command (codes "audit") then audit_of given
     else if bytes_eq command (codes "gen") then gen_of given
     else None
 

@@ -3,7 +3,7 @@ use Rattle.std.specs.Prelude.{◌≤◌}
 use Rattle.ledger_terms.specs.declared.limits.TheConstants.{MOST_PLACES}
 use Rattle.cli_words.specs.declared.limits.TheConstants.{MOST_WORKERS, MOST_COUNT, MOST_SEED}
 use Rattle.cli_words.specs.declared.job.Job.{Job}
-use Rattle.cli_words.specs.declared.job.Job.TheVariants.{Run, Gen, Commitments}
+use Rattle.cli_words.specs.declared.job.Job.TheVariants.{Run, Gen, Commitments, Dump, Audit}
 use Rattle.cli_words.specs.declared.run_options.RunOptions.{RunOptions}
 
 -- the options of a job on the source's script are within their limits
@@ -15,3 +15,5 @@ abbrev pub IsWithin : Job → Type 0
 IsWithin (Run workers log) = AreWithin (record { workers = workers; log = log })
 IsWithin (Gen count seed workers) = (1 ≤ count) × (count ≤ MOST_COUNT) × (seed ≤ MOST_SEED) × (workers ≤ MOST_WORKERS)
 IsWithin (Commitments workers log) = AreWithin (record { workers = workers; log = log })
+IsWithin (Dump workers log) = AreWithin (record { workers = workers; log = log })
+IsWithin Audit = Unit {0}

@@ -1,7 +1,7 @@
 //! Jobs from what is given.
 ghost use Rattle.std.specs.Prelude.{◌≡◌, ◌≤◌, IfSome};
 ghost use Rattle.cli_words.specs.Command.{matches_given};
-ghost use Rattle.cli_words.specs.Jobs.{number_or, options_of, run_of, commitments_of, gen_of, job_by};
+ghost use Rattle.cli_words.specs.Jobs.{number_or, options_of, run_of, commitments_of, dump_of, audit_of, gen_of, job_by};
 ghost use Rattle.cli_words.specs.Within.{AreWithin, IsWithin};
 
 use crate::job::Job;
@@ -55,6 +55,31 @@ fn commitments_of(given: &ArgMatches<'_>) -> Option<Job>
     Some(Job::Commitments { workers, log })
 }
 
+/// A dump of a run of the source's script.
+#[tactic(auto, unfolding(crate::specs::Jobs::dump_of))]
+fn dump_of(given: &ArgMatches<'_>) -> Option<Job>
+    ensures job { result ≡ dump_of (matches_given given.now) }
+    ensures within { IfSome result IsWithin }
+{
+    let RunOptions { workers, log } = options_of(given)?;
+    Some(Job::Dump { workers, log })
+}
+
+/// An audit, which takes no argument.
+#[tactic(auto, unfolding(crate::specs::Jobs::audit_of))]
+fn audit_of(given: &ArgMatches<'_>) -> Option<Job>
+    ensures job { result ≡ audit_of (matches_given given.now) }
+    ensures within { IfSome result IsWithin }
+{
+    if given.get_str("workers").is_some() || given.get_str("log").is_some() {
+        return None;
+    }
+    if given.get_str("count").is_some() || given.get_str("seed").is_some() {
+        return None;
+    }
+    Some(Job::Audit)
+}
+
 /// A run of a generated script.
 #[tactic(auto, unfolding(crate::specs::Jobs::gen_of))]
 fn gen_of(given: &ArgMatches<'_>) -> Option<Job>
@@ -83,6 +108,10 @@ pub(crate) fn job_by(command: &str, given: &ArgMatches<'_>) -> Option<Job>
         run_of(given)
     } else if command == "commitments" {
         commitments_of(given)
+    } else if command == "dump" {
+        dump_of(given)
+    } else if command == "audit" {
+        audit_of(given)
     } else if command == "gen" {
         gen_of(given)
     } else {

@@ -24,8 +24,8 @@ fn texts_of(alloc: Global, words: &[Text]) -> Result<Vec<&str>, AllocError>
     Ok(texts)
 }
 
-/// The job that the words ask for: `run [--workers N] [--log N]`, `commitments [--workers N] [--log N]`, or
-/// `gen COUNT SEED [--workers N]`.
+/// The job that the words ask for: `run [--workers N] [--log N]`, `commitments [--workers N] [--log N]`, `dump [--workers N] [--log N]`,
+/// `audit`, or `gen COUNT SEED [--workers N]`.
 ///
 /// The first word is the command. Options and positionals stand behind it in any order; an option stands once at most, and its
 /// number is the next word or is joined to it by `=`. Behind `--` no word is an option.

@@ -1,4 +1,4 @@
-//! Cases of whole runs, with their words between commas and then the bytes of the source:
+//! Cases of whole runs, with their words between commas and then the bytes of the source, as text or as hexadecimal digits behind `0x`:
 //! - `run NAME TAKE PUT WORDS SOURCE` runs over a source and a sink that move 16 bytes a call and fail at these calls, 0 for none. The
 //!   answer is the status, the line for it, and what the sink was given, each of its lines behind a bar.
 //! - `surely NAME ROOM WORDS SOURCE`: the source never fails, and the sink has room for so many bytes.

@@ -29,14 +29,10 @@ fn words_of(alloc: Global, text: &str) -> Result<WordList, AllocError> {
 
 fn put_asked(job: Job, out: &mut Answer) {
     match job {
-        Job::Run { workers, log } => {
-            put_numbered("run workers ", workers as u64, out);
-            put_numbered(" log ", log as u64, out);
-        }
-        Job::Commitments { workers, log } => {
-            put_numbered("commitments workers ", workers as u64, out);
-            put_numbered(" log ", log as u64, out);
-        }
+        Job::Run { workers, log } => put_options("run", workers, log, out),
+        Job::Commitments { workers, log } => put_options("commitments", workers, log, out),
+        Job::Dump { workers, log } => put_options("dump", workers, log, out),
+        Job::Audit => out.put("audit"),
         Job::Gen {
             count,
             seed,
@@ -48,6 +44,12 @@ fn put_asked(job: Job, out: &mut Answer) {
         }
     }
     out.put("\n");
+}
+
+fn put_options(command: &str, workers: u32, log: u64, out: &mut Answer) {
+    out.put(command);
+    put_numbered(" workers ", workers as u64, out);
+    put_numbered(" log ", log, out);
 }
 
 fn put_numbered(word: &str, number: u64, out: &mut Answer) {

@@ -11,9 +11,16 @@ pub(crate) fn words_of(alloc: Global, words: &str) -> Result<WordList, AllocErro
     Ok(list)
 }
 
+/// The bytes of the text, or those that hexadecimal digits spell behind `0x`; none where they are no digits.
 pub(crate) fn bytes_of(alloc: Global, text: &str) -> Result<Bytes, AllocError> {
     let mut bytes = Bytes::new(alloc);
-    bytes.extend(text.as_bytes())?;
+    let Some(digits) = text.strip_prefix("0x") else {
+        bytes.extend(text.as_bytes())?;
+        return Ok(bytes);
+    };
+    if let Ok(spelled) = hex::decode(alloc, digits) {
+        bytes.extend(spelled.as_slice())?;
+    }
     Ok(bytes)
 }
 

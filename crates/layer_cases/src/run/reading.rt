@@ -17,7 +17,7 @@ fn put_reading<S: Source>(
     out: &mut String,
 ) -> Result<(), AllocError> {
     match read_all(alloc, source, limit.parse().unwrap_or(0)) {
-        Ok(bytes) => put_lines(bytes.as_slice(), out),
+        Ok(bytes) => put_lines(alloc, bytes.as_slice(), out),
         Err(ReadFault::Failed) => out.push_str("failed\n"),
         Err(ReadFault::TooLong) => out.push_str("too long\n"),
         Err(ReadFault::Memory) => Err(AllocError),

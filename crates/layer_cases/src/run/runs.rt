@@ -36,7 +36,7 @@ pub(crate) fn run_answer<R: Threads + Wait + Sync + RandomSource + AllocGlobal>(
     let mut sink = MemSink::new(alloc, PIECE, only(alloc, case.put)?);
     let end = run_words(rt, alloc, &words, &mut source, &mut sink)?;
     let mut told = named(alloc, case.name, end.as_str())?;
-    put_lines(sink.written(), &mut told)?;
+    put_lines(alloc, sink.written(), &mut told)?;
     Ok(Some(told))
 }
 
@@ -51,7 +51,7 @@ pub(crate) fn sure_answer<R: Threads + Wait + Sync + RandomSource + AllocGlobal>
     let room = case.given.parse().unwrap_or(0);
     let ran = program_run(rt, alloc, &case, room)?;
     let SureRun { mut told, sink } = ran;
-    put_lines(sink.written(), &mut told)?;
+    put_lines(alloc, sink.written(), &mut told)?;
     Ok(Some(told))
 }
 
@@ -112,7 +112,7 @@ pub(crate) fn native_answer<R: Threads + Wait + Sync + RandomSource + AllocGloba
     let asked = Arc::new(alloc, AtomicU64::new(0))?;
     let ran = counting_run(rt, alloc, &case, ROOM, Arc::try_clone(&asked)?)?;
     let SureRun { mut told, sink } = ran;
-    put_lines(sink.written(), &mut told)?;
+    put_lines(alloc, sink.written(), &mut told)?;
     told.push_str(if asked.load(Ordering::SeqCst) == 0 {
         "not asked\n"
     } else {

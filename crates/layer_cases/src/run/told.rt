@@ -19,11 +19,25 @@ pub(crate) fn named(alloc: Global, name: &str, end: &str) -> Result<String, Allo
     format!(in alloc; "run {name}\n{end}")
 }
 
-/// Puts each line of a text behind a bar at the end.
-pub(crate) fn put_lines(written: &[u8], out: &mut String) -> Result<(), AllocError> {
-    let text = str::from_utf8(written).unwrap_or("no text");
+/// Puts each line of a text behind a bar at the end, and bytes that are no text as hexadecimal digits.
+pub(crate) fn put_lines(alloc: Global, written: &[u8], out: &mut String) -> Result<(), AllocError> {
+    match str::from_utf8(written) {
+        Ok(text) => put_text(text, out),
+        Err(_) => put_digits(alloc, written, out),
+    }
+}
+
+fn put_text(text: &str, out: &mut String) -> Result<(), AllocError> {
     for line in text.lines() {
         write!(out, "|{line}\n")?;
     }
     Ok(())
+}
+
+fn put_digits(alloc: Global, written: &[u8], out: &mut String) -> Result<(), AllocError> {
+    let Ok(digits) = hex::encode(alloc, written) else {
+        return Err(AllocError);
+    };
+    let digits = digits.as_str();
+    write!(out, "|0x{digits}\n")
 }

@@ -31,7 +31,7 @@ pub(crate) fn mem_sink_answer(alloc: Global, spelled: &str) -> Result<Option<Str
     let mut sink = MemSink::new(alloc, piece.max(1), calls);
     let mut out = format!(in alloc; "sink that fails at call {call}\n")?;
     put_writings(&mut sink, texts, &mut out)?;
-    put_lines(sink.written(), &mut out)?;
+    put_lines(alloc, sink.written(), &mut out)?;
     Ok(Some(out))
 }
 
@@ -45,7 +45,7 @@ pub(crate) fn sure_sink_answer(alloc: Global, spelled: &str) -> Result<Option<St
     put_writings(&mut sink, early, &mut out)?;
     sink.reserve(room.parse().unwrap_or(0))?;
     put_writings(&mut sink, texts, &mut out)?;
-    put_lines(sink.written(), &mut out)?;
+    put_lines(alloc, sink.written(), &mut out)?;
     Ok(Some(out))
 }
 
@@ -58,6 +58,6 @@ pub(crate) fn writer_answer(alloc: Global, texts: &str) -> Result<Option<String>
         at: 0,
     });
     put_writings(&mut sink, texts, &mut out)?;
-    put_lines(&taken, &mut out)?;
+    put_lines(alloc, &taken, &mut out)?;
     Ok(Some(out))
 }
