@@ -7,7 +7,8 @@ from tables.transactions import IOU
 MULTIPLIER, INCREMENT = 6364136223846793005, 1442695040888963407
 PARTICIPANTS = 4
 MOST_DIGITS, MOST_WORKERS, MOST_LOG, MOST_COUNT, MOST_SEED = 20, 8, 20480, 1024, 2 ** 64 - 1
-OPTIONS = {'run': ('workers', 'log'), 'gen': ('workers',)}
+OVER_A_SCRIPT = ('workers', 'log')
+OPTIONS = {'run': OVER_A_SCRIPT, 'commitments': OVER_A_SCRIPT, 'dump': OVER_A_SCRIPT, 'audit': (), 'gen': ('workers',)}
 # of more than FEW submissions of a round the LAST are shown
 FEW, LAST = 10, 4
 
@@ -57,14 +58,15 @@ def given(words, names):
 def job(words):
     if not words or words[0] not in OPTIONS:
         raise Usage()
-    options, positionals = given(words[1:], OPTIONS[words[0]])
-    workers = number(options.get('workers', '0'), 0, MOST_WORKERS)
-    if words[0] == 'run':
-        if positionals:
-            raise Usage()
-        return 'run workers %d log %d' % (workers, number(options.get('log', str(MOST_LOG)), 1, MOST_LOG))
-    if len(positionals) != 2:
+    command = words[0]
+    options, positionals = given(words[1:], OPTIONS[command])
+    if len(positionals) != (2 if command == 'gen' else 0):
         raise Usage()
+    workers = number(options.get('workers', '0'), 0, MOST_WORKERS)
+    if command == 'audit':
+        return command
+    if command != 'gen':
+        return '%s workers %d log %d' % (command, workers, number(options.get('log', str(MOST_LOG)), 1, MOST_LOG))
     numbers = number(positionals[0], 1, MOST_COUNT), number(positionals[1], 0, MOST_SEED)
     return 'gen count %d seed %d workers %d' % (numbers + (workers,))
 

@@ -7,6 +7,7 @@ import os
 
 import bench_cases
 import check_cases
+import dumps
 import form_cases
 import framed
 import language
@@ -20,7 +21,7 @@ import trees
 import world_cases
 from tables import bytes as byte_tables
 from tables import (
-    benches, checks, commit_runs, commits, edges, expressions, frames, openings, package_faults, raw_runs, requests, runs, script_faults, transactions, trigger_runs, words, worlds)
+    benches, checks, commit_runs, commits, dump_runs, edges, expressions, frames, openings, package_faults, raw_runs, requests, runs, script_faults, transactions, trigger_runs, words, worlds)
 
 CRATE = os.path.join(os.path.dirname(os.path.dirname(os.path.abspath(__file__))), 'crates', 'layer_cases')
 
@@ -228,6 +229,37 @@ def trigger_run_cases():
         yield name, words, source, 0, 0, 0, None, text
 
 
+def audited(name, data, line):
+    """The audit of a dump, in the form of the runs of the tables, with bytes as digits."""
+    return name, 'audit', '0x' + data.hex(), 0, 0, 0, None, line + '\n'
+
+
+def dumped(script, change=None, rules=None):
+    """The dump of a script's run, its log changed; or its log behind a script with rules and no rounds."""
+    log = dumps.log_of(script.encode())
+    source = script if rules is None else compact({**json.loads(script), 'triggers': rules, 'rounds': []})
+    return dumps.dump_bytes(source.encode(), log if change is None else change(log))
+
+
+def dump_run_cases():
+    """Dumps and audits, in the same form. What an audit says is computed as well, where the script has no fault."""
+    for name, words, script in dump_runs.DUMPS:
+        yield name, words, script, 0, 0, 0, None, '0x' + dumped(script).hex()
+    for name, script, change, line in dump_runs.AUDITS:
+        data = dumped(script, change)
+        yield audited(name, data, agreed(name, dumps.audit(data), line))
+    for name, submits, rules, line in dump_runs.WITH_RULES:
+        data = dumped(dump_runs.script(*submits), rules=rules)
+        yield audited(name, data, agreed(name, dumps.audit(data), line))
+    for name, data, line in dump_runs.BYTES:
+        yield audited(name, data, line)
+    for name, script, off, behind, at in dump_runs.ENDS:
+        data = dumped(script)
+        cut = data[:len(data) - off] + behind
+        yield audited(name, cut, agreed(name, dumps.audit(cut), 'bad %d' % (len(data) + at)))
+    yield from dump_runs.FAILING
+
+
 def run_rows(cases):
     for name, words, source, take, put, status, line, text in cases:
         if status == 0 and words.startswith('run'):
@@ -348,6 +380,7 @@ def layer_rows():
         'run': {
             'Whole runs': run_rows(runs.cases()), 'Whole runs with raw requests': run_rows(raw_run_cases()),
             'Whole runs that commit': run_rows(commit_run_cases()), 'Whole runs with rules': run_rows(trigger_run_cases()),
+            'Dumps and audits': run_rows(dump_run_cases()),
             'Whole runs within room': sure_run_rows(),
             'Whole runs with workers in any order': count_rows(), 'Whole runs that pass a gate': gate_rows(), 'Whole runs with natives': native_rows(),
             'Beginnings of a script': cut_rows(), 'Logs': log_rows(), 'Sources that fail': edges.SOURCES, 'Sinks that fail': edges.SINKS},

@@ -11,7 +11,7 @@ class Received:
     """A framed request. What it comes to hangs on its bytes alone: the views are those of the mediator's tree."""
 
     def __init__(self, script, packages, request):
-        self.script, self.packages = script, packages
+        self.script, self.packages, self.raw = script, packages, request
         self.sender, self.command, self.asked = request['participant'], request['command'], request['confirming']
         self.root = trees.read_tree_hash(tree_of(request['mediator']))
         self.views = [{'path': path, 'informees': informees, 'confirmers': confirmers}

@@ -7,7 +7,8 @@ Of two spends of one contract with 4 workers, COUNT times (100), the first has t
 or refused as ContractUnknown; gen 1 7 and gen 1000 7 with 4 workers have to write as often what one thread writes; and twice as many
 runs of scripts with 1 to 8 workers, drawn from a seed, have to end with status 0. Scripts are made here, half of them with raw requests and half
 of them with rules, and in each second run one is taken from the folders: NAME.json, with the words in the lines of NAME.args, which one thread
-runs to status 0. The report of each script is tried by report_check.py, which knows the rules and not the program."""
+runs to status 0. The report of each script is tried by report_check.py, which knows the rules and not the program. The dump of each, from a run of its
+own, has to be judged yes by the program's audit and by dumps.py, with one line."""
 import glob
 import json
 import os
@@ -15,6 +16,7 @@ import random
 import subprocess
 import sys
 
+import dumps
 import raws
 from hostile_requests import Hostile
 from report_check import misfit
@@ -29,21 +31,26 @@ MOST_SECONDS = 1200
 def end_of(words, source=b''):
     """The status of a run and what it writes."""
     done = subprocess.run([PROGRAM, *map(str, words)], input=source, stdout=subprocess.PIPE, stderr=subprocess.PIPE, timeout=MOST_SECONDS)
-    return done.returncode, done.stdout.decode()
+    return done.returncode, done.stdout
+
+
+def written(words, source=b''):
+    """The bytes that a run writes, which has to end with status 0."""
+    status, data = end_of(words, source)
+    if status != 0:
+        keep('failed', source, data)
+        sys.exit(f'worker_runs: {words} ended with {status}; its script is in failed.json')
+    return data
 
 
 def run(words, source=b''):
-    """What a run writes, which has to end with status 0."""
-    status, text = end_of(words, source)
-    if status != 0:
-        keep('failed', source, text)
-        sys.exit(f'worker_runs: {words} ended with {status}; its script is in failed.json')
-    return text
+    """The text that a run writes."""
+    return written(words, source).decode()
 
 
-def keep(name, source, text):
-    """Keeps a script and a report for somebody to look at."""
-    for kind, what in (('json', source), ('report', text.encode())):
+def keep(name, source, data):
+    """Keeps a script and what a run of it wrote for somebody to look at."""
+    for kind, what in (('json', source), ('report', data)):
         with open(f'{name}.{kind}', 'wb') as file:
             file.write(what)
 
@@ -54,9 +61,19 @@ def report_of(name, source, words):
     capacity = int(words[words.index('--log') + 1]) if '--log' in words else 20_480
     why = misfit(json.loads(source), text, capacity)
     if why is not None:
-        keep('misfit', source, text)
+        keep('misfit', source, text.encode())
         sys.exit(f'worker_runs: {name} by {words}, in misfit.json and misfit.report: {why}')
     return text
+
+
+def audited(name, source, options):
+    """The line of an audit of the script's dump, which has to be a yes, and that of the oracle."""
+    dump = written(['dump'] + options, source)
+    line, own = run(['audit'], dump).rstrip('\n'), dumps.audit(dump)
+    if line != own or not line.startswith('yes '):
+        keep('misfit', source, dump)
+        sys.exit(f'worker_runs: {name} by dump {options}, in misfit.json and misfit.report: {line}, and {own} by the oracle')
+    return line
 
 
 def spends(source):
@@ -176,7 +193,9 @@ def drawn_runs(packages):
         if given and seed % 2 == 1:
             name, source, words = random.Random(seed).choice(given)
             names.add(name)
-        report_of(name, source, words + ['--workers', str(1 + seed % 8 if seed % 2 == 0 else random.Random(seed).randint(1, 8))])
+        options = words[1:] + ['--workers', str(1 + seed % 8 if seed % 2 == 0 else random.Random(seed).randint(1, 8))]
+        report_of(name, source, ['run'] + options)
+        audited(name, source, options)
     return len(given), len(names)
 
 
@@ -186,7 +205,7 @@ def main():
     words = [spends(two) for _ in range(COUNT)]
     print('two spends: ' + ', '.join(f'{words.count(word)} times {word}' for word in sorted(set(words))), flush=True)
     given, names = drawn_runs(json.loads(two)['packages'])
-    print(f'{2 * COUNT} reports of drawn scripts fit the rules, {given} scripts were given and {names} of them drawn', flush=True)
+    print(f'{2 * COUNT} reports of drawn scripts fit the rules and their dumps are judged yes, {given} scripts were given and {names} of them drawn', flush=True)
     for count in (1, 1000):
         alone = run(['gen', count, 7])
         for _ in range(COUNT):

@@ -1,5 +1,8 @@
 """Words with the job that they ask for, worked out by hand, and counts and seeds of generated scripts."""
 RUN = 'run workers 0 log 20480'
+COMMITMENTS = 'commitments workers 0 log 20480'
+DUMP = 'dump workers 0 log 20480'
+AUDIT = 'audit'
 GEN = 'gen count 1 seed 7 workers 0'
 USAGE = 'usage'
 MOST_SEED = 2 ** 64 - 1
@@ -10,7 +13,7 @@ WORDS = [
     ('', USAGE), ('|', USAGE), ('|run', RUN), ('|gen', USAGE), ('|help', USAGE), ('|-h', USAGE), ('|--help', USAGE), ('|--version', USAGE),
     ('|-V', USAGE), ('|-', USAGE), ('|--', USAGE), ('|--|run', USAGE), ('|-|run', USAGE), ('||run', USAGE), ('|RUN', USAGE), ('|runs', USAGE),
     ('|ru', USAGE), ('|run ', USAGE), ('|run=1', USAGE), ('|--run', USAGE), ('|--workers|1|run', USAGE), ('|--workers=1|run', USAGE),
-    ('|audit', USAGE), ('|1|7|gen', USAGE),
+    ('|1|7|gen', USAGE), ('|audits', USAGE), ('|Audit', USAGE), ('|dumps', USAGE), ('|commitment', USAGE),
     # no positionals of a run
     ('|run|run', USAGE), ('|run|', USAGE), ('|run|1', USAGE), ('|run|-', USAGE), ('|run|gen|1|7', USAGE), ('|run|1|--workers|2', USAGE),
     ('|run|1|7', USAGE),
@@ -24,6 +27,16 @@ WORDS = [
     ('|run|--workers=-1', USAGE), ('|run|--=2', USAGE), ('|run|--work|2', USAGE), ('|run|--worker=2', USAGE), ('|run|--Workers|2', USAGE),
     ('|run|-workers|2', USAGE), ('|run|-w|2', USAGE), ('|run|-w2', USAGE), ('|run|---workers|2', USAGE), ('|run|workers|2', USAGE),
     ('|run|--workers 2', USAGE), ('|run|--count|1', USAGE), ('|run|--seed=7', USAGE), ('|run|--x', USAGE),
+    # commitments and a dump have the options of a run
+    ('|commitments', COMMITMENTS), ('|commitments|--workers=3|--log|5', 'commitments workers 3 log 5'), ('|commitments|--log|0', USAGE),
+    ('|commitments|1', USAGE), ('|dump', DUMP), ('|dump|--', DUMP), ('|dump|--workers|2', 'dump workers 2 log 20480'),
+    ('|dump|--log=5', 'dump workers 0 log 5'), ('|dump|--log=5|--workers|3', 'dump workers 3 log 5'), ('|dump|--log|0', USAGE),
+    ('|dump|--workers|9', USAGE), ('|dump|--workers', USAGE), ('|dump|--log=5|--log=5', USAGE), ('|dump|1|7', USAGE), ('|dump|', USAGE),
+    ('|dump|audit', USAGE), ('|dump|--help', USAGE),
+    # an audit has none
+    ('|audit', AUDIT), ('|audit|--', AUDIT), ('|audit|--workers|0', USAGE), ('|audit|--workers=2', USAGE), ('|audit|--log|5', USAGE),
+    ('|audit|--log=20480', USAGE), ('|audit|1', USAGE), ('|audit|', USAGE), ('|audit|1|7', USAGE), ('|audit|--|1', USAGE), ('|audit|dump', USAGE),
+    ('|audit|--help', USAGE), ('|audit|-h', USAGE), ('|audit|-', USAGE),
     # an option twice
     ('|run|--log|5|--log|5', USAGE), ('|run|--log=5|--log=5', USAGE), ('|run|--log|5|--log=6', USAGE), ('|run|--workers=0|--workers|0', USAGE),
     ('|run|--workers|1|--log|5|--workers|1', USAGE), ('|gen|--workers=1|1|7|--workers=1', USAGE),
