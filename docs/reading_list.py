@@ -28,8 +28,8 @@ GROUPS = ['meaning', 'contract language', 'formats']
 LANGUAGE = {'lang_eval', 'lang_check', 'native_choice', 'interpret/Language', 'interpret/Sizes', 'ledger_model/Language', 'ledger_model/Conformance',
             *('ledger_terms/' + name for name in ('Syntax', 'SyntaxCodes', 'SyntaxLists', 'Packages', 'package', 'template', 'choice', 'expr', 'stmt', 'kind',
                                                   'field_decl'))}
-FORMATS = {'json_walk', 'lang_read', 'script_read', 'cli_words', 'load_gen', 'report_text', 'commitment_text', 'wire_form', 'message_bytes', 'hash_id',
-           'blind_tree', 'acs_commit', 'cn_io', 'canton_model/ReasonNames', 'sealed_form/RangeTests', 'sealed_form/SealedTest',
+FORMATS = {'json_walk', 'lang_read', 'script_read', 'cli_words', 'load_gen', 'report_text', 'commitment_text', 'wire_form', 'message_bytes', 'hash_id', 'log_dump',
+           'log_audit/Lines', 'blind_tree', 'acs_commit', 'cn_io', 'canton_model/ReasonNames', 'sealed_form/RangeTests', 'sealed_form/SealedTest',
            *('ledger_terms/' + name for name in ('Names', 'Pointers', 'Inside', 'NameBack', 'name', 'pointer', 'text', 'limits'))}
 
 BEGIN, END = '<!-- docs/reading_list.py --write writes this -->', '<!-- its end -->'
