@@ -4,8 +4,9 @@
 - Each path and each name in backticks in README.md, docs/*.md and examples/*.md is there: a path from the root, from crates/ or from a
   crate's folder, a name as a word of a source. A file in a table is in the folder of the path before it. Words of the kit and of the
   system stand in docs/foreign_words.txt.
-- The table of crates and the layers in docs/ARCHITECTURE.md say what crates.txt says, what docs/READING.md quotes stands in the crates, and
-  docs/AUDIT.md has the list of docs/reading_list.py and trusts the kit's crates below the programs.
+- The tables of crates in docs/ARCHITECTURE.md and README.md have those of crates.txt, which keeps the layers of docs/layers.py; docs/PROVED.md speaks
+  of each crate once, in the order of the layers. What docs/READING.md quotes stands in the crates, and docs/AUDIT.md has the list of
+  docs/reading_list.py and trusts the kit's crates below the programs. README.md has at most 140 lines.
 - Files have under 500 lines, functions under 40 (clauses not counted) and at most six parameters, lines of src/ and specs/ under
   160 characters. No library but a crate of tests has tests, and no crate more than four edits.
 
@@ -25,7 +26,7 @@ WORD = re.compile(r"[A-Za-z_][A-Za-z0-9_']*")
 NAME = re.compile(r"[A-Za-z_][A-Za-z0-9_'-]*(?:(?:\.|::)[A-Za-z_][A-Za-z0-9_'-]*)*\Z")
 PATH = re.compile(r"[A-Za-z0-9_./+-]+\Z")
 FUNCTION = re.compile(r'( *)(?:pub(?:\([a-z]+\))? )?(?:const |unsafe )*fn (\w+)')
-MOST_FILE_LINES, MOST_FUNCTION_LINES, MOST_PARAMETERS, MOST_LINE, MOST_EDITS = 499, 39, 6, 159, 4
+MOST_FILE_LINES, MOST_FUNCTION_LINES, MOST_PARAMETERS, MOST_LINE, MOST_EDITS, MOST_README_LINES = 499, 39, 6, 159, 4, 140
 
 
 def read(path):
@@ -113,29 +114,27 @@ def document_faults():
 
 
 def table_faults():
-    """Where the table of docs/ARCHITECTURE.md differs from crates.txt."""
-    table = {}
-    rows = read('docs/ARCHITECTURE.md').partition('| Crate | Does | Stands on |\n')[2].partition('\n\n')[0]
-    for line in rows.split('\n')[1:]:
-        cells = line.strip('|').split('|')
-        table[cells[0].strip(' `')] = re.findall(r'`([a-z_0-9]+)`', cells[2])
-    for name, below in crates().items():
-        if name not in table:
-            yield 'docs/ARCHITECTURE.md: the table has no `%s`' % name
-        elif sorted(table[name]) != sorted(below):
-            amiss = sorted(set(table[name]) ^ set(below))
-            yield 'docs/ARCHITECTURE.md: `%s` stands on other crates than in crates.txt: %s' % (name, ' '.join(amiss))
-    for name in table:
-        if name not in crates():
-            yield 'docs/ARCHITECTURE.md: crates.txt has no `%s`' % name
+    """Where the table of docs/ARCHITECTURE.md and README.md have other crates than crates.txt, and where README.md is too long to be read."""
+    rows = read('docs/ARCHITECTURE.md').partition('| Crate | Does |\n')[2].partition('\n\n')[0]
+    named = {'docs/ARCHITECTURE.md': re.findall(r'(?m)^\| `(\w+)` \|', rows),
+             'README.md': re.findall(r'`(\w+)`', ''.join(re.findall(r'(?m)^\| (.*) \| .* \|$', read('README.md').partition('## The crates')[2])))}
+    for path, names in named.items():
+        for name in sorted(set(names) ^ set(crates())) + sorted(name for name in set(names) if names.count(name) > 1):
+            yield '%s: the table and crates.txt differ in `%s`' % (path, name)
+    count = read('README.md').count('\n')
+    if count > MOST_README_LINES:
+        yield 'README.md has %d lines, and at most %d are read' % (count, MOST_README_LINES)
 
 
 def layer_faults():
-    """Where docs/layers.py isn't as crates.txt is, or docs/ARCHITECTURE.md has other layers."""
-    text = read('docs/ARCHITECTURE.md')
+    """Where docs/layers.py isn't as crates.txt is, or docs/ARCHITECTURE.md or docs/PROVED.md have other layers."""
+    text, proved = read('docs/ARCHITECTURE.md'), read('docs/PROVED.md')
     yield from layers.faults()
+    yield from layers.proved_faults(proved)
     if layers.written(text) != text:
         yield 'docs/ARCHITECTURE.md: the layers are others; docs/layers.py --write writes them'
+    if layers.in_order(proved) != proved:
+        yield 'docs/PROVED.md: the crates stand in another order than the layers; docs/layers.py --write puts them in order'
 
 
 def quote_faults():
