@@ -5,8 +5,9 @@
   crate's folder, a name as a word of a source. A file in a table is in the folder of the path before it. Words of the kit and of the
   system stand in docs/foreign_words.txt.
 - The tables of crates in docs/ARCHITECTURE.md and README.md have those of crates.txt, which keeps the layers of docs/layers.py; docs/PROVED.md speaks
-  of each crate once, in the order of the layers. What docs/READING.md quotes stands in the crates, and docs/AUDIT.md has the list of
-  docs/reading_list.py and trusts the kit's crates below the programs. README.md has at most 140 lines.
+  of each crate once, in the order of the layers. What docs/READING.md quotes stands in the crates, and it explains the words of the kit that
+  the definitions behind run name; docs/AUDIT.md has the list of docs/reading_list.py and trusts the kit's crates below the programs. README.md has at
+  most 140 lines.
 - Files have under 500 lines, functions under 40 (clauses not counted) and at most six parameters, lines of src/ and specs/ under
   160 characters. No library but a crate of tests has tests, and no crate more than four edits.
 
@@ -145,6 +146,13 @@ def quote_faults():
             yield 'docs/READING.md: no source has the block that begins with %s' % block.split('\n')[0].strip()
 
 
+def word_faults():
+    """Words of the kit that the definitions behind run name and docs/READING.md doesn't explain."""
+    explained = {word for _, token in quoted(read('docs/READING.md')) for word in token.replace('\\|', '|').split()}
+    for name in sorted({name for _, name in reading_list.kit_words()} - explained):
+        yield 'docs/READING.md: definitions name `%s` of the kit, and it isn\'t explained' % name
+
+
 def list_faults():
     """Where the reading list of docs/AUDIT.md isn't that of today."""
     text = read('docs/AUDIT.md')
@@ -163,7 +171,7 @@ def trust_faults():
         yield 'docs/AUDIT.md: other crates of the kit are trusted than those below the programs: %s' % ' '.join(sorted(amiss))
 
 
-DOCUMENT_RULES = [document_faults, folder_faults, table_faults, layer_faults, quote_faults, list_faults, trust_faults]
+DOCUMENT_RULES = [document_faults, folder_faults, table_faults, layer_faults, quote_faults, word_faults, list_faults, trust_faults]
 
 
 # --- shape

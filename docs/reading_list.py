@@ -4,12 +4,13 @@
     docs/reading_list.py            the files in reading order, each with the lines of its definitions that are reached, and sums
     docs/reading_list.py --names    the same with the definitions themselves
     docs/reading_list.py --of NAME  why a definition is reached: the way from a clause of run to it
+    docs/reading_list.py --kit      the words of the kit that they name, where each comes from, and how often; docs/READING.md explains them
     docs/reading_list.py --write    writes the list into docs/AUDIT.md, where docs/check.py compares it
 
 A definition is reached where a clause of run, or a definition that is reached, has its name; what a name stands for is told by the `use` lines
-of its file. Its lines are its own with the comment above it; blank lines, `use` lines and definitions that aren't reached don't count. Of a type of
-code that has an `impl Model` what contracts see of it is reached, and of another one its public fields. In reading order a file comes before
-those below it: each is defined in the words of later ones."""
+of its file. Its lines are its own with the comment above it, and how many of them are comments is told too; blank lines, `use` lines and definitions
+that aren't reached don't count. Of a type of code that has an `impl Model` what contracts see of it is reached, and of another one its public fields.
+In reading order a file comes before those below it: each is defined in the words of later ones."""
 import collections
 import functools
 import glob
@@ -23,13 +24,14 @@ WORD = re.compile(r"[^\s(){}\[\],;]+")
 START = re.compile(r"(?:(?:abbrev|unfoldable|pub|private|record|data) )*([^\s:|(]+)")
 DEFINES = re.compile(r"(?:abbrev |unfoldable )?(?:pub |private )?(?:record |data )|(?:abbrev |unfoldable |pub )+\S+ :|[^\s:]+ :")
 ITEM = re.compile(r'\s*(?:pub(?:\([a-z]+\))? )?(?:struct|enum|trait|const|type) (\w+)')
-GROUPS = ['meaning', 'contract language', 'formats']
-# which crates, or files of them, are about the contract language and about forms of texts and bytes; all else is meaning
+GROUPS = ['meaning', 'audits', 'contract language', 'formats']
+# which crates, or files of them, are about audits of written logs, about the contract language and about forms of texts and bytes; all else is meaning
+AUDITS = {'audit_model', 'log_audit', 'log_judge'}
 LANGUAGE = {'lang_eval', 'lang_check', 'native_choice', 'interpret/Language', 'interpret/Sizes', 'ledger_model/Language', 'ledger_model/Conformance',
             *('ledger_terms/' + name for name in ('Syntax', 'SyntaxCodes', 'SyntaxLists', 'Packages', 'package', 'template', 'choice', 'expr', 'stmt', 'kind',
                                                   'field_decl'))}
-FORMATS = {'json_walk', 'lang_read', 'script_read', 'cli_words', 'load_gen', 'report_text', 'commitment_text', 'wire_form', 'message_bytes', 'hash_id', 'log_dump',
-           'log_audit/Lines', 'blind_tree', 'acs_commit', 'cn_io', 'canton_model/ReasonNames', 'sealed_form/RangeTests', 'sealed_form/SealedTest',
+FORMATS = {'json_walk', 'lang_read', 'script_read', 'cli_words', 'load_gen', 'report_text', 'commitment_text', 'wire_form', 'message_bytes', 'log_dump',
+           'hash_id', 'blind_tree', 'acs_commit', 'cn_io', 'log_audit/Lines', 'canton_model/ReasonNames', 'sealed_form/RangeTests', 'sealed_form/SealedTest',
            *('ledger_terms/' + name for name in ('Names', 'Pointers', 'Inside', 'NameBack', 'name', 'pointer', 'text', 'limits'))}
 
 BEGIN, END = '<!-- docs/reading_list.py --write writes this -->', '<!-- its end -->'
@@ -250,7 +252,9 @@ def group_of(crate, file):
     key = f'{crate}/{os.path.basename(file).partition(".")[0]}'
     if {crate, key} & LANGUAGE:
         return 'contract language'
-    return 'formats' if {crate, key} & FORMATS else 'meaning'
+    if {crate, key} & FORMATS:
+        return 'formats'
+    return 'audits' if crate in AUDITS else 'meaning'
 
 
 def uses_of(found):
@@ -283,7 +287,7 @@ def in_reading_order(found):
 
 
 def reading_list():
-    """Of each group its rows in reading order: a file, the lines of what is reached in it, the lines that it has, and the names."""
+    """Of each group its rows in reading order: a file, the lines of what is reached in it, how many of them are comments, and the names."""
     found = reached()
     by_file = collections.defaultdict(list)
     for item in found:
@@ -292,8 +296,10 @@ def reading_list():
     rows = {group: [] for group in GROUPS}
     for file in in_reading_order(found):
         items = sorted(by_file[file], key=lambda item: item.start)
-        lines = len({line for item in items for line in range(item.start, item.end)})
-        rows[group_of(items[0].crate, file)].append((file, lines, read(file).count('\n'), [item.name for item in items]))
+        text = read(file).split('\n')
+        lines = {line for item in items for line in range(item.start, item.end)}
+        comments = sum(text[line].lstrip().startswith(('--', '//')) for line in lines)
+        rows[group_of(items[0].crate, file)].append((file, len(lines), comments, [item.name for item in items]))
     return rows
 
 
@@ -303,8 +309,8 @@ def depth_of(crate):
 
 
 def sums_of(rows):
-    """How many lines are reached, and in how many files."""
-    return sum(lines for _, lines, _, _ in rows), len(rows)
+    """How many lines are reached, how many of them are comments, and in how many files."""
+    return sum(row[1] for row in rows), sum(row[2] for row in rows), len(rows)
 
 
 def crate_rows(rows):
@@ -320,11 +326,11 @@ def block():
     """The list as docs/AUDIT.md has it."""
     listed = reading_list()
     all_specs = sums_of([row for rows in listed.values() for row in rows if row[0].endswith('.antt')])
-    text = [BEGIN, f'{all_specs[0]:,} lines of definitions in {all_specs[1]} files of specs/ are reached, in three groups.', '']
+    text = [BEGIN, f'{all_specs[0]:,} lines of definitions in {all_specs[2]} files of specs/ are reached, {all_specs[1]:,} of them comments, in four groups.', '']
     for group, rows in listed.items():
         specs, code = ([row for row in rows if row[0].endswith(ending)] for ending in ('.antt', '.rt'))
-        text += ['**%s**: %s lines in %d files' % (group.capitalize(), *(f'{n:,}' if n > 999 else n for n in sums_of(specs))) +
-                 ', and %d lines of types and constants in %d files of src/.' % sums_of(code), '',
+        text += ['**%s**: %s lines, %s of them comments, in %d files' % (group.capitalize(), *(f'{n:,}' if n > 999 else n for n in sums_of(specs))) +
+                 ', and %d lines of types and constants, %d of them comments, in %d files of src/.' % sums_of(code), '',
                  '| Crate | Files of its specs/ in reading order, with lines |', '|---|---|', *crate_rows(specs), '']
     return '\n'.join(text + [END])
 
@@ -332,6 +338,21 @@ def block():
 def written(text):
     """A document with the list of today in the place of the one that it has."""
     return text[:text.index(BEGIN)] + block() + text[text.index(END) + len(END):]
+
+
+def kit_words():
+    """How often what is reached names each word of the kit, with the module that it comes from."""
+    found = collections.Counter()
+    for definition in reached():
+        file = file_of(definition.crate, definition.file)
+        for word in definition.words:
+            first, _, rest = word.partition('.')
+            if first in file.definitions:
+                continue
+            module, name = file.names.get(first, (file.modules.get(first), rest.partition('.')[0]) if rest else (None, None))
+            if module and module.startswith('Rattle.') and module.split('.')[1] not in crates() and '.specs.' in module:
+                found[module, sign_of(name)] += 1
+    return found
 
 
 def way_to(name):
@@ -348,6 +369,10 @@ def way_to(name):
 def main():
     if sys.argv[1:2] == ['--of']:
         return way_to(sys.argv[2])
+    if sys.argv[1:] == ['--kit']:
+        for (module, name), count in sorted(kit_words().items()):
+            print(count, module, name)
+        return None
     if sys.argv[1:] == ['--write']:
         text = written(read('docs/AUDIT.md'))
         with open(os.path.join(ROOT, 'docs/AUDIT.md'), 'w', encoding='utf-8') as file:
@@ -355,9 +380,9 @@ def main():
         return None
     for group, rows in reading_list().items():
         specs, code = ([row for row in rows if row[0].endswith(ending)] for ending in ('.antt', '.rt'))
-        print('%s: %d lines of %d files of specs/, %d of %d of src/' % (group, *sums_of(specs), *sums_of(code)))
-        for file, lines, length, names in rows:
-            print(f'  {file} {lines} of {length}' + (': ' + ' '.join(names) if '--names' in sys.argv else ''))
+        print('%s: %d lines (%d comments) of %d files of specs/, %d (%d) of %d of src/' % (group, *sums_of(specs), *sums_of(code)))
+        for file, lines, comments, names in rows:
+            print(f'  {file} {lines}, {comments} of them comments' + (': ' + ' '.join(names) if '--names' in sys.argv else ''))
     return None
 
 
