@@ -7,7 +7,7 @@
 - The tables of crates in docs/ARCHITECTURE.md and README.md have those of crates.txt, which keeps the layers of docs/layers.py; docs/PROVED.md speaks
   of each crate once, in the order of the layers. What docs/READING.md quotes stands in the crates, and it explains the words of the kit that
   the definitions behind run name; docs/AUDIT.md has the list of docs/reading_list.py and trusts the kit's crates below the programs. README.md has at
-  most 140 lines.
+  most 140 lines, and the commits of docs/MEASUREMENTS.md are some before this one.
 - Files have under 500 lines, functions under 40 (clauses not counted) and at most six parameters, lines of src/ and specs/ under
   160 characters. No library but a crate of tests has tests, and no crate more than four edits.
 
@@ -17,6 +17,7 @@ status 1 where something is amiss, each with a line.
 import glob
 import os
 import re
+import subprocess
 import sys
 
 import layers
@@ -153,6 +154,16 @@ def word_faults():
         yield 'docs/READING.md: definitions name `%s` of the kit, and it isn\'t explained' % name
 
 
+def measured_faults():
+    """Commits of docs/MEASUREMENTS.md that aren't among those before this one, where the repository has them at all."""
+    git = ['git', '-C', ROOT, 'merge-base', '--is-ancestor']
+    if subprocess.run(['git', '-C', ROOT, 'rev-parse', '--is-shallow-repository'], capture_output=True, text=True).stdout.strip() != 'false':
+        return
+    for commit in sorted(set(re.findall(r'\b(?=[0-9]*[a-f])(?=[a-f]*[0-9])[0-9a-f]{7,8}\b', read('docs/MEASUREMENTS.md')))):
+        if subprocess.run(git + [commit, 'HEAD'], capture_output=True).returncode != 0:
+            yield 'docs/MEASUREMENTS.md: %s is no commit before this one' % commit
+
+
 def list_faults():
     """Where the reading list of docs/AUDIT.md isn't that of today."""
     text = read('docs/AUDIT.md')
@@ -171,7 +182,7 @@ def trust_faults():
         yield 'docs/AUDIT.md: other crates of the kit are trusted than those below the programs: %s' % ' '.join(sorted(amiss))
 
 
-DOCUMENT_RULES = [document_faults, folder_faults, table_faults, layer_faults, quote_faults, word_faults, list_faults, trust_faults]
+DOCUMENT_RULES = [document_faults, folder_faults, table_faults, layer_faults, quote_faults, word_faults, list_faults, trust_faults, measured_faults]
 
 
 # --- shape
