@@ -15,8 +15,8 @@ import time
 ROOT = os.path.dirname(os.path.dirname(os.path.realpath(__file__)))
 LOCK = os.path.join(ROOT, 'crates', 'canton_cli', 'out', 'build.lock')
 NOT_BUILT, NO_KIT = 126, 127
-# how long a build from nothing took, when it was measured
-MEASURED = 'a build from nothing took 127 minutes on four processors beside other work, 97 of them for 37 of 41 crates'
+# how long a build from nothing took, when it was measured, and how many crates there were then
+MEASURED, MEASURED_CRATES = 'a build from nothing took 127 minutes on four processors, beside other work', 41
 # gigabytes: what the check of any crate but one stays below, what that one takes, and what a build leaves on the disk
 LEAST_MEMORY, MOST_MEMORY, LEAST_DISK = 5, 10, 3
 SECONDS_TO_END = 5
@@ -174,7 +174,9 @@ class Program:
         noted = self.noted()
         changed = set(self.changed(noted['digests'])) if noted else set()
         above = [crate for crate in self.crates if changed & set(crates_below(crate, self.table))]
-        return f'{len(above)} of {len(self.crates)} crates have changed or stand on one that has' if changed else MEASURED
+        if changed:
+            return f'{len(above)} of {len(self.crates)} crates have changed or stand on one that has'
+        return f'{MEASURED}, when there were {MEASURED_CRATES} crates; there are {len(self.crates)} now'
 
 
 # --- children
