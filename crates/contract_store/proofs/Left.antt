@@ -14,11 +14,11 @@ use Rattle.ledger_terms.specs.declared.action.Action.TheVariants.{Create, Exerci
 use Rattle.ledger_model.specs.Terms.{Hash, id_of, instance_of, is_create, is_consuming, consumes}
 use Rattle.contract_store.specs.declared.row.StoreRow.{StoreRow}
 use Rattle.contract_store.specs.Rows.{is_of, row_id, smaller, created, consumed, with_created, with_consumed}
-use Rattle.contract_store.specs.Active.{active_of, active}
+use Rattle.contract_store.specs.Active.{row_if_active, active}
 use Rattle.contract_store.specs.Written.{Placed, contract_of, salt_in, write, written, acts_of}
 use Rattle.canton_model.specs.Inbox.{first_of_each}
 use Rattle.canton_model.proofs.FirstRows.{first_filtered}
-use Rattle.contract_store.specs.ActiveLaw.{NoneBefore, InOrder, row_for, created_rows, is_left, left_of}
+use Rattle.contract_store.specs.ActiveLaw.{NoneBefore, InOrder, row_for, created_rows, is_left, rows_left}
 use Rattle.contract_store.proofs.Maps.{same_bytes, equal_bytes}
 use Rattle.contract_store.proofs.Following.{never_both, no_more, one_more, or_or, new_created, new_consumed}
 
@@ -120,7 +120,7 @@ changed_gone (p ∷ ps) row =
     ∙ or_or (gone row) (consumes (row_id row) p.act) (list_any (consumes (row_id row)) (acts_of ps))
 
 active_by : (since end : Option ℕ) (known : Known) (b : Bool) → is_some end ≡ b
-    → active_of since end known ≡ (if b then None else option_map (λ place. record { created_at = place; known = known }) since)
+    → row_if_active since end known ≡ (if b then None else option_map (λ place. record { created_at = place; known = known }) since)
 active_by (Some place) None known true e = absurd (cc)
 active_by (Some place) None known false e = refl
 active_by None None known true e = absurd (cc)
@@ -284,15 +284,15 @@ module _ (p : Placed) (ps : List Placed) where
   seen_without c e =
       (let off : consumes c p.act ≡ false = ap (λ b. b && is_consuming p.act.action) (bytes_sym id_p c ∙ e) in rw off (sym (same_consumed id_p c ps e)))
 
-  rest_left : filter (is_left all_p) (filter (is_apart id_p) rows_p) ≡ left_of (others id_p ps)
+  rest_left : filter (is_left all_p) (filter (is_apart id_p) rows_p) ≡ rows_left (others id_p ps)
   rest_left =
       filter_under (is_left all_p) (is_left (acts_of (others id_p ps))) (is_apart id_p) rows_p
       (λ r kept. ap not (seen_without r.known.id (not-true (bytes_eq r.known.id id_p) kept)))
       ∙ ap (filter (is_left (acts_of (others id_p ps)))) (sym (first_others id_p ps))
 
   -- a Create
-  first_created : is_create p.act.action ≡ true → NoneBefore p.place ps → actives (written (others id_p ps) []) ≡ left_of (others id_p ps)
-      → actives (written ps (new_created p ∷ [])) ≡ left_of (p ∷ ps)
+  first_created : is_create p.act.action ≡ true → NoneBefore p.place ps → actives (written (others id_p ps) []) ≡ rows_left (others id_p ps)
+      → actives (written ps (new_created p ∷ [])) ≡ rows_left (p ∷ ps)
   first_created e above rest =
       (let none : is_consuming p.act.action ≡ false = ap (λ b. b && is_consuming p.act.action) (sym e) ∙ never_both p.act.action in
       let mine : list_any (consumes id_p) all_p ≡ list_any (consumes id_p) (acts_of ps) =
@@ -307,14 +307,14 @@ module _ (p : Placed) (ps : List Placed) where
       (sym mine)
       ∙ ap (λ (rows : List ActiveRow). filter (is_left all_p) (first_of_each rows)) (sym made))
 
-  not_created : is_create p.act.action ≡ false → left_of (p ∷ ps) ≡ filter (is_left all_p) rows_p
+  not_created : is_create p.act.action ≡ false → rows_left (p ∷ ps) ≡ filter (is_left all_p) rows_p
   not_created e =
       let same : created_rows (p ∷ ps) ≡ created_rows ps = rw e refl in
       ap (λ (rows : List ActiveRow). filter (is_left all_p) (first_of_each rows)) same
 
   -- a consuming Exercise
-  first_consumed : is_create p.act.action ≡ false → is_consuming p.act.action ≡ true → actives (written (others id_p ps) []) ≡ left_of (others id_p ps)
-      → actives (written ps (new_consumed p ∷ [])) ≡ left_of (p ∷ ps)
+  first_consumed : is_create p.act.action ≡ false → is_consuming p.act.action ≡ true → actives (written (others id_p ps) []) ≡ rows_left (others id_p ps)
+      → actives (written ps (new_consumed p ∷ [])) ≡ rows_left (p ∷ ps)
   first_consumed e c rest =
       ap actives (split ps (new_consumed p) [])
       ∙ ap (λ (o : Option ActiveRow). cons_if o (actives (written (others id_p ps) []))) (consumed_active p ps)
@@ -334,8 +334,8 @@ module _ (p : Placed) (ps : List Placed) where
           ]
 
   -- another action
-  first_other : is_create p.act.action ≡ false → is_consuming p.act.action ≡ false → actives (written ps []) ≡ left_of ps
-      → actives (written ps []) ≡ left_of (p ∷ ps)
+  first_other : is_create p.act.action ≡ false → is_consuming p.act.action ≡ false → actives (written ps []) ≡ rows_left ps
+      → actives (written ps []) ≡ rows_left (p ∷ ps)
   first_other e c rest = rest ∙ same_filter rows_p ∙ sym (not_created e)
     where
       one : (r : ActiveRow) → is_left (acts_of ps) r ≡ is_left all_p r
@@ -348,7 +348,7 @@ module _ (p : Placed) (ps : List Placed) where
           ap (λ b. cond b (r ∷ filter (is_left (acts_of ps)) rows) (filter (is_left (acts_of ps)) rows)) (one r)
           ∙ ap (λ (kept : List ActiveRow). cond (is_left all_p r) (r ∷ kept) kept) (same_filter rows)
 
-pub actives_left : (n : ℕ) (ps : List Placed) → length ps ≤ n → InOrder ps → actives (written ps []) ≡ left_of ps
+pub actives_left : (n : ℕ) (ps : List Placed) → length ps ≤ n → InOrder ps → actives (written ps []) ≡ rows_left ps
 actives_left n [] h o = refl
 actives_left zero (p ∷ ps) h o = absurd (omega arith)
 actives_left (suc n) (p ∷ ps) h o =
@@ -357,9 +357,9 @@ actives_left (suc n) (p ∷ ps) h o =
     (order_others (id_of p.act.action) ps o.1)) (actives_left n ps (omega arith) o.1)
   where
     by : (cr co : Bool) → is_create p.act.action ≡ cr → is_consuming p.act.action ≡ co
-        → actives (written (others (id_of p.act.action) ps) []) ≡ left_of (others (id_of p.act.action) ps) → actives (written ps []) ≡ left_of ps
+        → actives (written (others (id_of p.act.action) ps) []) ≡ rows_left (others (id_of p.act.action) ps) → actives (written ps []) ≡ rows_left ps
         → actives (written ps (if cr then created (contract_of p.act) p.place [] else if co then consumed (contract_of p.act) p.place [] else []))
-        ≡ left_of (p ∷ ps)
+        ≡ rows_left (p ∷ ps)
     by true co e c rest same = first_created p ps e o.0 rest
     by false true e c rest same = first_consumed p ps e c rest
     by false false e c rest same = first_other p ps e c same

@@ -8,7 +8,7 @@ use Rattle.std.proofs.Math.ListN.{drop_of_length-le}
 use Rattle.std.proofs.lemmas.List.{map-append, length-map, length-take-le, length-set, length-append, append_assoc, append-nil}
 use Rattle.contract_store.specs.declared.hold.Hold.{Hold}
 use Rattle.contract_store.specs.declared.hold.KeptHold.{KeptHold}
-use Rattle.contract_store.specs.declared.keys.Behind.{Behind}
+use Rattle.contract_store.specs.declared.contract_places.ContractPlaces.{ContractPlaces}
 use Rattle.contract_store.specs.Leads.{hold_behind}
 use Rattle.contract_store.specs.Chains.{Link}
 use Rattle.contract_store.specs.Holds.{link_on, link_at, holds_of, LeadsToHolds}
@@ -161,7 +161,7 @@ moving_moved_on held slots next to ids ids' places places' moving h x at hold li
     (moving_moved held slots next to ids ids' places places' moving h x at hold live on before put_id put_place was))
 
 -- an id that leads to a hold is a key
-pub key_there : (o : Option Behind) → is_some (hold_behind o) ≡ true → IsSome o
+pub key_there : (o : Option ContractPlaces) → is_some (hold_behind o) ≡ true → IsSome o
 key_there None there = absurd (cc)
 key_there (Some b) there = refl
 

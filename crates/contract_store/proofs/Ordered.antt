@@ -10,7 +10,7 @@ use Rattle.canton_model.proofs.FirstRows.{is_other}
 use Rattle.contract_store.specs.declared.row.StoreRow.{StoreRow}
 use Rattle.contract_store.specs.Active.{active, in_order, in_order_if, active_rows}
 use Rattle.contract_store.specs.Written.{Placed, written, acts_of}
-use Rattle.contract_store.specs.ActiveLaw.{NoneBefore, InOrder, is_creation, row_for, created_rows, is_left, left_of}
+use Rattle.contract_store.specs.ActiveLaw.{NoneBefore, InOrder, is_creation, row_for, created_rows, is_left, rows_left}
 use Rattle.contract_store.proofs.Soonest.{NotBefore, Rising}
 use Rattle.contract_store.proofs.Left.{actives, cons_if, actives_left}
 
@@ -74,7 +74,7 @@ first_rises (a ∷ rows) r = (
   kept_rises (is_other a) (first_of_each rows) (first_rises rows r.1),
 )
 
-pub active_is_left : (ps : List Placed) → InOrder ps → active_rows (written ps []) ≡ left_of ps
+pub active_is_left : (ps : List Placed) → InOrder ps → active_rows (written ps []) ≡ rows_left ps
 active_is_left ps r =
     let e = actives_left (length ps) ps (omega arith) r in
     let first = first_rises (created_rows ps) (rises is_creation ps r) in

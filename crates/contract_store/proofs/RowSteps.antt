@@ -13,7 +13,7 @@ use Rattle.ledger_terms.specs.declared.known.Known.{Known}
 use Rattle.contract_store.specs.declared.row.StoreRow.{StoreRow}
 use Rattle.contract_store.specs.declared.row.KeptRow.{KeptRow}
 use Rattle.contract_store.specs.Chains.{Chains}
-use Rattle.contract_store.specs.Rows.{is_of, row_of, put, row_id, Distinct, first_place}
+use Rattle.contract_store.specs.Rows.{is_of, row_of, put, row_id, Distinct, first_index}
 use Rattle.contract_store.specs.KeptRows.{rows_of, salt_link, LeadsById, LeadsToRows}
 use Rattle.contract_store.proofs.Maps.{same_bytes, equal_bytes}
 use Rattle.contract_store.proofs.ChainSteps.{chains_push, chains_as}
@@ -28,9 +28,9 @@ found_cons false x xs None f e = e
 found_cons false x xs (Some n) f e = e
 
 -- the row at the first place with the id is the contract's row
-pub found : (c : Hash) (rows : List StoreRow) → option_and_then (slice_get rows) (first_place (at_id c) (map row_id rows)) ≡ row_of c rows
+pub found : (c : Hash) (rows : List StoreRow) → option_and_then (slice_get rows) (first_index (at_id c) (map row_id rows)) ≡ row_of c rows
 found c [] = refl
-found c (row ∷ rows) = found_cons (is_of c row) row rows (first_place (at_id c) (map row_id rows)) (row_of c rows) (found c rows)
+found c (row ∷ rows) = found_cons (is_of c row) row rows (first_index (at_id c) (map row_id rows)) (row_of c rows) (found c rows)
 
 abbrev or_place : Option ℕ → Option ℕ → Option ℕ
 or_place None d = d
@@ -46,14 +46,14 @@ later false false None n = refl
 
 -- one more id
 first_place-push : {X : Type 0} (p : X → Bool) (xs : List X) (x : X)
-    → first_place p (xs ++ x ∷ []) ≡ or_place (first_place p xs) (if p x then Some (length xs) else None)
+    → first_index p (xs ++ x ∷ []) ≡ or_place (first_index p xs) (if p x then Some (length xs) else None)
 first_place-push p [] x = refl
 first_place-push p (y ∷ xs) x =
-    ap (λ (o : Option ℕ). if p y then Some 0 else option_map suc o) (first_place-push p xs x) ∙ later (p y) (p x) (first_place p xs) (length xs)
+    ap (λ (o : Option ℕ). if p y then Some 0 else option_map suc o) (first_place-push p xs x) ∙ later (p y) (p x) (first_index p xs) (length xs)
 
-none_any : {X : Type 0} (p : X → Bool) (xs : List X) → first_place p xs ≡ None → list_any p xs ≡ false
+none_any : {X : Type 0} (p : X → Bool) (xs : List X) → first_index p xs ≡ None → list_any p xs ≡ false
 none_any p [] e = refl
-none_any p (x ∷ xs) e = by (p x) (first_place p xs) e (none_any p xs)
+none_any p (x ∷ xs) e = by (p x) (first_index p xs) e (none_any p xs)
   where
     by : (b : Bool) (o : Option ℕ) → (if b then Some 0 else option_map suc o) ≡ None → (o ≡ None → list_any p xs ≡ false) → (b || list_any p xs) ≡ false
     by true o e h = absurd (cc)
@@ -73,10 +73,10 @@ distinct_push (x ∷ ids) id d e =
         (λ h. let w : id ≡ x = same_bytes id x h in let u : true ≡ false = sym (equal_bytes x) ∙ ap (bytes_eq x) (sym w) ∙ e in cc)
 
 -- a contract without a row gets the new one, behind the others
-pub put_new : (f : StoreRow → StoreRow) (new : StoreRow) (rows : List StoreRow) → first_place (at_id new.known.id) (map row_id rows) ≡ None
+pub put_new : (f : StoreRow → StoreRow) (new : StoreRow) (rows : List StoreRow) → first_index (at_id new.known.id) (map row_id rows) ≡ None
     → put f new rows ≡ rows ++ new ∷ []
 put_new f new [] e = refl
-put_new f new (row ∷ rows) e = by (is_of new.known.id row) (first_place (at_id new.known.id) (map row_id rows)) e (put_new f new rows)
+put_new f new (row ∷ rows) e = by (is_of new.known.id row) (first_index (at_id new.known.id) (map row_id rows)) e (put_new f new rows)
   where
     by : (b : Bool) (o : Option ℕ) → (if b then Some 0 else option_map suc o) ≡ None → (o ≡ None → put f new rows ≡ rows ++ new ∷ [])
         → (if b then f row ∷ rows else row ∷ put f new rows) ≡ row ∷ (rows ++ new ∷ [])
@@ -86,10 +86,10 @@ put_new f new (row ∷ rows) e = by (is_of new.known.id row) (first_place (at_id
 
 -- a contract with a row
 pub put_found : (f : StoreRow → StoreRow) (new : StoreRow) (rows : List StoreRow) (i : ℕ) (row : StoreRow)
-    → first_place (at_id new.known.id) (map row_id rows) ≡ Some i
+    → first_index (at_id new.known.id) (map row_id rows) ≡ Some i
     → slice_get rows i ≡ Some row → put f new rows ≡ set rows i (f row)
 put_found f new [] i row e at = absurd (cc)
-put_found f new (r ∷ rows) i row e at = by (is_of new.known.id r) (first_place (at_id new.known.id) (map row_id rows)) i e at (λ j. put_found f new rows j row)
+put_found f new (r ∷ rows) i row e at = by (is_of new.known.id r) (first_index (at_id new.known.id) (map row_id rows)) i e at (λ j. put_found f new rows j row)
   where
     by : (b : Bool) (o : Option ℕ) (i : ℕ) → (if b then Some 0 else option_map suc o) ≡ Some i → slice_get (r ∷ rows) i ≡ Some row
         → ((j : ℕ) → o ≡ Some j → slice_get rows j ≡ Some row → put f new rows ≡ set rows j (f row))
@@ -105,9 +105,9 @@ pub found_at : (c : Hash) (kept : List KeptRow) (ids : List ℕ → Option ℕ) 
     → option_and_then (slice_get (rows_of kept)) (ids c) ≡ row_of c (rows_of kept)
 found_at c kept ids leads = ap (option_and_then (slice_get (rows_of kept))) (leads c) ∙ found c (rows_of kept)
 
-first_within : {X : Type 0} (p : X → Bool) (xs : List X) (i : ℕ) → first_place p xs ≡ Some i → i < length xs
+first_within : {X : Type 0} (p : X → Bool) (xs : List X) (i : ℕ) → first_index p xs ≡ Some i → i < length xs
 first_within p [] i e = absurd (cc)
-first_within p (x ∷ xs) i e = by (p x) (first_place p xs) i e (first_within p xs)
+first_within p (x ∷ xs) i e = by (p x) (first_index p xs) i e (first_within p xs)
   where
     by : (b : Bool) (o : Option ℕ) (i : ℕ) → (if b then Some 0 else option_map suc o) ≡ Some i → ((j : ℕ) → o ≡ Some j → j < length xs) → i < length (x ∷ xs)
     by true o zero e h = omega arith
@@ -158,17 +158,17 @@ module _ (kept : List KeptRow) (k : KeptRow) (ids ids' salts salts' : List ℕ �
       many = length-map (rows_of kept) row_id ∙ length-map kept (λ (x : KeptRow). x.row)
 
       first : (c : List ℕ) (b : Bool) → bytes_eq (row_id k.row) c ≡ b
-          → (if b then Some (length kept) else ids c) ≡ or_place (first_place (at_id c) (map row_id (rows_of kept))) (if b then Some (length kept) else None)
+          → (if b then Some (length kept) else ids c) ≡ or_place (first_index (at_id c) (map row_id (rows_of kept))) (if b then Some (length kept) else None)
       first c true e = rw (← leads.by_id c, ← same_bytes (row_id k.row) c e, absent) refl
-      first c false e = leads.by_id c ∙ no_other (first_place (at_id c) (map row_id (rows_of kept)))
+      first c false e = leads.by_id c ∙ no_other (first_index (at_id c) (map row_id (rows_of kept)))
         where
           no_other : (o : Option ℕ) → o ≡ or_place o None
           no_other None = refl
           no_other (Some n) = refl
 
-      by : (c : List ℕ) → ids' c ≡ first_place (at_id c) (map row_id (rows_of kept) ++ row_id k.row ∷ [])
+      by : (c : List ℕ) → ids' c ≡ first_index (at_id c) (map row_id (rows_of kept) ++ row_id k.row ∷ [])
       by c = put_id c ∙ first c (bytes_eq (row_id k.row) c) refl
-          ∙ ap (λ n. or_place (first_place (at_id c) (map row_id (rows_of kept))) (if bytes_eq (row_id k.row) c then Some n else None)) (sym many)
+          ∙ ap (λ n. or_place (first_index (at_id c) (map row_id (rows_of kept))) (if bytes_eq (row_id k.row) c then Some n else None)) (sym many)
           ∙ sym (first_place-push (at_id c) (map row_id (rows_of kept)) (row_id k.row))
 
 map_same : {X Y : Type 0} (f : X → Y) (xs : List X) (i : ℕ) (x y : X) → slice_get xs i ≡ Some y → f x ≡ f y → map f (set xs i x) ≡ map f xs

@@ -9,7 +9,7 @@ use Rattle.ledger_terms.specs.declared.known.Known.{Known}
 use Rattle.ledger_terms.specs.declared.active_row.ActiveRow.{ActiveRow}
 use Rattle.contract_store.specs.declared.row.StoreRow.{StoreRow}
 use Rattle.contract_store.specs.Rows.{is_of, row_of, row_id, OneRowEach}
-use Rattle.contract_store.specs.Active.{active_of, active, in_order, in_order_if, active_rows, knowns, sooner, earliest}
+use Rattle.contract_store.specs.Active.{row_if_active, active, in_order, in_order_if, active_rows, knowns, sooner, earliest}
 
 -- each was created no later than those behind it
 abbrev pub NotBefore : ℕ → List ActiveRow → Type 0
@@ -96,7 +96,7 @@ module _ (p : Known → Bool) where
   one_more (Some a) bs true r h = take_in_order a bs r (h a refl)
   one_more (Some a) bs false r h = skip_in_order a bs (h a refl)
 
-  same_known : (c k : Option ℕ) (known : Known) (a : ActiveRow) → active_of c k known ≡ Some a → passes a ≡ p known
+  same_known : (c k : Option ℕ) (known : Known) (a : ActiveRow) → row_if_active c k known ≡ Some a → passes a ≡ p known
   same_known (Some place) None known a e = (let w : ActiveRow = record { created_at = place; known = known } in let v : w ≡ a = cc in ap passes (sym v))
   same_known None None known a e = absurd (cc)
   same_known None (Some q) known a e = absurd (cc)

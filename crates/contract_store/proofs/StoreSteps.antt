@@ -8,7 +8,7 @@ use Rattle.indexmap.specs.IndexMap.{IndexMap, get, keys}
 use Rattle.contract_store.specs.declared.hold.Hold.{Hold}
 use Rattle.contract_store.specs.declared.hold.KeptHold.{KeptHold}
 use Rattle.contract_store.specs.declared.row.KeptRow.{KeptRow}
-use Rattle.contract_store.specs.declared.keys.Behind.{Behind}
+use Rattle.contract_store.specs.declared.contract_places.ContractPlaces.{ContractPlaces}
 use Rattle.contract_store.specs.Leads.{row_behind, hold_behind}
 use Rattle.contract_store.specs.Chains.{Link, is_live_at, NoneFrom, IsLast, Chains}
 use Rattle.contract_store.specs.Holds.{link_on, holds_of, LeadsToHolds}
@@ -31,40 +31,40 @@ empty_chains eq f none = record {
   linked = record { below = λ i l at. absurd (cc); alike = λ i j l at e. absurd (cc); between = λ i j l m at to h u. absurd (cc) };
 }
 
-pub empty_leads : (ids : List ℕ → Option Behind) (salts : List ℕ → Option ℕ) (places : ℕ → Option ℕ) → ((c : List ℕ) → ids c ≡ None)
+pub empty_leads : (ids : List ℕ → Option ContractPlaces) (salts : List ℕ → Option ℕ) (places : ℕ → Option ℕ) → ((c : List ℕ) → ids c ≡ None)
     → ((c : List ℕ) → salts c ≡ None) → ((p : ℕ) → places p ≡ None) → LeadsToAll [] [] ids salts places
 empty_leads ids salts places no_id no_salt no_place = record {
   to_rows = record { by_id = λ c. ap row_behind (no_id c); by_salt = empty_chains bytes_eq _ no_salt; one_each = tt };
   to_holds = record { on = empty_chains bytes_eq _ (λ c. ap hold_behind (no_id c)); at = empty_chains nat_eq _ no_place };
 }
 
-module _ (rows : List KeptRow) (holds : List KeptHold) (ids : List ℕ → Option Behind) (salts : List ℕ → Option ℕ) (places : ℕ → Option ℕ)
+module _ (rows : List KeptRow) (holds : List KeptHold) (ids : List ℕ → Option ContractPlaces) (salts : List ℕ → Option ℕ) (places : ℕ → Option ℕ)
     (leads : LeadsToAll rows holds ids salts places) where
-  same_holds : (ids' : List ℕ → Option Behind) → ((c : List ℕ) → hold_behind (ids' c) ≡ hold_behind (ids c))
+  same_holds : (ids' : List ℕ → Option ContractPlaces) → ((c : List ℕ) → hold_behind (ids' c) ≡ hold_behind (ids c))
       → LeadsToHolds holds (λ c. hold_behind (ids' c)) places
   same_holds ids' e = record {
     on = chains_as bytes_eq same_bytes equal_bytes (map link_on holds) (λ c. hold_behind (ids c)) (λ c. hold_behind (ids' c)) leads.to_holds.on e;
     at = leads.to_holds.at;
   }
 
-  same_rows : (ids' : List ℕ → Option Behind) → ((c : List ℕ) → row_behind (ids' c) ≡ row_behind (ids c)) → LeadsToRows rows (λ c. row_behind (ids' c)) salts
+  same_rows : (ids' : List ℕ → Option ContractPlaces) → ((c : List ℕ) → row_behind (ids' c) ≡ row_behind (ids c)) → LeadsToRows rows (λ c. row_behind (ids' c)) salts
   same_rows ids' e = record {
     by_id = λ c. e c ∙ leads.to_rows.by_id c;
     by_salt = leads.to_rows.by_salt;
     one_each = leads.to_rows.one_each;
   }
 
-  pub rows_changed : (rows' : List KeptRow) (ids' : List ℕ → Option Behind) (salts' : List ℕ → Option ℕ)
+  pub rows_changed : (rows' : List KeptRow) (ids' : List ℕ → Option ContractPlaces) (salts' : List ℕ → Option ℕ)
       → LeadsToRows rows' (λ c. row_behind (ids' c)) salts' → ((c : List ℕ) → hold_behind (ids' c) ≡ hold_behind (ids c))
       → LeadsToAll rows' holds ids' salts' places
   rows_changed rows' ids' salts' to_rows e = record { to_rows = to_rows; to_holds = same_holds ids' e }
 
-  pub holds_changed : (holds' : List KeptHold) (ids' : List ℕ → Option Behind) (places' : ℕ → Option ℕ)
+  pub holds_changed : (holds' : List KeptHold) (ids' : List ℕ → Option ContractPlaces) (places' : ℕ → Option ℕ)
       → LeadsToHolds holds' (λ c. hold_behind (ids' c)) places'
       → ((c : List ℕ) → row_behind (ids' c) ≡ row_behind (ids c)) → LeadsToAll rows holds' ids' salts places'
   holds_changed holds' ids' places' to_holds e = record { to_rows = same_rows ids' e; to_holds = to_holds }
 
-  pub keys_grown : (ids' : List ℕ → Option Behind) → Grows ids ids' → LeadsToAll rows holds ids' salts places
+  pub keys_grown : (ids' : List ℕ → Option ContractPlaces) → Grows ids ids' → LeadsToAll rows holds ids' salts places
   keys_grown ids' g = record { to_rows = same_rows ids' g.by_row; to_holds = same_holds ids' g.by_hold }
 
 abbrev on_it : List ℕ → Hold → Bool
@@ -99,7 +99,7 @@ held c slots None last = sym (none_held c slots last.none)
 held c slots (Some i) last = (let l = last.here i refl in sym (some_held c slots i l.0 l.1 l.2))
 
 -- more room for salts and places
-pub room_grown : (rows : List KeptRow) (holds : List KeptHold) (ids : List ℕ → Option Behind) (salts salts' : List ℕ → Option ℕ)
+pub room_grown : (rows : List KeptRow) (holds : List KeptHold) (ids : List ℕ → Option ContractPlaces) (salts salts' : List ℕ → Option ℕ)
     (places places' : ℕ → Option ℕ) → LeadsToAll rows holds ids salts places → ((c : List ℕ) → salts' c ≡ salts c) → ((p : ℕ) → places' p ≡ places p)
     → LeadsToAll rows holds ids salts' places'
 room_grown rows holds ids salts salts' places places' leads d e = record {

@@ -33,11 +33,11 @@ abbrev pub is_left : List Act → ActiveRow → Bool
 is_left all row = not (list_any (consumes row.known.id) all)
 
 -- the contracts that are created and not consumed, each as it was created first
-abbrev pub left_of : List Placed → List ActiveRow
-left_of ps = filter (is_left (acts_of ps)) (first_of_each (created_rows ps))
+abbrev pub rows_left : List Placed → List ActiveRow
+rows_left ps = filter (is_left (acts_of ps)) (first_of_each (created_rows ps))
 
 abbrev pub ActiveIsLeft : Type 0
-ActiveIsLeft = (ps : List Placed) → InOrder ps → active_rows (written ps []) ≡ left_of ps
+ActiveIsLeft = (ps : List Placed) → InOrder ps → active_rows (written ps []) ≡ rows_left ps
 
 -- those with a hosted stakeholder are the model's active contracts among these actions
 abbrev pub HostedIsActive : Type 0

@@ -59,6 +59,6 @@ abbrev pub OneRowEach : List StoreRow → Type 0
 OneRowEach rows = Distinct (map row_id rows)
 
 -- the first place at which the test holds
-abbrev pub first_place : {X : Type 0} → (X → Bool) → List X → Option ℕ
-first_place p [] = None
-first_place p (x ∷ xs) = if p x then Some 0 else option_map suc (first_place p xs)
+abbrev pub first_index : {X : Type 0} → (X → Bool) → List X → Option ℕ
+first_index p [] = None
+first_index p (x ∷ xs) = if p x then Some 0 else option_map suc (first_index p xs)

@@ -8,7 +8,7 @@ use Rattle.contract_store.specs.declared.hold.Hold.{Hold}
 use Rattle.contract_store.specs.declared.hold.KeptHold.{KeptHold}
 use Rattle.contract_store.specs.declared.row.StoreRow.{StoreRow}
 use Rattle.contract_store.specs.declared.row.KeptRow.{KeptRow}
-use Rattle.contract_store.specs.declared.keys.Behind.{Behind}
+use Rattle.contract_store.specs.declared.contract_places.ContractPlaces.{ContractPlaces}
 use Rattle.contract_store.specs.Leads.{row_behind, hold_behind}
 use Rattle.contract_store.specs.Holds.{LeadsToHolds}
 use Rattle.contract_store.specs.KeptRows.{LeadsToRows}
@@ -39,13 +39,13 @@ map_room m = map_spare m
 
 -- the maps lead from each id to the row and the holds with it, from each salt to the rows with it, and from each place to
 -- the holds of its request
-pub record LeadsToAll (rows : List KeptRow) (holds : List KeptHold) (ids : List ℕ → Option Behind) (salts : List ℕ → Option ℕ)
+pub record LeadsToAll (rows : List KeptRow) (holds : List KeptHold) (ids : List ℕ → Option ContractPlaces) (salts : List ℕ → Option ℕ)
     (places : ℕ → Option ℕ) : Type 0 where
   pub to_rows : LeadsToRows rows (λ c. row_behind (ids c)) salts
   pub to_holds : LeadsToHolds holds (λ c. hold_behind (ids c)) places
 
 -- more keys, with nothing behind them
-pub record Grows (ids ids' : List ℕ → Option Behind) : Type 0 where
+pub record Grows (ids ids' : List ℕ → Option ContractPlaces) : Type 0 where
   pub by_row : (c : List ℕ) → row_behind (ids' c) ≡ row_behind (ids c)
   pub by_hold : (c : List ℕ) → hold_behind (ids' c) ≡ hold_behind (ids c)
   pub kept : (c : List ℕ) → IsSome (ids c) → IsSome (ids' c)

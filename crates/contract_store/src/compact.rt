@@ -8,9 +8,9 @@ ghost use Rattle.contract_store.specs.Holds.{holds_of, LeadsToHolds};
 ghost use Rattle.contract_store.specs.Moved.{among, Moving};
 ghost use Rattle.contract_store.specs.declared.hold.KeptHold.{KeptHold};
 
+use crate::contract_places::ContractPlaces;
 use crate::hold::{Hold, KeptHold};
 use crate::holds::{place_behind, slot_at};
-use crate::keys::Behind;
 use crate::lookup::{hold_behind, put_hold};
 use indexmap::IndexMap;
 use ledger_terms::Hash;
@@ -39,7 +39,7 @@ fn move_place(places: &mut IndexMap<u64, usize>, place: u64, to: usize)
 // Moves a hold behind those that were moved before it.
 fn move_hold(
     slots: &mut Vec<KeptHold>,
-    ids: &mut IndexMap<Hash, Behind>,
+    ids: &mut IndexMap<Hash, ContractPlaces>,
     places: &mut IndexMap<u64, usize>,
     hold: Hold,
     to: usize,
@@ -76,7 +76,7 @@ fn move_hold(
 // Moves the next hold, if it was not released, and gives how many were moved then.
 fn move_next(
     slots: &mut Vec<KeptHold>,
-    ids: &mut IndexMap<Hash, Behind>,
+    ids: &mut IndexMap<Hash, ContractPlaces>,
     places: &mut IndexMap<u64, usize>,
     next: usize,
     to: usize,
@@ -105,7 +105,7 @@ fn move_next(
 // Takes all released holds out.
 fn keep_live(
     slots: &mut Vec<KeptHold>,
-    ids: &mut IndexMap<Hash, Behind>,
+    ids: &mut IndexMap<Hash, ContractPlaces>,
     places: &mut IndexMap<u64, usize>,
 )
     requires { LeadsToHolds slots.old.items (λ c. hold_behind (get bytes_eq ids.old c)) (λ p. get nat_eq places.old p) }
@@ -128,7 +128,7 @@ fn keep_live(
 /// Takes the released holds out where they are more than the others, so that each is passed once for a release.
 pub fn drop_released(
     slots: &mut Vec<KeptHold>,
-    ids: &mut IndexMap<Hash, Behind>,
+    ids: &mut IndexMap<Hash, ContractPlaces>,
     places: &mut IndexMap<u64, usize>,
     dead: &mut usize,
 )

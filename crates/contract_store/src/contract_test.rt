@@ -16,9 +16,9 @@ pub trait ContractTest {
 }
 
 /// The test that all contracts pass.
-pub struct Every;
+pub struct EveryContract;
 
-impl ContractTest for Every {
+impl ContractTest for EveryContract {
     ghost use Rattle.std.specs.Prelude.{true};
 
     ghost passes = { λ _ k. true };

@@ -9,8 +9,8 @@ ghost use Rattle.contract_store.specs.Holds.{link_on, link_at, holds_of, release
 ghost use Rattle.contract_store.specs.declared.hold.Hold.{Hold};
 ghost use Rattle.contract_store.specs.declared.hold.KeptHold.{KeptHold};
 
+use crate::contract_places::ContractPlaces;
 use crate::hold::{Hold, KeptHold};
-use crate::keys::Behind;
 use crate::lookup::{hold_behind, put_hold};
 use indexmap::IndexMap;
 use ledger_terms::Hash;
@@ -34,7 +34,7 @@ pub fn put_place(places: &mut IndexMap<u64, usize>, place: u64, at: usize)
 /// One more hold, in the room that is there.
 pub fn push_hold(
     slots: &mut Vec<KeptHold>,
-    ids: &mut IndexMap<Hash, Behind>,
+    ids: &mut IndexMap<Hash, ContractPlaces>,
     places: &mut IndexMap<u64, usize>,
     hold: Hold,
 )
@@ -91,7 +91,7 @@ fn last_live(slots: &Vec<KeptHold>, id: &Hash, from: Option<usize>) -> Option<us
 }
 
 // Releases the hold at a place in the vector.
-fn release_hold(slots: &mut Vec<KeptHold>, ids: &mut IndexMap<Hash, Behind>, at: usize)
+fn release_hold(slots: &mut Vec<KeptHold>, ids: &mut IndexMap<Hash, ContractPlaces>, at: usize)
     requires within { at < vec_len slots.old }
     requires on { Chains bytes_eq (map link_on slots.old.items) (λ c. hold_behind (get bytes_eq ids.old c)) }
     ensures slots { (h : KeptHold) → slice_get slots.old.items at ≡ Some h → slots.new.items ≡ slice_set slots.old.items at (record h { live = false }) }
@@ -115,7 +115,7 @@ fn release_hold(slots: &mut Vec<KeptHold>, ids: &mut IndexMap<Hash, Behind>, at:
 }
 
 // Whether an id leads to this hold.
-fn leads_to(ids: &IndexMap<Hash, Behind>, id: &Hash, at: usize) -> bool
+fn leads_to(ids: &IndexMap<Hash, ContractPlaces>, id: &Hash, at: usize) -> bool
     ensures yes { IsTrue result → hold_behind (get bytes_eq ids.now id.now) ≡ Some at }
     ensures no { IsFalse result → hold_behind (get bytes_eq ids.now id.now) ≢ Some at }
 {
@@ -136,7 +136,7 @@ fn count_dead(dead: &mut usize, live: bool)
 // Releases the hold at a place in the vector, and gives the place of the one before it of the same request.
 fn release_next(
     slots: &mut Vec<KeptHold>,
-    ids: &mut IndexMap<Hash, Behind>,
+    ids: &mut IndexMap<Hash, ContractPlaces>,
     dead: &mut usize,
     at: usize,
 ) -> Option<usize>
@@ -163,7 +163,7 @@ fn release_next(
 /// Releases the holds of a request, and counts them with those that were released before.
 pub fn release_place(
     slots: &mut Vec<KeptHold>,
-    ids: &mut IndexMap<Hash, Behind>,
+    ids: &mut IndexMap<Hash, ContractPlaces>,
     places: &mut IndexMap<u64, usize>,
     dead: &mut usize,
     place: u64,

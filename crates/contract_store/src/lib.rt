@@ -3,10 +3,10 @@
 
 mod active;
 mod compact;
+mod contract_places;
 mod contract_test;
 mod hold;
 mod holds;
-mod keys;
 pub mod laws;
 mod lookup;
 mod ready;

@@ -5,8 +5,8 @@ ghost use Rattle.std.specs.Str.{bytes_eq};
 ghost use Rattle.indexmap.specs.IndexMap.{get};
 ghost use Rattle.contract_store.specs.Stored.{Grows, map_room};
 
+use crate::contract_places::ContractPlaces;
 use crate::hold::{HashList, KeptHold};
-use crate::keys::Behind;
 use crate::lookup::add_key;
 use crate::row::KeptRow;
 use indexmap::IndexMap;
@@ -14,7 +14,7 @@ use ledger_terms::{Hash, KnownList};
 use std::alloc::AllocError;
 
 /// Puts the ids of contracts into the map.
-fn add_known(ids: &mut IndexMap<Hash, Behind>, known: &KnownList) -> Result<(), AllocError>
+fn add_known(ids: &mut IndexMap<Hash, ContractPlaces>, known: &KnownList) -> Result<(), AllocError>
     ensures grows { Grows (λ c. get bytes_eq ids.old c) (λ c. get bytes_eq ids.new c) }
     ensures added { OnOk result (All (λ k. IsSome (get bytes_eq ids.new k.id)) known.now) }
 {
@@ -25,7 +25,7 @@ fn add_known(ids: &mut IndexMap<Hash, Behind>, known: &KnownList) -> Result<(), 
 }
 
 /// Puts ids into the map.
-fn add_hashes(ids: &mut IndexMap<Hash, Behind>, hashes: &HashList) -> Result<(), AllocError>
+fn add_hashes(ids: &mut IndexMap<Hash, ContractPlaces>, hashes: &HashList) -> Result<(), AllocError>
     ensures grows { Grows (λ c. get bytes_eq ids.old c) (λ c. get bytes_eq ids.new c) }
     ensures added { OnOk result (All (λ h. IsSome (get bytes_eq ids.new h)) hashes.now) }
 {
@@ -37,7 +37,7 @@ fn add_hashes(ids: &mut IndexMap<Hash, Behind>, hashes: &HashList) -> Result<(),
 
 /// Puts the ids of contracts, and ids, into the map.
 pub fn add_all(
-    ids: &mut IndexMap<Hash, Behind>,
+    ids: &mut IndexMap<Hash, ContractPlaces>,
     known: &KnownList,
     hashes: &HashList,
 ) -> Result<(), AllocError>

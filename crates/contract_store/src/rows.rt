@@ -8,7 +8,7 @@ ghost use Rattle.contract_store.specs.Rows.{is_of, row_of, smaller, with_created
 ghost use Rattle.contract_store.specs.KeptRows.{rows_of, LeadsById, LeadsToRows};
 ghost use Rattle.contract_store.specs.declared.row.KeptRow.{KeptRow};
 
-use crate::keys::Behind;
+use crate::contract_places::ContractPlaces;
 use crate::lookup::{put_row, put_salt, row_behind};
 use crate::row::{KeptRow, StoreRow};
 use indexmap::IndexMap;
@@ -27,7 +27,7 @@ pub fn row_at(kept: &Vec<KeptRow>, at: usize) -> Option<&StoreRow>
 /// The row of a contract.
 pub fn find_row<'a>(
     kept: &'a Vec<KeptRow>,
-    ids: &IndexMap<Hash, Behind>,
+    ids: &IndexMap<Hash, ContractPlaces>,
     id: &Hash,
 ) -> Option<&'a StoreRow>
     requires { LeadsById kept.now.items (λ c. row_behind (get bytes_eq ids.now c)) }
@@ -86,7 +86,7 @@ fn set_consumed(kept: &mut Vec<KeptRow>, at: usize, place: u64)
 // One more row, of a contract that has none, in the room that is there.
 fn push_row(
     kept: &mut Vec<KeptRow>,
-    ids: &mut IndexMap<Hash, Behind>,
+    ids: &mut IndexMap<Hash, ContractPlaces>,
     salts: &mut IndexMap<Hash, usize>,
     row: StoreRow,
 )
@@ -115,7 +115,7 @@ fn push_row(
 /// The contract is created at a place, in the room that is there.
 pub fn create_row(
     kept: &mut Vec<KeptRow>,
-    ids: &mut IndexMap<Hash, Behind>,
+    ids: &mut IndexMap<Hash, ContractPlaces>,
     salts: &mut IndexMap<Hash, usize>,
     known: Known,
     place: u64,
@@ -150,7 +150,7 @@ pub fn create_row(
 /// The contract is consumed at a place, in the room that is there.
 pub fn consume_row(
     kept: &mut Vec<KeptRow>,
-    ids: &mut IndexMap<Hash, Behind>,
+    ids: &mut IndexMap<Hash, ContractPlaces>,
     salts: &mut IndexMap<Hash, usize>,
     known: Known,
     place: u64,

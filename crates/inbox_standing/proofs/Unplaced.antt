@@ -10,8 +10,8 @@ use Rattle.ledger_model.specs.Terms.{Hash, id_of, is_create, is_consuming, creat
 use Rattle.canton_model.specs.Inbox.{first_of_each}
 use Rattle.contract_store.specs.declared.row.StoreRow.{StoreRow}
 use Rattle.contract_store.specs.Rows.{is_of, smaller, put, created, consumed, with_created, with_consumed}
-use Rattle.contract_store.specs.Active.{active_of}
-use Rattle.contract_store.specs.ActiveLaw.{NoneBefore, InOrder, is_creation, row_for, created_rows, is_left, left_of}
+use Rattle.contract_store.specs.Active.{row_if_active}
+use Rattle.contract_store.specs.ActiveLaw.{NoneBefore, InOrder, is_creation, row_for, created_rows, is_left, rows_left}
 use Rattle.contract_store.specs.Written.{Placed, contract_of, write, written, acts_of}
 use Rattle.contract_store.proofs.Following.{new_created, new_consumed}
 use Rattle.contract_store.proofs.Left.{actives, cons_if, actives_left}
@@ -133,8 +133,8 @@ module _ (g : Hash → ℕ) where
   actives_placed (row ∷ rows) h = by row.created_at row.consumed_at h.0 (actives_placed rows h.1)
     where
       by : (since end : Option ℕ) → IsAt (g row.known.id) since → actives rows ≡ map placed (actives (map unplaced_row rows))
-          → cons_if (active_of since end row.known) (actives rows)
-          ≡ map placed (cons_if (active_of (start since) (start end) row.known) (actives (map unplaced_row rows)))
+          → cons_if (row_if_active since end row.known) (actives rows)
+          ≡ map placed (cons_if (row_if_active (start since) (start end) row.known) (actives (map unplaced_row rows)))
       by None None a e = e
       by None (Some m) a e = e
       by (Some n) (Some m) a e = e
@@ -172,7 +172,7 @@ module _ (g : Hash → ℕ) where
           ∙ ap (λ (rs : List ActiveRow). record { created_at = g (id_of p.act.action); known = (row_for p).known } ∷ rs) rest
       by false e rest = rest
 
-  left_placed : (ps : List Placed) → CreatesAt ps → left_of ps ≡ map placed (left_of (map unplaced ps))
+  left_placed : (ps : List Placed) → CreatesAt ps → rows_left ps ≡ map placed (rows_left (map unplaced ps))
   left_placed ps c =
       ap (λ (rs : List ActiveRow). filter (is_left (acts_of ps)) (first_of_each rs)) (created_placed ps c)
       ∙ ap (filter (is_left (acts_of ps))) (first_placed (created_rows (map unplaced ps)))
@@ -180,7 +180,7 @@ module _ (g : Hash → ℕ) where
       ∙ ap (λ (all : List Act). map placed (filter (is_left all) (first_of_each (created_rows (map unplaced ps))))) (sym (acts_unplaced ps))
 
   -- the active rows in the order of the rows
-  pub actives_at : (ps : List Placed) → CreatesAt ps → actives (written ps []) ≡ left_of ps
+  pub actives_at : (ps : List Placed) → CreatesAt ps → actives (written ps []) ≡ rows_left ps
   actives_at ps c =
       actives_placed (written ps []) (written_at ps [] c tt)
       ∙ ap (λ (rows : List StoreRow). map placed (actives rows)) (written_unplaced ps [])
@@ -230,5 +230,5 @@ creates_at (p ∷ ps) once = (
     apart c n false e = refl
 
 -- where no contract is created twice
-pub actives_once : (ps : List Placed) → CreatedOnce ps → actives (written ps []) ≡ left_of ps
+pub actives_once : (ps : List Placed) → CreatedOnce ps → actives (written ps []) ≡ rows_left ps
 actives_once ps once = actives_at (place_in ps) ps (creates_at ps once)

@@ -11,7 +11,7 @@ use Rattle.world_model.specs.Messages.{Entry, Message, RequestMessage, ResponseM
 use Rattle.world_model.specs.Machine.{Machine}
 use Rattle.world_model.specs.Mediator.{MediatorState, read_by_mediator}
 use Rattle.world_model.proofs.Steps.{mediator_has_read}
-use Rattle.mediator.specs.Kept.{Kept, Keeps, Knows, known_decision}
+use Rattle.mediator.specs.KeptCases.{KeptMediator, Keeps, Knows, known_decision}
 use Rattle.mediator.proofs.Known.{decision_is}
 use Rattle.framed_form.specs.Outlines.{IsOutlined}
 use Rattle.framed_form.specs.declared.outline.Outline.{Outline}
@@ -79,7 +79,7 @@ module _ {P : Type 0} (reading : Reading) (params : Params) (have_read : List En
 
 -- ---- one entry more
 
-knows_read : (m : Machine) (log : List Entry) (before after : Kept) (entry : Entry) → Knows m log before → after.params ≡ before.params
+knows_read : (m : Machine) (log : List Entry) (before after : KeptMediator) (entry : Entry) → Knows m log before → after.params ≡ before.params
     → ((state : MediatorState) → Keeps before state → Keeps after (read_by_mediator before.params state entry)) → Knows m (log ++ entry ∷ []) after
 knows_read m log before after entry knows same step =
     record {

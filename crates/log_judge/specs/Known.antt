@@ -4,7 +4,7 @@ use Rattle.ledger_terms.specs.declared.params.Params.{Params}
 use Rattle.canton_model.specs.Reading.{Reading}
 use Rattle.world_model.specs.Messages.{Entry}
 use Rattle.world_model.specs.Machine.{Machine}
-use Rattle.mediator.specs.Kept.{Knows}
+use Rattle.mediator.specs.KeptCases.{Knows}
 use Rattle.audit_model.specs.Standard.{Rule, Standard}
 use Rattle.log_judge.specs.RuleUses.{AreUsed, rules_of}
 use Rattle.log_judge.specs.declared.auditor.Auditor.{Auditor}

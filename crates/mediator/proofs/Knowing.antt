@@ -6,11 +6,11 @@ use Rattle.world_model.specs.Machine.{Machine, GenuineLog}
 use Rattle.world_model.specs.Mediator.{MediatorState, cases_of, first_verdict, new_mediator, read_by_mediator, next_verdict, take_verdict, give_back}
 use Rattle.world_model.specs.Places.{without_place}
 use Rattle.world_model.proofs.Steps.{verdicts_below, mediator_has_read, mediator_has_taken, mediator_has_back}
-use Rattle.mediator.specs.Kept.{Kept, Keeps, taken}
+use Rattle.mediator.specs.KeptCases.{KeptMediator, Keeps, with_verdict_taken}
 use Rattle.mediator.specs.Order.{HasGiven, IsFirstDue, NothingIsDue}
 use Rattle.mediator.proofs.OrderFacts.{first_due, nothing_due}
 
-pub known_new : (m : Machine) (kept : Kept) → kept.params ≡ m.params → Keeps kept new_mediator → HasGiven m [] [] kept
+pub known_new : (m : Machine) (kept : KeptMediator) → kept.params ≡ m.params → Keeps kept new_mediator → HasGiven m [] [] kept
 known_new m kept params keeps =
     record {
       knows = record {
@@ -22,7 +22,7 @@ known_new m kept params keeps =
       places = refl;
     }
 
-module _ (m : Machine) (log : List Entry) (given : List ℕ) (before after : Kept) (h : HasGiven m log given before) (same : after.params ≡ before.params) where
+module _ (m : Machine) (log : List Entry) (given : List ℕ) (before after : KeptMediator) (h : HasGiven m log given before) (same : after.params ≡ before.params) where
   abbrev state : MediatorState
   state = (h.knows).state
 
@@ -59,7 +59,7 @@ module _ (m : Machine) (log : List Entry) (given : List ℕ) (before after : Kep
     over_log o next =
         sym (ap (first_verdict given) ((h.knows).has).cases) ∙ (sym (ap (λ (g : List ℕ). first_verdict g state.cases) h.places) ∙ sym next)
 
-    pub known_first : (o : Option Verdict) → o ≡ next_verdict state → Keeps after (taken state o)
+    pub known_first : (o : Option Verdict) → o ≡ next_verdict state → Keeps after (with_verdict_taken state o)
         → IfSome o (λ (v : Verdict). IsFirstDue m.params log given v × HasGiven m log (v.request ∷ given) after)
     known_first None next step = tt
     known_first (Some v) next step =
@@ -76,7 +76,7 @@ module _ (m : Machine) (log : List Entry) (given : List ℕ) (before after : Kep
           },
         )
 
-    pub known_none : (o : Option Verdict) → o ≡ next_verdict state → Keeps after (taken state o)
+    pub known_none : (o : Option Verdict) → o ≡ next_verdict state → Keeps after (with_verdict_taken state o)
         → IfNone o (NothingIsDue m.params log given × HasGiven m log given after)
     known_none (Some v) next step = tt
     known_none None next step =

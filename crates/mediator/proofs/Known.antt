@@ -1,5 +1,6 @@
 -- What the mediator holds of a request without a verdict is the scan of the log.
-use Rattle.std.proofs.Common.{◌≡◌, ◌≢◌, ℕ, zero, suc, ◌+◌, ◌<◌, ◌≤◌, true, false, List, [], ◌∷◌, ◌++◌, map, take, drop, length, ◌⊎◌, fold, Option, Some, None, All, IsSomeAnd, slice_index_or, refl, sym, ap, ◌∙◌, subst, inl, inr, arith, le_refl, nat_eq}
+use Rattle.std.proofs.Common.{◌≡◌, ◌≢◌, ℕ, zero, suc, ◌+◌, ◌<◌, ◌≤◌, true, false, List, [], ◌∷◌, ◌++◌, map, take, drop, length}
+use Rattle.std.proofs.Common.{◌⊎◌, fold, Option, Some, None, All, IsSomeAnd, slice_index_or, refl, sym, ap, ◌∙◌, subst, inl, inr, arith, le_refl, nat_eq}
 use Rattle.std.specs.Prelude.{slice_get, is_some, if◌then◌else◌}
 use Rattle.std.proofs.lemmas.Bool.{cases_Bool, cases_lt, ne_eqb, eqb-true, eq-eqb}
 use Rattle.std.proofs.lemmas.Option.{none-some, same_Some}
@@ -18,7 +19,7 @@ use Rattle.world_model.proofs.Grown.{request_within}
 use Rattle.world_model.proofs.Steps.{verdicts_below, take_next}
 use Rattle.mediator.specs.declared.open_case.OpenCase.{OpenCase}
 use Rattle.mediator.specs.OpenCases.{Rising, decision_at}
-use Rattle.mediator.specs.Kept.{Kept, progress_of, seen, kept_cases, Knows, known_decision}
+use Rattle.mediator.specs.KeptCases.{KeptMediator, progress_of, seen_cases, kept_cases, Knows, known_decision}
 
 -- ---- as it is kept
 
@@ -26,7 +27,7 @@ told : (missing : List ℕ) (d : Option Decision) → decision_of (progress_of m
 told missing None = refl
 told missing (Some d) = refl
 
-pub seen_decision : (wait k : ℕ) (cases : List OpenCase) → known_decision k (seen wait cases) ≡ decision_at k cases
+pub seen_decision : (wait k : ℕ) (cases : List OpenCase) → known_decision k (seen_cases wait cases) ≡ decision_at k cases
 seen_decision wait k [] = refl
 seen_decision wait k (c ∷ rest) =
     elim (cases_Bool (nat_eq c.place k)) [
@@ -199,7 +200,7 @@ module _ (m : Machine) (log : List Entry) (genuine : GenuineLog m log) (k : ℕ)
         | inr h ↦ h.0 ∙ sym (unheld (request_at log k) refl h.1)
       ]
 
-pub decision_is : (m : Machine) (log : List Entry) (kept : Kept) (k : ℕ) → GenuineLog m log → Knows m log kept → verdict_on k (timeline_of log) ≡ None
+pub decision_is : (m : Machine) (log : List Entry) (kept : KeptMediator) (k : ℕ) → GenuineLog m log → Knows m log kept → verdict_on k (timeline_of log) ≡ None
     → known_decision k kept.cases ≡ scan m.params log k
 decision_is m log kept k genuine knows none =
     let state = knows.state in

@@ -7,7 +7,7 @@ use Rattle.world_model.specs.Messages.{Entry, Decision, Verdict}
 use Rattle.world_model.specs.Machine.{Machine}
 use Rattle.world_model.specs.Fits.{IsDecision}
 use Rattle.world_model.specs.Places.{has_place}
-use Rattle.mediator.specs.Kept.{Kept, Knows}
+use Rattle.mediator.specs.KeptCases.{KeptMediator, Knows}
 
 -- There is a decision on the request at this place, no verdict on it stands in the log, and its verdict isn't taken.
 pub record IsDueAt (params : Params) (log : List Entry) (given : List ℕ) (place : ℕ) : Type 0 where
@@ -26,6 +26,6 @@ pub record IsFirstDue (params : Params) (log : List Entry) (given : List ℕ) (v
   pub first : (place : ℕ) → IsDueAt params log given place → verdict.request ≤ place
 
 -- the mediator has read this log, and the verdicts on the requests at these places count as taken
-pub record HasGiven (m : Machine) (log : List Entry) (given : List ℕ) (kept : Kept) : Type 0 where
+pub record HasGiven (m : Machine) (log : List Entry) (given : List ℕ) (kept : KeptMediator) : Type 0 where
   pub knows : Knows m log kept
   pub places : (knows.state).given ≡ given

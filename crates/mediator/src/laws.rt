@@ -9,31 +9,31 @@ ghost use Rattle.world_model.specs.Machine.{Machine, GenuineLog};
 ghost use Rattle.world_model.specs.Fits.{IsDecision};
 ghost use Rattle.world_model.specs.Mediator.{MediatorState, new_mediator, read_by_mediator, next_verdict, give_back};
 ghost use Rattle.world_model.specs.Places.{without_place};
-ghost use Rattle.mediator.specs.Kept.{Kept, Keeps, Knows, known_decision, taken};
+ghost use Rattle.mediator.specs.KeptCases.{KeptMediator, Keeps, Knows, known_decision, with_verdict_taken};
 ghost use Rattle.mediator.specs.Order.{HasGiven, IsFirstDue, NothingIsDue};
 
 /// What a mediator knows of the log that it has read: at first nothing, an entry more after each read, and the same after a
 /// verdict is taken or given back. Each verdict that it takes is the scan of the log.
 pub fn mediator_knows()
-    ensures new { (m : Machine) (kept : Kept) → kept.params ≡ m.params → Keeps kept new_mediator → Knows m [] kept }
-    ensures read { (m : Machine) (log : List EntryValue) (before after : Kept) (entry : EntryValue)
+    ensures new { (m : Machine) (kept : KeptMediator) → kept.params ≡ m.params → Keeps kept new_mediator → Knows m [] kept }
+    ensures read { (m : Machine) (log : List EntryValue) (before after : KeptMediator) (entry : EntryValue)
         → Knows m log before
         → after.params ≡ before.params
         → ((state : MediatorState) → Keeps before state → Keeps after (read_by_mediator before.params state entry))
         → Knows m (log ++ entry ∷ []) after }
-    ensures take { (m : Machine) (log : List EntryValue) (before after : Kept) (verdict : Option VerdictValue)
+    ensures take { (m : Machine) (log : List EntryValue) (before after : KeptMediator) (verdict : Option VerdictValue)
         → GenuineLog m log
         → Knows m log before
         → after.params ≡ before.params
         → ((state : MediatorState) → Keeps before state → verdict ≡ next_verdict state)
-        → ((state : MediatorState) → Keeps before state → Keeps after (taken state verdict))
+        → ((state : MediatorState) → Keeps before state → Keeps after (with_verdict_taken state verdict))
         → IfSome verdict (λ v. IsDecision m.params log v) × Knows m log after }
-    ensures give_back { (m : Machine) (log : List EntryValue) (before after : Kept) (k : ℕ)
+    ensures give_back { (m : Machine) (log : List EntryValue) (before after : KeptMediator) (k : ℕ)
         → Knows m log before
         → after.params ≡ before.params
         → ((state : MediatorState) → Keeps before state → Keeps after (give_back state k))
         → Knows m log after }
-    ensures decision { (m : Machine) (log : List EntryValue) (kept : Kept) (k : ℕ)
+    ensures decision { (m : Machine) (log : List EntryValue) (kept : KeptMediator) (k : ℕ)
         → GenuineLog m log
         → Knows m log kept
         → verdict_on k (timeline_of log) ≡ None
@@ -44,27 +44,27 @@ pub fn mediator_knows()
 /// the first request that is due, and none only where nothing is. A verdict counts as taken until it is given back. So each is taken
 /// once, and over one log they are taken by rising places.
 pub fn verdicts_are_taken_in_order()
-    ensures new { (m : Machine) (kept : Kept) → kept.params ≡ m.params → Keeps kept new_mediator → HasGiven m [] [] kept }
-    ensures read { (m : Machine) (log : List EntryValue) (given : List ℕ) (before after : Kept) (entry : EntryValue)
+    ensures new { (m : Machine) (kept : KeptMediator) → kept.params ≡ m.params → Keeps kept new_mediator → HasGiven m [] [] kept }
+    ensures read { (m : Machine) (log : List EntryValue) (given : List ℕ) (before after : KeptMediator) (entry : EntryValue)
         → HasGiven m log given before
         → after.params ≡ before.params
         → ((state : MediatorState) → Keeps before state → Keeps after (read_by_mediator before.params state entry))
         → HasGiven m (log ++ entry ∷ []) given after }
-    ensures first { (m : Machine) (log : List EntryValue) (given : List ℕ) (before after : Kept) (verdict : Option VerdictValue)
+    ensures first { (m : Machine) (log : List EntryValue) (given : List ℕ) (before after : KeptMediator) (verdict : Option VerdictValue)
         → GenuineLog m log
         → HasGiven m log given before
         → after.params ≡ before.params
         → ((state : MediatorState) → Keeps before state → verdict ≡ next_verdict state)
-        → ((state : MediatorState) → Keeps before state → Keeps after (taken state verdict))
+        → ((state : MediatorState) → Keeps before state → Keeps after (with_verdict_taken state verdict))
         → IfSome verdict (λ v. IsFirstDue m.params log given v × HasGiven m log (v.request ∷ given) after) }
-    ensures none { (m : Machine) (log : List EntryValue) (given : List ℕ) (before after : Kept) (verdict : Option VerdictValue)
+    ensures none { (m : Machine) (log : List EntryValue) (given : List ℕ) (before after : KeptMediator) (verdict : Option VerdictValue)
         → GenuineLog m log
         → HasGiven m log given before
         → after.params ≡ before.params
         → ((state : MediatorState) → Keeps before state → verdict ≡ next_verdict state)
-        → ((state : MediatorState) → Keeps before state → Keeps after (taken state verdict))
+        → ((state : MediatorState) → Keeps before state → Keeps after (with_verdict_taken state verdict))
         → IfNone verdict (NothingIsDue m.params log given × HasGiven m log given after) }
-    ensures give_back { (m : Machine) (log : List EntryValue) (given : List ℕ) (before after : Kept) (k : ℕ)
+    ensures give_back { (m : Machine) (log : List EntryValue) (given : List ℕ) (before after : KeptMediator) (k : ℕ)
         → HasGiven m log given before
         → after.params ≡ before.params
         → ((state : MediatorState) → Keeps before state → Keeps after (give_back state k))

@@ -1,5 +1,6 @@
 -- Ids tell of a store's contracts after each change of a row.
-use Rattle.std.proofs.Common.{◌≡◌, ℕ, Bool, true, false, if◌then◌else◌, List, [], ◌∷◌, Option, Some, None, find, refl, sym, ap, ◌∙◌, subst, inl, inr, true≢false}
+use Rattle.std.proofs.Common.{◌≡◌, ℕ, Bool, true, false, if◌then◌else◌, List, [], ◌∷◌, Option, Some}
+use Rattle.std.proofs.Common.{None, find, refl, sym, ap, ◌∙◌, subst, inl, inr, true≢false}
 use Rattle.std.specs.Prelude.{◌||◌, ◌⊎◌}
 use Rattle.std.specs.Str.{bytes_eq}
 use Rattle.std.proofs.lemmas.Bool.{cases_Bool}
@@ -10,7 +11,7 @@ use Rattle.ledger_model.specs.Terms.{Hash, ParticipantId}
 use Rattle.ledger_model.proofs.Lists.{In, contains_from_In, in_from_Contains}
 use Rattle.canton_model.specs.Inbox.{is_stakeholder_hosted}
 use Rattle.canton_model.specs.Reading.{Reading}
-use Rattle.contract_store.specs.Active.{active_of}
+use Rattle.contract_store.specs.Active.{row_if_active}
 use Rattle.contract_store.specs.Rows.{consumed, created, is_of, put, row_of, smaller, with_consumed, with_created}
 use Rattle.contract_store.specs.declared.row.StoreRow.{StoreRow}
 use Rattle.contract_store.proofs.Maps.{equal_bytes, same_bytes}
@@ -90,7 +91,7 @@ module _ (reading : Reading) (p : ParticipantId) where
   pub none_told : AreTold reading p [] []
   none_told = record { tell = λ row there e. absurd (in_from_Contains [] row there); of_rows = λ c e. refl }
 
-  not_consumed : (created_at consumed_at : Option ℕ) (known : Known) (a : ActiveRow) → active_of created_at consumed_at known ≡ Some a
+  not_consumed : (created_at consumed_at : Option ℕ) (known : Known) (a : ActiveRow) → row_if_active created_at consumed_at known ≡ Some a
       → (consumed_at ≡ None) × (known ≡ a.known)
   not_consumed (Some place) None known a e = (refl, (let w : ActiveRow = record { created_at = place; known = known } in let v : w ≡ a = cc in ap (λ (x : ActiveRow). x.known) v))
   not_consumed None None known a e = absurd (cc)

@@ -9,17 +9,17 @@ use Rattle.world_model.specs.Mediator.{MediatorState, next_verdict, read_by_medi
 use Rattle.world_model.specs.Lawful.{MediatorHas}
 use Rattle.world_model.specs.Fits.{IsDecision}
 use Rattle.world_model.proofs.Steps.{mediator_has_read, mediator_has_taken}
-use Rattle.mediator.specs.Kept.{Kept, Keeps, Knows, taken}
+use Rattle.mediator.specs.KeptCases.{KeptMediator, Keeps, Knows, with_verdict_taken}
 use Rattle.mediator.specs.Order.{HasGiven, IsFirstDue, NothingIsDue}
 use Rattle.mediator.proofs.Knowing.{known_first, known_none}
 use Rattle.sync_shared.specs.Behind.{IsMediatorBehind}
 use Rattle.sync_shared.proofs.Prefixes.{ends_with}
 
-module _ (m : Machine) (list : List Entry) (kept : Kept) (b : IsMediatorBehind m list kept) where
+module _ (m : Machine) (list : List Entry) (kept : KeptMediator) (b : IsMediatorBehind m list kept) where
   pub cursor_is : kept.cursor ≡ length list
   cursor_is = (((b.knows).keeps).cursor) ∙ ((b.knows).has).cursor
 
-  pub mediator_reads : (next : List Entry) (e : Entry) (after : Kept) → IsPrefix list next → length next ≡ length list + 1 → GenuineLog m next
+  pub mediator_reads : (next : List Entry) (e : Entry) (after : KeptMediator) → IsPrefix list next → length next ≡ length list + 1 → GenuineLog m next
       → ((k : ℕ) → length next ≡ k + 1 → slice_get next k ≡ Some e) → after.params ≡ kept.params
       → ((state : MediatorState) → Keeps kept state → Keeps after (read_by_mediator kept.params state e))
       → IsMediatorBehind m next after
@@ -37,8 +37,8 @@ module _ (m : Machine) (list : List Entry) (kept : Kept) (b : IsMediatorBehind m
         };
       }
 
-  module _ (after : Kept) (params : after.params ≡ kept.params) where
-    takes : (o : Option Verdict) → o ≡ next_verdict (b.knows).state → Keeps after (taken (b.knows).state o)
+  module _ (after : KeptMediator) (params : after.params ≡ kept.params) where
+    takes : (o : Option Verdict) → o ≡ next_verdict (b.knows).state → Keeps after (with_verdict_taken (b.knows).state o)
         → IfSome o (IsDecision m.params list) × IsMediatorBehind m list after
     takes None first keeps =
         (tt, record { genuine = b.genuine; knows = record { params = params ∙ (b.knows).params; state = (b.knows).state; keeps = keeps; has = (b.knows).has } })
@@ -53,7 +53,7 @@ module _ (m : Machine) (list : List Entry) (kept : Kept) (b : IsMediatorBehind m
 
     -- the verdict is the first that is due, and none only where nothing is
     pub first_taken : {E : Type 0} (r : Result (Option Verdict) E) → IfOk r (λ o. (state : MediatorState) → Keeps kept state → o ≡ next_verdict state)
-        → IfOk r (λ o. (state : MediatorState) → Keeps kept state → Keeps after (taken state o))
+        → IfOk r (λ o. (state : MediatorState) → Keeps kept state → Keeps after (with_verdict_taken state o))
         → IfOk r (λ o. IfSome o (λ v. (given : List ℕ) → HasGiven m list given kept
         → IsFirstDue m.params list given v × HasGiven m list (v.request ∷ given) after))
     first_taken (Err e) first keeps = tt
@@ -63,7 +63,7 @@ module _ (m : Machine) (list : List Entry) (kept : Kept) (b : IsMediatorBehind m
         (keeps (h.knows).state (h.knows).keeps)
 
     pub none_taken : {E : Type 0} (r : Result (Option Verdict) E) → IfOk r (λ o. (state : MediatorState) → Keeps kept state → o ≡ next_verdict state)
-        → IfOk r (λ o. (state : MediatorState) → Keeps kept state → Keeps after (taken state o))
+        → IfOk r (λ o. (state : MediatorState) → Keeps kept state → Keeps after (with_verdict_taken state o))
         → IfOk r (λ o. IfNone o ((given : List ℕ) → HasGiven m list given kept → NothingIsDue m.params list given × HasGiven m list given after))
     none_taken (Err e) first keeps = tt
     none_taken (Ok (Some v)) first keeps = tt
@@ -72,11 +72,11 @@ module _ (m : Machine) (list : List Entry) (kept : Kept) (b : IsMediatorBehind m
         (keeps (h.knows).state (h.knows).keeps)
 
     pub verdict_decided : {E : Type 0} (r : Result (Option Verdict) E) → IfOk r (λ o. (state : MediatorState) → Keeps kept state → o ≡ next_verdict state)
-        → IfOk r (λ o. (state : MediatorState) → Keeps kept state → Keeps after (taken state o)) → IfOk r (λ o. IfSome o (IsDecision m.params list))
+        → IfOk r (λ o. (state : MediatorState) → Keeps kept state → Keeps after (with_verdict_taken state o)) → IfOk r (λ o. IfSome o (IsDecision m.params list))
     verdict_decided (Err e) first keeps = tt
     verdict_decided (Ok o) first keeps = (takes o (first (b.knows).state (b.knows).keeps) (keeps (b.knows).state (b.knows).keeps)).0
 
     pub verdict_taken : {E : Type 0} (r : Result (Option Verdict) E) → IfOk r (λ o. (state : MediatorState) → Keeps kept state → o ≡ next_verdict state)
-        → IfOk r (λ o. (state : MediatorState) → Keeps kept state → Keeps after (taken state o)) → OnErr r (after ≡ kept) → IsMediatorBehind m list after
+        → IfOk r (λ o. (state : MediatorState) → Keeps kept state → Keeps after (with_verdict_taken state o)) → OnErr r (after ≡ kept) → IsMediatorBehind m list after
     verdict_taken (Err e) first keeps err = subst (IsMediatorBehind m list) (sym err) b
     verdict_taken (Ok o) first keeps err = (takes o (first (b.knows).state (b.knows).keeps) (keeps (b.knows).state (b.knows).keeps)).1

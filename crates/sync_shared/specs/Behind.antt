@@ -12,7 +12,7 @@ use Rattle.world_model.specs.Rounds.{Why}
 use Rattle.threads_model.specs.Behind.{LogBehind}
 use Rattle.log_row.specs.LogPrefix.{RowName}
 use Rattle.seq_log.specs.Sequenced.{Sequenced, IsFor}
-use Rattle.mediator.specs.Kept.{Kept, Knows}
+use Rattle.mediator.specs.KeptCases.{KeptMediator, Knows}
 use Rattle.node_core.specs.Participant.{Participant as NodeValue}
 use Rattle.prepare_request.specs.declared.submit_fault.SubmitFault.{SubmitFault}
 use Rattle.node_core.specs.Machines.{IsNodeOf}
@@ -38,10 +38,10 @@ pub record IsNodeBehind (topology : Topology) (packages : Packages) (m : Machine
 -- what contracts see of the mediator behind its lock: the entries that it has read, and what it keeps of them
 pub record Mediating : Type 0 where
   pub list : List Entry
-  pub kept : Kept
+  pub kept : KeptMediator
 
 -- behind the mediator's lock: a mediator that has read this list
-pub record IsMediatorBehind (m : Machine) (list : List Entry) (mediator : Kept) : Type 0 where
+pub record IsMediatorBehind (m : Machine) (list : List Entry) (mediator : KeptMediator) : Type 0 where
   pub genuine : GenuineLog m list
   pub knows : Knows m list mediator
 

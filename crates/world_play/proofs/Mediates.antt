@@ -18,7 +18,7 @@ use Rattle.canton_model.proofs.LongerLogs.{genuine_take, scan_grown}
 use Rattle.world_model.proofs.Grown.{take_grown}
 use Rattle.world_model.proofs.Loops.{cases_rise, verdict_first, verdict_none}
 use Rattle.world_model.proofs.Steps.{take_next, length_take, mediator_has_read, mediator_has_taken}
-use Rattle.mediator.specs.Kept.{KeptCase, Kept, kept_case, kept_cases, Keeps, taken}
+use Rattle.mediator.specs.KeptCases.{KeptCase, KeptMediator, kept_case, kept_cases, Keeps, with_verdict_taken}
 use Rattle.seq_log.specs.Sequenced.{Sequenced, IsFor}
 use Rattle.world_play.specs.Standing.{IsMediator, HasAll, GoesOn}
 use Rattle.world_play.proofs.Sends.{stays, goes_further, still_for}
@@ -30,8 +30,8 @@ in_beginning k (suc n) [] x e lt = e
 in_beginning zero (suc n) (y ∷ xs) x e lt = e
 in_beginning (suc k) (suc n) (y ∷ xs) x e lt = in_beginning k n xs x e (omega (arith, lt))
 
-module _ (first : Kept) (log : Sequenced) where
-  pub record IsMediatorReader (mediator : Kept) : Type 0 where
+module _ (first : KeptMediator) (log : Sequenced) where
+  pub record IsMediatorReader (mediator : KeptMediator) : Type 0 where
     pub params : mediator.params ≡ first.params
     pub reads : (m : Machine) (state : MediatorState) (n : ℕ) → IsMediator m state n first log
         → (after : MediatorState) × (k : ℕ) × IsMediator m after k mediator log × (after.given ≡ state.given)
@@ -39,14 +39,14 @@ module _ (first : Kept) (log : Sequenced) where
   pub reader_starts : IsMediatorReader first
   reader_starts = record { params = refl; reads = λ m state n i. (state, n, i, refl) }
 
-  pub place_is : (mediator : Kept) (list : List Entry) → mediator.cursor < length log.list → list ≡ take (mediator.cursor + 1) log.list
+  pub place_is : (mediator : KeptMediator) (list : List Entry) → mediator.cursor < length log.list → list ≡ take (mediator.cursor + 1) log.list
       → length list ≡ mediator.cursor + 1
   place_is mediator list lt is = ap length is ∙ length_take (mediator.cursor + 1) log.list (omega (arith, lt))
 
-  module _ (mediator : Kept) (r : IsMediatorReader mediator) (list : List Entry) (lt : mediator.cursor < length log.list)
+  module _ (mediator : KeptMediator) (r : IsMediatorReader mediator) (list : List Entry) (lt : mediator.cursor < length log.list)
       (is : list ≡ take (mediator.cursor + 1) log.list) (e : Entry)
       (at : (k : ℕ) → length list ≡ k + 1 → slice_get list k ≡ Some e)
-      (after : Kept) (same : after.params ≡ mediator.params)
+      (after : KeptMediator) (same : after.params ≡ mediator.params)
       (step : (state : MediatorState) → Keeps mediator state → Keeps after (read_by_mediator mediator.params state e)) where
     there : slice_get log.list mediator.cursor ≡ Some e
     there =
@@ -78,7 +78,7 @@ module _ (first : Kept) (log : Sequenced) where
               );
         }
 
-  pub reader_ends : (mediator : Kept) → IsMediatorReader mediator → length log.list ≤ mediator.cursor
+  pub reader_ends : (mediator : KeptMediator) → IsMediatorReader mediator → length log.list ≤ mediator.cursor
       → (m : Machine) (state : MediatorState) (n : ℕ) → IsMediator m state n first log
       → (after : MediatorState) × IsMediator m after (length log.list) mediator log × (after.given ≡ state.given)
   reader_ends mediator r le m state n i =
@@ -119,8 +119,8 @@ pub count_is : (given : List ℕ) (cases : List Case) → due_count (kept_cases 
 count_is given [] = refl
 count_is given (c ∷ rest) = count_step c.is_answered given c (kept_cases given rest) (verdict_messages given rest) (count_is given rest)
 
-module _ (first : Kept) (began : Sequenced) where
-  pub record IsGiver (mediator : Kept) (s : Sequenced) : Type 0 where
+module _ (first : KeptMediator) (began : Sequenced) where
+  pub record IsGiver (mediator : KeptMediator) (s : Sequenced) : Type 0 where
     pub on : GoesOn began s
     pub params : mediator.params ≡ first.params
     pub gives : (m : Machine) (state : MediatorState) (n now : ℕ) → IsMediator m state n first began
@@ -130,9 +130,9 @@ module _ (first : Kept) (began : Sequenced) where
   pub giver_starts : IsGiver first began
   giver_starts = record { on = stays began; params = refl; gives = λ m state n now i. (state, i, refl) }
 
-  module _ (mediator : Kept) (s : Sequenced) (r : IsGiver mediator s) (taker : Kept) (v : Verdict)
+  module _ (mediator : KeptMediator) (s : Sequenced) (r : IsGiver mediator s) (taker : KeptMediator) (v : Verdict)
       (next : (state : MediatorState) → Keeps mediator state → Some v ≡ next_verdict state)
-      (step : (state : MediatorState) → Keeps mediator state → Keeps taker (taken state (Some v)))
+      (step : (state : MediatorState) → Keeps mediator state → Keeps taker (with_verdict_taken state (Some v)))
       (same : taker.params ≡ mediator.params) where
     module _ (m : Machine) (state : MediatorState) (n : ℕ) (i : IsMediator m state n mediator s) where
       took : IsDecision m.params (take n s.list) v × MediatorHas m (take n s.list) (take_verdict state v.request)
@@ -208,7 +208,7 @@ module _ (first : Kept) (began : Sequenced) where
                 );
           }
 
-  pub giver_ends : (mediator : Kept) (s : Sequenced) → IsGiver mediator s → ((state : MediatorState) → Keeps mediator state → None ≡ next_verdict state)
+  pub giver_ends : (mediator : KeptMediator) (s : Sequenced) → IsGiver mediator s → ((state : MediatorState) → Keeps mediator state → None ≡ next_verdict state)
       → (m : Machine) (state : MediatorState) (n now : ℕ) → IsMediator m state n first began
       → s.list ≡ append_each m now began.list (verdict_messages state.given state.cases)
   giver_ends mediator s r none m state n now i =
@@ -216,7 +216,7 @@ module _ (first : Kept) (began : Sequenced) where
       sym (ap (append_each m now s.list) (verdict_none (w.0).given (w.0).cases (sym (none w.0 (w.1).keeps)))) ∙ w.2
 
 -- the whole turn
-pub all_read : (m : Machine) (state : MediatorState) (mediator : Kept) (s : Sequenced) → IsMediator m state (length s.list) mediator s → HasAll m state mediator s.list
+pub all_read : (m : Machine) (state : MediatorState) (mediator : KeptMediator) (s : Sequenced) → IsMediator m state (length s.list) mediator s → HasAll m state mediator s.list
 all_read m state mediator s i =
     record {
       params = i.params;
@@ -224,7 +224,7 @@ all_read m state mediator s i =
       has = subst (λ (xs : List Entry). MediatorHas m xs state) (take_all (length s.list) s.list (le_refl (length s.list))) i.has;
     }
 
-pub all_read_before : (m : Machine) (state : MediatorState) (mediator : Kept) (before s : Sequenced) → GoesOn before s
+pub all_read_before : (m : Machine) (state : MediatorState) (mediator : KeptMediator) (before s : Sequenced) → GoesOn before s
     → IsMediator m state (length before.list) mediator s → HasAll m state mediator before.list
 all_read_before m state mediator before s on i =
     record {
@@ -237,14 +237,14 @@ all_read_before m state mediator before s on i =
           ∙ take_all (length before.list) before.list (le_refl (length before.list)))) i.has;
     }
 
-pub verdicts_are : (m : Machine) (after : MediatorState) (given : List ℕ) (mediator : Kept) (s : Sequenced) → IsMediator m after (length s.list) mediator s
+pub verdicts_are : (m : Machine) (after : MediatorState) (given : List ℕ) (mediator : KeptMediator) (s : Sequenced) → IsMediator m after (length s.list) mediator s
     → after.given ≡ given → verdict_messages after.given after.cases ≡ verdict_messages given (cases_of m.params s.list)
 verdicts_are m after given mediator s i same =
     ap (λ (g : List ℕ). verdict_messages g after.cases) same
     ∙ ap (verdict_messages given) ((i.has).cases ∙ ap (cases_of m.params) (take_all (length s.list) s.list (le_refl (length s.list))))
 
 -- another value that keeps the same
-pub same_mediator : (m : Machine) (state : MediatorState) (n : ℕ) (mediator after : Kept) (s : Sequenced) → IsMediator m state n mediator s
+pub same_mediator : (m : Machine) (state : MediatorState) (n : ℕ) (mediator after : KeptMediator) (s : Sequenced) → IsMediator m state n mediator s
     → after.params ≡ mediator.params → Keeps after state → IsMediator m state n after s
 same_mediator m state n mediator after s i same keeps =
     record { is_for = i.is_for; behind = i.behind; params = same ∙ i.params; keeps = keeps; within = i.within; has = i.has }

@@ -11,7 +11,7 @@ use Rattle.world_model.specs.Settling.{PassedTo, WorldReady}
 use Rattle.world_model.specs.Turns.{verdict_messages}
 use Rattle.world_model.proofs.Steps.{lawful_grown, lawful_with_mediator}
 use Rattle.world_model.proofs.WorldPasses.{pass_ends, pass_ends_held}
-use Rattle.mediator.specs.Kept.{Kept}
+use Rattle.mediator.specs.KeptCases.{KeptMediator}
 use Rattle.seq_log.specs.Sequenced.{Sequenced}
 use Rattle.node_core.specs.Participant.{Participant as NodeValue}
 use Rattle.world_play.specs.Standing.{IsMediator, HasAll, GoesOn}
@@ -23,7 +23,7 @@ module _ (m : Machine) (now : ℕ) (nodes : List NodeValue) (s : Sequenced) (a :
   nodes_grown s2 on = record { is_reading = a.is_reading; is_for = still_for m s s2 on a.is_for; node = a.node }
 
   module _ (state : MediatorState) (l : Lawful m (world_with now state nodes s)) where
-    pub mediator_in : (mediator : Kept) → IsMediatorOf m state mediator → IsMediator m state (l.mediator).0 mediator s
+    pub mediator_in : (mediator : KeptMediator) → IsMediatorOf m state mediator → IsMediator m state (l.mediator).0 mediator s
     mediator_in mediator is =
         record {
           is_for = a.is_for;
@@ -35,7 +35,7 @@ module _ (m : Machine) (now : ℕ) (nodes : List NodeValue) (s : Sequenced) (a :
         }
 
     -- wherever the mediator's turn broke off
-    pub mediated : (after : MediatorState) (k : ℕ) (mediator : Kept) (s2 : Sequenced) → GoesOn s s2 → IsMediator m after k mediator s2
+    pub mediated : (after : MediatorState) (k : ℕ) (mediator : KeptMediator) (s2 : Sequenced) → GoesOn s s2 → IsMediator m after k mediator s2
         → Lawful m (world_with now after nodes s2)
     mediated after k mediator s2 on i =
         let w = world_with now state nodes s in
@@ -46,11 +46,11 @@ module _ (m : Machine) (now : ℕ) (nodes : List NodeValue) (s : Sequenced) (a :
         (subst (λ (xs : List Entry). Lawful m (record { log = xs; now = now; mediator = state; nodes = w.nodes })) (sym on.is_more) grown)
         (k, i.within, i.has)
 
-  pub mediator_is : (after : MediatorState) (mediator : Kept) (log : List Entry) → HasAll m after mediator log → IsMediatorOf m after mediator
+  pub mediator_is : (after : MediatorState) (mediator : KeptMediator) (log : List Entry) → HasAll m after mediator log → IsMediatorOf m after mediator
   mediator_is after mediator log h = record { params = h.params; keeps = h.keeps }
 
   -- the whole turn
-  pub pass_done : (paused : List ParticipantId) (held : Bool) (state : MediatorState) (began : List Entry) (mediator : Kept) (s2 : Sequenced)
+  pub pass_done : (paused : List ParticipantId) (held : Bool) (state : MediatorState) (began : List Entry) (mediator : KeptMediator) (s2 : Sequenced)
       → PassedTo m paused began m.hosts (world_with now state nodes s) → GoesOn s s2
       → (held ≡ true → (after : MediatorState) × HasAll m after mediator s.list × (after.given ≡ state.given) × (s2 ≡ s))
       → (held ≡ false → (after : MediatorState) × HasAll m after mediator s.list

@@ -19,7 +19,7 @@ use Rattle.canton_model.specs.Inbox.{Item}
 use Rattle.world_model.specs.Lawful.{Lawful}
 use Rattle.world_model.proofs.NodeFacts.{owes_is}
 use Rattle.world_model.proofs.Steps.{mediator_has_back, take_next}
-use Rattle.mediator.specs.Kept.{Kept, Keeps}
+use Rattle.mediator.specs.KeptCases.{KeptMediator, Keeps}
 use Rattle.seq_log.specs.OpenRequests.{is_open, open_requests, place_if, places_below}
 use Rattle.seq_log.specs.Sequenced.{Sequenced, IsFor}
 use Rattle.seq_log.proofs.Queues.{place_passes}
@@ -189,15 +189,15 @@ module _ (at : ℕ) (first : NodeValue) (s : Sequenced) where
       r.resumed_to m given ∙ (ap (fold (resume_at m s.list at) first.state) end ∙ resumed_open m s given.is_for at first.state)
 
 -- the mediator
-module _ (first : Kept) (s : Sequenced) where
-  pub record IsReturner (mediator : Kept) (places : List ℕ) : Type 0 where
+module _ (first : KeptMediator) (s : Sequenced) where
+  pub record IsReturner (mediator : KeptMediator) (places : List ℕ) : Type 0 where
     pub returned_to : (m : Machine) (state : MediatorState) (n : ℕ) → IsMediator m state n first s
         → IsMediator m (fold (return_at m.params s.list) state places) n mediator s
 
   pub returner_starts : IsReturner first []
   returner_starts = record { returned_to = λ m state n i. i }
 
-  module _ (mediator : Kept) (places : List ℕ) (r : IsReturner mediator places) (k : ℕ) (stays : is_open (s.topology).params s.list k ≡ true) where
+  module _ (mediator : KeptMediator) (places : List ℕ) (r : IsReturner mediator places) (k : ℕ) (stays : is_open (s.topology).params s.list k ≡ true) where
     gives : (m : Machine) (state : MediatorState) (n : ℕ) → IsMediator m state n first s → (b : Bool) → nat_lt k mediator.cursor ≡ b
         → (is_some (request_at s.list k)
         && (is_undecided m.params s.list k && nat_lt k (fold (return_at m.params s.list) state places).cursor)) ≡ b
@@ -215,7 +215,7 @@ module _ (first : Kept) (s : Sequenced) where
               rw (fold_on (return_at m.params s.list) state places k, h) (r.returned_to m state n i);
         }
 
-    pub returner_on : k < mediator.cursor → (after : Kept) → after.params ≡ mediator.params
+    pub returner_on : k < mediator.cursor → (after : KeptMediator) → after.params ≡ mediator.params
         → ((state : MediatorState) → Keeps mediator state → Keeps after (give_back state k)) → IsReturner after (places ++ k ∷ [])
     returner_on read after same step =
         record {
@@ -236,7 +236,7 @@ module _ (first : Kept) (s : Sequenced) where
               has = mediator_has_back m (take n s.list) state k now.has;
             }
 
-  pub returner_ends : (mediator : Kept) (places : List ℕ) → IsReturner mediator places → places ≡ open_of s → (m : Machine) (state : MediatorState)
+  pub returner_ends : (mediator : KeptMediator) (places : List ℕ) → IsReturner mediator places → places ≡ open_of s → (m : Machine) (state : MediatorState)
       (n : ℕ) → IsMediator m state n first s → IsMediator m (returned m.params s.list state) n mediator s
   returner_ends mediator places r end m state n i =
       subst (λ (x : MediatorState). IsMediator m x n mediator s)

@@ -4,12 +4,12 @@ use Rattle.world_model.specs.Machine.{Machine}
 use Rattle.world_model.specs.Mediator.{MediatorState}
 use Rattle.world_model.specs.Node.{NodeState}
 use Rattle.world_model.specs.World.{Event, happens}
-use Rattle.mediator.specs.Kept.{Kept}
+use Rattle.mediator.specs.KeptCases.{KeptMediator}
 use Rattle.seq_log.specs.Sequenced.{Sequenced}
 use Rattle.world_play.specs.Worlds.{IsMediatorOf}
 
 -- The mediator and the log are, after the event, what they are in every world where they were so before.
-abbrev pub Decides : Machine → Event → (state : MediatorState) → (log : Sequenced) → (mediator' : Kept) → (log' : Sequenced) → Type 0
+abbrev pub Decides : Machine → Event → (state : MediatorState) → (log : Sequenced) → (mediator' : KeptMediator) → (log' : Sequenced) → Type 0
 Decides m event state log mediator' log' =
     (after : MediatorState) × IsMediatorOf m after mediator'
     × ((now : ℕ) (nodes : List NodeState) → record { log = log'.list; now = now; mediator = after; nodes = nodes }

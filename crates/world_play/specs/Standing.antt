@@ -8,7 +8,7 @@ use Rattle.world_model.specs.Machine.{Machine}
 use Rattle.world_model.specs.Locks.{SequencerBehind}
 use Rattle.world_model.specs.Mediator.{MediatorState}
 use Rattle.world_model.specs.Lawful.{NodeHas, MediatorHas}
-use Rattle.mediator.specs.Kept.{Kept, Keeps}
+use Rattle.mediator.specs.KeptCases.{KeptMediator, Keeps}
 use Rattle.seq_log.specs.Sequenced.{Sequenced, IsFor}
 use Rattle.node_core.specs.Participant.{Participant as NodeValue}
 use Rattle.node_core.specs.Machines.{IsNodeOf}
@@ -33,7 +33,7 @@ pub record GoesOn (before after : Sequenced) : Type 0 where
   pub is_more : after.list ≡ before.list ++ more
 
 -- The mediator has read n entries of a genuine log, and keeps this state.
-pub record IsMediator (m : Machine) (state : MediatorState) (n : ℕ) (mediator : Kept) (sequencer : Sequenced) : Type 0 where
+pub record IsMediator (m : Machine) (state : MediatorState) (n : ℕ) (mediator : KeptMediator) (sequencer : Sequenced) : Type 0 where
   pub is_for : IsFor m sequencer
   pub behind : SequencerBehind m sequencer.list
   pub params : mediator.params ≡ m.params
@@ -42,7 +42,7 @@ pub record IsMediator (m : Machine) (state : MediatorState) (n : ℕ) (mediator 
   pub has : MediatorHas m (take n sequencer.list) state
 
 -- the mediator keeps this state, and has read all of the log
-pub record HasAll (m : Machine) (state : MediatorState) (mediator : Kept) (log : List Entry) : Type 0 where
+pub record HasAll (m : Machine) (state : MediatorState) (mediator : KeptMediator) (log : List Entry) : Type 0 where
   pub params : mediator.params ≡ m.params
   pub keeps : Keeps mediator state
   pub has : MediatorHas m log state

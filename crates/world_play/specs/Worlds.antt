@@ -6,7 +6,7 @@ use Rattle.world_model.specs.Machine.{Machine}
 use Rattle.world_model.specs.Mediator.{MediatorState}
 use Rattle.world_model.specs.Node.{NodeState}
 use Rattle.world_model.specs.World.{World}
-use Rattle.mediator.specs.Kept.{Kept, Keeps}
+use Rattle.mediator.specs.KeptCases.{KeptMediator, Keeps}
 use Rattle.seq_log.specs.Sequenced.{Sequenced, IsFor}
 use Rattle.node_core.specs.Participant.{Participant as NodeValue}
 use Rattle.node_core.specs.Machines.{IsNodeOf}
@@ -25,6 +25,6 @@ pub record AreNodesOf (m : Machine) (nodes : List NodeValue) (sequencer : Sequen
   pub node : (p : ParticipantId) (node : NodeValue) → slice_get nodes p ≡ Some node → IsNodeOf m p node
 
 -- the mediator is the machine's, and keeps this state
-pub record IsMediatorOf (m : Machine) (state : MediatorState) (mediator : Kept) : Type 0 where
+pub record IsMediatorOf (m : Machine) (state : MediatorState) (mediator : KeptMediator) : Type 0 where
   pub params : mediator.params ≡ m.params
   pub keeps : Keeps mediator state

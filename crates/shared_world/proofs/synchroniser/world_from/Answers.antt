@@ -1,6 +1,6 @@
 use Rattle.std.proofs.Common.{◌≡◌, List, length, sym, ap, ◌∙◌, subst}
 use mathlib.Core.List.{IsPrefix}
-use Rattle.mediator.specs.Kept.{Kept}
+use Rattle.mediator.specs.KeptCases.{KeptMediator}
 use Rattle.node_core.specs.Participant.{Participant}
 use Rattle.seq_log.specs.Sequenced.{Sequenced}
 use Rattle.sync_shared.specs.Behind.{AreNodesBehind, IsLogBehind, IsMediatorBehind}
@@ -20,7 +20,7 @@ returns-clause-nodes g c =
     (sym items) told.nodes) in
     let read = told.mediator.0 in
     let begins = subst (λ (s : Sequenced). IsPrefix read s.list) (sym same) told.mediator.1 in
-    let mediator = subst (λ (k : Kept). IsMediatorBehind g.S.Session.machine read k) (sym c.of.ensures.1) told.mediator.2 in
+    let mediator = subst (λ (k : KeptMediator). IsMediatorBehind g.S.Session.machine read k) (sym c.of.ensures.1) told.mediator.2 in
     parts_set_up g.S.Session.topology g.S.Session.packages g.S.Session.machine g.S.Session.why c.requires.set_up.0 c.requires.set_up.1 c.of.result
     g.S.Row.history g.S.Session.start c.args.home.now.amount log nodes (ap length items ∙ told.many) read begins mediator
 
@@ -37,6 +37,6 @@ returns-clause-world g c =
     (sym items) told.nodes) in
     let read = told.mediator.0 in
     let begins = subst (λ (s : Sequenced). IsPrefix read s.list) (sym same) told.mediator.1 in
-    let mediator = subst (λ (k : Kept). IsMediatorBehind g.S.Session.machine read k) (sym c.of.ensures.1) told.mediator.2 in
+    let mediator = subst (λ (k : KeptMediator). IsMediatorBehind g.S.Session.machine read k) (sym c.of.ensures.1) told.mediator.2 in
     parts_are_lawful g.S.Session.topology g.S.Session.packages g.S.Session.machine g.S.Session.why c.requires.set_up.0 c.requires.set_up.1 c.of.result
     g.S.Row.history g.S.Session.start c.args.home.now.amount log nodes (ap length items ∙ told.many) read begins mediator

@@ -2,7 +2,7 @@ use Rattle.std.proofs.Common.{◌≡◌, List, Option, Some, sym, ap, ◌∙◌,
 use Rattle.world_model.specs.Messages.{Entry, Verdict}
 use Rattle.world_model.specs.Mediator.{next_verdict, take_verdict}
 use Rattle.world_model.specs.World.{gives_verdict}
-use Rattle.mediator.specs.Kept.{Keeps, taken}
+use Rattle.mediator.specs.KeptCases.{Keeps, with_verdict_taken}
 use Rattle.world_play.proofs.deciding.give.Goals as goal
 
 pub returns-in_ok-hand_in_verdict-clause-ok : goal.returns-in_ok-hand_in_verdict-clause-ok
@@ -14,7 +14,7 @@ returns-in_ok-hand_in_verdict-clause-ok c = λ m state n i.
       record {
         params = c.take_verdict.ensures.params ∙ i.params;
         keeps =
-            subst (λ (o : Option Verdict). Keeps c.take_verdict.new.self (taken state o)) c.in-Some.is (c.in_ok-verdict.ensures.ok state i.keeps);
+            subst (λ (o : Option Verdict). Keeps c.take_verdict.new.self (with_verdict_taken state o)) c.in-Some.is (c.in_ok-verdict.ensures.ok state i.keeps);
       },
       λ now nodes.
           ap (λ (xs : List Entry). record { log = xs; now = now; mediator = take_verdict state v.request; nodes = nodes })

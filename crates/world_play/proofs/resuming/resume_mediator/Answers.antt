@@ -1,5 +1,5 @@
 use Rattle.std.proofs.Common.{◌+◌, ℕ, List, length, take, refl, sym, ap, subst, arith}
-use Rattle.mediator.specs.Kept.{Kept}
+use Rattle.mediator.specs.KeptCases.{KeptMediator}
 use Rattle.world_play.proofs.Resumes.{IsReturner, all_taken, one_more, open_at, open_of, open_passes, within_open, returner_on, returner_past, returner_ends}
 use Rattle.world_play.proofs.resuming.resume_mediator.Goals as goal
 use Rattle.world_play.proofs.resuming.resume_mediator.Goals.{then-place-cursor, else-place-cursor}
@@ -23,13 +23,13 @@ places-preserved c =
     let stays = open_passes s number place there in
     elim c.if-place-cursor.branch [
       | then-place-cursor w ↦
-          subst (λ (x : Kept). IsReturner first s x (take (number + 1) (open_of s))) (sym w.mediator-is)
+          subst (λ (x : KeptMediator). IsReturner first s x (take (number + 1) (open_of s))) (sym w.mediator-is)
           (subst (λ (xs : List ℕ). IsReturner first s w.give_back.new.self xs) more
           (returner_on first s mediator places inv place stays
           (let read = w.if-place-cursor.true in let at = c.cursor.ensures in omega (arith, read, at)) w.give_back.new.self
           w.give_back.ensures.params w.give_back.ensures.state))
       | else-place-cursor w ↦
-          subst (λ (x : Kept). IsReturner first s x (take (number + 1) (open_of s))) (sym w.mediator-is)
+          subst (λ (x : KeptMediator). IsReturner first s x (take (number + 1) (open_of s))) (sym w.mediator-is)
           (subst (λ (xs : List ℕ). IsReturner first s mediator xs) more (returner_past first s mediator places inv place stays
           (let read = w.if-place-cursor.false in let at = c.cursor.ensures in omega (arith, read, at))))
     ]

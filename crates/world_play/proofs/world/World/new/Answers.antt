@@ -2,7 +2,7 @@ use Rattle.std.proofs.Common.{ℕ, List, [], length, map, sym, ap, ◌∙◌, su
 use Rattle.world_model.specs.Messages.{Entry}
 use Rattle.world_model.specs.Node.{NodeState}
 use Rattle.world_model.specs.Mediator.{new_mediator}
-use Rattle.mediator.specs.Kept.{Kept, Keeps}
+use Rattle.mediator.specs.KeptCases.{KeptMediator, Keeps}
 use Rattle.seq_log.specs.Sequenced.{Sequenced}
 use Rattle.node_core.specs.Participant.{Participant as NodeValue}
 use Rattle.node_core.specs.Machines.{machine_of}
@@ -28,8 +28,8 @@ returns-clause-is c =
           subst (λ (q : Sequenced). AreNodesOf m ((c.of.result).nodes).items q) (sym of.0)
           (subst (λ (xs : List NodeValue). AreNodesOf m xs s) (sym (ap (λ v. v.items) of.2)) made);
       mediator = record {
-        params = ap (λ (k : Kept). k.params) of.1 ∙ c.new-mediator.ensures.params;
-        keeps = subst (λ (k : Kept). Keeps k new_mediator) (sym of.1) c.new-mediator.ensures.state;
+        params = ap (λ (k : KeptMediator). k.params) of.1 ∙ c.new-mediator.ensures.params;
+        keeps = subst (λ (k : KeptMediator). Keeps k new_mediator) (sym of.1) c.new-mediator.ensures.state;
       };
     }
 

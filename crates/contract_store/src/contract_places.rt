@@ -2,7 +2,7 @@
 
 /// The place of the contract's row, and of the last hold on it that was not released.
 #[derive(Clone, Copy)]
-pub struct Behind {
+pub struct ContractPlaces {
     pub row: Option<usize>,
     pub hold: Option<usize>,
 }
