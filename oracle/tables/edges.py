@@ -29,14 +29,14 @@ CUTS = [('worked-transfer', TRANSFER)]
 
 # --- what comes to a gate: who is held there for how long, and what it noted
 
-# P1 and P3, which confirm one view each, stand on two lanes in a round without submissions
-TWO_LANES = script(
-    {"paused": ["P1", "P3"], "submits": [prepared('P2', 'w1', ['Alice'], iou('Alice', 5), note('Carol', 'Carol', 'c'))]}, {})
+# P1 and P3, which confirm one view each, stand on two lanes in a round of which each submission is refused
+HELD = prepared('P2', 'w1', ['Alice'], iou('Alice', 5), note('Carol', 'Carol', 'c'))
+TWO_LANES = script({"paused": ["P1", "P3"], "submits": [HELD]}, {"submits": [HELD, HELD]})
 # one lane checks the second request's three views for P1, and then the first request's for P3
+THREE_NOTES = prepared('P2', 'w1', ['Alice'], *(note('Carol', 'Carol', text) for text in 'abc'))
 ONE_LANE = script(
-    {"paused": ["P1", "P3"], "submits": [
-        prepared('P2', 'w1', ['Alice'], *(note('Carol', 'Carol', text) for text in 'abc')),
-        prepared('P2', 'w2', ['Alice'], *(iou('Alice', amount) for amount in (5, 6, 7)))]}, {})
+    {"paused": ["P1", "P3"], "submits": [THREE_NOTES, prepared('P2', 'w2', ['Alice'], *(iou('Alice', amount) for amount in (5, 6, 7)))]},
+    {"submits": [THREE_NOTES, THREE_NOTES]})
 
 GATES = [
     ('two-lanes', 'run,--workers,3', TWO_LANES, 50_000_000, '2 came, the first to 0 0, the last to 0 0, two met'),

@@ -348,13 +348,24 @@ participant P3 clean 7 time 30000006
 end
 '''
 
+# the same where its second round has two submissions, since lanes work beside no fewer
+ASKED_TWICE = asked('P2', 't1', ['Alice'], transfer(of='c1'))
+TIMEOUT_OF_TWO = json.dumps(
+    {"participants": HOSTS, "packages": [IOU], "rounds": [
+        {"submits": [asked('P1', 'c1', ['Bank'], iou('Alice', 10))]},
+        {"paused": ["P1"], "submits": [ASKED_TWICE, ASKED_TWICE]},
+        {"paused": ["P1"], "advance": 30000005}]},
+    separators=(',', ':'))
+TIMED_OUT_OF_TWO = TIMED_OUT.replace('t1 sent 3\n', 't1 sent 3\nresult 1 P2 t1 refused Duplicate 3\n')
+
 # a round that holds its verdicts, and time that runs past the decision time
-HELD = NOTE % (json.dumps({"hold_verdicts": True, "submits": [submission('hi')]}, separators=(',', ':')) + ',{"advance":60000001}')
+HELD = NOTE % (json.dumps({"hold_verdicts": True, "submits": [submission('hi'), submission('hi')]}, separators=(',', ':')) + ',{"advance":60000001}')
 UNDECIDED = '''entries 3
 0 1 request P1 c1 to P1
 1 2 response P1 for 0 0=approve
 2 60000001 tick
 result 0 P1 c1 sent 0
+result 0 P1 c1 refused Duplicate 0
 outcome 0 undecided
 participant P1 clean 0 time 0
 end
@@ -456,7 +467,7 @@ RUNS = [
     ('nothing', 'run', '', 0, 0, 3, 'canton_cli: script NotJson', ''),
     ('served-in-order', 'run', IN_TURN, 0, 0, 0, None, SERVED_IN_ORDER),
     # what these write is the same in whatever order threads work: the first two have one client a round, and a summary tells no places
-    ('timeout-with-workers', 'run,--workers,4', TIMEOUT, 0, 0, 0, None, TIMED_OUT),
+    ('timeout-with-workers', 'run,--workers,4', TIMEOUT_OF_TWO, 0, 0, 0, None, TIMED_OUT_OF_TWO),
     ('held-verdicts-with-workers', 'run,--workers,4', HELD, 0, 0, 0, None, UNDECIDED),
     ('one-debt-with-workers', 'gen,1,7,--workers,4', '', 0, 0, 0, None, ONE_DEBT),
     ('many-debts-with-workers', 'gen,64,7,--workers,4', '', 0, 0, 0, None, MANY_DEBTS)]

@@ -3,7 +3,7 @@ use denote.Param.{number}
 use denote.Param.Send.{IsSend, IsSync, sendable, shr_sync}
 use mathlib.Core.List.{List, [], ◌∷◌}
 use Prim.Native.Nat.{ℕ}
-use mir.Syntax.{Lifetime, w32, w64}
+use mir.Syntax.{Lifetime, w32}
 use package.base.Fml.{Lft}
 use denote.RattleType.{RattleType}
 use denote.Plain.{UInt}
@@ -196,22 +196,17 @@ lane_work_sync κ ν T R G g h l r q =
       ),
     )
 
-pub lanes_send : (ν : List ℕ) (a b c d e : Lifetime) (α β γ δ ε : Lft) (κ ι μ : NamedLft) (T R G : RattleType) (g : Session.Ghosts T.Denot)
+pub lanes_send : (ν : List ℕ) (a b c d : Lifetime) (α β γ δ : Lft) (κ μ : NamedLft) (T R G : RattleType) (g : Session.Ghosts T.Denot)
     (h : Row.Ghosts T.Denot) (l : Ledger.Ghosts T.Denot) → IsSync R → IsSync G
-    → IsSend (TupleAt ν (ShrRef a α R ∷ ShrRef b β (UInt w32) ∷ ShrRef c γ (UInt w64) ∷ ShrRef d δ (LaneWork.the_row κ μ T R G g h l)
-    ∷ ShrRef e ε (LaneWork.the_row ι μ T R G g h l) ∷ []))
-lanes_send ν a b c d e α β γ δ ε κ ι μ T R G g h l r q =
-    declared_send (type_at ν (ShrRef a α R ∷ ShrRef b β (UInt w32) ∷ ShrRef c γ (UInt w64) ∷ ShrRef d δ (LaneWork.the_row κ μ T R G g h l)
-    ∷ ShrRef e ε (LaneWork.the_row ι μ T R G g h l) ∷ [])) (
+    → IsSend (TupleAt ν (ShrRef a α R ∷ ShrRef b β (UInt w32) ∷ ShrRef c γ (UInt w32) ∷ ShrRef d δ (LaneWork.the_row κ μ T R G g h l) ∷ []))
+lanes_send ν a b c d α β γ δ κ μ T R G g h l r q =
+    declared_send (type_at ν (ShrRef a α R ∷ ShrRef b β (UInt w32) ∷ ShrRef c γ (UInt w32) ∷ ShrRef d δ (LaneWork.the_row κ μ T R G g h l) ∷ [])) (
       ref_send a α R r,
       (
         ref_send b β (UInt w32) (search sendable),
         (
-          ref_send c γ (UInt w64) (search sendable),
-          (
-            ref_send d δ (LaneWork.the_row κ μ T R G g h l) (lane_work_sync κ μ T R G g h l r q),
-            (ref_send e ε (LaneWork.the_row ι μ T R G g h l) (lane_work_sync ι μ T R G g h l r q), tt),
-          ),
+          ref_send c γ (UInt w32) (search sendable),
+          (ref_send d δ (LaneWork.the_row κ μ T R G g h l) (lane_work_sync κ μ T R G g h l r q), tt),
         ),
       ),
     )

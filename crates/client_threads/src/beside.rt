@@ -9,7 +9,7 @@ ghost use Rattle.client_threads.specs.Served.{IsServed};
 
 use crate::lane_work::LaneWork;
 use crate::served::Served;
-use crate::serving::serve_each;
+use crate::serving::{serve_each, serve_in_turn};
 use crate::workers::Workers;
 use lane_pool::{Gate, Lane, run_lanes};
 use ledger_terms::Submission;
@@ -20,8 +20,12 @@ use std::sync::Wait;
 use std::thread::{Threads, join};
 use sync_shared::{Client, Session, Shared};
 
-/// How many turns each lane takes at most for each submission of a round while clients submit, and how many once they have ended.
-const TURNS_PER_SUBMISSION: u64 = 64;
+/// How often lanes work until they find nothing more to do where there are many submissions: the participants answer, the mediator
+/// decides, and they read what it decided.
+const WAVES_OF_MANY: u32 = 3;
+
+/// How many submissions are many. Of fewer, less is left after the first wave than it costs to start threads again.
+const MANY: usize = 32;
 
 // What all clients brought, unless one of them found no memory.
 fn all_of<'r, S: Session>(
@@ -37,12 +41,7 @@ fn all_of<'r, S: Session>(
     Ok(all)
 }
 
-// How many turns each lane takes at most beside so many submissions.
-fn turns_beside(submits: usize) -> u64 {
-    TURNS_PER_SUBMISSION.saturating_mul(submits as u64)
-}
-
-// What the lanes do until a flag is set.
+// What the lanes do, at least until a flag is set.
 fn work_until<'a, 'r, S: Session + Send + Sync, R: Threads + Wait + Sync, G: Gate + Sync>(
     workers: &Workers<'a, R, G>,
     shared: &'a Shared<'r, S>,
@@ -57,21 +56,26 @@ fn work_until<'a, 'r, S: Session + Send + Sync, R: Threads + Wait + Sync, G: Gat
     }
 }
 
-// The lanes take turns beside the clients, and then some more.
-fn run_beside<R: Threads + Wait + Sync, L: Lane<Start = ()>>(
-    rt: &R,
-    lanes: u32,
-    turns: u64,
-    beside: &L,
-    after: &L,
-) -> Result<(), AllocError> {
-    run_lanes(rt, lanes, turns, beside, ())?;
-    run_lanes(rt, lanes, TURNS_PER_SUBMISSION, after, ())
+// How often lanes begin anew beside so many submissions.
+fn waves_of(submits: usize) -> u32 {
+    if submits < MANY { 1 } else { WAVES_OF_MANY }
 }
 
-/// The clients submit beside as many lanes as `workers` has, each what is its participant's, until all have ended. A lane takes at most
-/// 64 turns for each of the submissions, and 64 more.
-pub fn serve_beside<
+// The lanes work until they find nothing more to do, in waves. Each ends with all of them, since what one does may leave work to another.
+fn run_waves<R: Threads + Wait + Sync, L: Lane<Start = ()>>(
+    rt: &R,
+    lanes: u32,
+    waves: u32,
+    work: &L,
+) -> Result<(), AllocError> {
+    for _ in 0..waves {
+        run_lanes(rt, lanes, 1, work, ())?;
+    }
+    Ok(())
+}
+
+// The clients submit in threads of their own, beside the lanes.
+fn serve_by_threads<
     'r,
     S: Session + Send + Sync,
     R: Threads + Wait + Sync + RandomSource + AllocGlobal,
@@ -92,13 +96,12 @@ pub fn serve_beside<
     let rt = workers.rt;
     let alloc = workers.alloc;
     let lanes = workers.count;
-    let turns = turns_beside(submits.len());
-    let (ended, never) = (OnceBool::new(), OnceBool::new());
-    let beside = work_until(workers, shared, &ended);
-    let after = work_until(workers, shared, &never);
+    let waves = waves_of(submits.len());
+    let ended = OnceBool::new();
+    let work = work_until(workers, shared, &ended);
     let (ran, brought) = join(
         rt,
-        || run_beside(rt, lanes, turns, &beside, &after),
+        || run_waves(rt, lanes, waves, &work),
         || -> Result<Vec<Result<Served<S>, AllocError>>, AllocError>
             requires { All (λ (client : Seen). client.tickets ≡ 0) clients.items
                 × All (λ (what : Submission). AreKnown (is_hosted S.topology) (parties_in_what what.what)) submits.now }
@@ -115,4 +118,30 @@ pub fn serve_beside<
     );
     ran?;
     all_of(alloc, brought?)
+}
+
+/// The clients submit, each what is its participant's, beside as many lanes as `workers` has, which go on until they find nothing more to
+/// do. Where there are less than two submissions no thread is started, since it would cost more than it saves, and no lane works.
+pub fn serve_beside<
+    'r,
+    S: Session + Send + Sync,
+    R: Threads + Wait + Sync + RandomSource + AllocGlobal,
+    G: Gate + Sync,
+>(
+    workers: &Workers<'_, R, G>,
+    shared: &Shared<'r, S>,
+    clients: Vec<Client<'r, S>>,
+    submits: &[Submission],
+) -> Result<Vec<Served<'r, S>>, AllocError>
+    requires fresh { All (λ (client : Seen). client.tickets ≡ 0) clients.items }
+    requires named { All (λ (what : Submission). AreKnown (is_hosted S.topology) (parties_in_what what.what)) submits.now }
+    ensures many { IfOk result (λ all. vec_len all ≡ vec_len clients.entry) }
+    ensures each { IfOk result (λ all. (p : ℕ) (client : Seen) (served : _) → slice_get clients.entry.items p ≡ Some client
+        → slice_get all.items p ≡ Some served → IsServed S.machine S.why shared.now.round.time shared.now.round.paused client.list submits.now client.me
+        served.client served.results) }
+{
+    if submits.len() < 2 {
+        return serve_in_turn(workers.rt, workers.alloc, shared, clients, submits);
+    }
+    serve_by_threads(workers, shared, clients, submits)
 }

@@ -6,9 +6,11 @@ use once_cell::race::OnceBool;
 use std::alloc::{AllocError, AllocGlobal};
 use std::random::RandomSource;
 use std::sync::Wait;
+use std::thread;
 use sync_shared::{Session, Shared};
 
-/// The work of so many lanes: that of the participants and of the mediator. Once `ended` is set no turn does any more.
+/// The work of so many lanes: that of the participants and of the mediator. A turn goes on until it finds nothing more to do, and no less
+/// long than until `ended` is set.
 #[derive(Clone, Copy)]
 pub struct LaneWork<'a, 'r, S: Session, R: Wait + Sync, G: Gate + Sync> {
     pub rt: &'a R,
@@ -30,10 +32,22 @@ impl<'r, S: Session + Send + Sync, R: Wait + Sync + RandomSource + AllocGlobal, 
         ensures failed { OnErr result (Unit {0}) }
         ensures taken { OnOk result (Unit {0}) }
     {
-        if self.lanes == 0 || self.ended.get().is_some() {
+        if self.lanes == 0 {
             return Ok(());
         }
-        self.shared
-            .turn(self.rt, turn.lane(), self.lanes, self.gate)
+        for _ in 0..u64::MAX {
+            let ended = self.ended.get().is_some();
+            if self
+                .shared
+                .turn(self.rt, turn.lane(), self.lanes, self.gate)?
+            {
+                continue;
+            }
+            if ended {
+                return Ok(());
+            }
+            thread::yield_now();
+        }
+        Ok(())
     }
 }

@@ -59,6 +59,29 @@ fn serve<'r, S: Session, R: Wait>(
     Ok(Served { client, results })
 }
 
+/// Lets each client submit its own of these submissions, one client after another.
+pub fn serve_in_turn<'r, S: Session, R: Wait>(
+    rt: &R,
+    alloc: Global,
+    shared: &Shared<'r, S>,
+    clients: Vec<Client<'r, S>>,
+    submits: &[Submission],
+) -> Result<Vec<Served<'r, S>>, AllocError>
+    requires fresh { All (λ (client : Seen). client.tickets ≡ 0) clients.items }
+    requires named { All (λ (what : Submission). AreKnown (is_hosted S.topology) (parties_in_what what.what)) submits.now }
+    ensures many { IfOk result (λ all. vec_len all ≡ vec_len clients.entry) }
+    ensures each { IfOk result (λ all. (p : ℕ) (client : Seen) (served : _) → slice_get clients.entry.items p ≡ Some client
+        → slice_get all.items p ≡ Some served → IsServed S.machine S.why shared.now.round.time shared.now.round.paused client.list submits.now client.me
+        served.client served.results) }
+{
+    let mut all = Vec::new(alloc);
+    'clients: for client in clients {
+        let served = serve(rt, alloc, shared, client, submits)?;
+        all.push(served)?;
+    }
+    Ok(all)
+}
+
 /// Lets each client submit its own of these submissions, each in a thread of its own where one can be started.
 pub fn serve_each<'r, S: Session + Send + Sync, R: Threads + Wait + Sync>(
     rt: &R,

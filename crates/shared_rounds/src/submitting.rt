@@ -94,9 +94,9 @@ fn gather<
 
 /// What comes of submissions of a round that has begun, by a client for each participant in a thread of its own, beside as many lanes as
 /// `workers` has. Each client submits what is its participant's, in order, and asks once after each request that was sent. Before a
-/// client's request is prepared, its participant reads at least what the client has seen. A lane takes at most 64 turns for each of the
-/// submissions, and 64 more. When all have ended the parts of the synchroniser are put together again, and it is not settled. After want of
-/// memory there is no synchroniser any more.
+/// client's request is prepared, its participant reads at least what the client has seen. Lanes go on until they find nothing more to do.
+/// Where there are less than two submissions no thread is started, and no lane works. When all have ended the parts of the synchroniser are
+/// put together again, and it is not settled. After want of memory there is no synchroniser any more.
 pub fn submit_shared<'r, R: Threads + Wait + Sync + RandomSource + AllocGlobal, G: Gate + Sync>(
     workers: &Workers<'_, R, G>,
     setup: &Setup,

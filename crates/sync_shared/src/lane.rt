@@ -20,6 +20,21 @@ use std::alloc::{AllocError, AllocGlobal};
 use std::random::RandomSource;
 use std::sync::{Mutex, Wait};
 
+// The participant reads to the end of the log, which is locked for one slip at a time, since reading takes long.
+fn read_all<'r, S: Session, R: Wait, const I: u8>(
+    rt: &R,
+    log: &Mutex<LockedLog<'r, S>>,
+    node: &mut LockedNode<'r, S, I>,
+) -> Result<(), AllocError> {
+    'entries: loop {
+        let slip = node.unread(&mut *log.lock(rt));
+        match slip {
+            Some(slip) => node.read(slip)?,
+            None => return Ok(()),
+        }
+    }
+}
+
 // A job that is claimed or a response to be sent, where there is nothing to read.
 fn next_work<'r, S: Session, const I: u8>(
     node: &mut LockedNode<'r, S, I>,
@@ -39,7 +54,7 @@ fn next_work<'r, S: Session, const I: u8>(
     }
 }
 
-// The participant reads an entry where there is one. Otherwise it says what there is to do.
+// The participant reads all that it hasn't read, and says what there is to do.
 fn next_step<'r, S: Session, R: Wait, const I: u8>(
     rt: &R,
     log: &Mutex<LockedLog<'r, S>>,
@@ -48,14 +63,8 @@ fn next_step<'r, S: Session, R: Wait, const I: u8>(
     ensures { IfOk result (IsStep S.history S.machine I) }
 {
     let mut node = lock.lock(rt);
-    let slip = log.lock(rt).entry(node.cursor());
-    match slip {
-        Some(slip) => {
-            node.read(slip)?;
-            Ok(NodeStep::Done)
-        }
-        None => next_work(&mut *node),
-    }
+    read_all(rt, log, &mut *node)?;
+    next_work(&mut *node)
 }
 
 // The job is done outside every lock, and finished where its claim still stands and its request isn't decided.
@@ -107,31 +116,33 @@ fn send<'r, S: Session, R: Wait, const I: u8>(
     Ok(())
 }
 
-// One participant reads an entry, or checks a request, or sends a response: the first of these that it can.
+// One participant reads to the end of the log, and then checks a request or, where it owes nothing, sends a response. It tells whether it
+// did either.
 fn take_turn<'r, S: Session, R: Wait + RandomSource + AllocGlobal, G: Gate, const I: u8>(
     rt: &R,
     log: &Mutex<LockedLog<'r, S>>,
     lock: &NodeLock<'r, S, I>,
     gate: &G,
-) -> Result<(), AllocError> {
+) -> Result<bool, AllocError> {
     let Some(lock) = &lock.node else {
-        return Ok(());
+        return Ok(false);
     };
     match next_step(rt, log, lock)? {
-        NodeStep::Done => Ok(()),
-        NodeStep::Check(claimed) => check(rt, lock, claimed, gate),
-        NodeStep::Send(copied) => send(rt, log, lock, copied),
+        NodeStep::Done => return Ok(false),
+        NodeStep::Check(claimed) => check(rt, lock, claimed, gate)?,
+        NodeStep::Send(copied) => send(rt, log, lock, copied)?,
     }
+    Ok(true)
 }
 
-/// The turn of the participant of this index, where there is one.
+/// The turn of the participant of this index, where there is one. It tells whether more may be left to be done.
 pub fn serve<'r, S: Session, R: Wait + RandomSource + AllocGlobal, G: Gate>(
     rt: &R,
     log: &Mutex<LockedLog<'r, S>>,
     nodes: &LockedNodes<'r, S>,
     at: u8,
     gate: &G,
-) -> Result<(), AllocError> {
+) -> Result<bool, AllocError> {
     match at {
         0 => take_turn(rt, log, &nodes.first, gate),
         1 => take_turn(rt, log, &nodes.second, gate),
@@ -151,7 +162,22 @@ struct GivenVerdict<'r> {
     known: Option<Slip<'r>>,
 }
 
-// The mediator reads an entry where there is one. Otherwise it gives a verdict, unless verdicts are held.
+// The mediator reads to the end of the log, which is locked for one slip at a time.
+fn read_log<'r, S: Session, R: Wait>(
+    rt: &R,
+    log: &Mutex<LockedLog<'r, S>>,
+    mediator: &mut LockedMediator<'r, S>,
+) -> Result<(), AllocError> {
+    'entries: loop {
+        let slip = mediator.unread(&mut *log.lock(rt));
+        match slip {
+            Some(slip) => mediator.read(slip)?,
+            None => return Ok(()),
+        }
+    }
+}
+
+// The mediator reads all that it hasn't read, and gives a verdict, unless verdicts are held.
 fn next_verdict<'r, S: Session, R: Wait>(
     rt: &R,
     log: &Mutex<LockedLog<'r, S>>,
@@ -161,11 +187,7 @@ fn next_verdict<'r, S: Session, R: Wait>(
     ensures { IfOk result (λ o. IfSome o (λ g. InRow S.history g.known × IsDecision S.machine.params (read_to g.known) g.verdict)) }
 {
     let mut mediator = mediator.lock(rt);
-    let slip = log.lock(rt).entry(mediator.cursor());
-    if let Some(slip) = slip {
-        mediator.read(slip)?;
-        return Ok(None);
-    }
+    read_log(rt, log, &mut *mediator)?;
     if hold_verdicts {
         return Ok(None);
     }
@@ -191,15 +213,16 @@ fn hand_in_verdict<'r, S: Session>(
     log.answer(Message::Verdict(verdict))
 }
 
-/// The mediator reads an entry or, where it has read all and verdicts aren't held, sends a verdict.
+/// The mediator reads to the end of the log and, unless verdicts are held, sends a verdict. It tells whether it sent one.
 pub fn mediate<'r, S: Session, R: Wait>(
     rt: &R,
     log: &Mutex<LockedLog<'r, S>>,
     mediator: &Mutex<LockedMediator<'r, S>>,
     hold_verdicts: bool,
-) -> Result<(), AllocError> {
-    match next_verdict(rt, log, mediator, hold_verdicts)? {
-        Some(given) => hand_in_verdict(&mut *log.lock(rt), given),
-        None => Ok(()),
-    }
+) -> Result<bool, AllocError> {
+    let Some(given) = next_verdict(rt, log, mediator, hold_verdicts)? else {
+        return Ok(false);
+    };
+    hand_in_verdict(&mut *log.lock(rt), given)?;
+    Ok(true)
 }

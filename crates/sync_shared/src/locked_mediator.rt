@@ -4,8 +4,9 @@ ghost use Rattle.world_model.specs.Machine.{GenuineLog};
 ghost use Rattle.world_model.specs.Fits.{IsDecision};
 ghost use Rattle.mediator.specs.Order.{HasGiven, IsFirstDue, NothingIsDue};
 ghost use Rattle.sync_shared.specs.Behind.{IsMediatorBehind};
-ghost use Rattle.sync_shared.specs.Slips.{read_to, InRow};
+ghost use Rattle.sync_shared.specs.Slips.{read_to, InRow, IsNextIn};
 
+use crate::locked_log::LockedLog;
 use crate::session::Session;
 use crate::slips::{again, tie};
 use canton_model::Verdict;
@@ -82,6 +83,14 @@ impl<'r, S: Session> LockedMediator<'r, S> {
         self.mediator.read(slip.entry())?;
         self.last = Some(slip);
         Ok(())
+    }
+
+    /// The slip of the entry that it reads next, where it hasn't read the log to its end.
+    pub fn unread(&mut self, log: &mut LockedLog<'r, S>) -> Option<Slip<'r>>
+        ensures same { (self.new ≡ self.old) × (log.new ≡ log.old) }
+        ensures some { IfSome result (IsNextIn S.history S.machine self.old.list) }
+    {
+        log.entry(self.cursor())
     }
 
     /// The slip of the last entry that it has read.

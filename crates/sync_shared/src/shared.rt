@@ -206,28 +206,33 @@ impl<'r, S: Session> Shared<'r, S> {
     }
 
     /// A turn of one of so many lanes. Lane w serves the participants whose index leaves w, and lane 0 the mediator too. Each that
-    /// isn't paused reads one entry or, where it has read all, checks one request or, where it owes nothing, sends one response;
-    /// the mediator reads one entry or, unless verdicts are held, sends one verdict. The gate is passed before each view, outside
-    /// every lock, with the request's place and the number of its views that were checked before. After each view the participant
-    /// is asked whether the request is decided by what it has read. Where it is, the check ends there, and nothing comes of it but
-    /// the claim. A number for an executor comes by chance, and a turn that gets none ends as for want of memory.
+    /// isn't paused reads to the end of the log, and then checks one request or, where it owes nothing, sends one response; the mediator
+    /// reads to the end and, unless verdicts are held, sends one verdict. The turn tells whether anything was checked or sent, after
+    /// which more may be left to be done. The gate is passed before each view, outside every lock, with the request's place and the
+    /// number of its views that were checked before. After each view the participant is asked whether the request is decided by what it
+    /// has read. Where it is, the check ends there, and nothing comes of it but the claim. A number for an executor comes by chance, and
+    /// a turn that gets none ends as for want of memory.
     pub fn turn<R: Wait + RandomSource + AllocGlobal, G: Gate>(
         &self,
         rt: &R,
         lane: u32,
         lanes: u32,
         gate: &G,
-    ) -> Result<(), AllocError>
+    ) -> Result<bool, AllocError>
         requires { 0 < lanes }
     {
+        let mut worked = false;
         for at in 0..8u8 {
-            if at as u32 % lanes == lane && !self.is_paused(ParticipantId(at)) {
-                serve(rt, &self.log, &self.nodes, at, gate)?;
+            if at as u32 % lanes == lane
+                && !self.is_paused(ParticipantId(at))
+                && serve(rt, &self.log, &self.nodes, at, gate)?
+            {
+                worked = true;
             }
         }
-        if lane == 0 {
-            mediate(rt, &self.log, &self.mediator, self.round.hold_verdicts)?;
+        if lane == 0 && mediate(rt, &self.log, &self.mediator, self.round.hold_verdicts)? {
+            worked = true;
         }
-        Ok(())
+        Ok(worked)
     }
 }

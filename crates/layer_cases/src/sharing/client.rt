@@ -126,6 +126,8 @@ fn take_turns<'r, S: Session, R: Wait + RandomSource + AllocGlobal>(
     out: &mut Answer,
 ) {
     for _ in 0..TURNS {
-        out.keep(shared.turn(rt, 0, 1, &FreeGate));
+        if shared.turn(rt, 0, 1, &FreeGate).is_err() {
+            out.lack();
+        }
     }
 }

@@ -2,10 +2,10 @@ use denote.Exit.{yes}
 use denote.Param.{param}
 use denote.Param.Send.{param_sync, arg_sync}
 use Rattle.client_threads.proofs.Crossings.{lane_work_sync}
-use Rattle.client_threads.proofs.beside.fn.serve_beside.join+arg2.Goals as goal
+use Rattle.client_threads.proofs.beside.fn.serve_by_threads.join+arg2.Goals as goal
 
-pub run_beside-requires-sync-L : goal.run_beside-requires-sync-L
-run_beside-requires-sync-L g c κs within =
+pub run_waves-requires-sync-L : goal.run_waves-requires-sync-L
+run_waves-requires-sync-L g c κs within =
     let bounds = c.requires.1.1.1 in
     param_sync 1 _
     (arg_sync _ yes _

@@ -4,14 +4,14 @@ use denote.Param.Send.{param_send, arg_send}
 use Rattle.client_threads.specs.Served.{IsServed}
 use Rattle.client_threads.proofs.Crossings.{lanes_send}
 use Rattle.client_threads.proofs.Brought.{each_of_all, of_ok}
-use Rattle.client_threads.proofs.beside.serve_beside.Goals as goal
+use Rattle.client_threads.proofs.beside.serve_by_threads.Goals as goal
 
 pub join-ran-requires-send-F : goal.join-ran-requires-send-F
 join-ran-requires-send-F g c κs within =
     let bounds = c.type_bounds in
     param_send 1 _
     (arg_send _ yes _
-    (lanes_send _ _ _ _ _ _ _ _ _ _ _ _ _ _ (param 0 g.row.S) (param 1 g.row.R) (param 2 g.row.G) g.S.Session g.S.Row g.S.Ledger bounds.sync-R bounds.sync-G))
+    (lanes_send _ _ _ _ _ _ _ _ _ _ _ (param 0 g.row.S) (param 1 g.row.R) (param 2 g.row.G) g.S.Session g.S.Row g.S.Ledger bounds.sync-R bounds.sync-G))
 
 pub returns-clause-each : goal.returns-clause-each
 returns-clause-each g c =
