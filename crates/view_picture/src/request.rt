@@ -29,6 +29,18 @@ pub(crate) fn put_request(
     sheet.skip(ABOVE);
     let text = request_text(alloc, topology, disclosed.place, disclosed.request)?;
     sheet.put_line(LineKind::Request, span, text)?;
+    put_disclosed(sheet, topology, span, disclosed, reader)
+}
+
+/// Puts what is disclosed of a request.
+pub(crate) fn put_disclosed(
+    sheet: &mut Sheet,
+    topology: &Topology,
+    span: Span,
+    disclosed: &DisclosedRequest<'_>,
+    reader: Option<&ParticipantId>,
+) -> Result<(), AllocError> {
+    let alloc = sheet.alloc;
     let Some(disclosure) = &disclosed.disclosure else {
         let words = words_without(disclosed.request, reader);
         return sheet.put_line(LineKind::Detail, span, Text::of(alloc, words)?);
