@@ -17,12 +17,12 @@ BEGIN, END = '<!-- docs/layers.py --write writes this -->', '<!-- its end -->'
 # from the top down: a layer, what it is, and its crates
 LAYERS = [
     ('programs', 'what can be run', 'canton_cli canton_draw layer_cases fixtures'),
-    ('pictures', 'a report or a script as SVG', 'view_picture report_chart report_read svg_text'),
+    ('pictures', 'a report or a script as SVG, a run as a page', 'page_text view_picture report_chart report_read svg_text'),
     ('run', 'from words and bytes to the text and the status', 'canton_run commitment_text report_text cli_words load_gen cn_io'),
     ('threads', 'a synchroniser that threads share', 'shared_rounds client_threads shared_world sync_shared lane_pool'),
     ('synchroniser', 'a world, and the calls that move it', 'world_play'),
     ('audit', 'whether a written log is genuine', 'log_audit log_judge'),
-    ('participant', 'what one participant knows, owes and answers', 'node_core node_inbox snapshot_store log_bounds acs_commit'),
+    ('participant', 'what one participant knows, owes and answers', 'page_data node_core node_inbox snapshot_store log_bounds acs_commit'),
     ('log', 'the sequencer and the mediator', 'seq_log mediator log_row log_dump'),
     ('requests', 'transactions in blinded envelopes, made and read', 'prepare_request whole_request proto_model framed_form sealed_form blind_tree'),
     ('checks', 'contracts, holds and local verdicts', 'validate_job confirm_reply inbox_standing request_track contract_store'),

@@ -5,11 +5,14 @@ pub(crate) const CHART: &str = "canton_chart";
 
 pub(crate) const VIEWS: &str = "canton_views";
 
+pub(crate) const PAGE: &str = "canton_page";
+
 /// What the first word says to draw.
 #[derive(Clone, Copy)]
 pub(crate) enum Drawing {
     Chart,
     Views,
+    Page,
 }
 
 impl Drawing {
@@ -18,6 +21,7 @@ impl Drawing {
         match word {
             b"chart" => Some(Drawing::Chart),
             b"views" => Some(Drawing::Views),
+            b"page" => Some(Drawing::Page),
             _ => None,
         }
     }
@@ -26,6 +30,7 @@ impl Drawing {
         match self {
             Drawing::Chart => CHART,
             Drawing::Views => VIEWS,
+            Drawing::Page => PAGE,
         }
     }
 }

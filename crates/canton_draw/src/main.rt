@@ -1,5 +1,5 @@
 //! Draws what its first word says: `chart` the report of a run, as a sequence chart, and `views` the requests of a script that it runs, each as
-//! a tree with views. Both are SVG.
+//! a tree with views, both as SVG; and `page` the run of a script place by place, as HTML.
 #![tactic(auto)]
 
 mod asked;
@@ -7,6 +7,8 @@ mod drawing;
 mod end;
 mod fault;
 mod line;
+mod script_log;
+mod script_page;
 mod script_picture;
 mod top_call;
 mod words;

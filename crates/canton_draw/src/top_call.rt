@@ -4,6 +4,7 @@ ghost use Rattle.std.specs.Prelude.{◌≡◌, ◌≢◌, ◌⊎◌};
 use crate::asked::Asked;
 use crate::drawing::Drawing;
 use crate::end::End;
+use crate::script_page::script_page;
 use crate::script_picture::script_picture;
 use crate::words::asked_by;
 use cn_io::{Sink, Source, read_all, write_all};
@@ -38,6 +39,11 @@ fn text_of<R: Threads + Wait + Sync + RandomSource + AllocGlobal, G: Gate + Sync
             let bytes = read_all(alloc, source, MOST_SCRIPT_BYTES)?;
             let script = read_script(alloc, bytes.as_slice())?;
             script_picture(workers, script, reader)
+        }
+        Asked::Page { reader } => {
+            let bytes = read_all(alloc, source, MOST_SCRIPT_BYTES)?;
+            let script = read_script(alloc, bytes.as_slice())?;
+            script_page(workers, script, reader)
         }
     }
 }

@@ -1,6 +1,6 @@
 //! The words of the command line, by `clap`.
 use crate::asked::Asked;
-use crate::drawing::{CHART, Drawing, VIEWS};
+use crate::drawing::{CHART, Drawing, PAGE, VIEWS};
 use crate::end::End;
 use clap::error::ErrorKind;
 use clap::{Arg, ArgAction, ArgMatches, Command, Error};
@@ -13,6 +13,11 @@ const ABOUT_CHART: &str =
 const ABOUT_VIEWS: &str =
     "Runs the script of standard input and draws each request of its log as a tree with views, as SVG";
 
+const ABOUT_PAGE: &str =
+    "Runs the script of standard input and writes one HTML page that shows place by place who knew what";
+
+const FOR_PAGE: &str = "Writes what this participant knows, and nothing else";
+
 const FOR: &str = "Draws what this participant is shown, with hashes in the place of all else";
 
 fn command<'a>(alloc: Global, drawing: Drawing) -> Result<Command<'a>, AllocError> {
@@ -22,18 +27,27 @@ fn command<'a>(alloc: Global, drawing: Drawing) -> Result<Command<'a>, AllocErro
                 .about(ABOUT_CHART)
                 .no_binary_name(true),
         ),
-        Drawing::Views => {
-            let reader = Arg::new(alloc, "for")
-                .long("for")
-                .value_name("PARTICIPANT")
-                .help(FOR)
-                .action(ArgAction::Set);
-            Command::new(alloc, VIEWS)
-                .about(ABOUT_VIEWS)
-                .no_binary_name(true)
-                .arg(reader)
-        }
+        Drawing::Views => command_for(alloc, VIEWS, ABOUT_VIEWS, FOR),
+        Drawing::Page => command_for(alloc, PAGE, ABOUT_PAGE, FOR_PAGE),
     }
+}
+
+/// A command that takes `--for`.
+fn command_for<'a>(
+    alloc: Global,
+    name: &'static str,
+    about: &'static str,
+    help: &'static str,
+) -> Result<Command<'a>, AllocError> {
+    let reader = Arg::new(alloc, "for")
+        .long("for")
+        .value_name("PARTICIPANT")
+        .help(help)
+        .action(ArgAction::Set);
+    Command::new(alloc, name)
+        .about(about)
+        .no_binary_name(true)
+        .arg(reader)
 }
 
 /// The words behind the program's name and the drawing's.
@@ -59,13 +73,23 @@ pub(crate) fn asked_by(alloc: Global, drawing: Drawing, all: &[String]) -> Resul
 fn asked_for(drawing: Drawing, given: &ArgMatches<'_>) -> Result<Asked, End> {
     match drawing {
         Drawing::Chart => Ok(Asked::Chart),
-        Drawing::Views => match given.get_str("for") {
-            Some(text) => match Name::read(text) {
-                Some(name) => Ok(Asked::Views { reader: Some(name) }),
-                None => Err(End::of(2)),
-            },
-            None => Ok(Asked::Views { reader: None }),
+        Drawing::Views => Ok(Asked::Views {
+            reader: reader_of(given)?,
+        }),
+        Drawing::Page => Ok(Asked::Page {
+            reader: reader_of(given)?,
+        }),
+    }
+}
+
+/// The name behind `--for`, where it is given.
+fn reader_of(given: &ArgMatches<'_>) -> Result<Option<Name>, End> {
+    match given.get_str("for") {
+        Some(text) => match Name::read(text) {
+            Some(name) => Ok(Some(name)),
+            None => Err(End::of(2)),
         },
+        None => Ok(None),
     }
 }
 

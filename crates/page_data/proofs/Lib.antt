@@ -1,0 +1,2 @@
+mod Reread
+mod Rows

@@ -1,0 +1,71 @@
+-- What a participant knows, by its inbox.
+use Rattle.std.specs.Prelude.{ℕ, zero, suc, List, [], ◌∷◌, ◌++◌, Option, Some, None, length, map, slice_get}
+use Rattle.ledger_terms.specs.declared.active_row.ActiveRow.{ActiveRow}
+use Rattle.ledger_model.specs.Terms.{Hash}
+use Rattle.canton_model.specs.Inbox.{clean, clean_time, is_locked_in_inbox, node_active, status_in_inbox, withheld}
+use Rattle.canton_model.specs.declared.outcome.Outcome.{Outcome}
+use Rattle.world_model.specs.Node.{owes_at}
+use Rattle.contract_store.specs.Written.{written}
+use Rattle.contract_store.specs.declared.row.StoreRow.{StoreRow}
+use Rattle.inbox_standing.specs.Changes.{changes_in}
+use Rattle.inbox_standing.specs.Requests.{outcome_received}
+use Rattle.node_inbox.specs.InboxState.{InboxState, params_of, reading_of}
+use Rattle.page_data.specs.declared.contract_state.ContractState.{ContractState}
+use Rattle.page_data.specs.declared.knowledge.Knowledge.{Knowledge}
+use Rattle.page_data.specs.declared.request_state.RequestState.{RequestState}
+
+-- the contracts of which approved requests tell
+abbrev pub store_rows : InboxState → List StoreRow
+store_rows inbox = written (changes_in (reading_of inbox) inbox.items) []
+
+abbrev pub rows_in : Option StoreRow → List StoreRow
+rows_in None = []
+rows_in (Some row) = row ∷ []
+
+-- the one at a place of that list, where there is one
+abbrev pub store_rows_at : InboxState → ℕ → List StoreRow
+store_rows_at inbox at = rows_in (slice_get (store_rows inbox) at)
+
+-- a contract, as all that was read says of it
+abbrev pub contract_state : InboxState → Hash → ContractState
+contract_state inbox id =
+    record {
+      id = id;
+      status = status_in_inbox (reading_of inbox) inbox.items (length inbox.items) id;
+      is_locked = is_locked_in_inbox (reading_of inbox) (params_of inbox) inbox.items (length inbox.items) id;
+    }
+
+abbrev pub contract_states : InboxState → List ContractState
+contract_states inbox = map (λ (row : StoreRow). contract_state inbox row.known.id) (store_rows inbox)
+
+abbrev pub contract_states_at : InboxState → ℕ → List ContractState
+contract_states_at inbox at = map (λ (row : StoreRow). contract_state inbox row.known.id) (store_rows_at inbox at)
+
+abbrev pub with_outcome : InboxState → ℕ → Option Outcome → List RequestState
+with_outcome inbox place None = []
+with_outcome inbox place (Some outcome) =
+    record { place = place; outcome = outcome; owes = owes_at (reading_of inbox) inbox.me inbox.items place } ∷ []
+
+-- the request at a place, where it was received
+abbrev pub request_states_at : InboxState → ℕ → List RequestState
+request_states_at inbox place = with_outcome inbox place (outcome_received (params_of inbox) inbox.items place)
+
+-- the requests that were received below a place
+abbrev pub request_states_below : InboxState → ℕ → List RequestState
+request_states_below inbox zero = []
+request_states_below inbox (suc place) = request_states_below inbox place ++ request_states_at inbox place
+
+-- the active contracts with a hosted stakeholder at the cursor
+abbrev pub active_ids : InboxState → List Hash
+active_ids inbox = map (λ (row : ActiveRow). row.known.id) (node_active (reading_of inbox) inbox.me inbox.items (length inbox.items))
+
+abbrev pub knowledge_of : InboxState → Knowledge
+knowledge_of inbox =
+    record {
+      clean = clean (params_of inbox) inbox.items;
+      clean_time = clean_time (params_of inbox) inbox.items;
+      active = active_ids inbox;
+      withheld = withheld (params_of inbox) inbox.items;
+      contracts = contract_states inbox;
+      requests = request_states_below inbox (length inbox.items);
+    }

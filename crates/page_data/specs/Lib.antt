@@ -1,0 +1,4 @@
+pub mod Knowledge
+pub mod Owing
+pub mod Courses
+pub mod Waiting

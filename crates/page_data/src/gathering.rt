@@ -1,0 +1,136 @@
+//! What a participant knows, gathered by its own calls.
+ghost use Rattle.std.specs.Prelude.{◌≡◌, ◌++◌, ◌≤◌, ◌<◌, length, map, IfOk, OnOk};
+ghost use Rattle.ledger_terms.specs.declared.active_row.ActiveRow.{ActiveRow as ActiveRowValue};
+ghost use Rattle.page_data.specs.Knowledge.{active_ids, contract_state, contract_states, contract_states_at, knowledge_of, request_states_at};
+ghost use Rattle.page_data.specs.Knowledge.{request_states_below, store_rows, store_rows_at};
+
+use crate::contract_state::{ContractState, ContractStateList};
+use crate::course::StoreRowList;
+use crate::knowledge::Knowledge;
+use crate::request_state::{RequestState, RequestStateList};
+use contract_store::StoreRow;
+use ledger_terms::{ActiveRowList, Exact, Hash, HashList};
+use node_inbox::Inbox;
+use std::alloc::{AllocError, Global};
+
+fn contract_state(inbox: &Inbox<'_>, id: Hash) -> ContractState
+    ensures { result ≡ contract_state inbox.now id }
+{
+    let store = inbox.store();
+    ContractState {
+        id,
+        status: store.status(&id),
+        is_locked: store.locked(&id),
+    }
+}
+
+fn put_contract_state(
+    inbox: &Inbox<'_>,
+    at: usize,
+    states: &mut ContractStateList,
+) -> Result<(), AllocError>
+    ensures { OnOk result (states.new ≡ states.old ++ contract_states_at inbox.now at) }
+{
+    if let Some(row) = inbox.store().row(at) {
+        states.push(contract_state(inbox, row.known.id))?;
+    }
+    Ok(())
+}
+
+fn contract_states(alloc: Global, inbox: &Inbox<'_>) -> Result<ContractStateList, AllocError>
+    ensures { IfOk result (λ states. states ≡ contract_states inbox.now) }
+{
+    let mut states = ContractStateList::new(alloc);
+    'rows: for at in 0..inbox.store().len() {
+        put_contract_state(inbox, at, &mut states)?;
+    }
+    Ok(states)
+}
+
+fn copy_row(row: &StoreRow) -> Result<StoreRow, AllocError>
+    ensures { IfOk result (λ copy. copy ≡ row.now) }
+{
+    Ok(StoreRow {
+        known: row.known.copied()?,
+        created_at: row.created_at,
+        consumed_at: row.consumed_at,
+    })
+}
+
+fn put_row(inbox: &Inbox<'_>, at: usize, rows: &mut StoreRowList) -> Result<(), AllocError>
+    ensures { OnOk result (rows.new ≡ rows.old ++ store_rows_at inbox.now at) }
+{
+    if let Some(row) = inbox.store().row(at) {
+        rows.push(copy_row(row)?)?;
+    }
+    Ok(())
+}
+
+/// All contracts of which approved requests told a participant.
+pub fn store_rows(alloc: Global, inbox: &Inbox<'_>) -> Result<StoreRowList, AllocError>
+    ensures { IfOk result (λ rows. rows ≡ store_rows inbox.now) }
+{
+    let mut rows = StoreRowList::new(alloc);
+    'rows: for at in 0..inbox.store().len() {
+        put_row(inbox, at, &mut rows)?;
+    }
+    Ok(rows)
+}
+
+fn put_request_state(
+    inbox: &Inbox<'_>,
+    place: u64,
+    states: &mut RequestStateList,
+) -> Result<(), AllocError>
+    ensures { OnOk result (states.new ≡ states.old ++ request_states_at inbox.now place) }
+{
+    if let Some(outcome) = inbox.outcome(place) {
+        states.push(RequestState {
+            place,
+            outcome,
+            owes: inbox.owes(place),
+        })?;
+    }
+    Ok(())
+}
+
+fn request_states(alloc: Global, inbox: &Inbox<'_>) -> Result<RequestStateList, AllocError>
+    ensures { IfOk result (λ states. states ≡ request_states_below inbox.now (length inbox.now.items)) }
+{
+    let mut states = RequestStateList::new(alloc);
+    'places: for place in 0..inbox.cursor() {
+        put_request_state(inbox, place, &mut states)?;
+    }
+    Ok(states)
+}
+
+fn ids_of(alloc: Global, rows: &ActiveRowList) -> Result<HashList, AllocError>
+    ensures { IfOk result (λ ids. ids ≡ map (λ (row : ActiveRowValue). row.known.id) rows.now) }
+{
+    let mut ids = HashList::new(alloc);
+    for row in rows.as_slice() {
+        ids.push(row.known.id)?;
+    }
+    Ok(ids)
+}
+
+fn active_ids(alloc: Global, inbox: &Inbox<'_>) -> Result<HashList, AllocError>
+    ensures { IfOk result (λ ids. ids ≡ active_ids inbox.now) }
+{
+    let rows = inbox.active_at(alloc, inbox.cursor())?;
+    ids_of(alloc, &rows)
+}
+
+/// What a participant knows, by what it has read.
+pub fn knowledge_of(alloc: Global, inbox: &Inbox<'_>) -> Result<Knowledge, AllocError>
+    ensures { IfOk result (λ knowledge. knowledge ≡ knowledge_of inbox.now) }
+{
+    Ok(Knowledge {
+        clean: inbox.clean(),
+        clean_time: inbox.clean_time(),
+        active: active_ids(alloc, inbox)?,
+        withheld: inbox.withheld()?,
+        contracts: contract_states(alloc, inbox)?,
+        requests: request_states(alloc, inbox)?,
+    })
+}

@@ -1,0 +1,152 @@
+//! The contracts of a participant.
+use crate::html::Html;
+use crate::stay::Stay;
+use crate::story::Story;
+use crate::teller::Teller;
+use crate::words::put_contract;
+use contract_store::{Status, StoreRow};
+use ledger_terms::{Hash, ListOf};
+use page_data::{ContractState, Knowledge};
+use std::alloc::{AllocError, Global};
+
+/// What is said of a contract: its status, whether it is locked, and whether it is one of the participant's active contracts.
+#[derive(Clone, Copy, PartialEq, Eq)]
+struct Standing {
+    status: Status,
+    is_locked: bool,
+    is_own: bool,
+}
+
+/// The same, with how long it is so.
+#[derive(Clone, Copy)]
+struct Held {
+    stay: Stay,
+    standing: Standing,
+}
+
+/// What is known of the contract, which stands at that index where it is known.
+fn state_of(knowledge: &Knowledge, index: usize, id: &Hash) -> Option<ContractState> {
+    match knowledge.contracts.get(index) {
+        Some(state) if state.id == *id => Some(*state),
+        _ => None,
+    }
+}
+
+fn is_own(knowledge: &Knowledge, id: &Hash) -> bool {
+    knowledge.active.as_slice().iter().any(|own| *own == *id)
+}
+
+fn standing_of(
+    knowledge: &Knowledge,
+    index: usize,
+    id: &Hash,
+    before: Option<Standing>,
+) -> Option<Standing> {
+    let state = state_of(knowledge, index, id)?;
+    let ContractState {
+        status,
+        is_locked,
+        ..
+    } = state;
+    match before {
+        Some(standing) if standing.status == status && standing.is_locked == is_locked => before,
+        _ => Some(Standing {
+            status,
+            is_locked,
+            is_own: is_own(knowledge, id),
+        }),
+    }
+}
+
+/// What is said of a contract, for how long.
+fn standings_of(
+    alloc: Global,
+    teller: &Teller,
+    index: usize,
+    id: &Hash,
+) -> Result<ListOf<Held>, AllocError> {
+    let mut all = ListOf::new(alloc);
+    let mut now: Option<Standing> = None;
+    let mut from = 0;
+    let mut to = 0;
+    for (place, knowledge) in teller.course.states.as_slice().iter().enumerate() {
+        let next = standing_of(knowledge, index, id, now);
+        if next != now {
+            if let Some(standing) = now {
+                let stay = Stay { from, to };
+                all.push(Held { stay, standing })?;
+            }
+            now = next;
+            from = place as u64;
+        }
+        to = place as u64;
+    }
+    if let Some(standing) = now {
+        let stay = Stay { from, to };
+        all.push(Held { stay, standing })?;
+    }
+    Ok(all)
+}
+
+fn put_place(html: &mut Html, place: Option<u64>) -> Result<(), AllocError> {
+    if let Some(place) = place {
+        html.markup(" by the request at place ")?;
+        html.number(place)?;
+    }
+    Ok(())
+}
+
+fn put_standing(html: &mut Html, row: &StoreRow, standing: &Standing) -> Result<(), AllocError> {
+    match standing.status {
+        Status::Unknown => html.markup("unknown"),
+        Status::Active => {
+            html.markup("\u{25cf} active, created")?;
+            put_place(html, row.created_at)
+        }
+        Status::Consumed => {
+            html.markup("\u{25cb} consumed")?;
+            put_place(html, row.consumed_at)
+        }
+    }?;
+    if standing.is_locked {
+        html.markup("; <b>locked</b>: an undecided request creates or consumes it")?;
+    }
+    if standing.status == Status::Active && !standing.is_own {
+        html.markup("; no stakeholder of it is hosted")?;
+    }
+    Ok(())
+}
+
+fn put_rows(
+    html: &mut Html,
+    story: &Story<'_>,
+    teller: &Teller,
+    index: usize,
+    row: &StoreRow,
+) -> Result<(), AllocError> {
+    for held in standings_of(story.alloc, teller, index, &row.known.id)?.as_slice() {
+        html.begin_at("tr", held.stay, story.last())?;
+        html.markup("<th scope=\"row\">")?;
+        put_contract(story.alloc, html, &row.known.instance)?;
+        html.markup("</th><td>")?;
+        put_standing(html, row, &held.standing)?;
+        html.markup("</td></tr>\n")?;
+    }
+    Ok(())
+}
+
+/// Puts the table of contracts.
+pub(crate) fn put_contracts(
+    html: &mut Html,
+    story: &Story<'_>,
+    teller: &Teller,
+) -> Result<(), AllocError> {
+    html.markup("<h4>Contracts</h4>\n")?;
+    html.markup(
+        "<table><thead><tr><th scope=\"col\">Contract</th><th scope=\"col\">Status</th></tr></thead>\n<tbody>",
+    )?;
+    for (index, row) in teller.course.contracts.as_slice().iter().enumerate() {
+        put_rows(html, story, teller, index, row)?;
+    }
+    html.markup("</tbody></table>\n")
+}

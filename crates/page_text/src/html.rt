@@ -1,0 +1,88 @@
+//! A page that grows.
+ghost use Rattle.std.specs.Prelude.{◌≡◌, ◌++◌, OnOk, decimal};
+ghost use Rattle.svg_text.specs.Escape.{escaped};
+
+use crate::stay::Stay;
+use ledger_terms::{Path, Text};
+use report_text::{put_number, put_path};
+use std::alloc::{AllocError, Global};
+use std::marker::Model;
+use svg_text::{drawable, put_escaped};
+
+/// A page that was begun, which contracts see as the bytes so far. It is HTML in the form of XML, so that readers of both take it.
+#[derive(Drop)]
+pub struct Html {
+    out: String,
+}
+
+impl Model for Html {
+    ghost use Rattle.std.specs.Prelude.{List, ℕ, string_bytes};
+
+    ghost Value = { List ℕ };
+
+    ghost view = { λ h. string_bytes h.out };
+}
+
+impl Html {
+    pub(crate) fn new(alloc: Global) -> Html {
+        Html {
+            out: String::new(alloc),
+        }
+    }
+
+    /// Puts markup of this program.
+    pub(crate) fn markup(&mut self, markup: &'static str) -> Result<(), AllocError>
+        ensures { OnOk result (self.new ≡ self.old ++ markup.now) }
+    {
+        self.out.push_str(markup)
+    }
+
+    /// Puts a text from outside, escaped.
+    pub(crate) fn text(&mut self, text: &str) -> Result<(), AllocError>
+        ensures { OnOk result (self.new ≡ self.old ++ escaped text.now) }
+    {
+        put_escaped(&mut self.out, text)
+    }
+
+    pub(crate) fn number(&mut self, number: u64) -> Result<(), AllocError>
+        ensures { OnOk result (self.new ≡ self.old ++ decimal number) }
+    {
+        put_number(&mut self.out, number)
+    }
+
+    /// Puts a path, which is made of digits and points.
+    pub(crate) fn path(&mut self, path: &Path) -> Result<(), AllocError> {
+        put_path(&mut self.out, path)
+    }
+
+    /// Puts a picture that was made by the calls of pictures.
+    pub(crate) fn picture(&mut self, picture: &Text) -> Result<(), AllocError> {
+        self.out.push_str(picture.as_str())
+    }
+
+    /// Begins an element that is seen at some places of the log alone. Without the script it is seen where the last place is one.
+    pub(crate) fn begin_at(
+        &mut self,
+        name: &'static str,
+        stay: Stay,
+        last: u64,
+    ) -> Result<(), AllocError> {
+        self.out.push_str("<")?;
+        self.out.push_str(name)?;
+        self.out.push_str(" data-f=\"")?;
+        put_number(&mut self.out, stay.from)?;
+        self.out.push_str("\" data-t=\"")?;
+        put_number(&mut self.out, stay.to)?;
+        self.out.push_str("\"")?;
+        if !stay.has(last) {
+            self.out.push_str(" hidden=\"\"")?;
+        }
+        self.out.push_str(">")
+    }
+
+    /// The whole page, with U+FFFD for each character that XML hasn't.
+    pub(crate) fn finish(self, alloc: Global) -> Result<Text, AllocError> {
+        let Html { out } = self;
+        Ok(Text::of_string(drawable(alloc, out.as_str())?))
+    }
+}

@@ -1,0 +1,63 @@
+//! What a page tells.
+use crate::teller::TellerList;
+use canton_model::{Entry, Message, Request};
+use confirm_reply::Setup;
+use ledger_terms::{Name, ParticipantId};
+use page_data::OpenRequestLists;
+use std::alloc::Global;
+
+/// What a page tells: of how many entries a log has its first ones, what participants learnt of them, and for whom the mediator
+/// waited. Of one participant's page `reader` is that one, and nothing else is told.
+#[derive(Clone, Copy)]
+pub(crate) struct Story<'p> {
+    pub alloc: Global,
+    pub setup: &'p Setup,
+    pub entries: u64,
+    pub log: &'p [Entry],
+    pub tellers: &'p TellerList,
+    pub waiting: &'p OpenRequestLists,
+    pub reader: Option<ParticipantId>,
+}
+
+impl<'p> Story<'p> {
+    /// The last place.
+    pub fn last(&self) -> u64 {
+        self.log.len() as u64
+    }
+
+    /// Whether the log goes on.
+    pub fn is_cut(&self) -> bool {
+        self.entries > self.last()
+    }
+
+    pub fn name(&self, at: ParticipantId) -> Option<&Name> {
+        match self.setup.topology.host(at) {
+            Some(host) => Some(&host.name),
+            None => None,
+        }
+    }
+
+    pub fn request(&self, place: u64) -> Option<&'p Request> {
+        let entry = self.log.get(place as usize)?;
+        match &entry.message {
+            Message::Request(request) => Some(request),
+            _ => None,
+        }
+    }
+
+    /// Whether somebody of whom the page tells received the request at a place.
+    pub fn is_told(&self, place: u64) -> bool {
+        self.tellers
+            .as_slice()
+            .iter()
+            .any(|teller| teller.received(place))
+    }
+
+    /// Whether the page tells what a participant does.
+    pub fn tells_of(&self, at: ParticipantId) -> bool {
+        match self.reader {
+            Some(me) => me == at,
+            None => true,
+        }
+    }
+}
