@@ -1,6 +1,7 @@
 #!/bin/sh
-# compare.sh: makes the pictures of this folder again by the program that rt ci has built, and compares them. Ends with another status than 0
-# where one differs, or where there is no program.
+# compare.sh: makes the pictures and pages of this folder again by the program that rt ci has built, and compares them. Ends with another
+# status than 0 where one differs, where a page shows something else at a place than oracle/page_facts.py works out, where P3's page of the
+# transfer has a value that isn't opened to it, or where there is no program.
 set -eu
 
 here=$(dirname "$(readlink -f "$0")")
@@ -12,6 +13,8 @@ fi
 made=$(mktemp -d)
 trap 'rm -rf "$made"' EXIT
 "$here/make.sh" "$made"
-for picture in "$made"/*.svg; do
+for picture in "$made"/*.svg "$made"/*.html; do
     cmp "$picture" "$here/$(basename "$picture")"
 done
+"$here/facts.py" "$made"
+"$here/blinded.py" "$made/transfer.page.html" "$made/transfer.P3.page.html"
