@@ -5,7 +5,7 @@ use Rattle.framed_form.specs.FramedReading.{framed_reading}
 use Rattle.canton_draw.proofs.script_page.page_text.Goals as goal
 
 pub page_of-requires-clause-genuine : goal.page_of-requires-clause-genuine
-page_of-requires-clause-genuine c =
+page_of-requires-clause-genuine g c =
     let reading = framed_reading c.args.setup.now.topology c.args.setup.now.checked in
     let params = c.args.setup.now.topology.params in
     let first = c.first_entries-first.ensures.first in
