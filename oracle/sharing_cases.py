@@ -18,16 +18,16 @@ def told_line(world, place):
 
 
 def turn(world):
-    """Each participant, and then the mediator, reads an entry or, where it has read all, does one thing that is due."""
+    """Each participant, and then the mediator, reads to the end of the log and does one thing that is due."""
     for host in world.hosts:
         name = host['name']
-        if world.read[name] < len(world.log):
+        while world.read[name] < len(world.log):
             world.happen('read:' + name)
-        elif set(world.owed(name, world.read[name])) - world.taken[name]:
-            world.happen('validate:' + name)
-        else:
-            world.happen('reply:' + name)
-    world.happen('mediator' if world.told < len(world.log) else 'verdict')
+        owes = set(world.owed(name, world.read[name])) - world.taken[name]
+        world.happen(('validate:' if owes else 'reply:') + name)
+    while world.told < len(world.log):
+        world.happen('mediator')
+    world.happen('verdict')
 
 
 def sharing_lines(world, submission, before):

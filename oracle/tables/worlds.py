@@ -149,12 +149,12 @@ CHANGED = [
     ('withheld-from-carol', {'drop': ['P3']}, approved(['withheld 3']))]
 
 # A name, the script, and all lines. The Bank's request stands at place 0 with its two entries behind it, and Alice's at place 3 with two
-# responses and a verdict. Who asks at once has seen the entries as far as the own request, and who asks behind the turns all. P2 has read
-# its own request when the second turns begin, so that its response comes first.
+# responses and a verdict. Who asks at once has seen the entries as far as the own request, and who asks behind the turns all. In a
+# turn each participant reads to the end of the log before it checks, so that responses come in the order of participants.
 SHARED = {**TRANSFER, "rounds": [{"submits": [submission]} for submission in TRANSFER["rounds"][0]["submits"]]}
 SHARING = [
     ('two-sharings', SHARED, [
         'ticket of P1 at 0', 'told undecided over 1', 'told approved over 3', 'seen in the log yes', 'told approved over 3',
         'ticket of P2 at 3', 'told undecided over 4', 'told approved over 7', 'seen in the log yes', 'entries 7'] + OWED_LOG + [
-        '3 4 request P2 t1 to P1 P2 P3', '4 5 response P2 for 3 0=approve', '5 6 response P1 for 3 0=approve 0.0=approve',
+        '3 4 request P2 t1 to P1 P2 P3', '4 5 response P1 for 3 0=approve 0.0=approve', '5 6 response P2 for 3 0=approve',
         '6 7 verdict for 3 approved', 'outcome 0 approved', 'outcome 3 approved', 'end'])]
