@@ -11,6 +11,13 @@ def script(*rounds):
 
 # --- what is the same of a run however its threads work: patterns of its lines, and how many lines fit each
 
+def submitted_twice(text):
+    """The script whose last round makes each submission twice, since lanes work beside no less than two."""
+    form = json.loads(text)
+    form['rounds'][-1]['submits'] *= 2
+    return json.dumps(form, separators=(',', ':'))
+
+
 COUNTS = [
     # the second spend is refused where the first was settled before, and else rejected
     ('two-spends-with-workers', 'run,--workers,4', TWO_SPENDS, [
@@ -18,8 +25,8 @@ COUNTS = [
         ('result 1 P2 t2 refused ContractUnknown|outcome * Locked|outcome * Inactive', 1),
         ('commit 3', 3), ('active 3 Iou.Iou(Bank,Carol,10)', 2)]),
     # who observes is told with the others, and answers nothing
-    ('observing-host-with-workers', 'run,--workers,4', WATCHED, [
-        ('0 1 request P1 c1 to P1 P2 P4', 1), ('3 4 request P2 t1 to P1 P2 P3 P4', 1), ('entries 7', 1), ('outcome 3 approved', 1),
+    ('observing-host-with-workers', 'run,--workers,4', submitted_twice(WATCHED), [
+        ('result 1 P2 t1 sent 3', 1), ('result 1 P2 t1 refused Duplicate 3', 1), ('0 1 request P1 c1 to P1 P2 P4', 1), ('3 4 request P2 t1 to P1 P2 P3 P4', 1), ('entries 7', 1), ('outcome 3 approved', 1),
         ('participant P4 clean 7 time 7', 1), ('commit 0', 3), ('commit 3', 4), ('active 3 Iou.Iou(Bank,Carol,10)', 2)])]
 
 # --- scripts of which each beginning is tried

@@ -62,13 +62,14 @@ def handed(raws, submissions, *rounds):
         {"raw": [spelled[at] for at in more]} for more in rounds], separators=(',', ':'))
 
 
-AGAIN = report('a').replace('c1 sent 0', 'c1 refused Duplicate 0')
+REFUSED = 'result 0 P1 c1 refused Duplicate 0'
+AGAIN = report('a').replace('result 0 P1 c1 sent 0', '\n'.join([REFUSED, REFUSED]))
 # a name, the words, the script over the two raw requests, and the text
 BESIDE = [
     # what stands is refused: the same raw request without a trace, and the submission of its command as a duplicate; so is the raw request of a command
     # that was submitted
     ('raw-request-twice', 'run', handed([0, 0], [A, B], [1, 0]), TWO_NOTES.replace('c1 sent 0', 'c1 refused Duplicate 0')),
-    ('raw-request-submitted-again-with-workers', 'run,--workers,4', handed([0, 0], [A], [0]), AGAIN),
+    ('raw-request-submitted-again-with-workers', 'run,--workers,4', handed([0, 0], [A, A], [0]), AGAIN),
     # the second raw request has no room, and leaves no trace; the submission is told so
     ('raw-request-into-a-full-log', 'run,--log,5', handed([0, 1], [B]), report('a').replace(
         'result 0 P1 c1 sent 0', 'result 0 P1 c2 refused LogFull 3 3'))]
