@@ -21,7 +21,7 @@ import trees
 import world_cases
 from tables import bytes as byte_tables
 from tables import (
-    benches, checks, commit_runs, commits, dump_runs, edges, expressions, frames, openings, package_faults, raw_runs, requests, runs, script_faults, transactions, trigger_runs, words, worlds)
+    benches, checks, commit_runs, commits, dump_runs, edges, expressions, frames, openings, package_faults, raw_runs, requests, restart_runs, runs, script_faults, transactions, trigger_runs, words, worlds)
 
 CRATE = os.path.join(os.path.dirname(os.path.dirname(os.path.abspath(__file__))), 'crates', 'layer_cases')
 
@@ -196,7 +196,8 @@ def generated_rows():
 def plain_text(words, source):
     """What a run without workers writes of a script."""
     words = words.split(',')
-    return plain_run.report(json.loads(source), int(words[words.index('--log') + 1]) if '--log' in words else 20_480)
+    text = plain_run.report if words[0] == 'run' else plain_run.commitments_text
+    return text(json.loads(source), int(words[words.index('--log') + 1]) if '--log' in words else 20_480)
 
 
 def lying_transfer(changes):
@@ -227,6 +228,17 @@ def trigger_run_cases():
     """Runs of scripts with rules, in the same form."""
     for name, words, source, text in trigger_runs.RUNS:
         yield name, words, source, 0, 0, 0, None, text
+
+
+def restart_run_cases():
+    """Runs of scripts in which participants restart, in the same form."""
+    for name, words, source, text in restart_runs.RUNS + restart_runs.COMMITS:
+        yield name, words, source, 0, 0, 0, None, text
+    for name, changes, restarts, lines in restart_runs.WITHHELD:
+        text = plain_text('run', lying_transfer(changes))
+        own = text.index('participant P3')
+        told = text[:text.index('\n', own) + 1] + lines + 'end\n'
+        yield name, 'run', restart_runs.restarting(lying_transfer(changes), *restarts), 0, 0, 0, None, told
 
 
 def audited(name, data, line):
@@ -262,7 +274,7 @@ def dump_run_cases():
 
 def run_rows(cases):
     for name, words, source, take, put, status, line, text in cases:
-        if status == 0 and words.startswith('run'):
+        if status == 0 and words.startswith(('run', 'commitments')):
             agreed(name, plain_text(words, source), text)
         lines = ['run ' + name, 'status %d' % status] + ([] if line is None else [line])
         yield 'run %s %d %d %s %s' % (name, take, put, words, source), lines + ['|' + written for written in text.splitlines()]
@@ -380,6 +392,7 @@ def layer_rows():
         'run': {
             'Whole runs': run_rows(runs.cases()), 'Whole runs with raw requests': run_rows(raw_run_cases()),
             'Whole runs that commit': run_rows(commit_run_cases()), 'Whole runs with rules': run_rows(trigger_run_cases()),
+            'Whole runs with restarts': run_rows(restart_run_cases()),
             'Dumps and audits': run_rows(dump_run_cases()),
             'Whole runs within room': sure_run_rows(),
             'Whole runs with workers in any order': count_rows(), 'Whole runs that pass a gate': gate_rows(), 'Whole runs with natives': native_rows(),

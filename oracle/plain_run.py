@@ -1,11 +1,12 @@
-"""The report of a script that one thread runs: each round's Tick, its raw requests, its submissions in order, and passes until one appends
-nothing; then what rules cause, in order, and passes again."""
+"""The report of a script that one thread runs, and its commitments: in each round some participants restart; then come the Tick, the raw
+requests, the submissions in order, and passes until one appends nothing; then what rules cause, in order, and passes again."""
+import commitments
 import ledger
 import rules
 import trees
 import world_cases
 from framed import is_framed, read_raw
-from hosting import confirmed
+from hosting import confirmed, hosted
 from received import Received
 
 
@@ -18,11 +19,17 @@ class Run(world_cases.World):
         self.rules, self.fired, self.fired_lines = script.get('triggers', []), {}, []
         for number, round_ in enumerate(self.rounds):
             self.paused, self.is_held = set(round_.get('paused', [])), round_.get('hold_verdicts', False)
+            self.restart(round_.get('restart', []))
             self.advance(round_.get('advance', 0))
             for raw in round_.get('raw', []):
                 self.take(raw)
             self.answer_each(number, round_.get('submits', []))
             self.answer_each(number, [submission for rule in self.rules for submission in self.caused(number, rule)])
+
+    def restart(self, names):
+        """These participants read to the end, paused or not, and forget what is below their base."""
+        for name in names:
+            self.read[name], self.pruned[name] = len(self.log), self.base_over(name, len(self.log))
 
     def answer_each(self, number, submissions):
         """Takes submissions of a round, and all that is due comes. Who isn't paused has read all of it then."""
@@ -83,5 +90,30 @@ class Run(world_cases.World):
         return lines[:1 + len(self.log)] + self.results + self.fired_lines + lines[1 + len(self.log):end + 1]
 
 
+    def shared(self, name, other, place):
+        """The ids of the contracts that are active for a participant at a place and of which another hosts a stakeholder."""
+        of_other = set(hosted(self.host(other)))
+        for _, contract in self.active(name, place, len(self.log)):
+            if of_other & set(ledger.union(*self.packages.stakeholders(contract['instance']))):
+                yield contract['id']
+
+    def pair(self, name, other):
+        place, base = min(self.clean(name), self.clean(other)), max(self.base(name), self.base(other))
+        if place < base:
+            return 'pair %s %s pruned %d' % (name, other, base)
+        mine, theirs = list(self.shared(name, other, place)), list(self.shared(other, name, place))
+        bucket = commitments.first_difference(set(mine), set(theirs))
+        told = 'equal' if bucket is None else 'differ %d' % bucket
+        return 'pair %s %s at %d count %d %d %s' % (name, other, place, len(mine), len(theirs), told)
+
+    def commitments(self):
+        names = [host['name'] for host in self.hosts]
+        return [self.pair(name, other) for at, name in enumerate(names) for other in names[at + 1:]] + ['end']
+
+
 def report(script, capacity=20_480):
     return ''.join(line + '\n' for line in Run(script, capacity).report())
+
+
+def commitments_text(script, capacity=20_480):
+    return ''.join(line + '\n' for line in Run(script, capacity).commitments())

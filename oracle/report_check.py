@@ -6,8 +6,8 @@ participant may have read gives it; of a raw request that has no entry, that it 
 verdicts, of a verdict its decision, that neither comes twice or too late, and that it may stand in a round in which its participant
 isn't paused, or which doesn't hold verdicts. Before an entry of a later part of a round nothing was due any more at some place, nor is at
 the end. Where a first part ends the script's rules were asked, and what they caused stands in order at the beginning of the second part.
-Each refusal has its cause. All that the report says below its results is then worked out again from the entries, and of the ledger what
-audit.py says.
+Each refusal has its cause. A participant that restarts is pruned to its base at some place where the part before can end. All that the report
+says below its results is then worked out again from the entries, and of the ledger what audit.py says.
 """
 import audit
 import ledger
@@ -218,21 +218,48 @@ class Report(world_cases.World):
     def first_ends(self, number, caused):
         """Where a round's first part can end: where what rules caused stands, or where nothing is due."""
         sent = [result['sent'] for result in caused if result['sent'] is not None]
-        least = max([self.asked_at] + [place + 1 for place, (_, last) in enumerate(self.spans) if last <= 2 * number])
-        most = min([len(self.log)] + [place for place, (first, _) in enumerate(self.spans) if first > 2 * number])
-        return [end for end in sent[:1] or range(least, most + 1) if least <= end <= most and self.is_settled(self.parts[2 * number], end)]
+        ends = [end for end in self.ends(2 * number) if end >= self.asked_at]
+        return [end for end in sent[:1] or ends if end in ends and self.is_settled(self.parts[2 * number], end)]
+
+    def ends(self, part):
+        """Where a part can end, by what stands in it and behind it."""
+        least = max([0] + [place + 1 for place, (_, last) in enumerate(self.spans) if last <= part])
+        most = min([len(self.log)] + [place for place, (first, _) in enumerate(self.spans) if first > part])
+        return range(least, most + 1)
+
+    # restarts
+
+    def begins(self, number):
+        """Where a round can begin."""
+        return [end for end in self.ends(2 * number - 1) if self.is_settled(self.parts[2 * number - 1], end)] if number else [0]
+
+    def prune(self, name, told):
+        """A participant is pruned to its base where the last round begins that restarts it, and the report tells this line or none."""
+        restarts = [number for number, part in enumerate(self.parts[::2]) if name in part.get('restart', [])]
+        want((told is not None) == bool(restarts), told or name, 'its base is told exactly where it restarted')
+        if told is not None:
+            bases = {self.base_over(name, at) for at in self.begins(restarts[-1])}
+            self.pruned[name] = int(told.split(' ')[1])
+            want(self.pruned[name] in bases, told, 'its base is one of %s' % sorted(bases))
 
     def firings(self, number, end):
         """What each rule fires on where a round's first part has this end, if the report says so. A paused participant may have read less."""
         found = []
         for rule in self.rules:
             name = rule['participant']
-            reads = range(self.read[name], end + 1) if name in self.parts[2 * number].get('paused', []) else [end]
+            reads = self.reads_of_rule(name, number, end)
             told = [line for one, line in self.told_of_rules[number] if one is rule]
             fitting = (each for each in (self.firings_of(number, rule, read) for read in reads) if [line for line, _ in each] == told)
             found.append(next(fitting, None))
         firings = [firing for each in found for firing in each or []]
         return firings if None not in found and [line for line, _ in firings] == [line for _, line in self.told_of_rules[number]] else None
+
+    def reads_of_rule(self, name, number, end):
+        """How much a participant may have read when a round's rules are asked: less than all, where it is paused."""
+        part = self.parts[2 * number]
+        if name not in part.get('paused', []):
+            return [end]
+        return self.begins(number) if name in part.get('restart', []) else range(self.read[name], end + 1)
 
     def firings_of(self, number, rule, read):
         """The lines of what a rule fires on in a round whose participant has read so much, each with the rule and the contract."""
@@ -309,6 +336,12 @@ def told_of_rules(script, lines):
     return told
 
 
+def told_bases(lines):
+    """The line behind that of each participant which says where it was pruned to, or None."""
+    pairs = [(line.split(' ')[1], after) for line, after in zip(lines, lines[1:]) if line.startswith('participant ')]
+    return {name: after if after.startswith('pruned ') else None for name, after in pairs}
+
+
 def submitted(script, told):
     """What is submitted in each part, of which rules say only later what it asks for."""
     for number, round_ in enumerate(script['rounds']):
@@ -353,6 +386,8 @@ def misfit(script, text, capacity=20_480):
         sent = sum(result['sent'] is not None for _, result in results)
         want(sent + len(report.raw_parts) == len(report.requests(count)), 'results', 'each request is sent by one, or a raw one')
         want(report.is_settled(report.parts[-1] if report.parts else {}, count), 'end', 'more was due')
+        for name, line in told_bases(lines[count + 1:]).items():
+            report.prune(name, line)
         below = [line for line in report.report() if not line.startswith(('consistent ', 'inconsistent '))][count + 1:]
         rest = [line for line in lines[count + 1:] if not line.startswith(('result ', 'fired '))]
         apart = next((pair for pair in zip(rest, below) if pair[0] != pair[1]), ('more or fewer lines', ''))

@@ -5,8 +5,8 @@
 
 Of two spends of one contract with 4 workers, COUNT times (100), the first has to be approved, and the second rejected as Locked or Inactive
 or refused as ContractUnknown; gen 1 7 and gen 1000 7 with 4 workers have to write as often what one thread writes; and twice as many
-runs of scripts with 1 to 8 workers, drawn from a seed, have to end with status 0. Scripts are made here, half of them with raw requests and half
-of them with rules, and in each second run one is taken from the folders: NAME.json, with the words in the lines of NAME.args, which one thread
+runs of scripts with 1 to 8 workers, drawn from a seed, have to end with status 0. Scripts are made here, half of them with raw requests, half
+of them with rules and some with restarts, and in each second run one is taken from the folders: NAME.json, with the words in the lines of NAME.args, which one thread
 runs to status 0. The report of each script is tried by report_check.py, which knows the rules and not the program. The dump of each, from a run of its
 own, has to be judged yes by the program's audit and by dumps.py, with one line."""
 import glob
@@ -164,6 +164,8 @@ class Made:
             made['paused'] = [h['name'] for h in self.hosts if self.random.random() < 0.4]
         if self.random.random() < 0.15:
             made['hold_verdicts'] = True
+        if self.random.random() < 0.3:
+            made['restart'] = [h['name'] for h in self.hosts if self.random.random() < 0.5]
         return made
 
     def lie(self, script):

@@ -46,7 +46,7 @@ class World:
         self.script, self.hosts, self.packages = script, script['participants'], Packages(script.get('packages', []))
         self.log, self.now = [], 0
         self.left, self.left_raws = list(script['rounds'][0].get('submits', [])), list(script['rounds'][0].get('raw', []))
-        self.paused, self.read, self.taken, self.outbox = set(), {}, {}, {}
+        self.paused, self.read, self.taken, self.outbox, self.pruned = set(), {}, {}, {}, {}
         for host in self.hosts:
             self.read[host['name']], self.taken[host['name']], self.outbox[host['name']] = 0, set(), {}
         self.told, self.given = 0, set()
@@ -323,6 +323,19 @@ class World:
         """The clean place of a participant that has read up to an end."""
         return min([k for k, r in self.requests(end) if name in r.recipients() and not self.is_decided(k, end)] + [end])
 
+    def base_over(self, name, end):
+        """The greatest place below which each request that a participant received is decided there, over the entries before an end."""
+        received = [k for k, r in self.requests(end) if name in r.recipients()]
+        return max(at for at in range(end + 1) if all(self.is_decided_at(k, at, end) for k in received if k < at))
+
+    def is_decided_at(self, place, at, end):
+        """By the entries before an end: a verdict before the place, or a time past the decision time there or before."""
+        return self.verdict(place, at) is not None or any(e['time'] > self.decision_time(place) for e in self.log[:min(at + 1, end)])
+
+    def base(self, name):
+        """Where a participant was pruned to, or the first place."""
+        return self.pruned.get(name, 0)
+
     def applied(self, name):
         for place, request in self.approved(len(self.log), self.clean(name)):
             if request.roots(name):
@@ -338,11 +351,15 @@ class World:
     def participant(self, name):
         clean = self.clean(name)
         yield 'participant %s clean %d time %d' % (name, clean, self.log[clean - 1]['time'] if clean else 0)
+        if name in self.pruned:
+            yield 'pruned %d' % self.pruned[name]
         for place in self.withheld(name):
-            yield 'withheld %d' % place
+            if place >= self.base(name):
+                yield 'withheld %d' % place
         for place, roots in self.applied(name):
-            yield 'commit %d' % place
-            yield from tree_lines(roots)
+            if place >= self.base(name):
+                yield 'commit %d' % place
+                yield from tree_lines(roots)
         for place, contract in self.active(name, clean, len(self.log)):
             yield 'active %d %s' % (place, instance_text(contract['instance']))
 

@@ -36,7 +36,7 @@ def broken():
     participant = "one of the report's participants, of which there are at most 8"
     action = 'an action, at most one level below the one before'
     instance = 'a place and an instance'
-    more = "a withheld place, a commit, an active contract, a participant or 'end'"
+    more = "a base, a withheld place, a commit, an active contract, a participant or 'end'"
     third = 'participant P3 clean 7 time 7\n'
     late = replaced(transfer, 'active 3 Iou.Iou(Bank,Carol,10)\nparticipant P4', 'withheld 3\nparticipant P4')
     first = number_of(transfer, '  create Iou.Iou(')
@@ -59,6 +59,9 @@ def broken():
     yield 'odd_blanks', transfer.replace('\n  create', '\n create', 1), first, action
     yield 'text_without_quote', example('one-note').replace('"hi")', '"hi)', 1), number_of(example('one-note'), '  create'), action
     yield 'bad_withheld', replaced(transfer, third, third + 'withheld x\n'), number_of(transfer, third) + 1, 'the place of a withheld request'
+    late_base = replaced(transfer, third, third + 'withheld 3\npruned 3\n')
+    yield 'bad_base', replaced(transfer, third, third + 'pruned x\n'), number_of(transfer, third) + 1, 'the place to which a participant is pruned'
+    yield 'late_base', late_base, number_of(late_base, 'pruned 3'), more
     yield 'late_withheld', late, number_of(late, 'withheld 3'), more
     yield 'bad_active', transfer.replace('\nactive 3 ', '\nactive x ', 1), number_of(transfer, 'active 3 '), instance
     yield 'two_ends', transfer + 'end\n', len(lines), "nothing behind 'end'"
@@ -103,7 +106,7 @@ def worded_report():
     lines += ['outcome 0 rejected %s 0.0 NotConformant' % first, 'outcome 3 timeout %s %s' % (first, last), 'outcome 6 expired', 'outcome 8 undecided']
     for name in names:
         lines.append('participant %s clean 8 time 18446744073709551614' % name)
-        lines += ['withheld 3', 'withheld 6', 'commit 0', '  create ' + text, '  consume %s Go() by A,B = ()' % text, '    exercise %s Go(1,"x") by A = [A]' % text,
+        lines += ['pruned 0', 'withheld 3', 'withheld 6', 'commit 0', '  create ' + text, '  consume %s Go() by A,B = ()' % text, '    exercise %s Go(1,"x") by A = [A]' % text,
                   '      fetch %s by A' % text, '  exercise T.T() Go() by A = "y"', 'active 0 ' + text]
     return '\n'.join(lines + ['end', ''])
 

@@ -74,7 +74,17 @@ MEMBERS = [
     ('"rounds":[{"paused":["P1","P1","P3"]}]', 'Unknown P3 /rounds/0/paused/2'),
     ('"rounds":[{"paused":["P1","P1"]}]', None),
     ('"rounds":[{"hold_verdicts":null}]', 'Shape /rounds/0/hold_verdicts'),
-    ('"rounds":[{"restart":[]}]', 'Shape /rounds/0'),
+    ('"rounds":[{"restarts":[]}]', 'Shape /rounds/0'),
+]
+
+# behind all other members of a round
+RESTARTS = [
+    ('"rounds":[{"restart":"P1"}]', 'Shape /rounds/0/restart'),
+    ('"rounds":[{"restart":["P1",7]}]', 'Shape /rounds/0/restart/1'),
+    ('"rounds":[{"restart":[7],"raw":7}]', 'Shape /rounds/0/raw'),
+    ('"rounds":[{"restart":["P1","P1","P3"]}]', 'Unknown P3 /rounds/0/restart/2'),
+    ('"rounds":[{"restart":["P1","P1"]}]', None),
+    ('"rounds":[{"restart":[]}]', None),
 ]
 
 # the participants of a script without rounds
@@ -378,3 +388,5 @@ def cases():
         '{"fetch":{"contract":{"id":null,"salt":"%s","instance":{"template":"K.T","fields":%s}},"actors":[]}}' % (HASH, text)))
     yield from below('/rounds/0/submits/0/seed_of', SEEDS, lambda text: asking('"prepared":[%s],"seed_of":%s' % (CREATE, text)))
     yield from with_rules()
+    for text, fault in RESTARTS:
+        yield script(text), fault

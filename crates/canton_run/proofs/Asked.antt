@@ -26,7 +26,8 @@ module _ (m : Machine) (state : MediatorState) (before after : World) (rules : L
   as_many =
       let first = lawful0.hosts in
       let then_ = lawful.hosts in
-      let a = length_states (before.nodes).items in let b = length_states (after.nodes).items in omega (arith, first, then_, a, b)
+      let a = length_states (before.sequencer).list (before.nodes).items in
+      let b = length_states (after.sequencer).list (after.nodes).items in omega (arith, first, then_, a, b)
 
   pub sees : (round : FiredRound) → round.paused ≡ paused → round.end ≡ length (before.sequencer).list
       → SeesActive (rows_at (after.nodes).items) rules m.reading m.params (before.sequencer).list round

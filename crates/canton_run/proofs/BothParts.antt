@@ -1,5 +1,5 @@
 -- A round in both its parts is played after those before it.
-use Rattle.std.proofs.Common.{◌≡◌, ℕ, ◌+◌, ◌*◌, ◌<◌, ◌≤◌, List, [], ◌∷◌, ◌++◌, Some, length, map, take, refl, sym, ap, ◌∙◌, subst, inl, inr, arith, append_assoc, append-nil, le_refl, length-take}
+use Rattle.std.proofs.Common.{◌≡◌, ℕ, ◌+◌, ◌*◌, ◌<◌, ◌≤◌, List, [], ◌∷◌, ◌++◌, Some, length, map, take, refl, sym, ap, ◌∙◌, subst, inl, inr, arith, append_assoc, append-nil, le_refl, length-take, lit<}
 use Rattle.std.specs.Prelude.{◌^◌, All, slice_get}
 use Rattle.std.proofs.Math.Seq.{take-append_seam}
 use Rattle.std.proofs.lemmas.Grind.{flat_map-append}
@@ -13,12 +13,9 @@ use Rattle.framed_form.specs.Collisions.{AreFramed}
 use Rattle.framed_form.proofs.Lawful.{are_framed}
 use Rattle.node_core.specs.declared.submit_result.SubmitResult.{SubmitResult}
 use Rattle.prepare_request.specs.declared.submit_fault.SubmitFault.{SubmitFault}
-use Rattle.run_model.proofs.Ends.{run_is_short}
-use Rattle.run_model.proofs.Workers.{rounds_are_shared}
 use Rattle.script_read.specs.Kept.{IsAccepted, IsRule}
 use Rattle.script_read.specs.declared.round.Round.{Round}
 use Rattle.script_read.specs.declared.script.Script.{Script}
-use Rattle.threads_model.proofs.RunShared.{run_holds}
 use Rattle.trigger_model.specs.CausedRequests.{AreRounds, fired_round, submissions_in as submissions_of}
 use Rattle.trigger_model.specs.CausedRun.{AreAskedSo, CausedHolds, FiredRound, IsCausedIn, RoundsFire, RulesFire, all_caused, fired_on}
 use Rattle.trigger_model.specs.TwoParts.{CausedStandFirst, RoundParts, second_round}
@@ -33,23 +30,22 @@ use Rattle.world_model.specs.Machine.{Machine}
 use Rattle.world_model.specs.Mediator.{MediatorState}
 use Rattle.world_model.specs.Messages.{Entry}
 use Rattle.world_model.specs.Plain.{PlainPart}
-use Rattle.world_model.proofs.Steps.{new_lawful}
 use Rattle.world_play.specs.Results.{IsPlainResult, results_of}
 use Rattle.world_play.specs.Submitting.{AreSetUp, CanSubmit}
 use Rattle.world_play.specs.WorldOf.{IsWorldOf, world_of}
 use Rattle.world_play.specs.declared.world.World.{World}
 use Rattle.world_play.proofs.Plays.{each_of}
-use Rattle.canton_run.specs.Answered.{answered, round_of}
+use Rattle.canton_run.specs.Answered.{round_of}
 use Rattle.canton_run.specs.Between.{ArePlayed, IsPartOf, IsPlayedOn, IsRoundOf, time_in}
 use Rattle.canton_run.specs.Parts.{parts_in, round_parts, second_of}
 use Rattle.canton_run.specs.RoundsPlayed.{RoundsArePlayed, first_rounds}
 use Rattle.canton_run.specs.Run.{SecondPartsArePlain, machine_for, params_of, reading_for, submissions_in, why_for}
 use Rattle.canton_run.specs.Seen.{CanBeAsked}
 use Rattle.canton_run.proofs.AnyWorkers.{plain_by_any}
-use Rattle.canton_run.proofs.OneMore.{answers_are_as_many}
 use Rattle.canton_run.proofs.PartsMore.{length_parts, length_round_parts, parts_more, parts_with, round_parts_more, time_from, time_in_parts, time_of_parts}
 use Rattle.canton_run.proofs.PlaysOn.{next, part_plays_on, round_is_part, time_fits}
 use Rattle.canton_run.proofs.Room.{caused_can, few_fires, few_rows}
+use Rattle.canton_run.proofs.Restarts.{played_is_short}
 use Rattle.canton_run.proofs.RoundsMore.{first_more, same_more, second_more}
 
 -- what holds of each of a list holds of all
@@ -84,6 +80,14 @@ module _ (may : Answers) (script : Script) (accepted : IsAccepted script) (capac
     pub in_time : time_in parts + round.advance ≤ 10 ^ 16
     in_time = let same = time_in_parts 0 rounds caused in let fits = time_fits script count round is_round in omega (arith, same, fits)
 
+    pub begins_short : (world : World) (results : List SubmitResult) (ends : List ℕ) → ArePlayed script capacity workers parts world results ends
+        → length (world.sequencer).list < 2 ^ 15
+    begins_short world results ends p =
+        let bound = played_is_short script capacity workers parts world results ends p in
+        let each = length_parts 0 rounds caused in
+        let most : 24576 < 2 ^ 15 = lit< tt in
+        let few = few_rounds in let counted = many_rounds in omega (arith, bound, each, few, counted, few_places, most)
+
     -- the first part of the round was played from the first world to the second
     module _ (w0 w1 : World) (fired_by : ℕ → List (List ℕ)) (had results1 : List SubmitResult) (had_ends ends1 : List ℕ)
         (p : RoundsArePlayed may script capacity workers count w0 fired_by had had_ends caused)
@@ -105,16 +109,10 @@ module _ (may : Answers) (script : Script) (accepted : IsAccepted script) (capac
 
       short : length list1 ≤ 24577
       short =
-          let new = new_lawful m in
-          let q = f.played in
-          let answers = answered (parts ++ round ∷ []) results1 ends1 in
-          let shared = rounds_are_shared m (why_for script) workers q.machine 0 [] answers list1 (new.genuine, new.within_capacity) q.played in
-          let holds = run_holds m (why_for script) q.machine answers list1 shared in
-          let bound = run_is_short m (why_for script) list1 answers holds in
-          let many = answers_are_as_many (parts ++ round ∷ []) results1 ends1 in
+          let bound = played_is_short script capacity workers (parts ++ round ∷ []) w1 results1 ends1 f.played in
           let long = length-append parts (round ∷ []) in
           let each = length_parts 0 rounds caused in
-          let few = few_rounds in let counted = many_rounds in omega (arith, bound, many, long, each, few, counted, few_places)
+          let few = few_rounds in let counted = many_rounds in omega (arith, bound, long, each, few, counted, few_places)
 
       -- what was caused in earlier rounds, over this log
       fires_here : RoundsFire may (reading_for script) (params_of script) list1 script.triggers [] p.fired
@@ -233,10 +231,10 @@ module _ (may : Answers) (script : Script) (accepted : IsAccepted script) (capac
           results_are : results1 ++ others ≡ results3
           results_are = ap (λ (xs : List SubmitResult). xs ++ others) f.results_are ∙ append_assoc had f.own others
 
-          ends_are : ends1 ++ length list3 ∷ [] ≡ ends3
+          pub ends_are : ends1 ++ length list3 ∷ [] ≡ ends3
           ends_are = ap (λ (xs : List ℕ). xs ++ length list3 ∷ []) f.ends_are ∙ append_assoc had_ends (length list1 ∷ []) (length list3 ∷ [])
 
-          rounds_are : take (count + 1) script.rounds ≡ rounds ++ round ∷ []
+          pub rounds_are : take (count + 1) script.rounds ≡ rounds ++ round ∷ []
           rounds_are = next script count round is_round
 
           were_before : (x : Caused) → In x caused → x.round < 0 + length rounds
@@ -294,6 +292,13 @@ module _ (may : Answers) (script : Script) (accepted : IsAccepted script) (capac
               sym (append_assoc (w0.sequencer).list f.more (played_on.more ++ rest))
               ∙ (ap (λ (xs : List Entry). xs ++ (played_on.more ++ rest)) (sym f.is_more)
               ∙ (sym (append_assoc list1 played_on.more rest) ∙ ap (λ (xs : List Entry). xs ++ rest) (sym played_on.is_more)))
+
+          pub log_is_more : (rest : List Entry) × (list3 ≡ (w0.sequencer).list ++ rest)
+          log_is_more = (
+            f.more ++ played_on.more,
+            played_on.is_more
+                ∙ (ap (λ (xs : List Entry). xs ++ played_on.more) f.is_more ∙ append_assoc (w0.sequencer).list f.more played_on.more),
+          )
 
           from_first : (rest : List Entry) → list1 ++ (played_on.more ++ rest) ≡ list3 ++ rest
           from_first rest = sym (append_assoc list1 played_on.more rest) ∙ ap (λ (xs : List Entry). xs ++ rest) (sym played_on.is_more)

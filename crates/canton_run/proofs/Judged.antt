@@ -8,7 +8,7 @@ use Rattle.log_audit.specs.RuleRuns.{AreOpened}
 use Rattle.log_audit.specs.Scripts.{most_of, script_of, standard_of}
 use Rattle.log_audit.specs.declared.answer.Audit.TheVariants.{Yes}
 use Rattle.log_audit.proofs.Reach.{dump_is_yes}
-use Rattle.log_audit.proofs.Room.{can_be_dumped}
+use Rattle.log_bounds.proofs.Room.{can_be_dumped}
 use Rattle.log_audit.proofs.RuleRuns.{rules_are_used_rightly}
 use Rattle.log_dump.specs.InRange.{IsBlock, IsTyped}
 use Rattle.log_dump.specs.Spellable.{IsSpellableLog}

@@ -1,11 +1,12 @@
 -- Rules see what is active at the clean places of participants that have read to the end, unless they are paused.
-use Rattle.std.proofs.Common.{◌≡◌, ℕ, ◌<◌, List, length, take, Some, refl, sym, ap, ◌∙◌, arith}
+use Rattle.std.proofs.Common.{◌≡◌, ℕ, ◌<◌, ◌≤◌, List, length, Some, refl, sym, ap, ◌∙◌, arith}
 use Rattle.std.specs.Prelude.{slice_get}
 use Rattle.ledger_model.specs.Terms.{ParticipantId}
-use Rattle.canton_model.specs.Inbox.{Item, clean, inbox, node_active}
 use Rattle.canton_model.specs.Log.{Params}
 use Rattle.canton_model.specs.Reading.{Reading}
-use Rattle.node_core.specs.Participant.{Participant, params_of, reading_of}
+use Rattle.node_core.specs.OverLog.{inbox_over}
+use Rattle.node_core.specs.Participant.{Participant}
+use Rattle.node_core.proofs.PrunedViews.{active_same}
 use Rattle.seq_log.specs.Sequenced.{Sequenced}
 use Rattle.trigger_loop.specs.Seeing.{SeesActive}
 use Rattle.trigger_model.specs.CausedRun.{FiredRound, HasReadTo, active_at_clean}
@@ -18,7 +19,7 @@ use Rattle.world_play.specs.Worlds.{AreNodesOf, world_with}
 use Rattle.world_play.proofs.Each.{item_of}
 use Rattle.world_play.proofs.Moved.{from_machine}
 use Rattle.world_play.proofs.Passing.{in_turn}
-use Rattle.world_play.proofs.Turns.{reads_of}
+use Rattle.world_play.proofs.Turns.{cursor_of}
 use Rattle.canton_run.specs.Actives.{own_active}
 use Rattle.canton_run.specs.Seen.{active_if, rows_at}
 
@@ -29,16 +30,14 @@ module _ (m : Machine) (now : ℕ) (state : MediatorState) (nodes : List Partici
       → (n : ℕ) × HasReadTo fired p n × (own_active node ≡ active_at_clean m.reading m.params p n s.list)
   node_sees p node there =
       let given = in_turn nodes s p node there m now state a l in
-      let reads = reads_of m p node s given in
       let n = length (node.state).items in
-      let within = reads.within in (
+      let cursor : n ≡ given.read = cursor_of m p node s given in
+      let within : n ≤ length s.list = let le = given.within in omega (arith, cursor, le) in (
         n,
         record { at_most = omega (arith, within, end); awake = λ free. read p node there (flags p node there ∙ free) ∙ sym end },
-        ap (λ (items : List Item). node_active (reading_of node) node.me items (clean (params_of node) items)) reads.items
+        active_same (inbox_over s.list node) node (given.inbox).pruned
             ∙ from_machine m p node given.is
-            (λ (r : Reading) (q : Params) (i : ParticipantId).
-            node_active r i (inbox r i (take n s.list)) (clean q (inbox r i (take n s.list))) ≡ active_at_clean m.reading m.params p n s.list)
-            refl,
+            (λ (r : Reading) (q : Params) (i : ParticipantId). active_at_clean r q i n s.list ≡ active_at_clean m.reading m.params p n s.list) refl,
       )
 
   pub sees_active : (rules : List Rule) → ((k : ℕ) (rule : Rule) → slice_get rules k ≡ Some rule → rule.participant < length nodes)

@@ -1,9 +1,9 @@
 -- The active contracts of participants.
-use Rattle.std.specs.Prelude.{List}
+use Rattle.std.specs.Prelude.{false, List}
 use Rattle.ledger_terms.specs.declared.active_row.ActiveRow.{ActiveRow}
 use Rattle.node_core.specs.Participant.{Participant}
 use Rattle.node_core.specs.Views.{view_of}
 
 -- those of one, at its clean place
 abbrev pub own_active : Participant → List ActiveRow
-own_active participant = (view_of participant).active
+own_active participant = (view_of false participant).active

@@ -19,6 +19,7 @@ use Rattle.script_read.specs.Script.{script_in}
 use Rattle.script_read.specs.declared.script.Script.{Script}
 use Rattle.trigger_rules.specs.declared.caused.Caused.{Caused}
 use Rattle.canton_run.specs.declared.finish.Finish.{Finish}
+use Rattle.canton_run.specs.Restarts.{base_in, pruned_in}
 use Rattle.canton_run.specs.Run.{params_of, reading_for}
 
 -- the bytes that the source gave, which was read to its end, within the limit
@@ -85,18 +86,19 @@ text_over (Commitments workers log) bytes script entries results views known cau
 text_over (Dump workers log) bytes script entries results views known caused = spell_dump bytes entries
 text_over Audit bytes script entries results views known caused = []
 
--- what each participant knows at its clean place over the whole log
-abbrev pub views_in : Script → List Entry → List NodeView
-views_in script log = views_over (reading_for script) (params_of script) log (length (script.topology).hosts)
+-- what each participant knows at its clean place over the whole log, from its base on where it restarted
+abbrev pub views_in : Script → List Entry → (ends : List ℕ) → List NodeView
+views_in script log ends = views_over (reading_for script) (params_of script) log (pruned_in script log ends) (length (script.topology).hosts)
 
--- what each participant knows of active contracts over the whole log
-abbrev pub knowledge_in : Script → List Entry → List Knowledge
-knowledge_in script log = each_knowledge (reading_for script) (params_of script) log (length (script.topology).hosts)
+-- what each participant knows of active contracts over the whole log, beside its base
+abbrev pub knowledge_in : Script → List Entry → (ends : List ℕ) → List Knowledge
+knowledge_in script log ends = each_knowledge (reading_for script) (params_of script) log (base_in script log ends) (length (script.topology).hosts)
 
 -- what the job writes of a run of the script with these bytes
-abbrev pub told_text : Job → (bytes : List ℕ) → Script → List Entry → List SubmitResult → List Caused → List ℕ
-told_text job bytes script log results caused = text_over job bytes script log results (views_in script log) (knowledge_in script log) caused
+abbrev pub told_text : Job → (bytes : List ℕ) → Script → List Entry → List SubmitResult → (ends : List ℕ) → List Caused → List ℕ
+told_text job bytes script log results ends caused =
+    text_over job bytes script log results (views_in script log ends) (knowledge_in script log ends) caused
 
 -- what the job of the script writes
 abbrev pub text_of : Job → (bytes : List ℕ) → Script → Finish → List ℕ
-text_of job bytes script finish = told_text job bytes script finish.log finish.results finish.caused
+text_of job bytes script finish = told_text job bytes script finish.log finish.results finish.ends finish.caused

@@ -4,6 +4,7 @@ pub mod Answered
 pub mod Parts
 pub mod Seen
 pub mod Run
+pub mod Restarts
 pub mod Between
 pub mod RoundsPlayed
 pub mod Jobs

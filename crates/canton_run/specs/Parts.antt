@@ -14,9 +14,9 @@ use Rattle.canton_run.specs.Answered.{round_of}
 abbrev pub caused_submits : (number : ℕ) → List Caused → List Submission
 caused_submits number caused = map (λ (one : Caused). one.submission) (of_round number caused)
 
--- The second part, as a round: no time passes, and no raw request comes.
+-- The second part, as a round: nobody restarts, no time passes, and no raw request comes.
 abbrev pub second_of : Round → List Submission → Round
-second_of round caused = record { advance = 0; paused = round.paused; hold_verdicts = round.hold_verdicts; submits = caused; raws = [] }
+second_of round caused = record { advance = 0; paused = round.paused; hold_verdicts = round.hold_verdicts; submits = caused; raws = []; restarts = [] }
 
 -- both parts of each of the rounds, as rounds; the first of them has this number
 abbrev pub parts_in : (number : ℕ) → List Round → List Caused → List Round

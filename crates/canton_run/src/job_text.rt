@@ -7,11 +7,12 @@ ghost use Rattle.framed_form.specs.FramedReading.{framed_reading};
 ghost use Rattle.log_dump.specs.InRange.{IsBlock, IsTyped};
 ghost use Rattle.log_dump.specs.Spellable.{IsSpellableBlock, IsSpellableLog};
 ghost use Rattle.log_dump.specs.Spelling.{spell_dump};
-ghost use Rattle.node_core.specs.Views.{view_of};
 ghost use Rattle.report_text.specs.Report.{report_of};
 ghost use Rattle.report_text.specs.Totals.{summary_of};
+ghost use Rattle.script_read.specs.declared.round.Round.{Round};
 ghost use Rattle.trigger_rules.specs.declared.rule.Rule.{Rule};
 ghost use Rattle.canton_run.specs.Jobs.{text_over};
+ghost use Rattle.canton_run.specs.Restarts.{view_in};
 ghost use Rattle.canton_run.specs.Run.{script_with};
 
 use crate::played::RunRecord;
@@ -51,10 +52,10 @@ fn report_text(
     run_record: &RunRecord,
     nodes: NodeList<'_>,
 ) -> Result<JobText, AllocError>
-    ensures { IfOk result (λ told. told.text ≡ report_of topology.now rounds.now run_record.now.log run_record.now.results (map view_of nodes.entry.items)
-        run_record.now.caused) }
+    ensures { IfOk result (λ told. told.text ≡ report_of topology.now rounds.now run_record.now.log run_record.now.results
+        (map (view_in rounds.now) nodes.entry.items) run_record.now.caused) }
 {
-    let views = views_of(alloc, nodes)?;
+    let views = views_of(alloc, rounds, nodes)?;
     let submissions = Submissions {
         rounds,
         results: &run_record.results,
@@ -80,7 +81,8 @@ fn summary_text(
     run_record: &RunRecord,
     nodes: NodeList<'_>,
 ) -> Result<JobText, AllocError>
-    ensures { IfOk result (λ told. told.text ≡ summary_of topology.now run_record.now.log run_record.now.results (map view_of nodes.entry.items)) }
+    ensures { (rounds : List Round) → IfOk result (λ told. told.text
+        ≡ summary_of topology.now run_record.now.log run_record.now.results (map (view_in rounds) nodes.entry.items)) }
 {
     let actives = actives_of(alloc, nodes.as_slice())?;
     let text = summary(
@@ -160,7 +162,7 @@ pub fn text_of(
     requires log { IsSpellableLog run_record.now.log }
     ensures text { (rules : List Rule) → IfOk result (λ told. told.text
         ≡ text_over job script.now (script_with plan.now.setup.now rules plan.now.rounds.now) run_record.now.log run_record.now.results
-        (map view_of nodes.entry.items) (map knowledge_of nodes.entry.items) run_record.now.caused) }
+        (map (view_in plan.now.rounds.now) nodes.entry.items) (map knowledge_of nodes.entry.items) run_record.now.caused) }
     ensures spellable { (workers log : ℕ) → job ≡ Dump workers log → IfOk result (λ told. IsBlock script.now × All IsTyped run_record.now.log) }
 {
     let setup = plan.setup;

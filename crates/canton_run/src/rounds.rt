@@ -1,11 +1,13 @@
 //! The rounds of a script, one after another.
-ghost use Rattle.std.specs.Prelude.{◌≡◌, ◌<◌, ◌≤◌, ◌+◌, ◌^◌, ◌++◌, ℕ, List, [], length, IfOk, OnOk};
+ghost use Rattle.std.specs.Prelude.{◌≡◌, ◌<◌, ◌≤◌, ◌+◌, ◌^◌, ◌++◌, ℕ, List, [], length, take, IfOk, OnOk};
 ghost use Rattle.ledger_terms.specs.declared.limits.TheConstants.{MOST_PLACES};
+ghost use Rattle.node_core.specs.Bases.{AreBases, Bases};
 ghost use Rattle.script_read.specs.Kept.{IsAccepted};
 ghost use Rattle.script_read.specs.declared.script.Script.{Script};
 ghost use Rattle.script_read.specs.declared.round.Round.{Round as PartRound};
 ghost use Rattle.trigger_rules.specs.Kept.{fired_by};
 ghost use Rattle.canton_run.specs.Between.{ArePlayed, CanBeAnswered, IsAnsweredRound, IsPartOf, IsPlayedOn, IsSetupOf, time_in};
+ghost use Rattle.canton_run.specs.Restarts.{ArePrunedBy};
 ghost use Rattle.canton_run.specs.RoundsPlayed.{RoundsArePlayed};
 ghost use Rattle.canton_run.specs.Run.{script_with};
 
@@ -26,6 +28,7 @@ use std::sync::Wait;
 use std::thread::Threads;
 use trigger_rules::{Answering, CausedList, Rules};
 use world_play::{World, begin_round, settle, submit_each};
+use world_restart::restart;
 
 /// The synchroniser after rounds, with what they answered.
 #[derive(Drop)]
@@ -42,8 +45,9 @@ fn submit_alone<'r>(
     round: &Round,
 ) -> Result<Answered<'r>, AllocError>
     requires { (script : Script) × (capacity : ℕ) × CanBeAnswered script capacity round.now world }
-    ensures { IfOk result (λ a. (script : Script) (capacity : ℕ) → CanBeAnswered script capacity round.now world.entry
+    ensures answered { IfOk result (λ a. (script : Script) (capacity : ℕ) → CanBeAnswered script capacity round.now world.entry
         → IsAnsweredRound script capacity 0 round.now world.entry a.world a.results) }
+    ensures bases { IfOk result (λ a. (bases : Bases) → AreBases bases (world.entry.nodes).items → AreBases bases (a.world.nodes).items) }
 {
     let mut world = world;
     let mut results = SubmitResultList::new(alloc);
@@ -60,8 +64,10 @@ fn submit_round<'r, R: Threads + Wait + Sync + RandomSource + AllocGlobal, G: Ga
     round: &Round,
 ) -> Result<Answered<'r>, AllocError>
     requires answerable { (script : Script) × (capacity : ℕ) × IsSetupOf script setup.now × CanBeAnswered script capacity round.now world }
-    ensures { IfOk result (λ a. (script : Script) (capacity : ℕ) → IsSetupOf script setup.now → CanBeAnswered script capacity round.now world.entry
+    ensures answered { IfOk result (λ a. (script : Script) (capacity : ℕ) → IsSetupOf script setup.now
+        → CanBeAnswered script capacity round.now world.entry
         → IsAnsweredRound script capacity workers.now.count round.now world.entry a.world a.results) }
+    ensures bases { IfOk result (λ a. (bases : Bases) → AreBases bases (world.entry.nodes).items → AreBases bases (a.world.nodes).items) }
 {
     if workers.count == 0 {
         return submit_alone(workers.alloc, natives, world, round);
@@ -102,6 +108,7 @@ fn play_round<'r, R: Threads + Wait + Sync + RandomSource + AllocGlobal, G: Gate
         → ArePlayed script capacity workers.now.count parts world.entry answers.old.results answers.old.ends
         → IsPlayedOn script capacity workers.now.count parts round.now world.entry played answers.old.results answers.new.results answers.old.ends
         answers.new.ends) }
+    ensures bases { IfOk result (λ played. (bases : Bases) → AreBases bases (world.entry.nodes).items → AreBases bases (played.nodes).items) }
     ensures caused { OnOk result (answers.new.caused ≡ answers.old.caused) }
 {
     let alloc = workers.alloc;
@@ -117,7 +124,7 @@ fn play_round<'r, R: Threads + Wait + Sync + RandomSource + AllocGlobal, G: Gate
     Ok(world)
 }
 
-// Both parts of the round of a number: its rules are asked between them.
+// Both parts of the round of a number. Its participants restart before anything else, and its rules are asked between the parts.
 fn play_both<
     'r,
     R: Threads + Wait + Sync + RandomSource + AllocGlobal,
@@ -126,7 +133,7 @@ fn play_both<
 >(
     workers: &Workers<'_, R, G>,
     natives: &'r NativeList,
-    plan: &RunPlan<'_>,
+    plan: &RunPlan<'r>,
     number: u32,
     rules: &mut Rules<A>,
     played: PlayedRounds<'r>,
@@ -137,21 +144,27 @@ fn play_both<
     requires played { RoundsArePlayed (A.may_answer rules.old.answer) (script_with plan.now.setup.now rules.old.rules plan.now.rounds.now)
         plan.now.capacity workers.now.count number played.world (fired_by rules.old) (played.answers).results (played.answers).ends
         (played.answers).caused }
+    requires pruned { ArePrunedBy (script_with plan.now.setup.now rules.old.rules plan.now.rounds.now) (take number plan.now.rounds.now)
+        (played.answers).ends played.world }
     ensures rules { (rules.new.rules ≡ rules.old.rules) × (rules.new.answer ≡ rules.old.answer) }
     ensures played { IfOk result (λ after. RoundsArePlayed (A.may_answer rules.old.answer)
         (script_with plan.now.setup.now rules.old.rules plan.now.rounds.now) plan.now.capacity workers.now.count (number + 1) after.world
         (fired_by rules.new) (after.answers).results (after.answers).ends (after.answers).caused) }
+    ensures pruned { IfOk result (λ after. ArePrunedBy (script_with plan.now.setup.now rules.old.rules plan.now.rounds.now)
+        (take (number + 1) plan.now.rounds.now) (after.answers).ends after.world) }
 {
     let alloc = workers.alloc;
     let round = &plan.rounds.as_slice()[number as usize];
     let PlayedRounds { world, mut answers } = played;
+    let mut world = world;
+    restart(alloc, plan.setup, &mut world, &round.restarts)?;
     let mut world = play_round(workers, natives, plan.setup, world, round, &mut answers)?;
     let caused = ask_rules(alloc, &mut world, rules, round, number)?;
     play_caused(alloc, natives, &mut world, round, caused, &mut answers)?;
     Ok(PlayedRounds { world, answers })
 }
 
-/// Plays the rounds of a script on its new synchroniser, both parts of each.
+/// Plays the rounds of a script on its new synchroniser, both parts of each, once the participants that restart in it have done so.
 pub fn play_rounds<
     'r,
     R: Threads + Wait + Sync + RandomSource + AllocGlobal,
@@ -160,7 +173,7 @@ pub fn play_rounds<
 >(
     workers: &Workers<'_, R, G>,
     natives: &'r NativeList,
-    plan: &RunPlan<'_>,
+    plan: &RunPlan<'r>,
     rules: &mut Rules<A>,
     world: World<'r>,
 ) -> Result<PlayedRounds<'r>, AllocError>
@@ -168,9 +181,12 @@ pub fn play_rounds<
     requires room { plan.now.capacity ≤ MOST_PLACES }
     requires played { RoundsArePlayed (A.may_answer rules.old.answer) (script_with plan.now.setup.now rules.old.rules plan.now.rounds.now)
         plan.now.capacity workers.now.count 0 world (fired_by rules.old) [] [] [] }
-    ensures { IfOk result (λ played. RoundsArePlayed (A.may_answer rules.old.answer)
+    requires pruned { ArePrunedBy (script_with plan.now.setup.now rules.old.rules plan.now.rounds.now) [] [] world }
+    ensures played { IfOk result (λ played. RoundsArePlayed (A.may_answer rules.old.answer)
         (script_with plan.now.setup.now rules.old.rules plan.now.rounds.now) plan.now.capacity workers.now.count (length plan.now.rounds.now)
         played.world (fired_by rules.new) (played.answers).results (played.answers).ends (played.answers).caused) }
+    ensures pruned { IfOk result (λ played. ArePrunedBy (script_with plan.now.setup.now rules.old.rules plan.now.rounds.now) plan.now.rounds.now
+        (played.answers).ends played.world) }
 {
     let alloc = workers.alloc;
     let mut played = PlayedRounds {

@@ -1,10 +1,11 @@
 //! A whole script, from an empty log on.
-ghost use Rattle.std.specs.Prelude.{◌≡◌, ◌≤◌, [], IfOk, length, map};
-ghost use Rattle.commitment_text.specs.Knowledge.{each_knowledge, knowledge_of};
+ghost use Rattle.std.specs.Prelude.{◌≡◌, ◌≤◌, [], IfOk, map};
+ghost use Rattle.commitment_text.specs.Knowledge.{KnowAlike, knowledge_of};
 ghost use Rattle.ledger_terms.specs.declared.limits.TheConstants.{MOST_PLACES};
-ghost use Rattle.node_core.specs.Views.{view_of, views_over};
 ghost use Rattle.script_read.specs.Kept.{IsAccepted};
-ghost use Rattle.canton_run.specs.Run.{IsRun, reading_for, script_with};
+ghost use Rattle.canton_run.specs.Jobs.{knowledge_in, views_in};
+ghost use Rattle.canton_run.specs.Restarts.{view_in};
+ghost use Rattle.canton_run.specs.Run.{IsRun, script_with};
 
 use crate::log_copy::log_of;
 use crate::played::{Played, RunRecord};
@@ -44,12 +45,10 @@ pub fn run_script<
     requires fresh { rules.old.fired ≡ [] }
     ensures run { IfOk result (λ played. IsRun (A.may_answer rules.old.answer) (script_with plan.now.setup.now rules.old.rules plan.now.rounds.now)
         plan.now.capacity workers.now.count (played.record).log (played.record).results (played.record).ends (played.record).caused) }
-    ensures views { IfOk result (λ played. map view_of (played.nodes).items
-        ≡ views_over (reading_for (script_with plan.now.setup.now rules.old.rules plan.now.rounds.now)) plan.now.setup.now.topology.params
-        (played.record).log (length plan.now.setup.now.topology.hosts)) }
-    ensures knowledge { IfOk result (λ played. map knowledge_of (played.nodes).items
-        ≡ each_knowledge (reading_for (script_with plan.now.setup.now rules.old.rules plan.now.rounds.now)) plan.now.setup.now.topology.params
-        (played.record).log (length plan.now.setup.now.topology.hosts)) }
+    ensures views { IfOk result (λ played. map (view_in plan.now.rounds.now) (played.nodes).items
+        ≡ views_in (script_with plan.now.setup.now rules.old.rules plan.now.rounds.now) (played.record).log (played.record).ends) }
+    ensures knowledge { IfOk result (λ played. KnowAlike (map knowledge_of (played.nodes).items)
+        (knowledge_in (script_with plan.now.setup.now rules.old.rules plan.now.rounds.now) (played.record).log (played.record).ends)) }
 {
     // the prover learns from these calls that there is a machine, and of what the requests of submissions are
     prepared_requests_make_a_machine();

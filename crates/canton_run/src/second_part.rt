@@ -4,6 +4,7 @@ ghost use Rattle.ledger_terms.specs.declared.submission.Submission.{Submission a
 ghost use Rattle.ledger_terms.specs.declared.topology.Topology.{Topology};
 ghost use Rattle.ledger_model.specs.Terms.{ParticipantId as Participant};
 ghost use Rattle.lang_eval.specs.Found.{Packages};
+ghost use Rattle.node_core.specs.Bases.{AreBases, Bases};
 ghost use Rattle.node_core.specs.Machines.{why_of};
 ghost use Rattle.node_core.specs.declared.submit_result.SubmitResult.{SubmitResult as Answer};
 ghost use Rattle.node_core.specs.declared.submit_result.SubmitResult.TheVariants.{Refused};
@@ -56,6 +57,7 @@ pub fn ask_rules<A: Answering>(
         → IsWorldOf m state world.new × Lawful m (world_of state world.new)) }
     ensures set_up { OnOk result ((topology : Topology) (packages : Packages) → AreSetUp topology packages (world.old.nodes).items
         → AreSetUp topology packages (world.new.nodes).items) }
+    ensures bases { OnOk result ((bases : Bases) → AreBases bases (world.old.nodes).items → AreBases bases (world.new.nodes).items) }
     ensures paused { OnOk result (ArePaused round.now.paused (world.new.nodes).items) }
     ensures rules { (rules.new.rules ≡ rules.old.rules) × (rules.new.answer ≡ rules.old.answer) }
     ensures asked { IfOk result (λ caused. (m : Machine) (state : MediatorState) (fired : FiredRound) (earlier : List Caused)
@@ -101,6 +103,7 @@ fn submit_one(
         → IsWorldOf m state world.new × Lawful m (world_of state world.new) }
     ensures set_up { (topology : Topology) (packages : Packages) → AreSetUp topology packages (world.old.nodes).items
         → AreSetUp topology packages (world.new.nodes).items }
+    ensures bases { (bases : Bases) → AreBases bases (world.old.nodes).items → AreBases bases (world.new.nodes).items }
     ensures paused { (paused : List Participant) → ArePaused paused (world.old.nodes).items → ArePaused paused (world.new.nodes).items }
     ensures answers { IfOk result (λ answer. IsPlainResult answer × IsAnsweredBy answer world.old what.now world.new) }
 {
@@ -134,6 +137,7 @@ fn submit_caused(
         → IsWorldOf m state world.new × Lawful m (world_of state world.new)) }
     ensures set_up { OnOk result ((topology : Topology) (packages : Packages) → AreSetUp topology packages (world.old.nodes).items
         → AreSetUp topology packages (world.new.nodes).items) }
+    ensures bases { OnOk result ((bases : Bases) → AreBases bases (world.old.nodes).items → AreBases bases (world.new.nodes).items) }
     ensures answers { OnOk result ((answers : List Answer) × (results.new ≡ results.old ++ answers)
         × (length answers ≡ length (submissions_in caused.now)) × All IsPlainResult answers
         × ((m : Machine) (state : MediatorState) (topology : Topology) (packages : Packages) (round : PartRound) → IsWorldOf m state world.old
@@ -178,6 +182,7 @@ pub fn play_caused<'r>(
         → (after : MediatorState) × IsWorldOf m after world.new × Lawful m (world_of after world.new)) }
     ensures set_up { OnOk result ((topology : Topology) (packages : Packages) → AreSetUp topology packages (world.old.nodes).items
         → AreSetUp topology packages (world.new.nodes).items) }
+    ensures bases { OnOk result ((bases : Bases) → AreBases bases (world.old.nodes).items → AreBases bases (world.new.nodes).items) }
     ensures answers { OnOk result ((own : List Answer) × (answers.new.results ≡ answers.old.results ++ own)
         × (length own ≡ length (submissions_in caused)) × All IsPlainResult own
         × ((m : Machine) (state : MediatorState) (topology : Topology) (packages : Packages) → IsWorldOf m state world.old

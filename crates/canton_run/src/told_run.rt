@@ -66,7 +66,7 @@ pub fn told_run<
     ensures ran { IfOk result (λ run. IsRun (A.may_answer answer) given.script (capacity_of job) workers.now.count (run.record).log
         (run.record).results (run.record).ends (run.record).caused) }
     ensures text { IfOk result (λ run. run.text ≡ told_text job given.bytes given.script (run.record).log (run.record).results
-        (run.record).caused) }
+        (run.record).ends (run.record).caused) }
     ensures spelled { (count log : ℕ) → job ≡ Dump count log → IfOk result (λ run. IsBlock given.bytes × All IsTyped (run.record).log) }
 {
     let ScriptParts {

@@ -2,6 +2,7 @@
 use denote.Param.Send.{IsSend, IsSync, sendable}
 use denote.Param.SendFields.{as_row_send, as_row_sync, declared_send, declared_sync, variants_send, variants_sync}
 use Rattle.std.proofs.Crossing.{crosses}
+use Rattle.std.proofs.option.Option.TheSendSync as option
 use Rattle.ledger_terms.proofs.act.Act.TheSendSync as act
 use Rattle.ledger_terms.proofs.action.Action.TheSendSync as action
 use Rattle.ledger_terms.proofs.hash.Hash.TheSendSync as hash
@@ -16,6 +17,7 @@ use Rattle.view_split.specs.contracts.core_node.CoreChildList as CoreChildList
 use Rattle.view_split.specs.contracts.split_view.SplitView as SplitView
 use Rattle.view_split.specs.contracts.placed_view.PlacedView as PlacedView
 use Rattle.view_split.specs.contracts.opened_tree.OpenedTree as OpenedTree
+use Rattle.canton_model.proofs.shared_bytes.SharedBytes.TheSendSync as shared_bytes
 use Rattle.canton_model.proofs.verdict.Verdict.TheSendSync as verdict
 use Rattle.confirm_reply.specs.contracts.shared_tree.SharedTree as SharedTree
 use Rattle.confirm_reply.proofs.id_facts.IdFacts.TheSendSync as id_facts
@@ -99,10 +101,13 @@ kept_request_send =
             (
               search (sendable, crosses, list.the_send, as_row_send) depth 20,
               (
-                kept_offer_send,
+                search (sendable, crosses, option.the_field_send, shared_bytes.the_send, as_row_send) depth 20,
                 (
-                  search (sendable, crosses, change.the_send, as_row_send) depth 20,
-                  (search (sendable, crosses, list.the_send, id_facts.the_send, as_row_send) depth 20, tt),
+                  kept_offer_send,
+                  (
+                    search (sendable, crosses, change.the_send, as_row_send) depth 20,
+                    (search (sendable, crosses, list.the_send, id_facts.the_send, as_row_send) depth 20, tt),
+                  ),
                 ),
               ),
             ),
@@ -124,10 +129,13 @@ kept_request_sync =
             (
               search (sendable, crosses, list.the_sync, as_row_sync) depth 20,
               (
-                kept_offer_sync,
+                search (sendable, crosses, option.the_field_sync, shared_bytes.the_sync, as_row_sync) depth 20,
                 (
-                  search (sendable, crosses, change.the_sync, as_row_sync) depth 20,
-                  (search (sendable, crosses, list.the_sync, id_facts.the_sync, as_row_sync) depth 20, tt),
+                  kept_offer_sync,
+                  (
+                    search (sendable, crosses, change.the_sync, as_row_sync) depth 20,
+                    (search (sendable, crosses, list.the_sync, id_facts.the_sync, as_row_sync) depth 20, tt),
+                  ),
                 ),
               ),
             ),

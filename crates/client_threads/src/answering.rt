@@ -1,5 +1,5 @@
 //! What comes of one submission.
-ghost use Rattle.std.specs.Prelude.{◌≡◌, ◌+◌, ◌∷◌, [], Some, IfOk};
+ghost use Rattle.std.specs.Prelude.{◌≡◌, ◌+◌, ◌≤◌, ◌∷◌, [], Some, IfOk};
 ghost use Rattle.lang_eval.specs.Named.{AreKnown};
 ghost use Rattle.sealed_form.specs.Within.{is_hosted};
 ghost use Rattle.node_core.specs.declared.submit_result.SubmitResult.TheVariants.{Sent};
@@ -25,6 +25,7 @@ fn sent<'r, S: Session, R: Wait>(
     ticket: Ticket<'r>,
 ) -> Result<SubmitResult, AllocError>
     requires ticket { (ticket.row ≡ S.history) × (ticket.me ≡ client.old.me) }
+    requires base { S.bases client.old.me ≤ ticket.place }
     ensures sent { IfOk result (λ answer. answer ≡ Sent ticket.entry.place ticket.entry.read_to) }
     ensures seen { IsPrefix client.old.list client.new.list }
     ensures client { (client.new.tickets ≡ client.old.tickets) × (client.new.me ≡ client.old.me) }

@@ -1,3 +1,5 @@
+pub mod FromBases
 mod Agreeing
 mod Asking
 mod NextPairs
+pub mod Knows

@@ -1,6 +1,6 @@
 -- The text of commitments: for each two participants how far both know the log, how many contracts each of them shares with the other
--- there, and whether they commit to the same ones.
-use Rattle.std.specs.Prelude.{ℕ, List, [], ◌∷◌, ◌++◌, codes, decimal, length, min, Option, None, Some}
+-- there, and whether they commit to the same ones; or that one of them has forgotten what was active there.
+use Rattle.std.specs.Prelude.{ℕ, List, [], ◌∷◌, ◌++◌, codes, decimal, length, max, min, nat_lt, Option, None, Some, if◌then◌else◌}
 use Rattle.std.specs.List.{flat_map}
 use Rattle.ledger_terms.specs.Parties.{set_of}
 use Rattle.ledger_terms.specs.declared.host.Host.{Host}
@@ -26,6 +26,10 @@ agreement mine theirs = agreement_text (first_difference (set_of mine) (set_of t
 abbrev pub place_text : (one other : List ℕ) → (place : ℕ) → List ℕ
 place_text one other place = codes "pair " ++ one ++ codes " " ++ other ++ codes " at " ++ decimal place
 
+-- `pair P Q pruned N`
+abbrev pub pruned_text : (one other : List ℕ) → (base : ℕ) → List ℕ
+pruned_text one other base = codes "pair " ++ one ++ codes " " ++ other ++ codes " pruned " ++ decimal base ++ codes "\n"
+
 abbrev pub counts_text : (mine theirs : ℕ) → List ℕ
 counts_text mine theirs = codes " count " ++ decimal mine ++ codes " " ++ decimal theirs ++ codes " "
 
@@ -45,8 +49,17 @@ pair_at reading one other place =
 abbrev pub place_of : (one other : Counterparty) → ℕ
 place_of one other = min (one.knowledge).clean (other.knowledge).clean
 
+-- the greater of both bases
+abbrev pub base_of : (one other : Counterparty) → ℕ
+base_of one other = max (one.knowledge).base (other.knowledge).base
+
+-- the line of two participants at a place, which may be below the greater of their bases
+abbrev pub pair_since : Reading → (one other : Counterparty) → (base place : ℕ) → List ℕ
+pair_since reading one other base place =
+    if nat_lt place base then pruned_text one.name other.name base else pair_at reading one other place
+
 abbrev pub pair_text : Reading → (one other : Counterparty) → List ℕ
-pair_text reading one other = pair_at reading one other (place_of one other)
+pair_text reading one other = pair_since reading one other (base_of one other) (place_of one other)
 
 -- each with each that comes after it
 abbrev pub pairs_text : Reading → List Counterparty → List ℕ

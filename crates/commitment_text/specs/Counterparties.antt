@@ -13,9 +13,10 @@ pub record Counterparty : Type 0 where
   pub name : List ℕ
   pub knowledge : Knowledge
 
--- a participant with what it knows over a whole log
-abbrev pub counterparty_over : Reading → Params → List Entry → ParticipantId → (name : List ℕ) → Counterparty
-counterparty_over reading params log p name = record { number = p; name = name; knowledge = knowledge_over reading params p (inbox reading p log) }
+-- a participant with what it knows over a whole log, pruned to a base
+abbrev pub counterparty_over : Reading → Params → List Entry → ParticipantId → (name : List ℕ) → (base : ℕ) → Counterparty
+counterparty_over reading params log p name base =
+    record { number = p; name = name; knowledge = knowledge_over reading params p base (inbox reading p log) }
 
 -- each participant, from this one on, with what it knows
 abbrev pub counterparties_from : ParticipantId → List Host → List Knowledge → List Counterparty

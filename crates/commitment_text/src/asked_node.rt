@@ -39,7 +39,8 @@ impl<'n, 's> Model for AskedNode<'n, 's> {
     ghost invariant = { λ n. AreActiveAt n.node.now n.asked.items };
 }
 
-// What a participant has at the places at which it is compared with the others: the lesser of both clean places.
+// What a participant has at the places at which it is compared with the others: the lesser of both clean places, where that isn't below
+// a base.
 fn asked_beside(
     alloc: Global,
     node: &Node<'_>,
@@ -50,9 +51,11 @@ fn asked_beside(
 {
     let mut asked = Vec::new(alloc);
     let clean = node.clean();
+    let base = node.base();
     for (at, other) in nodes.iter().enumerate() {
-        if at != number {
-            ask(alloc, node, clean.min(other.clean()), &mut asked)?;
+        let place = clean.min(other.clean());
+        if at != number && base.max(other.base()) <= place {
+            ask(alloc, node, place, &mut asked)?;
         }
     }
     Ok(asked)
@@ -82,6 +85,14 @@ impl<'n, 's> AskedNode<'n, 's> {
         ensures { result ≡ self.now.name }
     {
         self.name
+    }
+
+    /// Its base.
+    pub(crate) fn base(&self) -> u64
+        ensures { result ≡ (knowledge_of self.now.node).base }
+    {
+        let node = self.node;
+        node.base()
     }
 
     /// Its clean place.

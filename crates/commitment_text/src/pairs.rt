@@ -3,7 +3,8 @@ ghost use Rattle.std.specs.Prelude.{◌≡◌, ◌++◌, map, OnOk, string_bytes
 ghost use Rattle.std.specs.List.{flat_map};
 ghost use Rattle.framed_form.specs.FramedReading.{framed_reading};
 ghost use Rattle.commitment_text.specs.Asked.{counterparty_of};
-ghost use Rattle.commitment_text.specs.Commitments.{agreement, agreement_text, counts_text, pair_text, pairs_text, place_of, place_text, shared_text};
+ghost use Rattle.commitment_text.specs.Commitments.{agreement, agreement_text, base_of, counts_text, pair_at, pair_text, pairs_text, place_of};
+ghost use Rattle.commitment_text.specs.Commitments.{place_text, pruned_text, shared_text};
 
 use crate::asked_node::AskedNode;
 use acs_commit::CommitTree;
@@ -66,6 +67,46 @@ fn place_of(one: &AskedNode<'_, '_>, other: &AskedNode<'_, '_>) -> u64
     one.clean().min(other.clean())
 }
 
+// The greater of both bases.
+fn base_of(one: &AskedNode<'_, '_>, other: &AskedNode<'_, '_>) -> u64
+    ensures { result ≡ base_of (counterparty_of one.now) (counterparty_of other.now) }
+{
+    one.base().max(other.base())
+}
+
+// Puts that one of two participants has forgotten the place at which they would be compared.
+fn put_pruned(
+    out: &mut String,
+    one: &AskedNode<'_, '_>,
+    other: &AskedNode<'_, '_>,
+    base: u64,
+) -> Result<(), AllocError>
+    ensures { OnOk result (string_bytes out.new ≡ string_bytes out.old ++ pruned_text one.now.name other.now.name base) }
+{
+    let (one, other) = (one.name(), other.name());
+    let one = one.as_str();
+    let other = other.as_str();
+    write!(out, "pair {one} {other} pruned {base}\n")
+}
+
+// Puts what two participants share at a place.
+fn put_pair_at(
+    alloc: Global,
+    out: &mut String,
+    setup: &Setup,
+    one: &AskedNode<'_, '_>,
+    other: &AskedNode<'_, '_>,
+    place: u64,
+) -> Result<(), AllocError>
+    ensures { OnOk result (string_bytes out.new ≡ string_bytes out.old
+        ++ pair_at (framed_reading setup.now.topology setup.now.checked) (counterparty_of one.now) (counterparty_of other.now) place) }
+{
+    let mine = one.ids_shared(alloc, setup, other, place)?;
+    let theirs = other.ids_shared(alloc, setup, one, place)?;
+    put_place(out, one, other, place)?;
+    put_shared(out, &mine, &theirs)
+}
+
 fn put_pair(
     alloc: Global,
     out: &mut String,
@@ -77,10 +118,11 @@ fn put_pair(
         ++ pair_text (framed_reading setup.now.topology setup.now.checked) (counterparty_of one.now) (counterparty_of other.now)) }
 {
     let place = place_of(one, other);
-    let mine = one.ids_shared(alloc, setup, other, place)?;
-    let theirs = other.ids_shared(alloc, setup, one, place)?;
-    put_place(out, one, other, place)?;
-    put_shared(out, &mine, &theirs)
+    let base = base_of(one, other);
+    if place < base {
+        return put_pruned(out, one, other, base);
+    }
+    put_pair_at(alloc, out, setup, one, other, place)
 }
 
 fn put_pairs_with(

@@ -8,7 +8,7 @@ pub mod Placed
 mod Trying
 mod ShownAt
 mod Verdicts
-pub mod AtPlace
+pub mod ByKnown
 mod Answered
 mod CoreSteps
 mod FindSteps
@@ -19,7 +19,7 @@ mod NumberSteps
 pub mod Checked
 pub mod Checkable
 pub mod Covered
-pub mod FactsAt
+pub mod KnownFacts
 mod Sure
 mod Ready
 mod EachPlace

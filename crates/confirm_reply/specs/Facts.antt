@@ -4,9 +4,8 @@ use Rattle.std.specs.Str.{bytes_eq}
 use Rattle.ledger_model.specs.Terms.{Act, Hash, ParticipantId, id_of}
 use Rattle.ledger_model.specs.declared.status.Status.{Status}
 use Rattle.ledger_model.specs.declared.status.Status.TheVariants.{Unknown}
-use Rattle.ledger_terms.specs.declared.params.Params.{Params}
 use Rattle.canton_model.specs.Reading.{Reading}
-use Rattle.canton_model.specs.Inbox.{Item, has_hosted_stakeholder, is_locked_in_inbox, status_in_inbox}
+use Rattle.canton_model.specs.Inbox.{has_hosted_stakeholder}
 use Rattle.confirm_reply.specs.declared.id_facts.IdFacts.{IdFacts}
 
 -- the first fact on a contract
@@ -28,16 +27,15 @@ known_status facts c = status_of (fact_on facts c)
 abbrev pub is_known_locked : List IdFacts → Hash → Bool
 is_known_locked facts c = lock_of (fact_on facts c)
 
--- the first k + 1 items of an inbox say it
-pub record IsFactAt (reading : Reading) (params : Params) (items : List Item) (k : ℕ) (fact : IdFacts) : Type 0 where
-  pub status : fact.status ≡ status_in_inbox reading items k fact.id
-  pub locked : fact.locked ≡ is_locked_in_inbox reading params items k fact.id
+-- it says of its contract what is known of it, and whether a request holds it
+pub record IsFactOf (known : Hash → Status) (held : Hash → Bool) (fact : IdFacts) : Type 0 where
+  pub status : fact.status ≡ known fact.id
+  pub locked : fact.locked ≡ held fact.id
 
--- Of each contract with a hosted stakeholder among the actions of a core that have roles the facts say what the first k + 1 items of an
--- inbox say.
-pub record AreAsAt (reading : Reading) (params : Params) (p : ParticipantId) (items : List Item) (k : ℕ) (facts : List IdFacts)
+-- Of each contract with a hosted stakeholder among the actions of a core that have roles the facts say what is known of it.
+pub record AreKnown (reading : Reading) (p : ParticipantId) (known : Hash → Status) (held : Hash → Bool) (facts : List IdFacts)
     (core : List (ℕ × Act)) : Type 0 where
   pub status : (a : ℕ × Act) → Contains core a → (reading.language).has_roles (a.1).action ≡ true → has_hosted_stakeholder reading p a.1 ≡ true
-      → known_status facts (id_of (a.1).action) ≡ status_in_inbox reading items k (id_of (a.1).action)
+      → known_status facts (id_of (a.1).action) ≡ known (id_of (a.1).action)
   pub locked : (a : ℕ × Act) → Contains core a → (reading.language).has_roles (a.1).action ≡ true → has_hosted_stakeholder reading p a.1 ≡ true
-      → is_known_locked facts (id_of (a.1).action) ≡ is_locked_in_inbox reading params items k (id_of (a.1).action)
+      → is_known_locked facts (id_of (a.1).action) ≡ held (id_of (a.1).action)

@@ -1,18 +1,19 @@
 -- The verdicts of a check.
-use Rattle.std.specs.Prelude.{◌≡◌, ℕ, List, Option, Some, None, slice_get}
+use Rattle.std.specs.Prelude.{◌≡◌, ℕ, Bool, List, Option, Some, None}
 use Rattle.ledger_model.specs.Opening.{OpenedView}
 use Rattle.ledger_model.specs.Opening as opening
-use Rattle.ledger_model.specs.Terms.{ParticipantId, Path}
+use Rattle.ledger_model.specs.Terms.{Hash, ParticipantId, Path}
+use Rattle.ledger_model.specs.declared.status.Status.{Status}
 use Rattle.ledger_terms.specs.declared.params.Params.{Params}
 use Rattle.canton_model.specs.declared.local_verdict.LocalVerdict.{LocalVerdict}
 use Rattle.canton_model.specs.declared.local_verdict.LocalVerdict.TheVariants.{Reject}
 use Rattle.canton_model.specs.declared.reason.Reason.TheVariants.{ViewMissing}
-use Rattle.canton_model.specs.Checks.{verdict_by, verdict_on_offer}
-use Rattle.canton_model.specs.Inbox.{Item, item_time}
+use Rattle.canton_model.specs.Checks.{verdict_by}
 use Rattle.canton_model.specs.Reading.{Offer, Reading}
+use Rattle.pruned_inbox.specs.Start.{verdict_in_offer}
 use Rattle.view_split.specs.Placed.{shown_by}
 use Rattle.view_split.specs.declared.opened_tree.OpenedTree.{OpenedTree}
-use Rattle.confirm_reply.specs.Facts.{AreAsAt, known_status, is_known_locked}
+use Rattle.confirm_reply.specs.Facts.{AreKnown, known_status, is_known_locked}
 use Rattle.confirm_reply.specs.LocalReading.{local_reading}
 use Rattle.confirm_reply.specs.Offered.{IsGivenBy}
 use Rattle.confirm_reply.specs.Opened.{CanBeChecked, view_at}
@@ -49,18 +50,16 @@ verdict_of_opened input found =
     verdict_on_found (reading_by input) input.setup.now.topology.params input.me input.sender input.time input.facts.now
     (shown_by input.tree.now) found
 
--- the model's verdict on what an envelope gives, at a place of an inbox
-abbrev pub verdict_at : CheckInput → List Item → ℕ → Path → Offer → LocalVerdict
-verdict_at input items k path offer =
-    verdict_on_offer (reading_of input) input.setup.now.topology.params input.me items k input.sender path offer
+-- the model's verdict on what an envelope gives, by what is known of contracts
+abbrev pub verdict_by_known : CheckInput → (Hash → Status) → (Hash → Bool) → Path → Offer → LocalVerdict
+verdict_by_known input known held path offer =
+    verdict_in_offer (reading_of input) input.setup.now.topology.params input.me input.sender input.time known held path offer
 
--- The time is that of item k, what is shown is what an envelope gives, and where that opens the view, the facts on the contracts
--- of its core are what the items up to that one say.
-pub record IsAtPlace (input : CheckInput) (items : List Item) (k : ℕ) (path : Path) (offer : Offer) : Type 0 where
-  pub time : input.time ≡ item_time (slice_get items k)
+-- What is shown is what an envelope gives, and where that opens the view, the facts on the contracts of its core are what is known of them.
+pub record IsGivenKnown (input : CheckInput) (known : Hash → Status) (held : Hash → Bool) (path : Path) (offer : Offer) : Type 0 where
   pub given : IsGivenBy offer input.shown
   pub facts : (tree : OpenedTree) (view : OpenedView) → input.shown ≡ Open tree → view_at path tree ≡ Some view
-      → AreAsAt (reading_of input) input.setup.now.topology.params input.me items k input.facts view.core
+      → AreKnown (reading_of input) input.me known held input.facts view.core
 
 -- what is asked of a view that is opened, before it is checked
 abbrev pub CanCheck : CheckInput → Path → Type 0

@@ -1,11 +1,11 @@
 //! Laws of checks, each the contract of a function with nothing to do.
-ghost use Rattle.std.specs.Prelude.{◌≡◌, ◌≤◌, ℕ, true, All, Contains, IsSome, List, length};
+ghost use Rattle.std.specs.Prelude.{◌≡◌, ◌≤◌, ℕ, Bool, true, All, Contains, IsSome, List, length};
 ghost use Rattle.ledger_terms.specs.declared.act.Act.{Act};
 ghost use Rattle.ledger_model.specs.Forest.{acts};
 ghost use Rattle.ledger_model.specs.Opening.{OpenedView};
-ghost use Rattle.ledger_model.specs.Terms.{ParticipantId, Path, id_of, instance_of};
-ghost use Rattle.ledger_terms.specs.declared.params.Params.{Params};
-ghost use Rattle.canton_model.specs.Inbox.{Item, has_hosted_stakeholder};
+ghost use Rattle.ledger_model.specs.Terms.{Hash, ParticipantId, Path, id_of, instance_of};
+ghost use Rattle.ledger_model.specs.declared.status.Status.{Status};
+ghost use Rattle.canton_model.specs.Inbox.{has_hosted_stakeholder};
 ghost use Rattle.canton_model.specs.Reading.{Reading};
 ghost use Rattle.lang_eval.specs.Found.{Packages};
 ghost use Rattle.lang_eval.specs.Language.{has_roles};
@@ -15,7 +15,7 @@ ghost use Rattle.view_split.specs.Numbered.{map_forest};
 ghost use Rattle.view_split.specs.Placed.{placed_forest, shown_by};
 ghost use Rattle.view_split.specs.declared.split_view.SplitView.{SplitView};
 ghost use Rattle.view_split.specs.declared.opened_tree.OpenedTree.{OpenedTree};
-ghost use Rattle.confirm_reply.specs.Facts.{AreAsAt, IsFactAt, fact_on};
+ghost use Rattle.confirm_reply.specs.Facts.{AreKnown, IsFactOf, fact_on};
 ghost use Rattle.confirm_reply.specs.Opened.{CanBeChecked};
 ghost use Rattle.confirm_reply.specs.declared.id_facts.IdFacts.{IdFacts};
 
@@ -32,12 +32,12 @@ pub fn opened_views_can_be_checked()
         → length view.core ≤ 65536 → CanBeChecked packages (shown_by tree) view }
 {}
 
-/// Facts are as at a place where each is one of the place, and there is one on each contract with a hosted stakeholder among the
+/// Facts say what is known where each is one of what is known, and there is one on each contract with a hosted stakeholder among the
 /// actions of the core that have roles.
-pub fn facts_of_a_place_are_as_at_it()
-    ensures { (reading : Reading) (params : Params) (p : ParticipantId) (items : List Item) (k : ℕ) (facts : List IdFacts) (core : List (ℕ × Act))
-        → All (IsFactAt reading params items k) facts
+pub fn facts_of_what_is_known_say_it()
+    ensures { (reading : Reading) (p : ParticipantId) (known : Hash → Status) (held : Hash → Bool) (facts : List IdFacts) (core : List (ℕ × Act))
+        → All (IsFactOf known held) facts
         → ((a : ℕ × Act) → Contains core a → (reading.language).has_roles (a.1).action ≡ true → has_hosted_stakeholder reading p a.1 ≡ true
         → IsSome (fact_on facts (id_of (a.1).action)))
-        → AreAsAt reading params p items k facts core }
+        → AreKnown reading p known held facts core }
 {}

@@ -1,7 +1,8 @@
 //! The local check of a view.
-ghost use Rattle.std.specs.Prelude.{◌≡◌, ◌≤◌, ℕ, All, List, Some, IfOk, length, option_map};
+ghost use Rattle.std.specs.Prelude.{◌≡◌, ◌≤◌, Bool, All, Some, IfOk, length, option_map};
 ghost use Rattle.ledger_model.specs.Opening.{OpenedView};
-ghost use Rattle.canton_model.specs.Inbox.{Item};
+ghost use Rattle.ledger_model.specs.Terms.{Hash};
+ghost use Rattle.ledger_model.specs.declared.status.Status.{Status};
 ghost use Rattle.canton_model.specs.Reading.{Offer};
 ghost use Rattle.view_split.specs.Placed.{shown_by};
 ghost use Rattle.confirm_reply.specs.Fit.{IsCheckableAt};
@@ -9,7 +10,7 @@ ghost use Rattle.confirm_reply.specs.Nodes.{trees_in};
 ghost use Rattle.confirm_reply.specs.Offered.{roots_shown};
 ghost use Rattle.confirm_reply.specs.Tried.{all_reasons, verdict_after};
 ghost use Rattle.confirm_reply.specs.Opened.{CanBeChecked, view_at};
-ghost use Rattle.confirm_reply.specs.Verdict.{CanCheck, IsAtPlace, verdict_at, verdict_of, verdict_of_opened};
+ghost use Rattle.confirm_reply.specs.Verdict.{CanCheck, IsGivenKnown, verdict_by_known, verdict_of, verdict_of_opened};
 
 use crate::check_input::CheckInput;
 use crate::cores::found_at;
@@ -48,8 +49,8 @@ pub fn check_view(
 ) -> Result<LocalVerdict, AllocError>
     requires checkable { CanCheck input.now view.now }
     ensures by_facts { IfOk result (λ verdict. verdict ≡ verdict_of input.now view.now) }
-    ensures at_place { IfOk result (λ verdict. (items : List Item) (k : ℕ) (offer : Offer) → IsAtPlace input.now items k view.now offer
-        → verdict ≡ verdict_at input.now items k view.now offer) }
+    ensures by_known { IfOk result (λ verdict. (known : Hash → Status) (held : Hash → Bool) (offer : Offer) → IsGivenKnown input.now known held view.now offer
+        → verdict ≡ verdict_by_known input.now known held view.now offer) }
 {
     let roots = put_together(alloc, input)?;
     check_view_among(alloc, natives, input, &roots, view)
@@ -66,8 +67,8 @@ pub fn check_view_among(
     requires together { roots.now ≡ roots_shown input.now.shown }
     requires checkable { CanCheck input.now view.now }
     ensures by_facts { IfOk result (λ verdict. verdict ≡ verdict_of input.now view.now) }
-    ensures at_place { IfOk result (λ verdict. (items : List Item) (k : ℕ) (offer : Offer) → IsAtPlace input.now items k view.now offer
-        → verdict ≡ verdict_at input.now items k view.now offer) }
+    ensures by_known { IfOk result (λ verdict. (known : Hash → Status) (held : Hash → Bool) (offer : Offer) → IsGivenKnown input.now known held view.now offer
+        → verdict ≡ verdict_by_known input.now known held view.now offer) }
 {
     match &input.shown {
         Shown::Fixed(reason) => Ok(LocalVerdict::Reject {

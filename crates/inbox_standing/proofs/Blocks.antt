@@ -24,7 +24,7 @@ use Rattle.inbox_standing.proofs.ByPlace.{is_at, by_place, AllBelow, below_both}
 use Rattle.inbox_standing.proofs.Grown.{moments_push, one_longer}
 use Rattle.inbox_standing.proofs.Outcomes.{verdict_same, verdict_new, verdict_first}
 
-created_append : (ps qs : List Placed) → created_rows (ps ++ qs) ≡ created_rows ps ++ created_rows qs
+pub created_append : (ps qs : List Placed) → created_rows (ps ++ qs) ≡ created_rows ps ++ created_rows qs
 created_append ps qs = ap (map row_for) (filter-append is_creation ps qs) ∙ map-append row_for (filter is_creation ps) (filter is_creation qs)
 
 rows_here : (k : ℕ) (as' : List Act) → created_rows (map (at_place k) as') ≡ created_at_place k as'
@@ -138,7 +138,7 @@ module _ (reading : Reading) (full : List Item) (k : ℕ) where
       ∙ after (before ++ x ∷ []) rest (whole ∙ sym (append_assoc before (x ∷ []) rest)) later
 
 module _ (reading : Reading) (items : List Item) (behind : VerdictsBehind 0 items) where
-  here : (k : ℕ) → filter (is_at k) (created_rows (changes_in reading items))
+  pub here : (k : ℕ) → filter (is_at k) (created_rows (changes_in reading items))
       ≡ created_at_place k (if is_approved_in k (moments items) then authentic_at reading items k else [])
   here k = after reading items k [] items refl behind
 

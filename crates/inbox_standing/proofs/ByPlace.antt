@@ -37,7 +37,7 @@ active_sorted (row ∷ rows) = by (active row) (active_sorted rows)
 
 -- ---- all below a place
 
-below_more : (m n : ℕ) (rows : List ActiveRow) → m ≤ n → AllBelow m rows → AllBelow n rows
+pub below_more : (m n : ℕ) (rows : List ActiveRow) → m ≤ n → AllBelow m rows → AllBelow n rows
 below_more m n [] h r = tt
 below_more m n (a ∷ rows) h r = (let k : a.created_at < m = r.0 in omega (arith, h, k), below_more m n rows h r.1)
 
@@ -152,3 +152,57 @@ longer a (b ∷ rows) = by (nat_le a.created_at b.created_at) (longer a rows)
 pub as_many : (rows : List ActiveRow) → length (sorted rows) ≡ length rows
 as_many [] = refl
 as_many (a ∷ rows) = longer a (sorted rows) ∙ ap suc (as_many rows)
+
+-- ---- rows in order, and later ones behind them
+
+abbrev pub Rises : List ActiveRow → Type 0
+Rises [] = Unit {0}
+Rises (a ∷ rows) = NotBefore a.created_at rows × Rises rows
+
+sorted_already : (rows : List ActiveRow) → Rises rows → sorted rows ≡ rows
+sorted_already [] r = refl
+sorted_already (a ∷ rows) r = ap (in_order a) (sorted_already rows r.1) ∙ front a rows r.0
+
+pub placed_already : (n : ℕ) (rows : List ActiveRow) → Rises rows → AllBelow n rows → by_place n rows ≡ rows
+placed_already n rows r below = sym (sorted_is n rows below) ∙ sorted_already rows r
+
+none_from : (b k : ℕ) (rows : List ActiveRow) → b ≤ k → AllBelow b rows → filter (is_at k) rows ≡ []
+none_from b k [] h r = refl
+none_from b k (a ∷ rows) h r =
+    ap (λ (t : Bool). cond t (a ∷ filter (is_at k) rows) (filter (is_at k) rows)) (ne_eqb a.created_at k (let lt = r.0 in λ e. omega (arith, lt, e, h)))
+    ∙ none_from b k rows h r.1
+
+none_below : (n : ℕ) (rows : List ActiveRow) → ((k : ℕ) → k < n → filter (is_at k) rows ≡ []) → by_place n rows ≡ []
+none_below zero rows h = refl
+none_below (suc k) rows h =
+    ap (λ (rs : List ActiveRow). rs ++ filter (is_at k) rows) (none_below k rows (λ j lt. h j (omega (arith, lt)))) ∙ h k (omega arith)
+
+-- what stands below a place, and what stands from there on
+pub placed_split : (b n : ℕ) (rows later : List ActiveRow) → b ≤ n → AllBelow b rows → ((k : ℕ) → k < b → filter (is_at k) later ≡ [])
+    → by_place n (rows ++ later) ≡ by_place b rows ++ by_place n later
+placed_split b zero rows later h below none = let bottom : b ≡ 0 = omega (arith, h) in rw bottom refl
+placed_split b (suc k) rows later h below none =
+    let here : filter (is_at k) (rows ++ later) ≡ filter (is_at k) rows ++ filter (is_at k) later = filter-append (is_at k) rows later in
+    elim (cases_eq b (suc k)) [
+      | inl top ↦
+          let before : by_place k (rows ++ later) ≡ by_place k rows = front_alone k (λ j lt. none j (omega (arith, lt, top))) in
+          ap (λ (rs : List ActiveRow). rs ++ filter (is_at k) (rows ++ later)) before
+          ∙ ap (λ (rs : List ActiveRow). by_place k rows ++ rs)
+          (here ∙ ap (λ (rs : List ActiveRow). filter (is_at k) rows ++ rs) (none k (omega (arith, top))) ∙ append-nil (filter (is_at k) rows))
+          ∙ ap (λ (j : ℕ). by_place j rows) (sym top)
+          ∙ sym (append-nil (by_place b rows))
+          ∙ ap (λ (rs : List ActiveRow). by_place b rows ++ rs) (sym (none_below (suc k) later (λ j lt. none j (omega (arith, lt, top)))))
+      | inr apart ↦
+          let far : b ≤ k = omega (arith, h, apart) in
+          ap (λ (rs : List ActiveRow). rs ++ filter (is_at k) (rows ++ later)) (placed_split b k rows later far below none)
+          ∙ ap (λ (rs : List ActiveRow). (by_place b rows ++ by_place k later) ++ rs)
+          (here ∙ ap (λ (rs : List ActiveRow). rs ++ filter (is_at k) later) (none_from b k rows far below))
+          ∙ append_assoc (by_place b rows) (by_place k later) (filter (is_at k) later)
+    ]
+  where
+    front_alone : (n : ℕ) → ((k : ℕ) → k < n → filter (is_at k) later ≡ []) → by_place n (rows ++ later) ≡ by_place n rows
+    front_alone zero none = refl
+    front_alone (suc k) none =
+        ap (λ (rs : List ActiveRow). rs ++ filter (is_at k) (rows ++ later)) (front_alone k (λ j lt. none j (omega (arith, lt))))
+        ∙ ap (λ (rs : List ActiveRow). by_place k rows ++ rs)
+        (filter-append (is_at k) rows later ∙ ap (λ (rs : List ActiveRow). filter (is_at k) rows ++ rs) (none k (omega arith)) ∙ append-nil (filter (is_at k) rows))

@@ -19,8 +19,9 @@ use Rattle.request_track.specs.CleanLaw.{is_open_at}
 use Rattle.request_track.specs.Pairs.{Pair, settled, expired, is_undecided, expire_one}
 use Rattle.request_track.specs.declared.tracked.Tracked.{Tracked}
 use Rattle.inbox_standing.specs.ChangeLists.{changes_of, hold_on, id_in, write_changes}
-use Rattle.inbox_standing.specs.Changes.{acts_of_verdict, authentic_at, approves_first, changes_in, placed_below}
+use Rattle.inbox_standing.specs.Changes.{acts_of_verdict, authentic_at, approves_first, changes_since, placed_below}
 use Rattle.inbox_standing.specs.Order.{IsInOrder}
+use Rattle.pruned_inbox.specs.Start.{Start}
 use Rattle.inbox_standing.specs.Requests.{told_time, decision_after, tracked_of, pairs_from, pairs_in}
 use Rattle.inbox_standing.specs.Standing.{Stands, Follows}
 use Rattle.inbox_standing.specs.Steps.{InStep, HoldsFollow}
@@ -148,20 +149,20 @@ module _ (params : Params) (items : List Item) where
       ∙ ap (λ (ms : List Moment). pairs_from params ms 0 (items ++ x ∷ []))
       (ap (λ (w : Option Verdict). moments items ++ record { time = x.time; verdict = w } ∷ []) (sym quiet') ∙ sym (moments_push items x))
 
-module _ (reading : Reading) (params : Params) (items : List Item) where
+module _ (reading : Reading) (params : Params) (start : Start) (items : List Item) where
   -- nothing comes
   pub follows_nothing : (x : Item) (old new : Stands) → is_received x.content ≡ false → verdict_in x.content ≡ None → x.time ≤ 2 ^ 64 - 1
-      → Follows reading params items old
+      → Follows reading params start items old
       → (new.store).rows ≡ (old.store).rows → (new.tracking).pairs ≡ expired x.time (old.tracking).pairs
       → HoldsFollow (old.tracking).pairs (new.tracking).pairs (old.store).holds (new.store).holds
-      → (new.tracking).cursor ≡ (old.tracking).cursor + 1 → Follows reading params (items ++ x ∷ []) new
+      → (new.tracking).cursor ≡ (old.tracking).cursor + 1 → Follows reading params start (items ++ x ∷ []) new
   follows_nothing x old new none quiet' fits f rows pairs holds cursor =
       let now : (new.tracking).pairs ≡ pairs_in params (items ++ x ∷ []) =
       pairs ∙ ap (expired x.time) f.pairs ∙ time_passed params items x.time fits ∙ pairs_nothing params items x none quiet' in
       let n = one_longer items x in
       let at = f.cursor in
       record {
-        rows = rows ∙ rows_same reading items x (old.store).rows quiet' f.rows;
+        rows = rows ∙ rows_same reading start items x (old.store).rows quiet' f.rows;
         holds = holds_same reading params items x (new.tracking).pairs (new.store).holds none now
             (holds (authentic_at reading items) (length items) (held_before reading params items (old.store).holds (old.tracking).pairs f.pairs f.holds));
         pairs = now;
@@ -170,10 +171,10 @@ module _ (reading : Reading) (params : Params) (items : List Item) where
 
   -- a verdict comes on a request that was told of before
   pub follows_later : (x : Item) (v : Verdict) (d : Decision) (old new : Stands) → is_received x.content ≡ false → verdict_in x.content ≡ Some v
-      → verdict_on v.request (moments items) ≡ Some d → x.time ≤ 2 ^ 64 - 1 → Follows reading params items old
+      → verdict_on v.request (moments items) ≡ Some d → x.time ≤ 2 ^ 64 - 1 → Follows reading params start items old
       → (new.store).rows ≡ (old.store).rows → (new.tracking).pairs ≡ expired x.time (old.tracking).pairs
       → HoldsFollow (old.tracking).pairs (new.tracking).pairs (old.store).holds (new.store).holds
-      → (new.tracking).cursor ≡ (old.tracking).cursor + 1 → Follows reading params (items ++ x ∷ []) new
+      → (new.tracking).cursor ≡ (old.tracking).cursor + 1 → Follows reading params start (items ++ x ∷ []) new
   follows_later x v d old new none some told fits f rows pairs holds cursor =
       let now : (new.tracking).pairs ≡ pairs_in params (items ++ x ∷ []) =
       pairs ∙ ap (expired x.time) f.pairs ∙ time_passed params items x.time fits ∙ pairs_later params items x v d none some told in
@@ -182,7 +183,7 @@ module _ (reading : Reading) (params : Params) (items : List Item) where
       let no : approves_first items v ≡ false = rw told refl in
       record {
         rows = rows ∙ ap (λ (b : Bool). write_changes v.request (changes_of (if b then authentic_at reading items v.request else [])) (old.store).rows) (sym no)
-            ∙ rows_written reading items x v (old.store).rows some f.rows;
+            ∙ rows_written reading start items x v (old.store).rows some f.rows;
         holds = holds_same reading params items x (new.tracking).pairs (new.store).holds none now
             (holds (authentic_at reading items) (length items) (held_before reading params items (old.store).holds (old.tracking).pairs f.pairs f.holds));
         pairs = now;
@@ -191,13 +192,13 @@ module _ (reading : Reading) (params : Params) (items : List Item) where
 
   -- the first verdict comes on a request: `mid` is what stands after the time has passed
   pub follows_verdict : (x : Item) (v : Verdict) (old mid new : Stands) → is_received x.content ≡ false → verdict_in x.content ≡ Some v
-      → verdict_on v.request (moments items) ≡ None → x.time ≤ 2 ^ 64 - 1 → IsInOrder items → Follows reading params items old
+      → verdict_on v.request (moments items) ≡ None → x.time ≤ 2 ^ 64 - 1 → IsInOrder items → Follows reading params start items old
       → (mid.store).rows ≡ (old.store).rows → (mid.tracking).pairs ≡ expired x.time (old.tracking).pairs
       → HoldsFollow (old.tracking).pairs (mid.tracking).pairs (old.store).holds (mid.store).holds
       → (new.store).rows ≡ write_changes v.request (changes_of (acts_of_verdict reading items v)) (mid.store).rows
       → (new.store).holds ≡ released v.request (mid.store).holds
       → (new.tracking).pairs ≡ settled v.request (kind_of (Decided v.decision)) (mid.tracking).pairs
-      → (new.tracking).cursor ≡ (old.tracking).cursor + 1 → Follows reading params (items ++ x ∷ []) new
+      → (new.tracking).cursor ≡ (old.tracking).cursor + 1 → Follows reading params start (items ++ x ∷ []) new
   follows_verdict x v old mid new none some first fits o f rows pairs holds rows' holds' pairs' cursor =
       let passed : (mid.tracking).pairs ≡ after_quiet params items x.time = pairs ∙ ap (expired x.time) f.pairs ∙ time_passed params items x.time fits in
       let settled' : settled v.request (kind_of (Decided v.decision)) (mid.tracking).pairs ≡ pairs_in params (items ++ x ∷ []) =
@@ -206,7 +207,7 @@ module _ (reading : Reading) (params : Params) (items : List Item) where
       let n = one_longer items x in
       let at = f.cursor in
       record {
-        rows = rows' ∙ ap (write_changes v.request (changes_of (acts_of_verdict reading items v))) rows ∙ rows_written reading items x v (old.store).rows some f.rows;
+        rows = rows' ∙ ap (write_changes v.request (changes_of (acts_of_verdict reading items v))) rows ∙ rows_written reading start items x v (old.store).rows some f.rows;
         holds = holds_same reading params items x (new.tracking).pairs (new.store).holds none (pairs' ∙ settled') (
             holds' ∙ released_settled v.request (kind_of (Decided v.decision)) (mid.tracking).pairs (decided_closed v.decision) step (authentic_at reading items) (length items)
             (mid.store).holds (holds (authentic_at reading items) (length items) (held_before reading params items (old.store).holds (old.tracking).pairs f.pairs f.holds))
@@ -233,14 +234,14 @@ module _ (reading : Reading) (params : Params) (items : List Item) where
 
   -- what stands once a request has come and time has passed, before it holds anything
   pub record Comes (x : Item) (stands : Stands) : Type 0 where
-    pub rows : (stands.store).rows ≡ written (changes_in reading items) []
+    pub rows : (stands.store).rows ≡ written (changes_since reading start items) []
     pub holds : (stands.store).holds ≡ holding (placed_below (is_open_at (stands.tracking).pairs) (authentic_at reading items) (length items))
     pub pairs : (stands.tracking).pairs ≡ pairs_in params (items ++ x ∷ [])
     pub cursor : (stands.tracking).cursor ≡ length items
 
   -- a request comes
   pub request_comes : (x : Item) (old begun mid : Stands) → is_received x.content ≡ true → verdict_in x.content ≡ None → x.time ≤ 2 ^ 64 - 1
-      → last_time items < x.time → IsInOrder items → Follows reading params items old
+      → last_time items < x.time → IsInOrder items → Follows reading params start items old
       → (begun.store).rows ≡ (old.store).rows → (begun.store).holds ≡ (old.store).holds
       → (begun.tracking).pairs ≡ (old.tracking).pairs
       ++ ((old.tracking).cursor, record { decision = told_time (decision_after params x.time); outcome = kind.Undecided }) ∷ []
@@ -271,17 +272,13 @@ module _ (reading : Reading) (params : Params) (items : List Item) where
       → (new.store).holds ≡ (mid.store).holds
       ++ map (hold_on (length items)) (map id_in (changes_of (filter reading.is_authentic (acts (roots_in (shown_in (Some x)))))))
       → (new.tracking).pairs ≡ (mid.tracking).pairs
-      → (new.tracking).cursor ≡ (mid.tracking).cursor + 1 → Follows reading params (items ++ x ∷ []) new
+      → (new.tracking).cursor ≡ (mid.tracking).cursor + 1 → Follows reading params start (items ++ x ∷ []) new
   follows_request x mid new got quiet' later o c rows holds pairs cursor =
       let n = one_longer items x in
       let at = c.cursor in
       record {
-        rows = rows ∙ rows_same reading items x (mid.store).rows quiet' c.rows;
+        rows = rows ∙ rows_same reading start items x (mid.store).rows quiet' c.rows;
         holds = holds ∙ holds_more reading params items x (mid.tracking).pairs (mid.store).holds (open_last (mid.tracking).pairs x c.pairs o later got quiet') c.pairs c.holds;
         pairs = pairs ∙ c.pairs;
         cursor = omega (arith, cursor, n, at);
       }
-
-pub follows_from_nothing : (reading : Reading) (params : Params) (new : Stands) → (new.store).rows ≡ [] → (new.store).holds ≡ [] → (new.tracking).pairs ≡ []
-    → (new.tracking).cursor ≡ 0 → Follows reading params [] new
-follows_from_nothing reading params new rows holds pairs cursor = record { rows = rows; holds = holds; pairs = pairs; cursor = cursor }

@@ -18,7 +18,8 @@ use Rattle.contract_store.specs.declared.row.StoreRow.{StoreRow}
 use Rattle.request_track.specs.CleanLaw.{is_open_at, is_open_item}
 use Rattle.request_track.specs.Pairs.{Pair}
 use Rattle.inbox_standing.specs.ChangeLists.{changes_of, hold_on, id_in, write_changes}
-use Rattle.inbox_standing.specs.Changes.{acts_of_verdict, authentic_at, approves_first, changes_of_verdict, changes_after, changes_in, placed_below, pending_changes}
+use Rattle.inbox_standing.specs.Changes.{acts_of_verdict, authentic_at, approves_first, changes_of_verdict, changes_after, changes_in, changes_since, creation_of, placed_below, pending_changes}
+use Rattle.pruned_inbox.specs.Start.{Start}
 use Rattle.inbox_standing.specs.Requests.{pairs_in}
 use Rattle.inbox_standing.proofs.PlacedBelow.{placed_same}
 use Rattle.inbox_standing.proofs.Tracked.{tracks}
@@ -63,10 +64,10 @@ module _ (reading : Reading) where
       → changes_in reading (items ++ x ∷ []) ≡ changes_in reading items ++ changes_of_verdict reading items (verdict_in x.content)
   changes_push items x = after_push [] items x
 
-  pub rows_same : (items : List Item) (x : Item) (rows : List StoreRow) → verdict_in x.content ≡ None
-      → rows ≡ written (changes_in reading items) [] → rows ≡ written (changes_in reading (items ++ x ∷ [])) []
-  rows_same items x rows none e =
-      e ∙ ap (λ (ps : List Placed). written ps [])
+  pub rows_same : (start : Start) (items : List Item) (x : Item) (rows : List StoreRow) → verdict_in x.content ≡ None
+      → rows ≡ written (changes_since reading start items) [] → rows ≡ written (changes_since reading start (items ++ x ∷ [])) []
+  rows_same start items x rows none e =
+      e ∙ ap (λ (ps : List Placed). written (map creation_of start.active ++ ps) [])
       (sym (changes_push items x ∙ ap (λ (o : Option Verdict). changes_in reading items ++ changes_of_verdict reading items o) none ∙ append-nil (changes_in reading items)))
 
   placed_of_verdict : (items : List Item) (v : Verdict) → changes_of_verdict reading items (Some v) ≡ map (at_place v.request) (acts_of_verdict reading items v)
@@ -77,15 +78,16 @@ module _ (reading : Reading) where
       by true = refl
       by false = refl
 
-  pub rows_written : (items : List Item) (x : Item) (v : Verdict) (rows : List StoreRow) → verdict_in x.content ≡ Some v
-      → rows ≡ written (changes_in reading items) []
-      → write_changes v.request (changes_of (acts_of_verdict reading items v)) rows ≡ written (changes_in reading (items ++ x ∷ [])) []
-  rows_written items x v rows some e =
+  pub rows_written : (start : Start) (items : List Item) (x : Item) (v : Verdict) (rows : List StoreRow) → verdict_in x.content ≡ Some v
+      → rows ≡ written (changes_since reading start items) []
+      → write_changes v.request (changes_of (acts_of_verdict reading items v)) rows ≡ written (changes_since reading start (items ++ x ∷ [])) []
+  rows_written start items x v rows some e =
       changes_written v.request (acts_of_verdict reading items v) rows
       ∙ ap (written (map (at_place v.request) (acts_of_verdict reading items v))) e
-      ∙ sym (written_append (changes_in reading items) (map (at_place v.request) (acts_of_verdict reading items v)) [])
-      ∙ ap (λ (ps : List Placed). written (changes_in reading items ++ ps) []) (sym (placed_of_verdict items v))
-      ∙ ap (λ (ps : List Placed). written ps [])
+      ∙ sym (written_append (changes_since reading start items) (map (at_place v.request) (acts_of_verdict reading items v)) [])
+      ∙ ap (λ (ps : List Placed). written ps []) (append_assoc (map creation_of start.active) (changes_in reading items) (map (at_place v.request) (acts_of_verdict reading items v)))
+      ∙ ap (λ (ps : List Placed). written (map creation_of start.active ++ (changes_in reading items ++ ps)) []) (sym (placed_of_verdict items v))
+      ∙ ap (λ (ps : List Placed). written (map creation_of start.active ++ ps) [])
       (sym (changes_push items x ∙ ap (λ (o : Option Verdict). changes_in reading items ++ changes_of_verdict reading items o) some))
 
   -- ---- what is held

@@ -4,6 +4,7 @@ pub mod PlacedBelow
 pub mod Expiry
 pub mod Written
 pub mod Room
+pub mod IdSets
 pub mod Tracked
 pub mod Withheld
 pub mod Order

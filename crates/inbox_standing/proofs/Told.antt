@@ -10,7 +10,13 @@ use Rattle.ledger_terms.specs.declared.act.Act.{Act}
 use Rattle.ledger_model.specs.Forest.{acts}
 use Rattle.ledger_model.specs.Opening.{roots_in}
 use Rattle.ledger_model.specs.Terms.{Hash, creates, consumes}
-use Rattle.ledger_model.specs.Status.{status_after, is_locked_by}
+use Rattle.ledger_model.specs.Status.{is_locked_by}
+use Rattle.ledger_model.specs.declared.status.Status.{Status}
+use Rattle.ledger_terms.specs.declared.active_row.ActiveRow.{ActiveRow}
+use Rattle.std.specs.Str.{bytes_eq}
+use Rattle.pruned_inbox.specs.Received.{is_received_at, is_received_in}
+use Rattle.pruned_inbox.specs.Start.{Start, has_row, is_gone, status_kept, status_since}
+use Rattle.inbox_standing.specs.Standing.{known_status}
 use Rattle.ledger_model.specs.declared.status.Status.TheVariants.{Unknown, Active, Consumed}
 use Rattle.canton_model.specs.Evidence.{gather}
 use Rattle.canton_model.specs.Log.{Params}
@@ -19,10 +25,9 @@ use Rattle.canton_model.specs.declared.decision.Decision.{Decision}
 use Rattle.canton_model.specs.declared.verdict.Verdict.{Verdict}
 use Rattle.canton_model.specs.Timeline.{Moment, decision_on, verdict_on, is_past, is_approval, is_approved_in}
 use Rattle.canton_model.specs.Inbox.{Content, Item, Received, Told, Nothing, moments, is_received, is_decided_in, decision_time_in, past_in}
-use Rattle.canton_model.specs.Inbox.{notice_by, shown_in_notice, shown_in, verdict_in, status_in_inbox, is_locked_in_inbox}
+use Rattle.canton_model.specs.Inbox.{notice_by, shown_in_notice, shown_in, verdict_in, is_locked_in_inbox}
 use Rattle.canton_model.proofs.InboxFacts.{gather_same}
 use Rattle.contract_store.specs.Below.{at_place}
-use Rattle.contract_store.specs.Rows.{status_in}
 use Rattle.contract_store.specs.Stored.{is_held}
 use Rattle.contract_store.specs.Written.{Placed, acts_of, holding, written}
 use Rattle.contract_store.specs.declared.hold.Hold.{Hold}
@@ -30,7 +35,7 @@ use Rattle.contract_store.specs.declared.row.StoreRow.{StoreRow}
 use Rattle.contract_store.proofs.Following.{status_follows, locked_follows}
 use Rattle.request_track.specs.CleanLaw.{is_open_at, is_open_item}
 use Rattle.request_track.specs.Pairs.{Pair}
-use Rattle.inbox_standing.specs.Changes.{authentic_at, changes_of_verdict, changes_after, changes_in, placed_below, pending_changes}
+use Rattle.inbox_standing.specs.Changes.{authentic_at, changes_of_verdict, changes_after, changes_in, changes_since, creation_of, placed_below, pending_changes}
 use Rattle.inbox_standing.specs.Order.{IsBelow, IsInOrder, VerdictsBehind}
 use Rattle.inbox_standing.specs.Requests.{pairs_in}
 use Rattle.inbox_standing.proofs.Grown.{authentic_before, moments_push, one_longer}
@@ -192,6 +197,66 @@ module _ (reading : Reading) (P : Act → Bool) where
   pub any_in : (items : List Item) → IsInOrder items → list_any P (acts_of (changes_in reading items)) ≡ list_any P (approved_acts items)
   any_in items o = or_nothing (list_any P (acts_of (changes_in reading items))) ∙ any_after [] items tt o.behind
 
+-- ---- where nothing was received
+
+pub nothing_there : (reading : Reading) (items : List Item) (m : ℕ) → is_received_at items m ≡ false → authentic_at reading items m ≡ []
+nothing_there reading items m e = by (slice_get items m) e
+  where
+    by : (o : Option Item) → is_received_in o ≡ false → filter reading.is_authentic (acts (roots_in (shown_in o))) ≡ []
+    by None e = refl
+    by (Some item) e = of_content item.content e
+      where
+        of_content : (content : Content) → is_received content ≡ false → filter reading.is_authentic (acts (roots_in (shown_in_notice (notice_by content)))) ≡ []
+        of_content (Received notice) e = absurd (cc)
+        of_content (Told v) e = refl
+        of_content Nothing e = refl
+
+-- ---- what a start leaves, as Creates
+
+no_change : (t : Bool) → false ≡ (t && false)
+no_change true = refl
+no_change false = refl
+
+whole_change : (t : Bool) → (t && true) ≡ t
+whole_change true = refl
+whole_change false = refl
+
+pub left_unused : (c : Hash) (rows : List ActiveRow) → list_any (consumes c) (acts_of (map creation_of rows)) ≡ false
+left_unused c [] = refl
+left_unused c (row ∷ rows) =
+    ap (λ (t : Bool). t || list_any (consumes c) (acts_of (map creation_of rows))) (sym (no_change (bytes_eq row.known.id c))) ∙ left_unused c rows
+
+left_made : (c : Hash) (rows : List ActiveRow) → list_any (creates c) (acts_of (map creation_of rows)) ≡ has_row rows c
+left_made c [] = refl
+left_made c (row ∷ rows) =
+    ap (λ (t : Bool). t || list_any (creates c) (acts_of (map creation_of rows))) (whole_change (bytes_eq row.known.id c))
+    ∙ ap (λ (t : Bool). bytes_eq row.known.id c || t) (left_made c rows)
+
+abbrev since_start : Bool → Bool → Bool → Status
+since_start gone used made = if gone || used then Consumed else if made then Active else Unknown
+
+gone_first : (gone used made : Bool) → (if gone then Consumed else if used then Consumed else if made then Active else Unknown) ≡ since_start gone used made
+gone_first true used made = refl
+gone_first false used made = refl
+
+-- what rows say of a contract into which these actions were written behind the Creates of a start
+pub known_after : (start : Start) (ps : List Placed) (c : Hash) → known_status start (written (map creation_of start.active ++ ps) []) c ≡ status_since start (acts_of ps) c
+known_after start ps c =
+    let begun = map creation_of start.active in
+    let all : acts_of (begun ++ ps) ≡ acts_of begun ++ acts_of ps = map-append (λ (p : Placed). p.act) begun ps in
+    let used : list_any (consumes c) (acts_of (begun ++ ps)) ≡ list_any (consumes c) (acts_of ps) =
+    ap (list_any (consumes c)) all
+    ∙ list_any-append (consumes c) (acts_of begun) (acts_of ps)
+    ∙ ap (λ (t : Bool). t || list_any (consumes c) (acts_of ps)) (left_unused c start.active) in
+    let made : list_any (creates c) (acts_of (begun ++ ps)) ≡ (has_row start.active c || list_any (creates c) (acts_of ps)) =
+    ap (list_any (creates c)) all
+    ∙ list_any-append (creates c) (acts_of begun) (acts_of ps)
+    ∙ ap (λ (t : Bool). t || list_any (creates c) (acts_of ps)) (left_made c start.active) in
+    ap (λ (s : Status). if is_gone start c then Consumed else s) (status_follows (begun ++ ps) c)
+    ∙ gone_first (is_gone start c) (list_any (consumes c) (acts_of (begun ++ ps))) (list_any (creates c) (acts_of (begun ++ ps)))
+    ∙ ap (λ (t : Bool). since_start (is_gone start c) t (list_any (creates c) (acts_of (begun ++ ps)))) used
+    ∙ ap (since_start (is_gone start c) (list_any (consumes c) (acts_of ps))) made
+
 module _ (reading : Reading) (items : List Item) (x : Item) where
   front : take (length items) (moments (items ++ x ∷ [])) ≡ moments items
   front =
@@ -207,16 +272,16 @@ module _ (reading : Reading) (items : List Item) (x : Item) where
       ∙ ap (λ (as' : List Act). if is_approved_in m (moments items) then as' else []) (authentic_before reading items x m lt))
 
   -- the status of a contract, where one item more stands behind these
-  pub status_told : (rows : List StoreRow) (c : Hash) → IsInOrder items → rows ≡ written (changes_in reading items) []
-      → status_in rows c ≡ status_in_inbox reading (items ++ x ∷ []) (length items) c
-  status_told rows c o e =
-      ap (λ (rs : List StoreRow). status_in rs c) e
-      ∙ status_follows (changes_in reading items) c
-      ∙ ap (λ (b : Bool). if b then Consumed else if list_any (creates c) (acts_of (changes_in reading items)) then Active else Unknown)
-      (any_in reading (consumes c) items o)
-      ∙ ap (λ (b : Bool). if list_any (consumes c) (approved_acts reading (consumes c) items) then Consumed else if b then Active else Unknown)
+  pub status_told : (start : Start) (rows : List StoreRow) (c : Hash) → IsInOrder items → rows ≡ written (changes_since reading start items) []
+      → known_status start rows c ≡ status_kept reading start (items ++ x ∷ []) (length items) c
+  status_told start rows c o e =
+      let done = acts_of (changes_in reading items) in
+      ap (λ (rs : List StoreRow). known_status start rs c) e
+      ∙ known_after start (changes_in reading items) c
+      ∙ ap (λ (t : Bool). since_start (is_gone start c) t (has_row start.active c || list_any (creates c) done)) (any_in reading (consumes c) items o)
+      ∙ ap (λ (t : Bool). since_start (is_gone start c) (list_any (consumes c) (approved_acts reading (consumes c) items)) (has_row start.active c || t))
       (any_in reading (creates c) items o)
-      ∙ ap (λ (as' : List Act). status_after as' c) (sym past_is)
+      ∙ ap (λ (as' : List Act). status_since start as' c) (sym past_is)
 
   acts_if_open : (params : Params) (all : List Item) (m : ℕ) (o : Option Item) → slice_get all m ≡ o
       → (if is_open_item params all m o then filter reading.is_authentic (acts (roots_in (shown_in o))) else [])
@@ -277,16 +342,16 @@ module _ (reading : Reading) (items : List Item) where
       (take_all (length items) (moments items) (omega (arith, as_many_moments items)))
 
   -- the status of a contract at the end of an inbox
-  pub status_now : (rows : List StoreRow) (c : Hash) → IsInOrder items → rows ≡ written (changes_in reading items) []
-      → status_in rows c ≡ status_in_inbox reading items (length items) c
-  status_now rows c o e =
-      ap (λ (rs : List StoreRow). status_in rs c) e
-      ∙ status_follows (changes_in reading items) c
-      ∙ ap (λ (b : Bool). if b then Consumed else if list_any (creates c) (acts_of (changes_in reading items)) then Active else Unknown)
-      (any_in reading (consumes c) items o)
-      ∙ ap (λ (b : Bool). if list_any (consumes c) (approved_acts reading (consumes c) items) then Consumed else if b then Active else Unknown)
+  pub status_now : (start : Start) (rows : List StoreRow) (c : Hash) → IsInOrder items → rows ≡ written (changes_since reading start items) []
+      → known_status start rows c ≡ status_kept reading start items (length items) c
+  status_now start rows c o e =
+      let done = acts_of (changes_in reading items) in
+      ap (λ (rs : List StoreRow). known_status start rs c) e
+      ∙ known_after start (changes_in reading items) c
+      ∙ ap (λ (t : Bool). since_start (is_gone start c) t (has_row start.active c || list_any (creates c) done)) (any_in reading (consumes c) items o)
+      ∙ ap (λ (t : Bool). since_start (is_gone start c) (list_any (consumes c) (approved_acts reading (consumes c) items)) (has_row start.active c || t))
       (any_in reading (creates c) items o)
-      ∙ ap (λ (as' : List Act). status_after as' c) (sym all_past)
+      ∙ ap (λ (as' : List Act). status_since start as' c) (sym all_past)
 
   -- whether a contract is locked there
   pub locked_now : (params : Params) (holds : List Hold) (c : Hash) → holds ≡ holding (pending_changes reading params items)

@@ -1,6 +1,11 @@
 -- What an inbox's requests do to contracts: the changes of those that are approved, and of those that aren't decided.
-use Rattle.std.specs.Prelude.{ℕ, zero, suc, Bool, List, [], ◌∷◌, ◌++◌, Option, Some, None, if◌then◌else◌, ◌&&◌, not, is_some, map, filter, length}
+use Rattle.std.specs.Prelude.{◌≡◌, ℕ, zero, suc, ◌<◌, Bool, true, false, All, List, [], ◌∷◌, ◌++◌, Option, Some, None, if◌then◌else◌, ◌&&◌, not}
+use Rattle.std.specs.Prelude.{is_some, map, filter, length}
+use Rattle.std.specs.List.{list_any}
 use Rattle.ledger_terms.specs.declared.act.Act.{Act}
+use Rattle.ledger_terms.specs.declared.action.Action.TheVariants.{Create}
+use Rattle.ledger_terms.specs.declared.active_row.ActiveRow.{ActiveRow}
+use Rattle.ledger_model.specs.Terms.{Hash, creates}
 use Rattle.ledger_model.specs.Forest.{acts}
 use Rattle.canton_model.specs.Log.{Params}
 use Rattle.canton_model.specs.declared.verdict.Verdict.{Verdict}
@@ -8,7 +13,10 @@ use Rattle.canton_model.specs.Reading.{Reading}
 use Rattle.canton_model.specs.Timeline.{is_approval, verdict_on}
 use Rattle.canton_model.specs.Inbox.{Item, moments, opened_at, verdict_in, is_decided_in}
 use Rattle.contract_store.specs.Below.{at_place}
-use Rattle.contract_store.specs.Written.{Placed}
+use Rattle.contract_store.specs.ActiveLaw.{InOrder}
+use Rattle.contract_store.specs.Written.{Placed, acts_of}
+use Rattle.pruned_inbox.specs.Received.{is_received_at}
+use Rattle.pruned_inbox.specs.Start.{Start, is_gone}
 
 -- the authentic actions that are opened of the request at a place
 abbrev pub authentic_at : Reading → List Item → ℕ → List Act
@@ -36,6 +44,24 @@ changes_after reading before (item ∷ rest) =
 -- the authentic opened actions of the approved requests, in the order in which their verdicts were read
 abbrev pub changes_in : Reading → List Item → List Placed
 changes_in reading items = changes_after reading [] items
+
+-- the Create that made the contract of a row
+abbrev pub creation_of : ActiveRow → Placed
+creation_of row = record { place = row.created_at; act = record { seed = row.known.salt; action = Create row.known.id row.known.instance } }
+
+-- those of the contracts that a start left active, and behind them what was done since
+abbrev pub changes_since : Reading → Start → List Item → List Placed
+changes_since reading start items = map creation_of start.active ++ changes_in reading items
+
+-- The contracts of a start were created in this order, below a base, and no request below it is there.
+pub record StandsBelow (b : ℕ) (start : Start) (items : List Item) : Type 0 where
+  pub order : InOrder (map creation_of start.active)
+  pub below : All (λ (row : ActiveRow). row.created_at < b) start.active
+  pub silent : (m : ℕ) → m < b → is_received_at items m ≡ false
+
+-- none of these actions creates a contract that is gone
+abbrev pub NoneGone : Start → List Placed → Type 0
+NoneGone start ps = (c : Hash) → is_gone start c ≡ true → list_any (creates c) (acts_of ps) ≡ false
 
 -- the actions of the requests below a place that a test keeps, in order of place
 abbrev pub placed_below : (ℕ → Bool) → (ℕ → List Act) → ℕ → List Placed

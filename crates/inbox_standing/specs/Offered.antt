@@ -9,15 +9,23 @@ use Rattle.canton_model.specs.Reading.{Reading}
 use Rattle.canton_model.specs.Inbox.{Item, inbox, is_stakeholder_hosted, node_active}
 use Rattle.contract_store.specs.Active.{active_rows}
 use Rattle.contract_store.specs.Written.{Placed, written, acts_of}
-use Rattle.inbox_standing.specs.Changes.{changes_in}
+use Rattle.pruned_inbox.specs.Start.{Start, active_kept}
+use Rattle.inbox_standing.specs.Changes.{NoneGone, StandsBelow, changes_in, changes_since}
 use Rattle.inbox_standing.specs.Order.{IsInOrder}
 
 -- at most one of these actions creates the contract, whichever it is
 abbrev pub CreatedOnce : List Placed → Type 0
 CreatedOnce ps = (c : Hash) → length (filter (creates c) (acts_of ps)) ≤ 1
 
--- what is offered are the model's active contracts at the end of the inbox, in order of creation, though the store was written in
--- the order in which verdicts were read
+-- what is offered are the active contracts at the end of the inbox that a start and the items since make, in order of creation, though
+-- the store was written in the order in which verdicts were read
+abbrev pub OfferedIsActive : Type 0
+OfferedIsActive = (reading : Reading) (party : ParticipantId) (b : ℕ) (start : Start) (items : List Item) → IsInOrder items → StandsBelow b start items
+    → CreatedOnce (changes_since reading start items) → NoneGone start (changes_since reading start items) → b ≤ length items
+    → filter (λ (a : ActiveRow). is_stakeholder_hosted reading party a.known.instance) (active_rows (written (changes_since reading start items) []))
+    ≡ active_kept reading party start items (length items)
+
+-- the same of an inbox of which nothing is forgotten
 abbrev pub OfferedIsNodeActive : Type 0
 OfferedIsNodeActive = (reading : Reading) (party : ParticipantId) (items : List Item) → IsInOrder items → CreatedOnce (changes_in reading items)
     → filter (λ (a : ActiveRow). is_stakeholder_hosted reading party a.known.instance) (active_rows (written (changes_in reading items) []))

@@ -3,10 +3,12 @@
 #![tactic(auto)]
 
 mod change;
+mod kept_start;
 pub mod laws;
 mod passing;
 mod standing;
 mod writing;
 
 pub use change::Change;
+pub use kept_start::KeptStart;
 pub use standing::Standing;

@@ -5,14 +5,18 @@ ghost use Rattle.contract_store.specs.Holds.{released};
 ghost use Rattle.contract_store.specs.Stored.{is_ready};
 ghost use Rattle.request_track.specs.Pairs.{clean_of, expired, outcome_at, settled, tracked_at};
 ghost use Rattle.inbox_standing.specs.ChangeLists.{hold_on, write_changes};
+ghost use Rattle.pruned_inbox.specs.Start.{no_start};
 ghost use Rattle.inbox_standing.specs.Room.{HasRoom};
+ghost use Rattle.inbox_standing.specs.Standing.{known_status};
 ghost use Rattle.inbox_standing.specs.Steps.{HoldsFollow, InStep};
 
 use crate::change::Change;
+use crate::kept_start::KeptStart;
 use crate::passing::pass_time;
 use crate::writing::{hold_all, make_room, write_all};
 use contract_store::{HashList, Store};
-use ledger_terms::KnownList;
+use ledger_model::Status;
+use ledger_terms::{Hash, KnownList};
 use request_track::{Outcome, Tracker};
 use std::alloc::{AllocError, Global};
 use std::marker::Model;
@@ -22,6 +26,7 @@ use std::marker::Model;
 pub struct Standing {
     store: Store,
     tracker: Tracker,
+    start: KeptStart,
 }
 
 impl Model for Standing {
@@ -29,7 +34,7 @@ impl Model for Standing {
 
     ghost Value = { Stands };
 
-    ghost view = { λ s. record { store = s.store; tracking = s.tracker } };
+    ghost view = { λ s. record { store = s.store; tracking = s.tracker; start = s.start } };
 }
 
 impl Standing {
@@ -39,11 +44,53 @@ impl Standing {
         ensures holds { result.store.holds ≡ [] }
         ensures pairs { result.tracking.pairs ≡ [] }
         ensures cursor { result.tracking.cursor ≡ 0 }
+        ensures start { result.start ≡ no_start }
+    {
+        Standing::at(alloc, 0, KeptStart::new(alloc))
+    }
+
+    /// So many entries were read, which left this, and the store is empty still.
+    pub fn at(alloc: Global, cursor: u64, start: KeptStart) -> Standing
+        ensures rows { result.store.rows ≡ [] }
+        ensures holds { result.store.holds ≡ [] }
+        ensures pairs { result.tracking.pairs ≡ [] }
+        ensures cursor { result.tracking.cursor ≡ cursor }
+        ensures start { result.start ≡ start }
     {
         Standing {
             store: Store::new(alloc),
-            tracker: Tracker::new(alloc),
+            tracker: Tracker::at(alloc, cursor),
+            start,
         }
+    }
+
+    /// What was left at the base.
+    pub fn start(&self) -> &KeptStart
+        ensures { result.now ≡ self.now.start }
+    {
+        &self.start
+    }
+
+    /// What is known of a contract. One that is gone was consumed.
+    pub fn status(&self, id: &Hash) -> Status
+        ensures { result ≡ known_status self.now.start self.now.store.rows id.now }
+    {
+        if self.start.is_gone(id) {
+            Status::Consumed
+        } else {
+            self.store.status(id)
+        }
+    }
+
+    /// A contract was created at a place, before anything that was read, in the room that is there.
+    pub fn write(&mut self, place: u64, changes: Vec<Change>)
+        requires { HasRoom self.old.store.ready self.old.store.spare changes.items }
+        ensures rows { self.new.store.rows ≡ write_changes place changes.items self.old.store.rows }
+        ensures holds { self.new.store.holds ≡ self.old.store.holds }
+        ensures tracking { self.new.tracking ≡ self.old.tracking }
+        ensures start { self.new.start ≡ self.old.start }
+    {
+        write_all(&mut self.store, place, changes);
     }
 
     /// What is known of contracts, and who holds them.
@@ -85,6 +132,7 @@ impl Standing {
         ensures err { OnErr result (self.new.tracking.pairs ≡ self.old.tracking.pairs) }
         ensures room { OnOk result (length ids.now ≤ self.new.store.spare) }
         ensures ready { OnOk result (All (λ c. is_ready self.new.store.ready c ≡ true) ids.now) }
+        ensures start { self.new.start ≡ self.old.start }
     {
         self.store.reserve(&KnownList::new(*ids.allocator()), ids)?;
         let place = self.tracker.cursor();
@@ -97,6 +145,7 @@ impl Standing {
         ensures holds { self.new.store.holds ≡ self.old.store.holds }
         ensures tracking { self.new.tracking ≡ self.old.tracking }
         ensures room { OnOk result (HasRoom self.new.store.ready self.new.store.spare changes.now.items) }
+        ensures start { self.new.start ≡ self.old.start }
     {
         make_room(&mut self.store, changes)
     }
@@ -110,6 +159,7 @@ impl Standing {
         ensures ready { self.new.store.ready ≡ self.old.store.ready }
         ensures spare { self.new.store.spare ≡ self.old.store.spare }
         ensures cursor { self.new.tracking.cursor ≡ self.old.tracking.cursor }
+        ensures start { self.new.start ≡ self.old.start }
     {
         pass_time(&mut self.store, &mut self.tracker, time);
     }
@@ -121,6 +171,7 @@ impl Standing {
         ensures rows { self.new.store.rows ≡ self.old.store.rows }
         ensures holds { self.new.store.holds ≡ self.old.store.holds ++ map (hold_on place) ids.now }
         ensures tracking { self.new.tracking ≡ self.old.tracking }
+        ensures start { self.new.start ≡ self.old.start }
     {
         hold_all(&mut self.store, place, ids);
     }
@@ -132,6 +183,7 @@ impl Standing {
         ensures holds { self.new.store.holds ≡ released place self.old.store.holds }
         ensures pairs { self.new.tracking.pairs ≡ settled place outcome self.old.tracking.pairs }
         ensures cursor { self.new.tracking.cursor ≡ self.old.tracking.cursor }
+        ensures start { self.new.start ≡ self.old.start }
     {
         self.tracker.settle(place, outcome);
         self.store.release(place);
@@ -144,6 +196,7 @@ impl Standing {
         ensures store { self.new.store ≡ self.old.store }
         ensures pairs { self.new.tracking.pairs ≡ self.old.tracking.pairs }
         ensures cursor { self.new.tracking.cursor ≡ self.old.tracking.cursor + 1 }
+        ensures start { self.new.start ≡ self.old.start }
     {
         self.tracker.advance();
     }

@@ -11,6 +11,7 @@ use Rattle.world_model.specs.World.{World as WorldState, new_world}
 use Rattle.world_model.proofs.Steps.{new_lawful}
 use Rattle.confirm_reply.specs.declared.setup.Setup.{Setup}
 use Rattle.script_read.specs.declared.round.Round.{Round}
+use Rattle.node_core.specs.Bases.{AreBases, Bases}
 use Rattle.node_core.specs.Machines.{machine_of, why_of}
 use Rattle.world_play.specs.Submitting.{AreSetUp}
 use Rattle.world_play.specs.WorldOf.{IsWorldOf, world_of}
@@ -27,10 +28,11 @@ is_set_up setup rounds capacity names = record { machine_is = refl; why_is = ref
 
 -- a new synchroniser
 pub new_can : (topology : Topology) (packages : Packages) (m : Machine) (world : World) → AreSetUp topology packages (world.nodes).items
-    → IsWorldOf m new_mediator world → world_of new_mediator world ≡ new_world m → CanBeShared topology packages m world
-new_can topology packages m world nodes is new =
+    → AreBases (λ p. 0) (world.nodes).items → IsWorldOf m new_mediator world → world_of new_mediator world ≡ new_world m → CanBeShared topology packages m world
+new_can topology packages m world nodes bases is new =
     record {
       nodes = nodes;
+      bases = bases;
       state = new_mediator;
       is = is;
       lawful = subst (Lawful m) (sym new) (new_lawful m);
@@ -38,8 +40,12 @@ new_can topology packages m world nodes is new =
     }
 
 pub left_can : (topology : Topology) (packages : Packages) (m : Machine) (world : World) → AreSetUp topology packages (world.nodes).items
-    → (state : MediatorState) × IsWorldOf m state world × Lawful m (world_of state world) → world.now ≤ 10 ^ 16 → CanBeShared topology packages m world
-left_can topology packages m world nodes w now = record { nodes = nodes; state = w.0; is = w.1; lawful = w.2; now = now }
+    → AreBases (λ p. 0) (world.nodes).items → (state : MediatorState) × IsWorldOf m state world × Lawful m (world_of state world) → world.now ≤ 10 ^ 16 → CanBeShared topology packages m world
+left_can topology packages m world nodes bases w now = record { nodes = nodes; bases = bases; state = w.0; is = w.1; lawful = w.2; now = now }
+
+-- every place is at or after the base of who has forgotten nothing
+pub from_first : (bases : Bases) → ((p : ℕ) → bases p ≡ 0) → (p k : ℕ) → bases p ≤ k
+from_first bases none p k = let e = none p in omega (arith, e)
 
 -- time stays in its range through a sharing in whose round nothing is moved on
 pub in_time : (of asked left : Sharing) (entry now : ℕ) (known : List Entry)

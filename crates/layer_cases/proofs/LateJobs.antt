@@ -1,8 +1,8 @@
 -- A participant that claims jobs and puts them back, and then reads an entry.
-use Rattle.std.proofs.Common.{◌≡◌, ℕ, ◌+◌, ◌<◌, true, List, [], ◌∷◌, ◌++◌, take, length, option_map, Option, Some, None, Result, sym, ap, ◌∙◌, subst}
+use Rattle.std.proofs.Common.{◌≡◌, ℕ, ◌+◌, ◌<◌, true, List, [], ◌∷◌, ◌++◌, take, length, option_map, Option, Some, None, Result, refl, sym, ap, ◌∙◌, subst}
 use Rattle.std.specs.Prelude.{Ok, Err, IfOk, IfSome, IfNone, OnOk, OnErr, slice_get}
 use Rattle.ledger_model.specs.Terms.{ParticipantId}
-use Rattle.canton_model.specs.Inbox.{item_after, notice_at, notice_in}
+use Rattle.canton_model.specs.Inbox.{Item, inbox, item_after, notice_at, notice_in}
 use Rattle.world_model.specs.Messages.{Entry}
 use Rattle.world_model.specs.Machine.{Machine}
 use Rattle.world_model.specs.Node.{NodeState, claim, put_back, read_entry}
@@ -12,7 +12,9 @@ use Rattle.world_model.proofs.Steps.{has_claim, has_put_back}
 use Rattle.validate_job.specs.Job.{Job}
 use Rattle.validate_job.specs.Owed.{owed_on_each}
 use Rattle.seq_log.specs.Sequenced.{Sequenced}
-use Rattle.node_core.specs.Participant.{Participant as NodeValue, items_of, next_place, owed_there, owes_there, params_of, reading_of, with_state}
+use Rattle.node_core.specs.OverLog.{HasInbox, inbox_over}
+use Rattle.node_core.specs.Participant.{Participant as NodeValue, items_of, next_place, owed_there, owes_there, params_of, reading_of, whole_state, with_state}
+use Rattle.node_core.proofs.OverLog.{claimed_one, cursor_is, put_back_one}
 use Rattle.node_core.proofs.Alike.{owed_stays}
 use Rattle.node_core.proofs.LogEnds.{before_last}
 use Rattle.world_play.specs.Reading.{Reads}
@@ -23,8 +25,14 @@ use Rattle.world_play.proofs.Turns.{node_with}
 
 -- after a call that changes its duties alone
 with_duties : (m : Machine) (p : ParticipantId) (s : Sequenced) (node after : NodeValue) (state : NodeState) → after ≡ with_state node state
-    → ((read : List Entry) → NodeHas m p read node.state → NodeHas m p read state) → IsParticipant m p node s → IsParticipant m p after s
-with_duties m p s node after state is has g =
+    → state.items ≡ items_of node → (HasInbox (inbox_over s.list node) node → HasInbox (inbox_over s.list node) (with_state node state))
+    → ((read : List Entry) (whole : List Item) → length (items_of node) ≡ length whole → NodeHas m p read (whole_state node whole)
+    → NodeHas m p read (whole_state (with_state node state) whole))
+    → IsParticipant m p node s → IsParticipant m p after s
+with_duties m p s node after state is items keeps has g =
+    let whole = inbox_over s.list node in
+    let same : inbox_over s.list (with_state node state) ≡ whole =
+    ap (λ (its : List Item). inbox (reading_of node) node.me (take (length its) s.list)) items in
     subst (λ (x : NodeValue). IsParticipant m p x s) (sym is)
     (record {
       is_reading = g.is_reading;
@@ -33,13 +41,16 @@ with_duties m p s node after state is has g =
       is = node_with m p node state g.is;
       read = g.read;
       within = g.within;
-      has = has (take g.read s.list) g.has;
+      has = subst (λ (its : List Item). NodeHas m p (take g.read s.list) (whole_state (with_state node state) its)) (sym same)
+          (has (take g.read s.list) whole (cursor_is whole node g.inbox) g.has);
+      inbox = subst (λ (its : List Item). HasInbox its (with_state node state)) (sym same) (keeps g.inbox);
     })
 
 pub put_back_stands : (m : Machine) (p : ParticipantId) (s : Sequenced) (node after : NodeValue) (k : ℕ) → after ≡ with_state node (put_back node.state k)
     → IsParticipant m p node s → IsParticipant m p after s
 put_back_stands m p s node after k is =
-    with_duties m p s node after (put_back node.state k) is (λ read h. has_put_back m p read node.state k h)
+    with_duties m p s node after (put_back node.state k) is refl (λ i. put_back_one (inbox_over s.list node) node i k)
+    (λ read whole long h. has_put_back m p read (whole_state node whole) k h)
 
 -- what is claimed next
 module _ (node : NodeValue) (k : ℕ) (next : next_place node ≡ Some k) where
@@ -58,8 +69,9 @@ module _ {E : Type 0} (node after : NodeValue) where
   claim_stands (Err e) place none some err m p s = subst (λ (x : NodeValue). IsParticipant m p x s) (sym err)
   claim_stands (Ok None) place none some err m p s = subst (λ (x : NodeValue). IsParticipant m p x s) (sym none)
   claim_stands (Ok (Some job)) place none some err m p s =
-      with_duties m p s node after (claim node.state job.given.place) some
-      (λ read h. has_claim m p read node.state job.given.place h (next_read node job.given.place (sym place)))
+      let k = job.given.place in
+      with_duties m p s node after (claim node.state k) some refl (λ i. claimed_one (inbox_over s.list node) node i k)
+      (λ read whole long h. has_claim m p read (whole_state node whole) k h (subst (λ (n : ℕ). k < n) long (next_read node k (sym place))))
 
   pub claim_read : (r : Result (Option Job) E) → IfOk r (λ o. option_map (λ (job : Job). job.given.place) o ≡ next_place node)
       → IfOk r (λ o. IfSome o (λ job. after ≡ with_state node (claim node.state job.given.place)))

@@ -11,14 +11,16 @@ use Rattle.world_model.specs.Machine.{Machine}
 use Rattle.world_model.specs.Mediator.{MediatorState}
 use Rattle.prepare_request.specs.Within.{parties_in_what}
 use Rattle.confirm_reply.specs.declared.setup.Setup.{Setup}
+use Rattle.node_core.specs.Bases.{AreBases}
 use Rattle.script_read.specs.declared.round.Round.{Round}
 use Rattle.world_play.specs.Submitting.{AreSetUp}
 use Rattle.world_play.specs.WorldOf.{IsWorldOf, world_of}
 use Rattle.world_play.specs.declared.world.World.{World}
 
--- a lawful world of this machine, over this topology and these packages
+-- a lawful world of this machine, over this topology and these packages, whose participants have forgotten nothing
 pub record CanBeShared (topology : Topology) (packages : Packages) (m : Machine) (world : World) : Type 0 where
   pub nodes : AreSetUp topology packages (world.nodes).items
+  pub bases : AreBases (λ p. 0) (world.nodes).items
   pub state : MediatorState
   pub is : IsWorldOf m state world
   pub lawful : Lawful m (world_of state world)

@@ -98,6 +98,7 @@ round_is submits each =
       submits = all_of (IsSubmission hosts []) submits each;
       few_raws = omega arith;
       raws = all_of (IsRaw hosts []) [] tt;
+      restarts = all_of (λ (p : ℕ). p < 4) [] tt;
     }
 
 debts_are : (seed count : ℕ) → 2 * count ≤ 2048 → IsRound hosts [] (round_of (debts seed count))

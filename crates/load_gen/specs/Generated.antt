@@ -6,9 +6,9 @@ use Rattle.script_read.specs.declared.script.Script.{Script}
 use Rattle.load_gen.specs.Scripts.{hosts, params, packages}
 use Rattle.load_gen.specs.Submissions.{debts, transfers}
 
--- a round in which nobody is paused, no verdict is held back, the time isn't moved, and no raw request is handed in
+-- a round in which nobody restarts or is paused, no verdict is held back, the time isn't moved, and no raw request is handed in
 abbrev pub round_of : List Submission → Round
-round_of submits = record { advance = 0; paused = []; hold_verdicts = false; submits = submits; raws = [] }
+round_of submits = record { advance = 0; paused = []; hold_verdicts = false; submits = submits; raws = []; restarts = [] }
 
 -- the script of a seed and a count
 abbrev pub generated : ℕ → ℕ → Script

@@ -10,7 +10,7 @@ use script_read::{Round, RoundList, Script};
 use std::alloc::{AllocError, Global};
 use trigger_rules::RuleList;
 
-/// A round in which nobody is paused, no verdict is held back, the time isn't moved, and no raw request is handed in.
+/// A round in which nobody restarts or is paused, no verdict is held back, the time isn't moved, and no raw request is handed in.
 fn round_of(alloc: Global, submits: SubmissionList) -> Round
     ensures { result ≡ round_of submits }
 {
@@ -20,6 +20,7 @@ fn round_of(alloc: Global, submits: SubmissionList) -> Round
         hold_verdicts: false,
         submits,
         raws: RawRequestList::new(alloc),
+        restarts: ParticipantIdList::new(alloc),
     }
 }
 

@@ -1,25 +1,28 @@
 -- Inboxes over a log, and what they tell of it.
-use Rattle.std.proofs.Common.{◌≡◌, ℕ, zero, suc, ◌+◌, ◌<◌, ◌≤◌, ◌^◌, true, false, List, [], ◌∷◌, ◌++◌, take, map, length, Option, Some, None, slice_set, refl, sym, ap, ◌∙◌, subst, inl, inr, arith}
+use Rattle.std.proofs.Common.{◌≡◌, ℕ, zero, suc, ◌+◌, ◌<◌, ◌≤◌, ◌^◌, Bool, true, false, List, [], ◌∷◌, ◌++◌, take, map, length, Option, Some, None, slice_set, refl, sym, ap, ◌∙◌, subst, inl, inr, arith}
 use Rattle.std.specs.Prelude.{slice_get, slice_index_or}
 use Rattle.std.proofs.lemmas.Bool.{cases_lt}
 use Rattle.std.proofs.lemmas.List.{length-append}
 use Rattle.std.proofs.lemmas.Option.{same_Some}
 use Rattle.ledger_terms.specs.declared.topology.Topology.{Topology}
 use Rattle.lang_eval.specs.Found.{Packages}
-use Rattle.ledger_model.specs.Terms.{ParticipantId, Path}
+use Rattle.ledger_model.specs.Terms.{Hash, ParticipantId, Path}
+use Rattle.ledger_model.specs.declared.status.Status.{Status}
 use Rattle.canton_model.specs.Log.{Params, FollowsTime, time_at_end}
 use Rattle.canton_model.specs.Reading.{Reading, is_some_path}
 use Rattle.canton_model.specs.Genuine.{Genuine, FitsIfRequest, EntryFits}
-use Rattle.canton_model.specs.Inbox.{Item, Notice, inbox, items_after, last_time, notice_at}
-use Rattle.canton_model.specs.Checks.{verdict_on_offer, verdicts_on, verdicts_owed}
-use Rattle.canton_model.proofs.InboxOutcomes.{owed_front}
+use Rattle.canton_model.specs.Inbox.{Item, Notice, inbox, is_locked_in_inbox, item_time, items_after, last_time, notice_at, notice_in}
+use Rattle.canton_model.specs.Checks.{verdicts_owed}
+use Rattle.canton_model.proofs.InboxFacts.{slice_get_take}
 use Rattle.world_model.specs.Messages.{Entry, Message, RequestMessage, ResponseMessage, VerdictMessage, Tick, Request, ViewVerdict}
 use Rattle.world_model.specs.Machine.{confirms_some_view}
-use Rattle.world_model.specs.Node.{owes_at, owed_at}
+use Rattle.world_model.specs.Node.{owes_at}
 use Rattle.world_model.proofs.NodeFacts.{inbox_length, owed_is}
 use Rattle.framed_form.specs.FramedReading.{framed_reading}
 use Rattle.node_inbox.specs.Entries.{item_from}
-use Rattle.node_inbox.specs.InboxState.{InboxState, params_of, reading_of, with_item}
+use Rattle.pruned_inbox.specs.Start.{Start, no_start, status_kept, verdict_in_offer, verdicts_by}
+use Rattle.pruned_inbox.proofs.Pruned.{owed_at_first}
+use Rattle.node_inbox.specs.InboxState.{InboxState, owed_kept, params_of, reading_of, with_item}
 use Rattle.node_inbox.proofs.Grows.{inbox_reads}
 use Rattle.audit_model.proofs.Judging.{fits_there}
 use Rattle.audit_model.proofs.Deciding.{true_false}
@@ -80,28 +83,33 @@ no_path : (paths : List Path) → is_some_path paths ≡ false → paths ≡ []
 no_path [] h = refl
 no_path (path ∷ paths) h = absurd (true_false refl h)
 
-none_on : (reading : Reading) (params : Params) (p : ParticipantId) (items : List Item) (k : ℕ) (o : Option Notice)
-    → confirms_some_view o ≡ false → verdicts_on reading params p items k o ≡ []
-none_on reading params p items k None h = refl
-none_on reading params p items k (Some notice) h =
-    ap (map (λ (path : Path). record { view = path; verdict = verdict_on_offer reading params p items k notice.sender path notice.offer }))
+none_by : (reading : Reading) (params : Params) (p : ParticipantId) (time : ℕ) (status : Hash → Status) (locked : Hash → Bool) (o : Option Notice)
+    → confirms_some_view o ≡ false → verdicts_by reading params p time status locked o ≡ []
+none_by reading params p time status locked None h = refl
+none_by reading params p time status locked (Some notice) h =
+    ap (map (λ (path : Path). record { view = path; verdict = verdict_in_offer reading params p notice.sender time status locked path notice.offer }))
     (no_path notice.confirmed h)
 
 -- who owes nothing there owes the empty list
-pub nothing_at : (reading : Reading) (params : Params) (p : ParticipantId) (items : List Item) (k : ℕ) → owes_at reading p items k ≡ false
-    → [] ≡ owed_at reading params p items k
-nothing_at reading params p items k h =
-    sym (owed_front items k reading params p ∙ none_on reading params p items k (notice_at items k) h)
+pub nothing_at : (reading : Reading) (params : Params) (p : ParticipantId) (start : Start) (items : List Item) (k : ℕ) → owes_at reading p items k ≡ false
+    → [] ≡ owed_kept reading params p start items k
+nothing_at reading params p start items k h =
+    let front = take (suc k) items in
+    let there : slice_get front k ≡ slice_get items k = slice_get_take (suc k) items k (omega arith) in
+    sym (none_by reading params p (item_time (slice_get front k)) (status_kept reading start front k) (is_locked_in_inbox reading params front k)
+    (notice_at front k) (ap (λ (o : Option Item). confirms_some_view (notice_in o)) there ∙ h))
 
 pub owed_here : (topology : Topology) (packages : Packages) (log : List Entry) (inboxes : List InboxState) → HaveRead topology packages inboxes log
     → (p place : ℕ) (i : InboxState) → p < length inboxes → i ≡ slice_index_or inboxes p i → (verdicts : List ViewVerdict)
-    → verdicts ≡ owed_at (reading_of i) (params_of i) i.me i.items place
+    → verdicts ≡ owed_kept (reading_of i) (params_of i) i.me i.start i.items place
     → verdicts ≡ verdicts_owed (framed_reading topology packages) topology.params p (inbox (framed_reading topology packages) p (take (suc place) log)) place
 owed_here topology packages log inboxes knows p place i lt is verdicts e =
     let same : i ≡ inbox_of topology packages log p = same_Some i (inbox_of topology packages log p) (sym (got inboxes p i lt is) ∙ knows.each p lt) in
+    let reading = framed_reading topology packages in
     e
-    ∙ (ap (λ (x : InboxState). owed_at (reading_of x) (params_of x) x.me x.items place) same
-    ∙ owed_is (framed_reading topology packages) topology.params p log place)
+    ∙ (ap (λ (x : InboxState). owed_kept (reading_of x) (params_of x) x.me x.start x.items place) same
+    ∙ (owed_at_first reading topology.params p (take (suc place) (inbox reading p log)) place
+    ∙ owed_is reading topology.params p log place))
 
 -- ---- one entry more, for one participant after another
 
@@ -149,7 +157,8 @@ module _ (first : List InboxState) (entry : Entry) (at : ℕ) (now : List InboxS
                   let value : new ≡ inbox_of topology packages (log ++ entry ∷ []) at =
                   e
                   ∙ (ap (λ (i : InboxState). with_item i (item_from (reading_of i) i.me i.items entry)) same
-                  ∙ ap (λ (items : List Item). record { topology = topology; packages = packages; me = at; items = items })
+                  ∙ ap (λ (items : List Item).
+                  record { topology = topology; packages = packages; me = at; base = 0; base_time = 0; start = no_start; items = items })
                   (inbox_reads (framed_reading topology packages) at (inbox (framed_reading topology packages) at log) log entry refl)) in
                   subst (λ (i : ℕ). slice_get (slice_set now at new) i ≡ Some (inbox_of topology packages (log ++ entry ∷ []) i)) here
                   (get_set_same now at new within ∙ ap Some value)

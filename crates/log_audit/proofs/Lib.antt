@@ -2,7 +2,6 @@ pub mod Knowing
 pub mod Hosts
 pub mod Told
 pub mod YesFacts
-pub mod Room
 pub mod Ranges
 pub mod RuleNames
 pub mod OneExercise

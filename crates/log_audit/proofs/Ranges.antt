@@ -45,7 +45,7 @@ use Rattle.log_bounds.proofs.Told.{placed_size}
 use Rattle.log_dump.specs.InRange.{IsEntry, IsEnvelope, IsLog, IsMessage, IsRequest, IsTyped, NamesCommand}
 use Rattle.log_dump.specs.Spellable.{IsSpellableEntry, IsSpellableLog, IsSpellableMessage}
 use Rattle.node_inbox.proofs.Checkable.{can_be_checked}
-use Rattle.log_audit.proofs.Room.{can_be_dumped, short}
+use Rattle.log_bounds.proofs.Room.{can_be_dumped, short}
 
 -- ---- participants
 

@@ -5,13 +5,22 @@ use Rattle.lang_eval.specs.Found.{Packages}
 use Rattle.canton_model.specs.Genuine.{Genuine}
 use Rattle.canton_model.specs.Inbox.{inbox}
 use Rattle.world_model.specs.Messages.{Entry}
+use Rattle.pruned_inbox.specs.Start.{no_start}
 use Rattle.node_inbox.specs.InboxState.{InboxState}
 use Rattle.framed_form.specs.FramedReading.{framed_reading}
 
--- the inbox of a participant over a log
+-- the inbox of a participant over a log, of which it has forgotten nothing
 abbrev pub inbox_of : Topology → Packages → List Entry → ℕ → InboxState
 inbox_of topology packages log p =
-    record { topology = topology; packages = packages; me = p; items = inbox (framed_reading topology packages) p log }
+    record {
+      topology = topology;
+      packages = packages;
+      me = p;
+      base = 0;
+      base_time = 0;
+      start = no_start;
+      items = inbox (framed_reading topology packages) p log;
+    }
 
 pub record HaveRead (topology : Topology) (packages : Packages) (inboxes : List InboxState) (log : List Entry) : Type 0 where
   pub hosts : length inboxes ≡ length topology.hosts

@@ -5,8 +5,8 @@ ghost use Rattle.lang_eval.specs.Found.{Packages};
 ghost use Rattle.canton_model.specs.Checks.{verdicts_owed};
 ghost use Rattle.canton_model.specs.Inbox.{inbox};
 ghost use Rattle.world_model.specs.Messages.{Entry};
-ghost use Rattle.world_model.specs.Node.{owed_at, owes_at};
-ghost use Rattle.node_inbox.specs.InboxState.{params_of, reading_of};
+ghost use Rattle.world_model.specs.Node.{owes_at};
+ghost use Rattle.node_inbox.specs.InboxState.{owed_kept, params_of, reading_of};
 ghost use Rattle.framed_form.specs.FramedReading.{framed_reading};
 ghost use Rattle.validate_job.specs.Outcome.{IsOutcome};
 ghost use Rattle.log_audit.specs.Inboxes.{HaveRead};
@@ -32,7 +32,7 @@ fn run_job(job: ValidateJob<'_>) -> Result<Finished, AllocError>
 
 fn checked(inbox: &Inbox<'_>, alloc: Global, place: u64) -> Result<ViewVerdictList, AllocError>
     requires { owes_at (reading_of inbox.now) inbox.now.me inbox.now.items place ≡ true }
-    ensures { IfOk result (λ verdicts. verdicts ≡ owed_at (reading_of inbox.now) (params_of inbox.now) inbox.now.me inbox.now.items place) }
+    ensures { IfOk result (λ verdicts. verdicts ≡ owed_kept (reading_of inbox.now) (params_of inbox.now) inbox.now.me inbox.now.start inbox.now.items place) }
 {
     let job = inbox.job(alloc, place)?;
     let finished = run_job(job)?;
@@ -41,7 +41,7 @@ fn checked(inbox: &Inbox<'_>, alloc: Global, place: u64) -> Result<ViewVerdictLi
 
 // The verdicts that the participant owes to the request at a place.
 fn owed_by(inbox: &Inbox<'_>, alloc: Global, place: u64) -> Result<ViewVerdictList, AllocError>
-    ensures { IfOk result (λ verdicts. verdicts ≡ owed_at (reading_of inbox.now) (params_of inbox.now) inbox.now.me inbox.now.items place) }
+    ensures { IfOk result (λ verdicts. verdicts ≡ owed_kept (reading_of inbox.now) (params_of inbox.now) inbox.now.me inbox.now.start inbox.now.items place) }
 {
     if inbox.owes(place) {
         checked(inbox, alloc, place)

@@ -5,3 +5,4 @@ pub mod Told
 pub mod Requests
 pub mod Logs
 pub mod Owed
+pub mod Room

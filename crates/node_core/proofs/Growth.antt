@@ -137,7 +137,7 @@ passed_stays a b claimed (k ∷ ks) more (suc n) le h f =
     let parts = or_parts (is_free a claimed k) (list_any (is_free a claimed) (take n ks)) f in
     or_from _ _ (free_stays a b claimed k (h k) parts.0) (passed_stays a b claimed ks more n (omega arith) h parts.1)
 
-behind : (k : ℕ) (ks : List ℕ) (i x : ℕ) → slice_get (k ∷ ks) i ≡ Some x → (k ≡ x) ⊎ ((j : ℕ) × (slice_get ks j ≡ Some x))
+pub behind : (k : ℕ) (ks : List ℕ) (i x : ℕ) → slice_get (k ∷ ks) i ≡ Some x → (k ≡ x) ⊎ ((j : ℕ) × (slice_get ks j ≡ Some x))
 behind k ks zero x e = inl (same_Some k x e)
 behind k ks (suc i) x e = inr (i, e)
 

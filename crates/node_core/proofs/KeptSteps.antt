@@ -12,14 +12,14 @@ use Rattle.canton_model.specs.Inbox.{Item}
 use Rattle.world_model.specs.Messages.{Response}
 use Rattle.world_model.specs.Places.{has_place}
 use Rattle.world_model.specs.Node.{is_decided_now, is_to, outbox_head, owes_at}
-use Rattle.node_core.specs.Duties.{Kept, IsPassed, first_waiting, is_free, state_of, with_claim, with_passed, with_response, without_claim, without_response}
+use Rattle.node_core.specs.Duties.{Kept, IsPassed, first_waiting, is_free, state_of, with_claim, with_done, with_passed, with_response, with_waiting, without_claim, without_response}
 use Rattle.node_core.specs.Kept.{IsKept}
 use Rattle.node_core.specs.Participant.{is_received_decided, places_where}
 use Rattle.node_core.proofs.Claims.{decided_is}
 use Rattle.node_core.proofs.Growth.{owes_within, owes_stays, passed_stays, received_decided_stays, where_more, where_same}
 use Rattle.node_core.proofs.Heads.{head_facts, head_first, same_first}
 
-any_filtered : {X : Type 0} (p q : X → Bool) (xs : List X) → list_any p (filter q xs) ≡ true → list_any p xs ≡ true
+pub any_filtered : {X : Type 0} (p q : X → Bool) (xs : List X) → list_any p (filter q xs) ≡ true → list_any p xs ≡ true
 any_filtered p q [] h = h
 any_filtered p q (x ∷ xs) h =
     elim (cases_Bool (q x)) [
@@ -30,7 +30,7 @@ any_filtered p q (x ∷ xs) h =
       | inr b ↦ or_right _ _ (any_filtered p q xs (rw b at h))
     ]
 
-any_pushed : {X : Type 0} (p : X → Bool) (xs : List X) (y : X) → list_any p (xs ++ y ∷ []) ≡ true → (list_any p xs ≡ true) ⊎ (p y ≡ true)
+pub any_pushed : {X : Type 0} (p : X → Bool) (xs : List X) (y : X) → list_any p (xs ++ y ∷ []) ≡ true → (list_any p xs ≡ true) ⊎ (p y ≡ true)
 any_pushed p xs y h =
     elim (or_cases (list_any p xs) (p y || false) (sym (list_any-append p xs (y ∷ [])) ∙ h)) [
       | inl before ↦ inl before
@@ -90,13 +90,14 @@ item_keeps reading params p items item kept after is owed same claimed unfinishe
             (passed_stays (is_received_decided params items) (is_received_decided params more) kept.claimed kept.owed last kept.passed (is.passed).0
             (received_decided_stays params items item) (is.passed).1),
       );
+      claimed = λ k h. owes_on k (is.claimed k (rw claimed at h));
       unfinished = λ k h. owes_on k (is.unfinished k (rw unfinished at h));
       outbox = λ k h. owes_on k (is.outbox k (rw outbox at h));
     }
 
 module _ (reading : Reading) (params : Params) (p : ParticipantId) (items : List Item) (kept : Kept) (is : IsKept reading params p items kept) where
   pub passed_keeps : (n : ℕ) → IsPassed (is_received_decided params items) (with_passed kept n) → IsKept reading params p items (with_passed kept n)
-  passed_keeps n passed = record { owed = is.owed; passed = passed; unfinished = is.unfinished; outbox = is.outbox }
+  passed_keeps n passed = record { owed = is.owed; passed = passed; claimed = is.claimed; unfinished = is.unfinished; outbox = is.outbox }
 
   pub claim_keeps : (k : ℕ) → owes_at reading p items k ≡ true → IsKept reading params p items (with_claim kept k)
   claim_keeps k owes =
@@ -107,6 +108,10 @@ module _ (reading : Reading) (params : Params) (p : ParticipantId) (items : List
           none_more (is_free (is_received_decided params items) kept.claimed) (is_free (is_received_decided params items) (kept.claimed ++ k ∷ []))
               (take kept.passed kept.owed) (claimed_more (is_received_decided params items) kept.claimed k) (is.passed).1,
         );
+        claimed = λ j h. elim (any_pushed (nat_eq j) kept.claimed k h) [
+          | inl before ↦ is.claimed j before
+          | inr here ↦ ap (owes_at reading p items) (eqb-true j k here) ∙ owes
+        ];
         unfinished = λ j h. elim (any_pushed (nat_eq j) kept.unfinished k h) [
           | inl before ↦ is.unfinished j before
           | inr here ↦ ap (owes_at reading p items) (eqb-true j k here) ∙ owes
@@ -119,6 +124,7 @@ module _ (reading : Reading) (params : Params) (p : ParticipantId) (items : List
       record {
         owed = is.owed;
         passed = is.passed;
+        claimed = is.claimed;
         unfinished = λ j h. is.unfinished j (any_filtered (nat_eq j) (λ (n : ℕ). not (nat_eq n response.request)) kept.unfinished h);
         outbox = λ j h. elim (any_pushed (is_to j) kept.outbox response h) [
           | inl before ↦ is.outbox j before
@@ -126,11 +132,27 @@ module _ (reading : Reading) (params : Params) (p : ParticipantId) (items : List
         ];
       }
 
+  pub done_keeps : (k : ℕ) → owes_at reading p items k ≡ true → IsKept reading params p items (with_done kept k)
+  done_keeps k owes =
+      let claimed = claim_keeps k owes in
+      record { owed = is.owed; passed = claimed.passed; claimed = claimed.claimed; unfinished = is.unfinished; outbox = is.outbox }
+
+  pub waiting_keeps : (response : Response) → owes_at reading p items response.request ≡ true → IsKept reading params p items (with_waiting kept response)
+  waiting_keeps response owes =
+      record {
+        owed = is.owed;
+        passed = is.passed;
+        claimed = is.claimed;
+        unfinished = is.unfinished;
+        outbox = (response_keeps response owes).outbox;
+      }
+
   pub sent_keeps : (k : ℕ) → IsKept reading params p items (without_response kept k)
   sent_keeps k =
       record {
         owed = is.owed;
         passed = is.passed;
+        claimed = is.claimed;
         unfinished = is.unfinished;
         outbox = λ j h. is.outbox j (any_filtered (is_to j) (λ (r : Response). not (is_to k r)) kept.outbox h);
       }
@@ -141,6 +163,7 @@ module _ (reading : Reading) (params : Params) (p : ParticipantId) (items : List
       record {
         owed = is.owed;
         passed = passed;
+        claimed = λ j h. is.claimed j (any_filtered (nat_eq j) (λ (n : ℕ). not (nat_eq n k)) kept.claimed h);
         unfinished = λ j h. is.unfinished j (any_filtered (nat_eq j) (λ (n : ℕ). not (nat_eq n k)) kept.unfinished h);
         outbox = λ j h. is.outbox j (any_filtered (is_to j) (λ (r : Response). not (is_to k r)) kept.outbox h);
       }

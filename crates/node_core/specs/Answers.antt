@@ -1,12 +1,14 @@
 -- What a participant answers that doesn't hang on its outbox nor on its unfinished jobs, as one value.
-use Rattle.std.specs.Prelude.{◌≡◌, ℕ, Bool, List, Option, Result, length}
+use Rattle.std.specs.Prelude.{◌≡◌, ℕ, Bool, true, List, Option, Result, length}
 use Rattle.ledger_terms.specs.declared.submission.Submission.{Submission}
 use Rattle.ledger_model.specs.Terms.{ActiveRow}
 use Rattle.ledger_model.specs.declared.commit.Commit.{Commit}
-use Rattle.canton_model.specs.Inbox.{clean, clean_time, node_active, node_log, outcome_in, withheld}
+use Rattle.canton_model.specs.Inbox.{clean, clean_time, node_log, outcome_in, withheld}
 use Rattle.canton_model.specs.Timeline.{Outcome}
 use Rattle.world_model.specs.Machine.{Machine}
 use Rattle.world_model.specs.Messages.{Request, ViewVerdict}
+use Rattle.world_model.specs.Places.{has_place}
+use Rattle.pruned_inbox.specs.Start.{active_kept}
 use Rattle.node_inbox.specs.InboxState.{decided_since}
 use Rattle.prepare_request.specs.declared.submit_fault.SubmitFault.{SubmitFault}
 use Rattle.node_core.specs.Preparing.{prepare_answer}
@@ -36,7 +38,7 @@ answers_of p =
       clean_time = clean_time (params_of p) (items_of p);
       withheld = withheld (params_of p) (items_of p);
       applied = node_log (params_of p) (items_of p);
-      active = node_active (reading_of p) p.me (items_of p) (clean (params_of p) (items_of p));
+      active = active_kept (reading_of p) p.me p.start (items_of p) (clean (params_of p) (items_of p));
       is_paused = p.state.is_paused;
       next_place = next_place p;
       owes = owes_there p;
@@ -47,13 +49,14 @@ answers_of p =
       prepare = prepare_answer p;
     }
 
--- Two participants are one, over one setup, with equal inboxes, claims and flags.
+-- Two participants are one, over one setup, with equal inboxes and flags, and with equal claims of what they owe.
 pub record AreAlike (a b : Participant) : Type 0 where
   pub topology : a.topology ≡ b.topology
   pub packages : a.packages ≡ b.packages
   pub me : a.me ≡ b.me
+  pub start : a.start ≡ b.start
   pub items : items_of a ≡ items_of b
-  pub claimed : a.state.claimed ≡ b.state.claimed
+  pub claimed : (k : ℕ) → owes_there a k ≡ true → has_place a.state.claimed k ≡ has_place b.state.claimed k
   pub is_paused : a.state.is_paused ≡ b.state.is_paused
 
 -- it reads requests as the machine does, and has its times

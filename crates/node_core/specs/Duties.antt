@@ -70,6 +70,33 @@ without_claim kept k passed =
       outbox = without k kept.outbox;
     }
 
+-- a claim of a place whose job is done
+abbrev pub with_done : Kept → ℕ → Kept
+with_done kept k =
+    record {
+      owed = kept.owed;
+      room = kept.room;
+      passed = kept.passed;
+      claimed = kept.claimed ++ k ∷ [];
+      unfinished = kept.unfinished;
+      outbox = kept.outbox;
+    }
+
+abbrev pub with_waiting : Kept → Response → Kept
+with_waiting kept response =
+    record {
+      owed = kept.owed;
+      room = kept.room;
+      passed = kept.passed;
+      claimed = kept.claimed;
+      unfinished = kept.unfinished;
+      outbox = kept.outbox ++ response ∷ [];
+    }
+
+-- a place, at or after another, that was claimed and isn't unfinished
+abbrev pub is_done : (from : ℕ) → Kept → ℕ → Bool
+is_done from kept k = (nat_le from k && has_place kept.claimed k) && not (has_place kept.unfinished k)
+
 -- a place that is neither decided nor claimed
 abbrev pub is_free : (decided : ℕ → Bool) → (claimed : List ℕ) → ℕ → Bool
 is_free decided claimed k = not (decided k) && not (has_place claimed k)

@@ -14,5 +14,6 @@ use Rattle.node_core.specs.Participant.{is_received_decided, places_where}
 pub record IsKept (reading : Reading) (params : Params) (p : ParticipantId) (items : List Item) (kept : Kept) : Type 0 where
   pub owed : kept.owed ≡ places_where (owes_at reading p items) 0 (length items)
   pub passed : IsPassed (is_received_decided params items) kept
+  pub claimed : (k : ℕ) → has_place kept.claimed k ≡ true → owes_at reading p items k ≡ true
   pub unfinished : (k : ℕ) → has_place kept.unfinished k ≡ true → owes_at reading p items k ≡ true
   pub outbox : (k : ℕ) → waits_at kept.outbox k ≡ true → owes_at reading p items k ≡ true

@@ -6,4 +6,7 @@ pub mod Kept
 pub mod Answers
 pub mod Preparing
 pub mod Machines
+pub mod OverLog
+pub mod Bases
 pub mod Views
+pub mod States

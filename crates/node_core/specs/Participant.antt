@@ -1,21 +1,33 @@
 -- What contracts see of a participant.
-use Rattle.std.specs.Prelude.{◌≡◌, ◌+◌, ◌<◌, ◌≤◌, ℕ, suc, zero, take, Bool, true, false, ◌&&◌, List, [], ◌∷◌, Option, is_some, length, if◌then◌else◌}
+use Rattle.std.specs.Prelude.{◌≡◌, ◌+◌, ◌<◌, ◌≤◌, ℕ, suc, zero, drop, take, Bool, true, false, ◌&&◌, List, [], ◌∷◌, ◌++◌, Option, is_some, length}
+use Rattle.std.specs.Prelude.{if◌then◌else◌}
 use Rattle.ledger_terms.specs.declared.topology.Topology.{Topology}
 use Rattle.ledger_model.specs.Terms.{ParticipantId}
 use Rattle.canton_model.specs.Log.{Params}
 use Rattle.canton_model.specs.Reading.{Reading}
 use Rattle.canton_model.specs.Genuine.{Genuine}
-use Rattle.canton_model.specs.Inbox.{Item, inbox, is_decided_in, notice_at}
-use Rattle.world_model.specs.Node.{NodeState, new_node, next_claim, outbox_head, owed_at, owes_at, response_at, is_decided_now}
+use Rattle.canton_model.specs.Inbox.{Item, inbox, is_decided_in, last_time, notice_at}
+use Rattle.world_model.specs.Machine.{Machine}
+use Rattle.world_model.specs.Lawful.{NodeHas}
+use Rattle.world_model.specs.Node.{NodeState, new_node, next_claim, outbox_head, owes_at, is_decided_now, with_items}
 use Rattle.world_model.specs.Messages.{Entry, Response, ViewVerdict}
 use Rattle.lang_eval.specs.Found.{Packages}
 use Rattle.framed_form.specs.FramedReading.{framed_reading}
+use Rattle.pruned_inbox.specs.Base.{IsBase}
+use Rattle.pruned_inbox.specs.Forgotten.{silent_front}
+use Rattle.pruned_inbox.specs.Orderly.{IsOrderly}
+use Rattle.pruned_inbox.specs.Start.{IsStart, Start, no_start}
+use Rattle.node_inbox.specs.InboxState.{owed_kept}
 
--- The participants with their times, the packages, which participant it is, and its state.
+-- The participants with their times, the packages, which participant it is, its base with the time of the entry before that, what its
+-- inbox left there, and its state, whose items are silent below the base.
 pub record Participant : Type 0 where
   pub topology : Topology
   pub packages : Packages
   pub me : ParticipantId
+  pub base : ℕ
+  pub base_time : ℕ
+  pub start : Start
   pub state : NodeState
 
 -- how it reads requests
@@ -29,16 +41,53 @@ abbrev pub items_of : Participant → List Item
 items_of p = p.state.items
 
 abbrev pub begun : Topology → Packages → ParticipantId → Participant
-begun topology packages me = record { topology = topology; packages = packages; me = me; state = new_node }
+begun topology packages me =
+    record { topology = topology; packages = packages; me = me; base = 0; base_time = 0; start = no_start; state = new_node }
 
 abbrev pub with_state : Participant → NodeState → Participant
-with_state p state = record { topology = p.topology; packages = p.packages; me = p.me; state = state }
+with_state p state = record p { state = state }
+
+-- it has forgotten nothing
+abbrev pub HasForgottenNothing : Participant → Type 0
+HasForgottenNothing p = (p.base ≡ 0) × (p.base_time ≡ 0) × (p.start ≡ no_start)
+
+-- From its base on it has what stands in this inbox, behind as many silent items as stand below it there, and beside that what the inbox
+-- leaves at its base.
+pub record IsPrunedTo (whole : List Item) (p : Participant) : Type 0 where
+  pub orderly : IsOrderly (params_of p) whole
+  pub is_base : IsBase (params_of p) whole p.base
+  pub starts : IsStart (reading_of p) whole p.base p.start
+  pub time : p.base_time ≡ last_time (take p.base whole)
+  pub kept : items_of p ≡ silent_front p.base p.base_time ++ drop p.base whole
+
+-- the same participant, with another base and what its inbox leaves there
+abbrev pub pruned_at : ℕ → Start → Participant → Participant
+pruned_at b next p =
+    let last = last_time (take b (items_of p)) in
+    record {
+      topology = p.topology;
+      packages = p.packages;
+      me = p.me;
+      base = b;
+      base_time = last;
+      start = next;
+      state = with_items p.state (silent_front b last ++ drop b (items_of p));
+    }
+
+-- its state, had it kept all of this inbox
+abbrev pub whole_state : Participant → List Item → NodeState
+whole_state p whole = with_items p.state whole
+
+-- It has read these entries: with its whole inbox its state is one of the machine's participant, and it is pruned to its base.
+pub record HasRead (m : Machine) (read : List Entry) (p : Participant) : Type 0 where
+  pub node : NodeHas m p.me read (whole_state p (inbox (reading_of p) p.me read))
+  pub pruned : IsPrunedTo (inbox (reading_of p) p.me read) p
 
 -- The list is genuine, and all of it was read but its last entry.
 pub record CanRead (p : Participant) (list : List Entry) : Type 0 where
   pub cursor : length list ≡ length (items_of p) + 1
   pub genuine : Genuine (reading_of p) (params_of p) list
-  pub before : items_of p ≡ inbox (reading_of p) p.me (take (length (items_of p)) list)
+  pub before : IsPrunedTo (inbox (reading_of p) p.me (take (length (items_of p)) list)) p
 
 -- it owes verdicts to the request at a place
 abbrev pub owes_there : Participant → ℕ → Bool
@@ -46,10 +95,10 @@ owes_there p k = owes_at (reading_of p) p.me (items_of p) k
 
 -- the verdicts that it owes there
 abbrev pub owed_there : Participant → ℕ → List ViewVerdict
-owed_there p k = owed_at (reading_of p) (params_of p) p.me (items_of p) k
+owed_there p k = owed_kept (reading_of p) (params_of p) p.me p.start (items_of p) k
 
 abbrev pub response_there : Participant → ℕ → Response
-response_there p k = response_at (reading_of p) (params_of p) p.me (items_of p) k
+response_there p k = record { from = p.me; request = k; verdicts = owed_there p k }
 
 abbrev pub is_decided_there : Participant → ℕ → Bool
 is_decided_there p k = is_decided_now (params_of p) (items_of p) k

@@ -7,6 +7,7 @@ use Rattle.canton_model.specs.Inbox.{Item, node_active}
 use Rattle.canton_model.specs.Reading.{Reading}
 use Rattle.canton_model.specs.declared.request.Request.{Request}
 use Rattle.contract_store.specs.Active.{knowns}
+use Rattle.pruned_inbox.specs.Start.{Start, active_kept}
 use Rattle.prepare_request.specs.Prepared.{prepared}
 use Rattle.prepare_request.specs.declared.submit_fault.SubmitFault.{SubmitFault}
 use Rattle.prepare_request.specs.declared.submit_fault.SubmitFault.TheVariants.{Paused}
@@ -16,8 +17,12 @@ use Rattle.node_core.specs.Participant.{Participant, items_of, reading_of}
 abbrev pub offered : Reading → ParticipantId → List Item → List Known
 offered reading p items = knowns (node_active reading p items (length items))
 
+-- the same of one whose inbox left this at its base
+abbrev pub offered_kept : Reading → ParticipantId → Start → List Item → List Known
+offered_kept reading p start items = knowns (active_kept reading p start items (length items))
+
 abbrev pub offered_by : Participant → List Known
-offered_by p = offered (reading_of p) p.me (items_of p)
+offered_by p = offered_kept (reading_of p) p.me p.start (items_of p)
 
 -- a request, or the first fault
 abbrev pub prepare_answer : Participant → Submission → (now : ℕ) → Result Request SubmitFault

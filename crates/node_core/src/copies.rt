@@ -1,10 +1,11 @@
 //! Copies of what messages hold.
-ghost use Rattle.std.specs.Prelude.{◌≡◌, IfOk};
+ghost use Rattle.std.specs.Prelude.{◌≡◌, ◌++◌, IfOk, OnOk};
 ghost use Rattle.node_core.specs.Completion.{of_decision};
 
 use crate::completion::Completion;
-use canton_model::{Decision, Response, ViewVerdict, ViewVerdictList};
+use canton_model::{Decision, Response, SharedBytes, ViewVerdict, ViewVerdictList};
 use ledger_terms::Exact;
+use node_state::{Item, ItemWhat, ResponseList};
 use std::alloc::{AllocError, Global};
 
 fn copy_verdicts(alloc: Global, verdicts: &[ViewVerdict]) -> Result<ViewVerdictList, AllocError>
@@ -30,6 +31,74 @@ pub fn copy_response(alloc: Global, response: &Response) -> Result<Response, All
         request: response.request,
         verdicts,
     })
+}
+
+// The same bytes, where there are some, with no copy.
+fn shared(bytes: &Option<SharedBytes>) -> Result<Option<SharedBytes>, AllocError>
+    ensures { IfOk result (λ shared. shared ≡ bytes.now) }
+{
+    match bytes {
+        Some(bytes) => Ok(Some(bytes.clone()?)),
+        None => Ok(None),
+    }
+}
+
+fn copy_what(what: &ItemWhat) -> Result<ItemWhat, AllocError>
+    ensures { IfOk result (λ copy. copy ≡ what.now) }
+{
+    match what {
+        ItemWhat::Nothing => Ok(ItemWhat::Nothing),
+        ItemWhat::Request {
+            sender,
+            command,
+            root,
+            seen,
+            confirmed,
+            envelope,
+        } => Ok(ItemWhat::Request {
+            sender: *sender,
+            command: *command,
+            root: *root,
+            seen: seen.copied()?,
+            confirmed: confirmed.copied()?,
+            envelope: shared(envelope)?,
+        }),
+        ItemWhat::Verdict(verdict) => Ok(ItemWhat::Verdict(verdict.clone()?)),
+    }
+}
+
+/// Envelopes aren't copied.
+pub fn copy_item(item: &Item) -> Result<Item, AllocError>
+    ensures { IfOk result (λ copy. copy ≡ item.now) }
+{
+    let what = copy_what(&item.what)?;
+    Ok(Item {
+        time: item.time,
+        what,
+    })
+}
+
+/// Copies of responses come behind others.
+pub fn push_copies(
+    alloc: Global,
+    responses: &[Response],
+    copies: &mut ResponseList,
+) -> Result<(), AllocError>
+    ensures { OnOk result (copies.new ≡ copies.old ++ responses.now) }
+{
+    for response in responses {
+        copies.push(copy_response(alloc, response)?)?;
+    }
+    Ok(())
+}
+
+/// Copies of responses.
+pub fn copy_responses(alloc: Global, responses: &[Response]) -> Result<ResponseList, AllocError>
+    ensures { IfOk result (λ copies. copies ≡ responses.now) }
+{
+    let mut copies = ResponseList::new(alloc);
+    push_copies(alloc, responses, &mut copies)?;
+    Ok(copies)
 }
 
 /// What a decision makes of a request, over so many entries.

@@ -1,18 +1,19 @@
 //! What a participant keeps of claims and responses.
 ghost use Rattle.std.specs.Prelude.{◌≡◌, ◌<◌, ◌≤◌, false, true, ℕ, Bool, All, find, take, length, option_copied, OnOk, OnErr, slice_get, ◌+◌, ◌++◌, ◌∷◌, []};
-ghost use Rattle.std.specs.Prelude.{vec_len, vec_capacity};
+ghost use Rattle.std.specs.Prelude.{vec_len, vec_capacity, filter, if◌then◌else◌, IfOk};
 ghost use Rattle.std.specs.List.{AllWithin, list_any};
 ghost use Rattle.std.specs.List.Sorted.{IsNonDecreasing};
 ghost use Rattle.indexmap.specs.IndexSet.{spare};
 ghost use Rattle.world_model.specs.Places.{has_place, without_place};
 ghost use Rattle.node_core.specs.Duties.{nothing_kept, with_passed, with_room, with_owed, with_claim, with_response, without_response, without_claim};
-ghost use Rattle.node_core.specs.Duties.{is_free, IsPassed, first_waiting};
+ghost use Rattle.node_core.specs.Duties.{is_done, is_free, IsPassed, first_waiting, with_done, with_waiting};
 
 use crate::decisions::Decisions;
 use crate::outbox::Outbox;
 use canton_model::Response;
 use indexmap::IndexSet;
-use ledger_terms::RoomyList;
+use ledger_terms::{RoomyList, U64List};
+use node_state::ResponseList;
 use std::alloc::{AllocError, Global};
 use std::marker::Model;
 
@@ -142,6 +143,52 @@ impl Duties {
         self.outbox.push_within(response);
     }
 
+    /// A place that was claimed before, and whose job is done.
+    pub fn claim_done(&mut self, place: u64) -> Result<(), AllocError>
+        requires { has_place self.old.claimed place ≡ false }
+        ensures ok { OnOk result (self.new ≡ with_done self.old place) }
+        ensures err { OnErr result (self.new ≡ self.old) }
+    {
+        self.claimed.reserve(1)?;
+        put_claim(&mut self.claimed, place);
+        Ok(())
+    }
+
+    /// A response that waited before.
+    pub fn wait(&mut self, response: Response) -> Result<(), AllocError>
+        ensures ok { OnOk result (self.new ≡ with_waiting self.old response) }
+        ensures err { OnErr result (self.new ≡ self.old) }
+    {
+        self.outbox.reserve(self.unfinished.len() + 1)?;
+        self.outbox.push_within(response);
+        Ok(())
+    }
+
+    /// The places from one on whose job is done, rising.
+    pub fn done(&self, alloc: Global, from: u64) -> Result<U64List, AllocError>
+        ensures { IfOk result (λ done. done ≡ filter (is_done from self.now) self.now.owed) }
+    {
+        let mut done = U64List::new(alloc);
+        for place in self.owed.as_slice() {
+            push_if(&mut done, *place, self.is_done(from, *place))?;
+        }
+        Ok(done)
+    }
+
+    // Whether a place, at or after another, was claimed and isn't unfinished.
+    fn is_done(&self, from: u64, place: u64) -> bool
+        ensures { result ≡ is_done from self.now place }
+    {
+        from <= place && self.claimed.contains(&place) && !self.is_unfinished(place)
+    }
+
+    /// Copies of the responses that wait, in the order in which they came.
+    pub fn responses(&self, alloc: Global) -> Result<ResponseList, AllocError>
+        ensures { IfOk result (λ responses. responses ≡ self.now.outbox) }
+    {
+        self.outbox.copied(alloc)
+    }
+
     /// Whether a job of the request at a place was claimed and neither finished nor put back.
     pub fn is_unfinished(&self, place: u64) -> bool
         ensures { result ≡ has_place self.now.unfinished place }
@@ -173,6 +220,15 @@ impl Duties {
     {
         self.outbox.remove(request);
     }
+}
+
+fn push_if(places: &mut U64List, place: u64, is: bool) -> Result<(), AllocError>
+    ensures { OnOk result (places.new ≡ places.old ++ (if is then place ∷ [] else [])) }
+{
+    if is {
+        places.push(place)?;
+    }
+    Ok(())
 }
 
 // Room for one more claim and for the responses to all unfinished places.

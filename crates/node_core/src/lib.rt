@@ -16,6 +16,7 @@ mod submit_result;
 
 pub use cancelled::Cancelled;
 pub use completion::Completion;
+pub use copies::copy_responses;
 pub use node::Node;
 pub use node_view::{ActiveRowLists, NodeView, NodeViewList};
 pub use prepare_request::SubmitFault;

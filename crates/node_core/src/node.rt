@@ -3,12 +3,13 @@ ghost use Rattle.std.specs.Prelude.{◌≡◌, ◌≢◌, ◌<◌, ◌++◌, ◌
 ghost use Rattle.std.specs.Prelude.{MatchResult, IfOk, IfErr, IfSome, IfNone, OnOk, OnErr};
 ghost use Rattle.ledger_terms.specs.Answers.{Follows};
 ghost use Rattle.ledger_terms.specs.Topologies.{IsValid};
-ghost use Rattle.canton_model.specs.Inbox.{clean, clean_time, inbox, node_active, node_log, notice_at, outcome_in, withheld};
+ghost use Rattle.canton_model.specs.Inbox.{Item, clean, clean_time, inbox, node_log, notice_at, outcome_in, withheld};
 ghost use Rattle.world_model.specs.Messages.{Entry};
 ghost use Rattle.world_model.specs.Places.{has_place};
 ghost use Rattle.world_model.specs.Node.{claim, finish, put_back, read_entry, sent, with_flag};
 ghost use Rattle.sealed_form.specs.SealedForm.{IsSealedForm};
 ghost use Rattle.validate_job.specs.Owed.{owed_on_each};
+ghost use Rattle.pruned_inbox.specs.Start.{active_kept};
 ghost use Rattle.node_inbox.specs.InboxState.{decided_since};
 ghost use Rattle.prepare_request.specs.Causes.{HoldsNoMemory};
 ghost use Rattle.prepare_request.specs.Machine.{Offered, prepare_over, why_over};
@@ -16,9 +17,11 @@ ghost use Rattle.prepare_request.specs.Opens.{OpensByRules};
 ghost use Rattle.prepare_request.specs.Within.{IsWithin};
 ghost use Rattle.prepare_request.specs.declared.submit_fault.SubmitFault.TheVariants as SubmitFault;
 ghost use Rattle.node_core.specs.Completion.{completion_of};
-ghost use Rattle.node_core.specs.Participant.{CanRead, begun, is_decided_there, items_of, next_place, next_response, owed_there, owes_there, params_of};
-ghost use Rattle.node_core.specs.Participant.{reading_of, response_there, with_state};
+ghost use Rattle.node_core.specs.Participant.{CanRead, IsPrunedTo, begun, is_decided_there, items_of, next_place, next_response, owed_there, owes_there};
+ghost use Rattle.node_core.specs.Participant.{params_of, reading_of, response_there, with_state};
 ghost use Rattle.node_core.specs.Preparing.{offered_by, prepare_answer};
+
+mod states;
 
 use crate::cancelled::Cancelled;
 use crate::completion::Completion;
@@ -66,6 +69,9 @@ impl<'s> Model for Node<'s> {
       topology = n.inbox.topology;
       packages = n.inbox.packages;
       me = n.inbox.me;
+      base = n.inbox.base;
+      base_time = n.inbox.base_time;
+      start = n.inbox.start;
       state = state_of n.inbox.items n.is_paused n.duties;
     } };
 
@@ -88,6 +94,20 @@ impl<'s> Node<'s> {
             duties: Duties::new(alloc),
             is_paused: false,
         }
+    }
+
+    /// Which participant it is.
+    pub fn me(&self) -> ParticipantId
+        ensures { result ≡ self.now.me }
+    {
+        self.me
+    }
+
+    /// The place from which on it has what it read. Takes no memory.
+    pub fn base(&self) -> u64
+        ensures { result ≡ self.now.base }
+    {
+        self.inbox.base()
     }
 
     /// How many entries it has read.
@@ -129,7 +149,7 @@ impl<'s> Node<'s> {
         requires { CanRead self.old slip.now.list }
         ensures ok { OnOk result ((before : List Entry) (entry : Entry) → slip.now.list ≡ before ++ entry ∷ []
             → self.new ≡ with_state self.old (read_entry (reading_of self.old) self.old.me self.old.state before entry)) }
-        ensures inbox { OnOk result (items_of self.new ≡ inbox (reading_of self.old) self.old.me slip.now.list) }
+        ensures inbox { OnOk result (IsPrunedTo (inbox (reading_of self.old) self.old.me slip.now.list) self.new) }
         ensures err { OnErr result (self.new ≡ self.old) }
     {
         let place = slip.place();
@@ -243,11 +263,11 @@ impl<'s> Node<'s> {
         requires within { IsWithin self.now.topology self.now.packages self.now.me (offered_by self.now) what.now }
         ensures paused { self.now.state.is_paused ≡ true → result ≡ Err SubmitFault.Paused }
         ensures exact { Follows SubmitFault.Memory result (prepare_answer self.now what.now now) }
-        ensures wanted { (offered : Offered) → what.now.participant ≡ self.now.me → offered self.now.me (items_of self.now) ≡ offered_by self.now
-            → MatchResult result (λ request. prepare_over self.now.topology self.now.packages offered what.now (items_of self.now) now ≡ Some request)
+        ensures wanted { (offered : Offered) (items : List Item) → what.now.participant ≡ self.now.me → offered self.now.me items ≡ offered_by self.now
+            → MatchResult result (λ request. prepare_over self.now.topology self.now.packages offered what.now items now ≡ Some request)
             (λ fault. fault ≢ SubmitFault.Memory → fault ≢ SubmitFault.Paused
-            → (prepare_over self.now.topology self.now.packages offered what.now (items_of self.now) now ≡ None)
-            × (why_over self.now.topology self.now.packages offered what.now (items_of self.now) now ≡ fault)) }
+            → (prepare_over self.now.topology self.now.packages offered what.now items now ≡ None)
+            × (why_over self.now.topology self.now.packages offered what.now items now ≡ fault)) }
         ensures sealed { IfOk result (λ request. IsSealedForm self.now.topology self.now.packages request) }
         ensures opens { IfOk result (λ request. OpensByRules self.now.topology self.now.packages request) }
         ensures framed { IfOk result (λ request. (reading_of self.now).is_framed request ≡ true) }
@@ -293,16 +313,16 @@ impl<'s> Node<'s> {
     /// The active contracts with a hosted stakeholder at the clean place, in order of creation.
     pub fn active(&self, alloc: Global) -> Result<ActiveRowList, AllocError>
         ensures { IfOk result (λ rows. rows
-            ≡ node_active (reading_of self.now) self.now.me (items_of self.now) (clean (params_of self.now) (items_of self.now))) }
+            ≡ active_kept (reading_of self.now) self.now.me self.now.start (items_of self.now) (clean (params_of self.now) (items_of self.now))) }
     {
         self.inbox.active(alloc)
     }
 
-    /// The active contracts with a hosted stakeholder at a place, in order of creation, by all that it has read. Up to its clean
-    /// place they are the ledger's without what is withheld from it (`active_sets_are_exact`). Goes through the places below the one
+    /// The active contracts with a hosted stakeholder at a place, in order of creation, by all that it has read. From its base up to its
+    /// clean place they are the ledger's without what is withheld from it (`active_sets_are_exact`). Goes through the places below the one
     /// that is asked for.
     pub fn active_at(&self, alloc: Global, place: u64) -> Result<ActiveRowList, AllocError>
-        ensures { IfOk result (λ rows. rows ≡ node_active (reading_of self.now) self.now.me (items_of self.now) place) }
+        ensures { IfOk result (λ rows. rows ≡ active_kept (reading_of self.now) self.now.me self.now.start (items_of self.now) place) }
     {
         self.inbox.active_at(alloc, place)
     }

@@ -1,12 +1,14 @@
 //! Responses that wait.
-ghost use Rattle.std.specs.Prelude.{◌≡◌, ◌≤◌, ◌<◌, ◌+◌, ◌++◌, ◌∷◌, [], ℕ, true, length, option_copied, IfSome, IsSomeAnd, OnOk};
+ghost use Rattle.std.specs.Prelude.{◌≡◌, ◌≤◌, ◌<◌, ◌+◌, ◌++◌, ◌∷◌, [], ℕ, true, length, option_copied, IfOk, IfSome, IsSomeAnd, OnOk};
 ghost use Rattle.std.specs.VecDeque.{deque_capacity};
 ghost use Rattle.world_model.specs.Node.{without};
 ghost use Rattle.node_core.specs.Duties.{earlier, unless_decided, first_waiting};
 ghost use Rattle.node_core.specs.Outbox.{Rises, begins_to, first_undecided};
 
+use crate::copies::push_copies;
 use crate::decisions::Decisions;
 use canton_model::Response;
+use node_state::ResponseList;
 use std::alloc::{AllocError, Global};
 use std::collections::VecDeque;
 use std::marker::Model;
@@ -174,6 +176,17 @@ impl Outbox {
         if self.responses.is_empty() {
             self.rises_to = Some(0);
         }
+    }
+
+    /// Copies of the responses.
+    pub fn copied(&self, alloc: Global) -> Result<ResponseList, AllocError>
+        ensures { IfOk result (λ copies. copies ≡ self.now.responses) }
+    {
+        let mut copies = ResponseList::new(alloc);
+        let (front, back) = self.responses.as_slices();
+        push_copies(alloc, front, &mut copies)?;
+        push_copies(alloc, back, &mut copies)?;
+        Ok(copies)
     }
 
     /// The first in order of place whose request isn't decided.

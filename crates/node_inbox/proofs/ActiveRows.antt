@@ -30,16 +30,16 @@ writes_are reading items k = by (is_approved_in k (moments items))
     by true = refl
     by false = refl
 
-pub next_written : (reading : Reading) (items : List Item) (start k : ℕ) (rows : List StoreRow) → start ≤ k
-    → rows ≡ written (placed_between reading items start k) []
-    → write_changes k (changes_of (filter reading.is_authentic (acts (approved_at items k)))) rows ≡ written (placed_between reading items start (k + 1)) []
-next_written reading items start k rows le before =
+pub next_written : (reading : Reading) (items : List Item) (start k : ℕ) (first rows : List StoreRow) → start ≤ k
+    → rows ≡ written (placed_between reading items start k) first
+    → write_changes k (changes_of (filter reading.is_authentic (acts (approved_at items k)))) rows ≡ written (placed_between reading items start (k + 1)) first
+next_written reading items start k first rows le before =
     rw add-one
     (changes_written k (filter reading.is_authentic (acts (approved_at items k))) rows
     ∙ (ap (λ (as' : List Act). written (map (at_place k) as') rows) (writes_are reading items k)
     ∙ (ap (written (map (at_place k) (writes_of reading items k))) before
-    ∙ (sym (written_append (placed_between reading items start k) (map (at_place k) (writes_of reading items k)) [])
-    ∙ ap (λ (ps : List Placed). written ps []) (sym (next_between reading items start k le))))))
+    ∙ (sym (written_append (placed_between reading items start k) (map (at_place k) (writes_of reading items k)) first)
+    ∙ ap (λ (ps : List Placed). written ps first) (sym (next_between reading items start k le))))))
 
 -- ---- a list
 

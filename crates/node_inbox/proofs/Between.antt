@@ -12,7 +12,7 @@ use Rattle.ledger_terms.specs.declared.active_row.ActiveRow.{ActiveRow}
 use Rattle.ledger_model.specs.Status.{status_after}
 use Rattle.ledger_model.specs.Terms.{Hash, ParticipantId, consumes, creates, id_of, is_create}
 use Rattle.ledger_model.specs.declared.status.Status.TheVariants.{Unknown, Active, Consumed}
-use Rattle.canton_model.specs.Inbox.{Item, authentic_below, first_of_each, is_active_row, is_stakeholder_hosted, node_active}
+use Rattle.canton_model.specs.Inbox.{Item, active_row, authentic_below, created_at_place, created_below, first_of_each, is_active_row, is_stakeholder_hosted}
 use Rattle.canton_model.specs.Reading.{Reading}
 use Rattle.contract_store.specs.ActiveLaw.{InOrder, created_rows, is_creation, row_for}
 use Rattle.contract_store.specs.Below.{at_place, placed_below, writes_of}
@@ -20,13 +20,17 @@ use Rattle.contract_store.specs.Rows.{status_in}
 use Rattle.contract_store.specs.Written.{Placed, acts_of, written}
 use Rattle.contract_store.proofs.Following.{status_follows}
 use Rattle.contract_store.proofs.Maps.{equal_bytes, same_bytes}
-use Rattle.contract_store.proofs.Ordered.{hosted_is_active}
-use Rattle.contract_store.proofs.PlacedBelow.{active_is_node_active}
+use Rattle.contract_store.specs.declared.row.StoreRow.{StoreRow}
+use Rattle.pruned_inbox.specs.Start.{Start, active_kept, is_active_since, is_gone}
+use Rattle.inbox_standing.specs.Changes.{creation_of}
+use Rattle.inbox_standing.proofs.Told.{left_unused}
+use Rattle.inbox_standing.proofs.Written.{written_append}
 use Rattle.node_inbox.specs.AddedIds.{is_unknown}
-use Rattle.node_inbox.specs.KeptActive.{AreFresh, CreateOnly, is_consumed, is_unconsumed, placed_between}
+use Rattle.node_inbox.specs.KeptActive.{AreFresh, CreateOnly, begun_below, is_consumed, is_unconsumed, placed_between}
+use Rattle.node_inbox.specs.Kept.{BeginsIn}
 use Rattle.node_inbox.specs.Listed.{is_offered, listed}
-use Rattle.node_inbox.proofs.Later.{unknown_parts}
-use Rattle.node_inbox.proofs.PlacedInOrder.{in_order_below, listed_placed}
+use Rattle.node_inbox.proofs.Later.{acts_begun, unknown_parts}
+use Rattle.node_inbox.proofs.PlacedInOrder.{begun_in_order, listed_placed}
 
 -- ---- rows of which a test says no
 
@@ -185,83 +189,164 @@ module _ (reading : Reading) (p : ParticipantId) where
       ∙ ap (λ (rs : List ActiveRow). filter (left_by new) (active_in past) ++ rs)
       (once hosted before later all split (first_of_each (created_rows new)) (none_first before (created_rows new) rows.1)))))
 
-  module _ (items : List Item) where
+-- ---- from what was left at the base
+
+made_rows : (rows : List ActiveRow) → created_rows (map creation_of rows) ≡ rows
+made_rows [] = refl
+made_rows (row ∷ rows) = ap (λ (rs : List ActiveRow). row ∷ rs) (made_rows rows)
+
+rows_at : (k : ℕ) (as' : List Act) → created_rows (map (at_place k) as') ≡ created_at_place k as'
+rows_at k [] = refl
+rows_at k (a ∷ as') = by (is_create a.action) (rows_at k as')
+  where
+    by : (b : Bool) → created_rows (map (at_place k) as') ≡ created_at_place k as'
+        → map row_for (cond b (at_place k a ∷ filter is_creation (map (at_place k) as')) (filter is_creation (map (at_place k) as')))
+        ≡ map (active_row k) (cond b (a ∷ filter (λ (act : Act). is_create act.action) as') (filter (λ (act : Act). is_create act.action) as'))
+    by true e = ap (λ (rows : List ActiveRow). active_row k a ∷ rows) e
+    by false e = e
+
+both_turned : (a h : Bool) → (h && a) ≡ (a && h)
+both_turned true true = refl
+both_turned true false = refl
+both_turned false true = refl
+both_turned false false = refl
+
+pub same_filter : (f g : ActiveRow → Bool) (rows : List ActiveRow) → ((row : ActiveRow) → f row ≡ g row) → filter f rows ≡ filter g rows
+same_filter f g [] h = refl
+same_filter f g (row ∷ rows) h = rw (h row, same_filter f g rows h) refl
+
+pub filter_both : (f g : ActiveRow → Bool) (rows : List ActiveRow) → filter f (filter g rows) ≡ filter (λ row. f row && g row) rows
+filter_both f g [] = refl
+filter_both f g (x ∷ xs) =
+    let rest = filter_both f g xs in
+    elim (cases_Bool (g x)) [
+      | inl keeps ↦ elim (cases_Bool (f x)) [ inl also ↦ rw (keeps, also, rest) refl | inr out ↦ rw (keeps, out, rest) refl ]
+      | inr drops ↦ elim (cases_Bool (f x)) [ inl also ↦ rw (drops, also, rest) refl | inr out ↦ rw (drops, out, rest) refl ]
+    ]
+
+module _ (reading : Reading) (p : ParticipantId) (start : Start) (items : List Item) where
+  abbrev begun : ℕ → List Placed
+  begun n = begun_below reading start items n
+
+  abbrev is_kept : ActiveRow → Bool
+  is_kept row = not (is_gone start row.known.id)
+
+  abbrev offered : ActiveRow → Bool
+  offered row = is_kept row && is_offered reading p row
+
+  rows_below : (n : ℕ) → created_rows (placed_below reading items n) ≡ created_below reading items n
+  rows_below zero = refl
+  rows_below (suc k) =
+      rows_append (placed_below reading items k) (map (at_place k) (writes_of reading items k))
+      ∙ (ap (λ (rows : List ActiveRow). rows ++ created_rows (map (at_place k) (writes_of reading items k))) (rows_below k)
+      ∙ ap (λ (rows : List ActiveRow). created_below reading items k ++ rows) (rows_at k (writes_of reading items k)))
+
+  pub rows_begun : (n : ℕ) → created_rows (begun n) ≡ start.active ++ created_below reading items n
+  rows_begun n =
+      rows_append (map creation_of start.active) (placed_below reading items n)
+      ∙ (ap (λ (rows : List ActiveRow). rows ++ created_rows (placed_below reading items n)) (made_rows start.active)
+      ∙ ap (λ (rows : List ActiveRow). start.active ++ rows) (rows_below n))
+
+  used_begun : (n : ℕ) (row : ActiveRow) → is_active_row reading p (acts_of (begun n)) row ≡ is_active_row reading p (authentic_below reading items n) row
+  used_begun n row =
+      ap (λ (as' : List Act). is_active_row reading p as' row) (acts_begun reading start items n)
+      ∙ ap (λ (t : Bool). is_stakeholder_hosted reading p row.known.instance && not t)
+      (list_any-append (consumes row.known.id) (acts_of (map creation_of start.active)) (authentic_below reading items n)
+      ∙ ap (λ (t : Bool). t || list_any (consumes row.known.id) (authentic_below reading items n)) (left_unused row.known.id start.active))
+
+  -- the active contracts are those that the actions leave, without those that are gone
+  active_is : (n : ℕ) → filter is_kept (active_in reading p (begun n)) ≡ active_kept reading p start items n
+  active_is n =
+      filter_both is_kept (is_active_row reading p (acts_of (begun n))) (first_of_each (created_rows (begun n)))
+      ∙ (same_filter (λ row. is_kept row && is_active_row reading p (acts_of (begun n)) row) (is_active_since reading p start (authentic_below reading items n))
+      (first_of_each (created_rows (begun n))) (λ row. ap (λ (t : Bool). is_kept row && t) (used_begun n row))
+      ∙ ap (λ (rows : List ActiveRow). filter (is_active_since reading p start (authentic_below reading items n)) (first_of_each rows)) (rows_begun n))
+
+  -- what actions in order leave, as it is listed
+  offered_placed : (ps : List Placed) → InOrder ps → filter offered (listed (written ps [])) ≡ filter is_kept (active_in reading p ps)
+  offered_placed ps o =
+      sym (filter_both is_kept (is_offered reading p) (listed (written ps []))) ∙ ap (filter is_kept) (listed_placed reading p ps o)
+
+  module _ (from : ℕ) where
+    pub in_parts : (end : ℕ) → from ≤ end → placed_below reading items end ≡ placed_below reading items from ++ placed_between reading items from end
+    in_parts zero le = let first : from ≡ 0 = omega (arith, le) in rw first refl
+    in_parts (suc k) le = elim (cases_lt from (suc k)) [
+      | inl lt ↦ ap (λ (ps : List Placed). ps ++ map (at_place k) (writes_of reading items k)) (in_parts k (omega (arith, lt)))
+          ∙ (append_assoc (placed_below reading items from) (placed_between reading items from k) (map (at_place k) (writes_of reading items k))
+          ∙ ap (λ (ps : List Placed). placed_below reading items from ++ ps) (sym (next_between reading items from k (omega (arith, lt)))))
+      | inr ge ↦
+          let same : from ≡ suc k = omega (arith, le, ge) in
+          subst (λ (n : ℕ). placed_below reading items (suc k) ≡ placed_below reading items n ++ placed_between reading items n (suc k)) (sym same)
+          (sym (append-nil (placed_below reading items (suc k)))
+          ∙ ap (λ (ps : List Placed). placed_below reading items (suc k) ++ ps) (sym (none_between reading items (suc k))))
+    ]
+
+    begun_parts : (end : ℕ) → from ≤ end → begun end ≡ begun from ++ placed_between reading items from end
+    begun_parts end le =
+        ap (λ (ps : List Placed). map creation_of start.active ++ ps) (in_parts end le)
+        ∙ sym (append_assoc (map creation_of start.active) (placed_below reading items from) (placed_between reading items from end))
+
+    only_append : (test : Hash → Bool) (xs ys : List Act) → CreateOnly test xs → CreateOnly test ys → CreateOnly test (xs ++ ys)
+    only_append test [] ys h i = i
+    only_append test (x ∷ xs) ys h i = (h.0, only_append test xs ys h.1 i)
+
     acts_here : (k : ℕ) (as' : List Act) → acts_of (map (at_place k) as') ≡ as'
     acts_here k [] = refl
     acts_here k (a ∷ as') = ap (λ bs. a ∷ bs) (acts_here k as')
 
-    past_is : (n : ℕ) → acts_of (placed_below reading items n) ≡ authentic_below reading items n
-    past_is zero = refl
-    past_is (suc k) =
-        acts_append (placed_below reading items k) (map (at_place k) (writes_of reading items k))
-        ∙ (ap (λ (bs : List Act). bs ++ acts_of (map (at_place k) (writes_of reading items k))) (past_is k)
-        ∙ ap (λ (bs : List Act). authentic_below reading items k ++ bs) (acts_here k (writes_of reading items k)))
+    only_between : (test : Hash → Bool) → ((k : ℕ) → from ≤ k → CreateOnly test (writes_of reading items k)) → (end : ℕ)
+        → CreateOnly test (acts_of (placed_between reading items from end))
+    only_between test h zero = tt
+    only_between test h (suc k) = elim (cases_lt k from) [
+      | inl lt ↦ rw (lt-leb from k lt) tt
+      | inr ge ↦ rw (le-leb from k ge)
+          (subst (CreateOnly test)
+          (sym (acts_append (placed_between reading items from k) (map (at_place k) (writes_of reading items k))
+          ∙ ap (λ (bs : List Act). acts_of (placed_between reading items from k) ++ bs) (acts_here k (writes_of reading items k))))
+          (only_append test (acts_of (placed_between reading items from k)) (writes_of reading items k) (only_between test h k) (h k ge)))
+    ]
 
-    active_is : (n : ℕ) → node_active reading p items n ≡ active_in (placed_below reading items n)
-    active_is n =
-        sym (active_is_node_active reading p items n)
-        ∙ hosted_is_active reading p (placed_below reading items n) (in_order_below reading items n)
+    right_in_order : (ps qs : List Placed) → InOrder (ps ++ qs) → InOrder qs
+    right_in_order [] qs o = o
+    right_in_order (r ∷ ps) qs o = right_in_order ps qs o.1
 
-    module _ (start : ℕ) where
-      in_parts : (end : ℕ) → start ≤ end → placed_below reading items end ≡ placed_below reading items start ++ placed_between reading items start end
-      in_parts zero le = let first : start ≡ 0 = omega (arith, le) in rw first refl
-      in_parts (suc k) le = elim (cases_lt start (suc k)) [
-        | inl lt ↦ ap (λ (ps : List Placed). ps ++ map (at_place k) (writes_of reading items k)) (in_parts k (omega (arith, lt)))
-            ∙ (append_assoc (placed_below reading items start) (placed_between reading items start k) (map (at_place k) (writes_of reading items k))
-            ∙ ap (λ (ps : List Placed). placed_below reading items start ++ ps) (sym (next_between reading items start k (omega (arith, lt)))))
-        | inr ge ↦
-            let same : start ≡ suc k = omega (arith, le, ge) in
-            subst (λ (n : ℕ). placed_below reading items (suc k) ≡ placed_below reading items n ++ placed_between reading items n (suc k)) (sym same)
-            (sym (append-nil (placed_below reading items (suc k)))
-            ∙ ap (λ (ps : List Placed). placed_below reading items (suc k) ++ ps) (sym (none_between reading items (suc k))))
-      ]
+    was_consumed : (ps : List Placed) (c : Hash) → is_consumed (status_in (written ps []) c) ≡ list_any (consumes c) (acts_of ps)
+    was_consumed ps c = ap is_consumed (status_follows ps c) ∙ by (list_any (consumes c) (acts_of ps)) (list_any (creates c) (acts_of ps))
+      where
+        by : (co cr : Bool) → is_consumed (if co then Consumed else if cr then Active else Unknown) ≡ co
+        by true cr = refl
+        by false true = refl
+        by false false = refl
 
-      only_append : (test : Hash → Bool) (xs ys : List Act) → CreateOnly test xs → CreateOnly test ys → CreateOnly test (xs ++ ys)
-      only_append test [] ys h i = i
-      only_append test (x ∷ xs) ys h i = (h.0, only_append test xs ys h.1 i)
+    -- those that were active before and weren't consumed since, and those that came since
+    pub active_between : (end : ℕ) → from ≤ end → BeginsIn start items → AreFresh reading start items from
+        → filter (is_unconsumed (written (placed_between reading items from end) [])) (active_kept reading p start items from)
+        ++ filter offered (listed (written (placed_between reading items from end) []))
+        ≡ active_kept reading p start items end
+    active_between end le begins fresh =
+        let past = begun from in
+        let new = placed_between reading items from end in
+        let parts = begun_parts end le in
+        let only = only_between (λ c. is_unknown (status_after (acts_of past) c)) fresh end in
+        let order : InOrder (past ++ new) = subst InOrder parts (begun_in_order reading start items begins end) in
+        ap (λ (rows : List ActiveRow). rows ++ filter offered (listed (written new [])))
+        (same_filter (is_unconsumed (written new [])) (left_by reading p new) (active_kept reading p start items from) (λ row. ap not (was_consumed new row.known.id))
+        ∙ (ap (filter (left_by reading p new)) (sym (active_is from)) ∙ swapped (left_by reading p new) is_kept (active_in reading p past)))
+        ∙ (ap (λ (rows : List ActiveRow). filter is_kept (filter (left_by reading p new) (active_in reading p past)) ++ rows)
+        (offered_placed new (right_in_order past new order))
+        ∙ (sym (filter-append is_kept (filter (left_by reading p new) (active_in reading p past)) (active_in reading p new))
+        ∙ (ap (filter is_kept) (sym (active_both reading p past new only) ∙ ap (active_in reading p) (sym parts)) ∙ active_is end)))
+      where
+        swapped : (f g : ActiveRow → Bool) (rows : List ActiveRow) → filter f (filter g rows) ≡ filter g (filter f rows)
+        swapped f g rows =
+            filter_both f g rows ∙ (same_filter (λ row. f row && g row) (λ row. g row && f row) rows (λ row. both_turned (g row) (f row)) ∙ sym (filter_both g f rows))
 
-      only_between : (test : Hash → Bool) → ((k : ℕ) → start ≤ k → CreateOnly test (writes_of reading items k)) → (end : ℕ)
-          → CreateOnly test (acts_of (placed_between reading items start end))
-      only_between test h zero = tt
-      only_between test h (suc k) = elim (cases_lt k start) [
-        | inl lt ↦ rw (lt-leb start k lt) tt
-        | inr ge ↦ rw (le-leb start k ge)
-            (subst (CreateOnly test)
-            (sym (acts_append (placed_between reading items start k) (map (at_place k) (writes_of reading items k))
-            ∙ ap (λ (bs : List Act). acts_of (placed_between reading items start k) ++ bs) (acts_here k (writes_of reading items k))))
-            (only_append test (acts_of (placed_between reading items start k)) (writes_of reading items k) (only_between test h k) (h k ge)))
-      ]
-
-      right_in_order : (ps qs : List Placed) → InOrder (ps ++ qs) → InOrder qs
-      right_in_order [] qs o = o
-      right_in_order (r ∷ ps) qs o = right_in_order ps qs o.1
-
-      is_gone : (ps : List Placed) (c : Hash) → is_consumed (status_in (written ps []) c) ≡ list_any (consumes c) (acts_of ps)
-      is_gone ps c = ap is_consumed (status_follows ps c) ∙ by (list_any (consumes c) (acts_of ps)) (list_any (creates c) (acts_of ps))
-        where
-          by : (co cr : Bool) → is_consumed (if co then Consumed else if cr then Active else Unknown) ≡ co
-          by true cr = refl
-          by false true = refl
-          by false false = refl
-
-      same_filter : (f g : ActiveRow → Bool) (rows : List ActiveRow) → ((row : ActiveRow) → f row ≡ g row) → filter f rows ≡ filter g rows
-      same_filter f g [] h = refl
-      same_filter f g (row ∷ rows) h = rw (h row, same_filter f g rows h) refl
-
-      -- those that were active before and weren't consumed since, and those that came since
-      pub active_between : (end : ℕ) → start ≤ end → AreFresh reading items start
-          → filter (is_unconsumed (written (placed_between reading items start end) [])) (node_active reading p items start)
-          ++ filter (is_offered reading p) (listed (written (placed_between reading items start end) []))
-          ≡ node_active reading p items end
-      active_between end le fresh =
-          let past = placed_below reading items start in
-          let new = placed_between reading items start end in
-          let parts = in_parts end le in
-          let only = only_between (λ c. is_unknown (status_after (authentic_below reading items start) c)) fresh end in
-          ap (λ (rows : List ActiveRow). rows ++ filter (is_offered reading p) (listed (written new [])))
-          (same_filter (is_unconsumed (written new [])) (left_by new) (node_active reading p items start) (λ row. ap not (is_gone new row.known.id))
-          ∙ ap (filter (left_by new)) (active_is start))
-          ∙ (ap (λ (rows : List ActiveRow). filter (left_by new) (active_in past) ++ rows)
-          (listed_placed reading p new (right_in_order past new (subst InOrder parts (in_order_below reading items end))))
-          ∙ (sym (active_both past new (subst (λ (as' : List Act). CreateOnly (λ c. is_unknown (status_after as' c)) (acts_of new)) (sym (past_is start)) only))
-          ∙ (ap active_in (sym parts) ∙ sym (active_is end))))
+  -- all of them, from what was left
+  pub active_from_start : (end : ℕ) → BeginsIn start items
+      → filter offered (listed (written (placed_between reading items 0 end) (written (map creation_of start.active) []))) ≡ active_kept reading p start items end
+  active_from_start end begins =
+      let parts : begun end ≡ map creation_of start.active ++ placed_between reading items 0 end =
+      ap (λ (ps : List Placed). map creation_of start.active ++ ps) (in_parts 0 end (omega arith)) in
+      ap (λ (rows : List StoreRow). filter offered (listed rows)) (sym (written_append (map creation_of start.active) (placed_between reading items 0 end) []))
+      ∙ (ap (λ (ps : List Placed). filter offered (listed (written ps []))) (sym parts)
+      ∙ (offered_placed (begun end) (begun_in_order reading start items begins end) ∙ active_is end))

@@ -1,5 +1,5 @@
 -- A kept request has what its check goes by.
-use Rattle.std.proofs.Common.{◌≡◌, ◌<◌, ℕ, suc, true, List, [], ◌∷◌, length, map, take, Option, Some, None, refl, sym, ap, subst, ◌∙◌, inl, inr, arith}
+use Rattle.std.proofs.Common.{◌≡◌, ◌<◌, ℕ, suc, Bool, true, List, [], ◌∷◌, length, map, take, Option, Some, None, refl, sym, ap, subst, ◌∙◌, inl, inr, arith}
 use Rattle.std.specs.Borrow.{Bor}
 use Rattle.std.specs.Prelude.{All, Contains, IsSome, slice_get}
 use Rattle.std.specs.Str.{bytes_eq}
@@ -12,10 +12,12 @@ use Rattle.ledger_model.specs.Forest.{acts, trees_of}
 use Rattle.ledger_model.specs.Opening.{OpenedView}
 use Rattle.ledger_model.specs.Terms.{Hash, Path, id_of}
 use Rattle.ledger_model.proofs.Lists.{In, in_from_Contains, in_map}
-use Rattle.canton_model.specs.Inbox.{Item, item_time, notice_at, notice_in}
+use Rattle.ledger_model.specs.declared.status.Status.{Status}
+use Rattle.canton_model.specs.Inbox.{Item, is_locked_in_inbox, item_time, notice_at, notice_in}
 use Rattle.canton_model.specs.Reading.{Reading, is_some_path}
 use Rattle.canton_model.proofs.InboxFacts.{slice_get_take}
-use Rattle.world_model.specs.Node.{owed_at, owes_at}
+use Rattle.pruned_inbox.specs.Start.{Start, status_kept, verdicts_by}
+use Rattle.world_model.specs.Node.{owes_at}
 use Rattle.lang_eval.specs.Found.{Packages}
 use Rattle.view_split.specs.Placed.{shown_by as shown_of_tree}
 use Rattle.view_split.specs.declared.opened_tree.OpenedTree.{OpenedTree}
@@ -25,7 +27,7 @@ use Rattle.framed_form.specs.Framed.{IsFramed}
 use Rattle.framed_form.specs.FramedForm.{offered}
 use Rattle.framed_form.specs.FramedReading.{framed_reading}
 use Rattle.framed_form.proofs.Decided.{framed_decides}
-use Rattle.confirm_reply.specs.Facts.{AreAsAt, fact_on}
+use Rattle.confirm_reply.specs.Facts.{AreKnown, fact_on}
 use Rattle.confirm_reply.specs.LocalReading.{has_name as local_has_name, is_named_at, local_reading}
 use Rattle.confirm_reply.specs.Offered.{IsGivenBy}
 use Rattle.confirm_reply.specs.Opened.{CanBeChecked}
@@ -36,11 +38,12 @@ use Rattle.confirm_reply.specs.declared.setup.Setup.{Setup}
 use Rattle.confirm_reply.specs.declared.shown.Shown.TheVariants.{Open as ShownOpen}
 use Rattle.confirm_reply.proofs.Checkable.{in_from_get, tree_of_in}
 use Rattle.confirm_reply.proofs.Checked.{core_in_place, found_in}
-use Rattle.confirm_reply.proofs.FactsAt.{as_at}
+use Rattle.confirm_reply.proofs.KnownFacts.{are_known}
 use Rattle.confirm_reply.proofs.Placed.{EachIn, StandsIn}
 use Rattle.validate_job.specs.Owed.{owed_on_each}
-use Rattle.validate_job.specs.OwedAt.{IsInputAt, without_requests}
+use Rattle.validate_job.specs.OwedAt.{IsInputOf, without_requests}
 use Rattle.validate_job.proofs.OwedAt.{can_check_each, owed_is}
+use Rattle.node_inbox.specs.InboxState.{owed_kept}
 use Rattle.node_inbox.specs.Items.{model_items, notice_of}
 use Rattle.node_inbox.specs.JobInput.{input_of, shown_for}
 use Rattle.node_inbox.specs.Kept.{AreKept, IsKept, kept_at}
@@ -107,8 +110,8 @@ some_path : (paths : List Path) → is_some_path paths ≡ true → 0 < length p
 some_path [] any = cc
 some_path (path ∷ paths) any = omega arith
 
-module _ (s : Bor Setup) (me : ℕ) (items : List KeptItem) (k : ℕ) (request : KeptRequest)
-    (are : AreKept s.now.topology s.now.checked me items)
+module _ (s : Bor Setup) (me : ℕ) (start : Start) (items : List KeptItem) (k : ℕ) (request : KeptRequest)
+    (are : AreKept s.now.topology s.now.checked me start items)
     (at : kept_at items k ≡ Some request) where
   abbrev topology : Topology
   topology = s.now.topology
@@ -123,8 +126,8 @@ module _ (s : Bor Setup) (me : ℕ) (items : List KeptItem) (k : ℕ) (request :
   abbrev then_read : List Item
   then_read = take (suc k) (model_items items)
 
-  abbrev is_kept : IsKept topology packages me then_read k request
-  is_kept = found_at topology packages me items are k request at
+  abbrev is_kept : IsKept topology packages me start then_read k request
+  is_kept = found_at topology packages me start items are k request at
 
   framed : IsFramed topology (is_kept.came).request
   framed = (framed_decides topology (is_kept.came).request).0 (is_kept.came).is_framed
@@ -133,11 +136,11 @@ module _ (s : Bor Setup) (me : ℕ) (items : List KeptItem) (k : ℕ) (request :
   at_end = slice_get_take (suc k) (model_items items) k (omega arith)
 
   is_noticed : notice_at (model_items items) k ≡ Some (notice_of request)
-  is_noticed = noticed topology packages me items are k request at
+  is_noticed = noticed topology packages me start items are k request at
 
   -- the participant owes verdicts, so it confirms some view
   pub some_views : owes_at reading me (model_items items) k ≡ true → 0 < length request.confirmed
-  some_views owes = some_path request.confirmed (sym (owes_is topology packages me items are k request at) ∙ owes)
+  some_views owes = some_path request.confirmed (sym (owes_is topology packages me start items are k request at) ∙ owes)
 
   -- what is open was offered
   open_offered : (tree : OpenedTree) → request.offer ≡ Open tree → offered topology me (is_kept.came).request ≡ opened.Open tree
@@ -156,32 +159,38 @@ module _ (s : Bor Setup) (me : ℕ) (items : List KeptItem) (k : ℕ) (request :
         (in_map (λ (act : Act). id_of act.action) (acts (shown_of_tree tree).roots) a.1
         (in_roots tree view there a (in_from_Contains view.core a i))))
 
-    known_at : (tree : OpenedTree) (view : OpenedView) → request.offer ≡ Open tree → In view (shown_of_tree tree).views
-        → AreAsAt reading topology.params me then_read k request.facts view.core
-    known_at tree view is there =
-        as_at reading topology.params me then_read k request.facts is_kept.facts view.core (λ a i roles hosted. core_known tree is view there a i)
+    abbrev known : Hash → Status
+    known = status_kept reading start then_read k
 
-    fits : IsInputAt reading then_read k (notice_of request) made
+    abbrev held : Hash → Bool
+    held = is_locked_in_inbox reading topology.params then_read k
+
+    known_at : (tree : OpenedTree) (view : OpenedView) → request.offer ≡ Open tree → In view (shown_of_tree tree).views
+        → AreKnown reading me known held request.facts view.core
+    known_at tree view is there =
+        are_known reading me known held request.facts is_kept.facts view.core (λ a i roles hosted. core_known tree is view there a i)
+
+    fits : IsInputOf reading known held (notice_of request) made
     fits =
         record {
           rules = same_rules topology packages;
-          received = ap notice_in at_end ∙ is_noticed;
           sender = refl;
           places = λ path there. record {
-            time = is_time ∙ ap item_time (sym at_end);
             given = given_as request.offer;
             facts = λ tree view shown found.
                 let is = shown_open request.offer tree shown in
-                let known = known_at tree view is (found_in (λ (v : OpenedView). bytes_eq path v.path) (shown_of_tree tree).views view found).1 in
-                record { status = known.status; locked = known.locked };
+                let are = known_at tree view is (found_in (λ (v : OpenedView). bytes_eq path v.path) (shown_of_tree tree).views view found).1 in
+                record { status = are.status; locked = are.locked };
           };
         }
 
     pub are_owed : (input : CheckInput) → input ≡ input_of s me time request
-        → owed_on_each input request.confirmed ≡ owed_at reading topology.params me (model_items items) k
+        → owed_on_each input request.confirmed ≡ owed_kept reading topology.params me start (model_items items) k
     are_owed input is =
         ap (λ (i : CheckInput). owed_on_each i request.confirmed) is
-        ∙ owed_is reading then_read k (notice_of request) made fits
+        ∙ owed_is reading known held (notice_of request) made fits
+        ∙ ap (λ (t : ℕ). verdicts_by reading topology.params me t known held (Some (notice_of request))) (is_time ∙ ap item_time (sym at_end))
+        ∙ ap (verdicts_by reading topology.params me (item_time (slice_get then_read k)) known held) (sym (ap notice_in at_end ∙ is_noticed))
 
     checkable : (tree : OpenedTree) (view : OpenedView) → made.shown ≡ ShownOpen tree → Contains (shown_of_tree tree).views view
         → CanBeChecked packages (shown_of_tree tree) view

@@ -4,6 +4,7 @@ pub mod Put
 pub mod PutRequest
 pub mod PutVerdict
 pub mod Came
+pub mod Raws
 pub mod Seen
 pub mod Owes
 pub mod CoreLengths
@@ -26,3 +27,8 @@ pub mod Later
 pub mod Between
 pub mod KeptAnswers
 mod FirstVerdict
+pub mod Silent
+pub mod Begins
+pub mod Created
+pub mod NextBase
+pub mod LeftRows

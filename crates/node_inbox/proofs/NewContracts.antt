@@ -1,10 +1,11 @@
 -- Where all that a verdict's request creates is new to the store, each contract is still created once.
-use Rattle.std.proofs.Common.{◌≡◌, ℕ, ◌+◌, ◌≤◌, Bool, true, false, cond, if◌then◌else◌, List, [], ◌∷◌, ◌++◌, length, map, filter, Option, Some, None, refl, sym, ap, ◌∙◌, subst, inl, inr, arith, append-nil, true≢false}
-use Rattle.std.specs.Prelude.{◌||◌, not}
+use Rattle.std.proofs.Common.{◌≡◌, ℕ, ◌+◌, ◌≤◌, Bool, true, false, cond, if◌then◌else◌, List, [], ◌∷◌, ◌++◌, length, map, filter, Option, Some, None, refl, sym, ap, ◌∙◌, subst, inl, inr, arith, append-nil, append_assoc, true≢false}
+use Rattle.std.specs.Prelude.{◌||◌, ◌&&◌, not}
 use Rattle.std.specs.Str.{bytes_eq}
 use Rattle.std.specs.List.{list_any}
-use Rattle.std.proofs.lemmas.Bool.{and_parts, cases_Bool}
+use Rattle.std.proofs.lemmas.Bool.{and_parts, cases_Bool, or_parts}
 use Rattle.std.proofs.lemmas.List.{map-append}
+use Rattle.std.proofs.lemmas.List.Folds.{list_any-append}
 use Rattle.ledger_terms.specs.declared.act.Act.{Act}
 use Rattle.ledger_model.specs.Status.{status_after}
 use Rattle.ledger_model.specs.Terms.{Hash, consumes, creates, id_of, is_consuming, is_create}
@@ -19,13 +20,15 @@ use Rattle.contract_store.specs.declared.row.StoreRow.{StoreRow}
 use Rattle.contract_store.proofs.Following.{status_follows}
 use Rattle.contract_store.proofs.Maps.{equal_bytes, same_bytes}
 use Rattle.inbox_standing.specs.ChangeLists.{change_of, changes_of}
-use Rattle.inbox_standing.specs.Changes.{acts_of_verdict, approves_first, authentic_at, changes_in, changes_of_verdict}
+use Rattle.pruned_inbox.specs.Start.{Start, is_gone}
+use Rattle.inbox_standing.specs.Changes.{NoneGone, acts_of_verdict, approves_first, authentic_at, changes_in, changes_of_verdict, changes_since, creation_of}
 use Rattle.inbox_standing.specs.Offered.{CreatedOnce}
 use Rattle.inbox_standing.specs.declared.change.Change.{Change}
 use Rattle.inbox_standing.proofs.Grown.{changes_push}
 use Rattle.prepare_request.specs.Hosted.{is_among}
-use Rattle.node_inbox.specs.AddedIds.{are_new, is_unheard, is_unknown}
+use Rattle.node_inbox.specs.AddedIds.{AreNew, are_new, creates_gone, is_unheard, is_unknown}
 use Rattle.node_inbox.specs.KeptActive.{CreateOnly}
+use Rattle.node_inbox.specs.Offered.{AreOnce}
 
 abbrev how_many : Hash → List Act → ℕ
 how_many c xs = length (filter (creates c) xs)
@@ -195,21 +198,64 @@ placed_of_verdict reading items v = by (approves_first items v)
     by true = refl
     by false = refl
 
+-- what was done since, one item more
+more_since : (reading : Reading) (start : Start) (items : List Item) (x : Item) (o : Option Verdict) (ps : List Placed) → verdict_in x.content ≡ o
+    → changes_of_verdict reading items o ≡ ps → changes_since reading start (items ++ x ∷ []) ≡ changes_since reading start items ++ ps
+more_since reading start items x o ps e done =
+    ap (λ (qs : List Placed). map creation_of start.active ++ qs)
+    (changes_push reading items x
+    ∙ (ap (λ (v : Option Verdict). changes_in reading items ++ changes_of_verdict reading items v) e
+    ∙ ap (λ (qs : List Placed). changes_in reading items ++ qs) done))
+    ∙ sym (append_assoc (map creation_of start.active) (changes_in reading items) ps)
+
 -- an item that is no verdict
-pub once_same : (reading : Reading) (items : List Item) (x : Item) → verdict_in x.content ≡ None → CreatedOnce (changes_in reading items)
-    → CreatedOnce (changes_in reading (items ++ x ∷ []))
-once_same reading items x none once =
-    subst CreatedOnce
-    (sym (changes_push reading items x
-    ∙ (ap (λ (o : Option Verdict). changes_in reading items ++ changes_of_verdict reading items o) none ∙ append-nil (changes_in reading items)))) once
+pub once_same : (reading : Reading) (start : Start) (items : List Item) (x : Item) → verdict_in x.content ≡ None → AreOnce reading start items
+    → AreOnce reading start (items ++ x ∷ [])
+once_same reading start items x none are =
+    let same : changes_since reading start items ≡ changes_since reading start (items ++ x ∷ []) =
+    sym (more_since reading start items x None [] none refl ∙ append-nil (changes_since reading start items)) in
+    record { once = subst CreatedOnce same are.once; none_gone = subst (NoneGone start) same are.none_gone }
+
+-- changes that create nothing that is gone
+none_creates : (start : Start) (xs : List Act) → list_any (creates_gone start) (changes_of xs) ≡ false → (c : Hash) → is_gone start c ≡ true
+    → list_any (creates c) xs ≡ false
+none_creates start [] e c gone = refl
+none_creates start (x ∷ xs) e c gone =
+    by (λ f. none_creates start xs f c gone) (is_create x.action) refl (bytes_eq (id_of x.action) c) refl
+    (subst (λ (cs : List Change). list_any (creates_gone start) cs ≡ false) (more_is x xs) e)
+  where
+    rest : (b : Bool) → list_any (creates_gone start) (more_of b x xs) ≡ false → list_any (creates_gone start) (changes_of xs) ≡ false
+    rest true e = (or_parts (creates_gone start (change_of x)) (list_any (creates_gone start) (changes_of xs)) e).1
+    rest false e = e
+
+    by : (list_any (creates_gone start) (changes_of xs) ≡ false → list_any (creates c) xs ≡ false) → (cr : Bool) → is_create x.action ≡ cr
+        → (same : Bool) → bytes_eq (id_of x.action) c ≡ same
+        → list_any (creates_gone start) (more_of (cr || is_consuming x.action) x xs) ≡ false → ((same && cr) || list_any (creates c) xs) ≡ false
+    by later true made true its e =
+        let first = (or_parts (creates_gone start (change_of x)) (list_any (creates_gone start) (changes_of xs)) e).0 in
+        let here : creates_gone start (change_of x) ≡ true =
+        ap (λ (b : Bool). b && is_gone start (id_of x.action)) made ∙ (ap (is_gone start) (same_bytes (id_of x.action) c its) ∙ gone) in
+        absurd (true≢false (sym here ∙ first))
+    by later true made false its e = later (rest true e)
+    by later false made true its e = later (rest (is_consuming x.action) e)
+    by later false made false its e = later (rest (is_consuming x.action) e)
 
 -- a verdict
-pub once_told : (reading : Reading) (items : List Item) (x : Item) (v : Verdict) → verdict_in x.content ≡ Some v → CreatedOnce (changes_in reading items)
-    → are_new (written (changes_in reading items) []) [] (changes_of (acts_of_verdict reading items v)) ≡ true
-    → CreatedOnce (changes_in reading (items ++ x ∷ []))
-once_told reading items x v some once new =
-    subst CreatedOnce
-    (sym (changes_push reading items x
-    ∙ (ap (λ (o : Option Verdict). changes_in reading items ++ changes_of_verdict reading items o) some
-    ∙ ap (λ (ps : List Placed). changes_in reading items ++ ps) (placed_of_verdict reading items v))))
-    (still_once (changes_in reading items) v.request (acts_of_verdict reading items v) once new)
+pub once_told : (reading : Reading) (start : Start) (items : List Item) (x : Item) (v : Verdict) → verdict_in x.content ≡ Some v → AreOnce reading start items
+    → AreNew start (written (changes_since reading start items) []) (changes_of (acts_of_verdict reading items v))
+    → AreOnce reading start (items ++ x ∷ [])
+once_told reading start items x v some are new =
+    let done = map (at_place v.request) (acts_of_verdict reading items v) in
+    let same : changes_since reading start items ++ done ≡ changes_since reading start (items ++ x ∷ []) =
+    sym (more_since reading start items x (Some v) done some (placed_of_verdict reading items v)) in
+    record {
+      once = subst CreatedOnce same (still_once (changes_since reading start items) v.request (acts_of_verdict reading items v) are.once new.unheard);
+      none_gone = subst (NoneGone start) same (λ c gone.
+          let both : acts_of (changes_since reading start items ++ done) ≡ acts_of (changes_since reading start items) ++ acts_of_verdict reading items v =
+          map-append (λ (p : Placed). p.act) (changes_since reading start items) done
+          ∙ ap (λ (ys : List Act). acts_of (changes_since reading start items) ++ ys) (acts_placed v.request (acts_of_verdict reading items v)) in
+          ap (list_any (creates c)) both
+          ∙ (list_any-append (creates c) (acts_of (changes_since reading start items)) (acts_of_verdict reading items v)
+          ∙ (ap (λ (t : Bool). t || list_any (creates c) (acts_of_verdict reading items v)) (are.none_gone c gone)
+          ∙ none_creates start (acts_of_verdict reading items v) new.not_gone c gone)));
+    }

@@ -9,10 +9,11 @@ use Rattle.ledger_terms.specs.declared.topology.Topology.{Topology}
 use Rattle.ledger_model.specs.Terms.{ParticipantId}
 use Rattle.canton_model.specs.Inbox.{Item, Nothing, last_time, verdict_in}
 use Rattle.lang_eval.specs.Found.{Packages}
+use Rattle.pruned_inbox.specs.Start.{Start}
 use Rattle.contract_store.specs.Stored.{Stored}
 use Rattle.request_track.specs.Pairs.{expired}
 use Rattle.framed_form.specs.FramedReading.{framed_reading}
-use Rattle.inbox_standing.specs.Order.{IsBelow}
+use Rattle.inbox_standing.specs.Order.{IsBelow, IsInOrder}
 use Rattle.inbox_standing.specs.Standing.{Follows, Stands}
 use Rattle.inbox_standing.specs.Steps.{HoldsFollow, InStep}
 use Rattle.inbox_standing.proofs.Followed.{follows_nothing}
@@ -53,28 +54,37 @@ model_push [] y = refl
 model_push (x ∷ xs) y = ap (λ (zs : List Item). model_item x ∷ zs) (model_push xs y)
 
 module _ (topology : Topology) (packages : Packages) (me : ParticipantId) where
+  -- the start stays
+  started : (all : List KeptItem) (stands stands' : Stands) → stands'.start ≡ stands.start
+      → Follows (framed_reading topology packages) topology.params stands.start (model_items all) stands'
+      → IsInOrder (model_items all) → AreKept topology packages me stands.start all → IsInbox topology packages me all stands'
+  started all stands stands' same follows order each =
+      record {
+        follows = subst (λ (start : Start). Follows (framed_reading topology packages) topology.params start (model_items all) stands') (sym same) follows;
+        order = order;
+        each = subst (λ (start : Start). AreKept topology packages me start all) (sym same) each;
+      }
+
   -- ---- nothing was read
 
   pub unread : (old new : List KeptItem) (stands stands' : Stands) → IsInbox topology packages me old stands → new ≡ old
       → (stands'.store).rows ≡ (stands.store).rows → (stands'.store).holds ≡ (stands.store).holds
       → (stands'.tracking).pairs ≡ (stands.tracking).pairs → (stands'.tracking).cursor ≡ (stands.tracking).cursor
-      → IsUnread topology packages me old new stands'
-  unread old new stands stands' i same rows holds pairs cursor =
+      → stands'.start ≡ stands.start → IsUnread topology packages me old new stands.start stands'
+  unread old new stands stands' i same rows holds pairs cursor start =
       let f = i.follows in
       record {
-        inbox = subst (λ (kept : List KeptItem). IsInbox topology packages me kept stands') (sym same) (record {
-          follows = record { rows = rows ∙ f.rows; holds = holds ∙ f.holds; pairs = pairs ∙ f.pairs; cursor = cursor ∙ f.cursor };
-          order = i.order;
-          each = i.each;
-        });
+        inbox = subst (λ (kept : List KeptItem). IsInbox topology packages me kept stands') (sym same)
+            (started old stands stands' start (record { rows = rows ∙ f.rows; holds = holds ∙ f.holds; pairs = pairs ∙ f.pairs; cursor = cursor ∙ f.cursor }) i.order i.each);
+        start_is = start;
         items = same;
       }
 
   -- ---- one item more
 
-  each_push : (xs : List KeptItem) (y : KeptItem) → AreKept topology packages me xs
-      → IsKeptContent topology packages me (model_items xs ++ model_item y ∷ []) (length xs) y.content → AreKept topology packages me (xs ++ y ∷ [])
-  each_push xs y each new k item at = elim (cases_order k (length xs)) [
+  each_push : (start : Start) (xs : List KeptItem) (y : KeptItem) → AreKept topology packages me start xs
+      → IsKeptContent topology packages me start (model_items xs ++ model_item y ∷ []) (length xs) y.content → AreKept topology packages me start (xs ++ y ∷ [])
+  each_push start xs y each new k item at = elim (cases_order k (length xs)) [
     | inl here ↦
         let same : y ≡ item = same_Some y item (sym (get_end xs y) ∙ ap (slice_get (xs ++ y ∷ [])) (sym here) ∙ at) in
         let n = as_many xs in
@@ -94,17 +104,16 @@ module _ (topology : Topology) (packages : Packages) (me : ParticipantId) where
 
   pub has_read : (old new : List KeptItem) (y : KeptItem) (stands stands' : Stands) → IsInbox topology packages me old stands
       → last_time (model_items old) < y.time → IsBelow (length (model_items old)) (verdict_in (model_item y).content)
-      → IsKeptContent topology packages me (model_items old ++ model_item y ∷ []) (length old) y.content
-      → Follows (framed_reading topology packages) topology.params (model_items old ++ model_item y ∷ []) stands'
-      → new ≡ old ++ y ∷ []
-      → HasRead topology packages me old new stands' (model_item y)
-  has_read old new y stands stands' i later below kept' follows put =
+      → IsKeptContent topology packages me stands.start (model_items old ++ model_item y ∷ []) (length old) y.content
+      → Follows (framed_reading topology packages) topology.params stands.start (model_items old ++ model_item y ∷ []) stands'
+      → new ≡ old ++ y ∷ [] → stands'.start ≡ stands.start
+      → HasRead topology packages me old new stands.start stands' (model_item y)
+  has_read old new y stands stands' i later below kept' follows put start =
       record {
-        inbox = subst (λ (all : List KeptItem). IsInbox topology packages me all stands') (sym put) (record {
-          follows = rw (model_push old y) follows;
-          order = rw (model_push old y) (in_order_push (model_items old) (model_item y) i.order later below);
-          each = each_push old y i.each kept';
-        });
+        inbox = subst (λ (all : List KeptItem). IsInbox topology packages me all stands') (sym put)
+            (started (old ++ y ∷ []) stands stands' start (rw (model_push old y) follows)
+            (rw (model_push old y) (in_order_push (model_items old) (model_item y) i.order later below)) (each_push stands.start old y i.each kept'));
+        start_is = start;
         items = ap model_items put ∙ model_push old y;
       }
 
@@ -118,14 +127,14 @@ module _ (topology : Topology) (packages : Packages) (me : ParticipantId) where
       → HoldsFollow (stands.tracking).pairs (mid.tracking).pairs (stands.store).holds (mid.store).holds
       → (mid.tracking).cursor ≡ (stands.tracking).cursor
       → stands'.store ≡ mid.store → (stands'.tracking).pairs ≡ (mid.tracking).pairs → (stands'.tracking).cursor ≡ (mid.tracking).cursor + 1
-      → new ≡ old ++ record { time = time; content = kept.Nothing } ∷ []
-      → HasRead topology packages me old new stands' (item_with time Nothing)
-  read_nothing old new time stands mid stands' i later fits rows pairs holds cursor store' pairs' cursor' put =
+      → new ≡ old ++ record { time = time; content = kept.Nothing } ∷ [] → stands'.start ≡ stands.start
+      → HasRead topology packages me old new stands.start stands' (item_with time Nothing)
+  read_nothing old new time stands mid stands' i later fits rows pairs holds cursor store' pairs' cursor' put start =
       has_read old new (record { time = time; content = kept.Nothing }) stands stands' i later tt tt
-      (follows_nothing (framed_reading topology packages) topology.params (model_items old) (item_with time Nothing) stands stands' refl refl fits i.follows
+      (follows_nothing (framed_reading topology packages) topology.params stands.start (model_items old) (item_with time Nothing) stands stands' refl refl fits i.follows
       (ap (λ (s : Stored). s.rows) store' ∙ rows) (pairs' ∙ pairs)
       (λ f n e. ap (λ (s : Stored). s.holds) store' ∙ held f n e)
-      (cursor' ∙ ap (λ (n : ℕ). n + 1) cursor)) put
+      (cursor' ∙ ap (λ (n : ℕ). n + 1) cursor)) put start
     where
       held : HoldsFollow (stands.tracking).pairs (stands'.tracking).pairs (stands.store).holds (mid.store).holds
       held = subst (λ ps. HoldsFollow (stands.tracking).pairs ps (stands.store).holds (mid.store).holds) (sym pairs') holds

@@ -7,19 +7,19 @@ use Rattle.ledger_terms.specs.declared.topology.Topology.{Topology}
 use Rattle.ledger_model.specs.Forest.{acts}
 use Rattle.ledger_model.specs.Terms.{Hash, ParticipantId, id_of}
 use Rattle.canton_model.specs.declared.outcome.Outcome.TheVariants as kind
-use Rattle.canton_model.specs.Inbox.{Item, Received, is_received, last_time, moments, verdict_in}
+use Rattle.canton_model.specs.Inbox.{Item, Received, is_locked_in_inbox, is_received, last_time, moments, verdict_in}
 use Rattle.canton_model.specs.Reading.{Reading}
 use Rattle.lang_eval.specs.Found.{Packages}
-use Rattle.contract_store.specs.Stored.{Stored}
 use Rattle.request_track.specs.Pairs.{Pair, expired, tracked_at}
 use Rattle.request_track.specs.declared.tracked.Tracked.{Tracked}
 use Rattle.framed_form.specs.FramedReading.{framed_reading}
-use Rattle.confirm_reply.specs.Facts.{IsFactAt}
+use Rattle.pruned_inbox.specs.Start.{Start, status_kept}
+use Rattle.confirm_reply.specs.Facts.{IsFactOf}
 use Rattle.confirm_reply.specs.declared.id_facts.IdFacts.{IdFacts}
 use Rattle.inbox_standing.specs.ChangeLists.{hold_on, id_in}
 use Rattle.inbox_standing.specs.Order.{IsBelow}
 use Rattle.inbox_standing.specs.Requests.{decision_after, pairs_from, pairs_in, told_time, tracked_of}
-use Rattle.inbox_standing.specs.Standing.{Stands}
+use Rattle.inbox_standing.specs.Standing.{Stands, known_status}
 use Rattle.inbox_standing.specs.Steps.{AllAfter, HoldsFollow, InStep}
 use Rattle.inbox_standing.proofs.Followed.{Comes, follows_request, request_comes}
 use Rattle.inbox_standing.proofs.Order.{in_order_push}
@@ -40,9 +40,9 @@ all_mapped : {X Y : Type 0} (P : Y → Type 0) (f : X → Y) (xs : List X) → (
 all_mapped P f [] h = All-nil P
 all_mapped P f (x ∷ xs) h = All-cons P (f x) (map f xs) (h x) (all_mapped P f xs h)
 
-same_ids : (store : Stored) (facts : List IdFacts) → map (λ (fact : IdFacts). fact.id) (map (fact_in store) facts) ≡ map (λ (fact : IdFacts). fact.id) facts
-same_ids store [] = refl
-same_ids store (x ∷ xs) = ap (λ (ids : List Hash). x.id ∷ ids) (same_ids store xs)
+same_ids : (stands : Stands) (facts : List IdFacts) → map (λ (fact : IdFacts). fact.id) (map (fact_in stands) facts) ≡ map (λ (fact : IdFacts). fact.id) facts
+same_ids stands [] = refl
+same_ids stands (x ∷ xs) = ap (λ (ids : List Hash). x.id ∷ ids) (same_ids stands xs)
 
 blank_ids : (xs : List Act) → map (λ (fact : IdFacts). fact.id) (map blank_fact xs) ≡ map (λ (act : Act). id_of act.action) xs
 blank_ids [] = refl
@@ -74,15 +74,21 @@ module _ (topology : Topology) (packages : Packages) (me : ParticipantId) (old :
   below : IsBelow (length (model_items old)) (verdict_in x.content)
   below = tt
 
-  module _ (stands mid : Stands) (i : IsInbox topology packages me old stands) (c : Comes reading topology.params (model_items old) x mid) where
-    fact_is : (fact : IdFacts) → IsFactAt reading topology.params (model_items old ++ x ∷ []) (length old) (fact_in mid.store fact)
+  module _ (stands mid : Stands) (i : IsInbox topology packages me old stands) (start : mid.start ≡ stands.start)
+      (c : Comes reading topology.params stands.start (model_items old) x mid) where
+    abbrev Fact : Start → ℕ → IdFacts → Type 0
+    Fact from n fact =
+        IsFactOf (status_kept reading from (model_items old ++ x ∷ []) n) (is_locked_in_inbox reading topology.params (model_items old ++ x ∷ []) n) fact
+
+    fact_is : (fact : IdFacts) → Fact stands.start (length old) (fact_in mid fact)
     fact_is fact =
-        subst (λ (n : ℕ). IsFactAt reading topology.params (model_items old ++ x ∷ []) n (fact_in mid.store fact)) (as_many old) (record {
-          status = status_told reading (model_items old) x (mid.store).rows fact.id i.order c.rows;
+        subst (λ (n : ℕ). Fact stands.start n (fact_in mid fact)) (as_many old) (record {
+          status = ap (λ (from : Start). known_status from (mid.store).rows fact.id) start
+              ∙ status_told reading (model_items old) x stands.start (mid.store).rows fact.id i.order c.rows;
           locked = locked_told reading (model_items old) x topology.params (mid.tracking).pairs (mid.store).holds fact.id quiet c.pairs c.holds;
         })
 
-    kept_is : IsKept topology packages me (model_items old ++ x ∷ []) (length old) (kept_with coming.kept mid.store)
+    kept_is : IsKept topology packages me stands.start (model_items old ++ x ∷ []) (length old) (kept_with coming.kept mid)
     kept_is = record {
       came = record {
         request = comes.came.request;
@@ -93,11 +99,12 @@ module _ (topology : Topology) (packages : Packages) (me : ParticipantId) (old :
         root_is = comes.came.root_is;
         seen_is = comes.came.seen_is;
         confirmed_is = comes.came.confirmed_is;
+        envelope_is = comes.came.envelope_is;
         offer_is = comes.came.offer_is;
       };
       changes = comes.parts.changes_are;
-      facts = all_mapped (IsFactAt reading topology.params (model_items old ++ x ∷ []) (length old)) (fact_in mid.store) (coming.kept).facts fact_is;
-      all_ids = same_ids mid.store (coming.kept).facts ∙ ap (map (λ (fact : IdFacts). fact.id)) comes.parts.facts_are ∙ blank_ids (acts (roots_offered (coming.kept).offer));
+      facts = all_mapped (Fact stands.start (length old)) (fact_in mid) (coming.kept).facts fact_is;
+      all_ids = same_ids mid (coming.kept).facts ∙ ap (map (λ (fact : IdFacts). fact.id)) comes.parts.facts_are ∙ blank_ids (acts (roots_offered (coming.kept).offer));
     }
 
   pub read_request : (new : List KeptItem) (place : ℕ) (stands begun mid stands' : Stands) → IsInbox topology packages me old stands
@@ -111,19 +118,20 @@ module _ (topology : Topology) (packages : Packages) (me : ParticipantId) (old :
       → (mid.tracking).cursor ≡ (begun.tracking).cursor
       → (stands'.store).rows ≡ (mid.store).rows → (stands'.store).holds ≡ (mid.store).holds ++ map (hold_on place) coming.ids
       → (stands'.tracking).pairs ≡ (mid.tracking).pairs → (stands'.tracking).cursor ≡ (mid.tracking).cursor + 1
-      → new ≡ old ++ record { time = time; content = kept.Received (kept_with coming.kept mid.store) } ∷ []
-      → HasRead topology packages me old new stands' (item_with time (model_content (kept.Received coming.kept)))
-  read_request new place stands begun mid stands' i later fits rows holds pairs cursor at rows2 pairs2 holds2 cursor2 rows3 holds3 pairs3 cursor3 put =
-      let c = request_comes reading topology.params (model_items old) x stands begun mid got quiet fits later i.order i.follows rows holds pairs cursor rows2 pairs2 holds2 cursor2 in
+      → new ≡ old ++ record { time = time; content = kept.Received (kept_with coming.kept mid) } ∷ []
+      → mid.start ≡ stands.start → stands'.start ≡ stands.start
+      → HasRead topology packages me old new stands.start stands' (item_with time (model_content (kept.Received coming.kept)))
+  read_request new place stands begun mid stands' i later fits rows holds pairs cursor at rows2 pairs2 holds2 cursor2 rows3 holds3 pairs3 cursor3 put start start' =
+      let c = request_comes reading topology.params stands.start (model_items old) x stands begun mid got quiet fits later i.order i.follows rows holds pairs cursor rows2 pairs2 holds2 cursor2 in
       let here : place ≡ length (model_items old) = at ∙ cursor ∙ i.follows.cursor in
       let ids : coming.ids ≡ map id_in (opened_changes (coming.kept).offer) =
       comes.ids ∙ ap (map id_in) comes.parts.changes_are in
-      has_read topology packages me old new (record { time = time; content = kept.Received (kept_with coming.kept mid.store) }) stands stands' i later below
-      (kept_is stands mid i c)
-      (follows_request reading topology.params (model_items old) x mid stands' got quiet later i.order c rows3
+      has_read topology packages me old new (record { time = time; content = kept.Received (kept_with coming.kept mid) }) stands stands' i later below
+      (kept_is stands mid i start c)
+      (follows_request reading topology.params stands.start (model_items old) x mid stands' got quiet later i.order c rows3
       (holds3 ∙ ap (λ (n : ℕ). (mid.store).holds ++ map (hold_on n) coming.ids) here
       ∙ ap (λ (hs : List Hash). (mid.store).holds ++ map (hold_on (length (model_items old))) hs) ids)
-      pairs3 cursor3) put
+      pairs3 cursor3) put start'
 
   -- with the request that comes, what is tracked is in step
   pub begun_steps : (stands begun : Stands) → IsInbox topology packages me old stands → last_time (model_items old) < time

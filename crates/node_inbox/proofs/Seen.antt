@@ -15,6 +15,7 @@ use Rattle.canton_model.specs.declared.verdict.Verdict.{Verdict}
 use Rattle.canton_model.specs.Timeline.{Decided, is_approval, kind_of, outcome_from, outcome_of, verdict_on, is_past}
 use Rattle.canton_model.specs.Inbox.{Item, clean, clean_time, decision_time_in, is_decided_in, item_time, last_time, moments, Notice, notice_at, notice_by, notice_in, opened_at, shown_in_notice}
 use Rattle.lang_eval.specs.Found.{Packages}
+use Rattle.pruned_inbox.specs.Start.{Start}
 use Rattle.interpret.specs.Ids.{is_authentic}
 use Rattle.request_track.specs.Pairs.{Pair, clean_of, outcome_at}
 use Rattle.request_track.proofs.CleanSame.{clean_same}
@@ -75,23 +76,23 @@ pub with_changes : (items : List KeptItem) (k : ℕ) (o : Option (Bor KeptReques
 with_changes items k None keep at = tt
 with_changes items k (Some r) keep at = keep k r.now (sym at)
 
-module _ (topology : Topology) (packages : Packages) (me : ParticipantId) (items : List KeptItem) (each : AreKept topology packages me items) where
+module _ (topology : Topology) (packages : Packages) (me : ParticipantId) (start : Start) (items : List KeptItem) (each : AreKept topology packages me start items) where
   -- a request that is kept
-  pub found_at : (k : ℕ) (r : KeptRequest) → kept_at items k ≡ Some r → IsKept topology packages me (take (suc k) (model_items items)) k r
+  pub found_at : (k : ℕ) (r : KeptRequest) → kept_at items k ≡ Some r → IsKept topology packages me start (take (suc k) (model_items items)) k r
   found_at k r e = by (slice_get items k) refl e
     where
-      by : (o : Option KeptItem) → slice_get items k ≡ o → request_in_item o ≡ Some r → IsKept topology packages me (take (suc k) (model_items items)) k r
+      by : (o : Option KeptItem) → slice_get items k ≡ o → request_in_item o ≡ Some r → IsKept topology packages me start (take (suc k) (model_items items)) k r
       by None at e = absurd (none-some r e)
       by (Some item) at e = of_content item.content (each k item at) e
         where
           of_content : (content : KeptContent)
               → (elim content as (λ x. Type 0) [
-                | kept.Received x ↦ IsKept topology packages me (take (suc k) (model_items items)) k x
-                | kept.Told v ↦ Unit {0}
+                | kept.Received x ↦ IsKept topology packages me start (take (suc k) (model_items items)) k x
+                | kept.Told v ↦ is_some (notice_at (take k (take (suc k) (model_items items))) v.request) ≡ true
                 | kept.Nothing ↦ Unit {0}
               ])
-              → request_in content ≡ Some r → IsKept topology packages me (take (suc k) (model_items items)) k r
-          of_content (kept.Received x) i e = subst (IsKept topology packages me (take (suc k) (model_items items)) k) (same_Some x r e) i
+              → request_in content ≡ Some r → IsKept topology packages me start (take (suc k) (model_items items)) k r
+          of_content (kept.Received x) i e = subst (IsKept topology packages me start (take (suc k) (model_items items)) k) (same_Some x r e) i
           of_content (kept.Told v) i e = absurd (none-some r e)
           of_content kept.Nothing i e = absurd (none-some r e)
 
@@ -177,8 +178,8 @@ module _ (topology : Topology) (packages : Packages) (me : ParticipantId) (items
   changes_at : (k : ℕ) (r : KeptRequest) → kept_at items k ≡ Some r
       → r.changes.items ≡ changes_of (authentic_at (framed_reading topology packages) (model_items items) k)
   changes_at k r e =
-      (found_at topology packages me items i.each k r e).changes
-      ∙ ap (λ (o : Option Notice). changes_of (filter is_authentic (acts (roots_in (shown_in_notice o))))) (sym (noticed topology packages me items i.each k r e))
+      (found_at topology packages me stands.start items i.each k r e).changes
+      ∙ ap (λ (o : Option Notice). changes_of (filter is_authentic (acts (roots_in (shown_in_notice o))))) (sym (noticed topology packages me stands.start items i.each k r e))
 
   pub tells_first : (v : Verdict) (r : KeptRequest) (coming : ComingVerdict) → kept_at items v.request ≡ Some r
       → is_told (outcome_at (stands.tracking).pairs v.request) ≡ false
@@ -186,7 +187,7 @@ module _ (topology : Topology) (packages : Packages) (me : ParticipantId) (items
       → coming.changes.items ≡ (if is_approval (Some v.decision) then r.changes.items else [])
       → IsTelling (framed_reading topology packages) (model_items items) v coming
   tells_first v r coming e told is first changes =
-      let notice = noticed topology packages me items i.each v.request r e in
+      let notice = noticed topology packages me stands.start items i.each v.request r e in
       let none : is_some (verdict_on v.request (moments (model_items items))) ≡ false =
       sym (told_before topology.params (model_items items) v.request (notice_of r) notice) ∙ ap is_told (sym (outcome_at_is v.request)) ∙ told in
       record {
@@ -206,7 +207,7 @@ module _ (topology : Topology) (packages : Packages) (me : ParticipantId) (items
       → coming.verdict ≡ v → coming.first ≡ None → coming.changes.items ≡ []
       → IsTelling (framed_reading topology packages) (model_items items) v coming
   tells_later v r coming e told is first changes =
-      let notice = noticed topology packages me items i.each v.request r e in
+      let notice = noticed topology packages me stands.start items i.each v.request r e in
       let some : is_some (verdict_on v.request (moments (model_items items))) ≡ true =
       sym (told_before topology.params (model_items items) v.request (notice_of r) notice) ∙ ap is_told (sym (outcome_at_is v.request)) ∙ told in
       record {

@@ -1,5 +1,5 @@
 -- The ids of an inbox tell of its contracts, one item more.
-use Rattle.std.proofs.Common.{◌≡◌, ℕ, Bool, true, false, cond, if◌then◌else◌, List, [], ◌∷◌, filter, Option, Some, None, is_some, inl, inr, refl, sym, ap, ◌∙◌, subst}
+use Rattle.std.proofs.Common.{◌≡◌, ℕ, Bool, true, false, cond, if◌then◌else◌, List, [], ◌∷◌, ◌++◌, filter, Option, Some, None, is_some, inl, inr, refl, sym, ap, ◌∙◌, subst}
 use Rattle.std.specs.Prelude.{◌||◌, ◌&&◌, nat_le, Result, Ok, Err, OnOk, OnErr}
 use Rattle.std.proofs.lemmas.Bool.{and_parts}
 use Rattle.ledger_terms.specs.declared.active_row.ActiveRow.{ActiveRow}
@@ -16,13 +16,13 @@ use Rattle.contract_store.specs.Written.{written}
 use Rattle.contract_store.specs.declared.row.StoreRow.{StoreRow}
 use Rattle.framed_form.specs.FramedReading.{framed_reading}
 use Rattle.inbox_standing.specs.ChangeLists.{changes_of, write_changes}
-use Rattle.inbox_standing.specs.Changes.{acts_of_verdict, changes_in}
-use Rattle.inbox_standing.specs.Offered.{CreatedOnce}
+use Rattle.pruned_inbox.specs.Start.{Start}
+use Rattle.inbox_standing.specs.Changes.{acts_of_verdict, changes_since}
 use Rattle.inbox_standing.specs.Standing.{Stands}
 use Rattle.inbox_standing.specs.declared.change.Change.{Change}
 use Rattle.inbox_standing.proofs.Grown.{rows_same, rows_written}
 use Rattle.prepare_request.specs.Hosted.{AreTold, TellHosted, has_hosted_id, hosted_rows, is_among}
-use Rattle.node_inbox.specs.AddedIds.{added_behind, are_new}
+use Rattle.node_inbox.specs.AddedIds.{AreNew, added_behind}
 use Rattle.node_inbox.specs.Coming.{IsTelling}
 use Rattle.node_inbox.specs.Items.{model_items}
 use Rattle.node_inbox.specs.Kept.{IsInbox}
@@ -43,63 +43,74 @@ module _ (topology : Topology) (packages : Packages) (me : ParticipantId) (old n
   at_rows known s = AreTold reading me known (s.store).rows
 
   -- nothing was read
-  pub told_unread : IsUnread topology packages me old new stands' → at_rows ids stands → at_rows ids stands'
+  pub told_unread : IsUnread topology packages me old new stands.start stands' → at_rows ids stands → at_rows ids stands'
   told_unread u told =
       subst (λ rows. AreTold reading me ids rows)
-      (i.follows.rows ∙ (ap (λ (items : List KeptItem). written (changes_in reading (model_items items)) []) (sym u.items) ∙ sym u.inbox.follows.rows)) told
+      (i.follows.rows ∙ (ap (λ (items : List KeptItem). written (changes_since reading stands.start (model_items items)) []) (sym u.items)
+      ∙ (ap (λ (start : Start). written (changes_since reading start (model_items new)) []) (sym u.start_is) ∙ sym u.inbox.follows.rows))) told
+
+  -- with one item more, from the same start
+  rows_now : (x : Item) → HasRead topology packages me old new stands.start stands' x
+      → written (changes_since reading stands.start (model_items old ++ x ∷ [])) [] ≡ (stands'.store).rows
+  rows_now x h =
+      ap (λ (items : List Item). written (changes_since reading stands.start items) []) (sym h.items)
+      ∙ (ap (λ (start : Start). written (changes_since reading start (model_items new)) []) (sym h.start_is) ∙ sym h.inbox.follows.rows)
 
   -- an item that is no verdict
-  pub told_same : (x : Item) → verdict_in x.content ≡ None → HasRead topology packages me old new stands' x → at_rows ids stands → at_rows ids stands'
+  pub told_same : (x : Item) → verdict_in x.content ≡ None → HasRead topology packages me old new stands.start stands' x → at_rows ids stands → at_rows ids stands'
   told_same x none h told =
       subst (λ rows. AreTold reading me ids rows)
-      (rows_same reading (model_items old) x (stands.store).rows none i.follows.rows
-      ∙ (ap (λ (items : List Item). written (changes_in reading items) []) (sym h.items) ∙ sym h.inbox.follows.rows)) told
+      (rows_same reading stands.start (model_items old) x (stands.store).rows none i.follows.rows ∙ rows_now x h) told
 
   -- a verdict
   pub told_verdict : TellsOn reading me → (coming : ComingVerdict) (time : ℕ) (more : List Hash) → IsTelling reading (model_items old) coming.verdict coming
-      → HasRead topology packages me old new stands' (item_with time (Told coming.verdict)) → at_rows ids stands
+      → HasRead topology packages me old new stands.start stands' (item_with time (Told coming.verdict)) → at_rows ids stands
       → ((c : Hash) → is_among more c ≡ (is_among (added_behind reading me (stands.store).rows [] coming.changes.items) c || is_among ids c))
       → at_rows more stands'
   told_verdict on coming time more tells h told among =
       subst (λ rows. AreTold reading me more rows)
       (ap (λ (cs : List Change). write_changes coming.verdict.request cs (stands.store).rows) tells.changes_are
-      ∙ (rows_written reading (model_items old) (item_with time (Told coming.verdict)) coming.verdict (stands.store).rows refl i.follows.rows
-      ∙ (ap (λ (items : List Item). written (changes_in reading items) []) (sym h.items) ∙ sym h.inbox.follows.rows)))
-      (all_told reading me on coming.verdict.request (stands.store).rows (all_say (changes_in reading (model_items old)) (stands.store).rows i.follows.rows)
+      ∙ (rows_written reading stands.start (model_items old) (item_with time (Told coming.verdict)) coming.verdict (stands.store).rows refl i.follows.rows
+      ∙ rows_now (item_with time (Told coming.verdict)) h))
+      (all_told reading me on coming.verdict.request (stands.store).rows (all_say (changes_since reading stands.start (model_items old)) (stands.store).rows i.follows.rows)
       coming.changes.items (stands.store).rows ids [] more (λ c. or_nothing (is_some (row_of c (stands.store).rows))) told among)
     where
       or_nothing : (b : Bool) → b ≡ (b || false)
       or_nothing true = refl
       or_nothing false = refl
 
-  abbrev once_of : Bool → List KeptItem → Type 0
-  once_of once items = AreOnceIf once reading (model_items items)
+  abbrev once_of : Bool → Start → List KeptItem → Type 0
+  once_of once start items = AreOnceIf once reading start (model_items items)
 
   -- whether an item that is no verdict was read or not
-  pub kept_anyway : {X E : Type 0} (r : Result X E) (x : Item) → verdict_in x.content ≡ None → OnOk r (HasRead topology packages me old new stands' x)
-      → OnErr r (IsUnread topology packages me old new stands') → (once : Bool) → at_rows ids stands → once_of once old
-      → IsInbox topology packages me new stands' × at_rows ids stands' × once_of once new
+  pub kept_anyway : {X E : Type 0} (r : Result X E) (x : Item) → verdict_in x.content ≡ None → OnOk r (HasRead topology packages me old new stands.start stands' x)
+      → OnErr r (IsUnread topology packages me old new stands.start stands') → (once : Bool) → at_rows ids stands → once_of once stands.start old
+      → IsInbox topology packages me new stands' × at_rows ids stands' × once_of once stands'.start new
   kept_anyway (Ok u) x none ok err once told are = (
     ok.inbox,
     told_same x none ok told,
-    λ is. subst (λ (items : List Item). CreatedOnce (changes_in reading items)) (sym ok.items) (once_same reading (model_items old) x none (are is)),
+    subst (λ (start : Start). once_of once start new) (sym ok.start_is)
+        (subst (λ (items : List Item). AreOnceIf once reading stands.start items) (sym ok.items) (λ is. once_same reading stands.start (model_items old) x none (are is))),
   )
   kept_anyway (Err e) x none ok err once told are = (
     err.inbox,
     told_unread err told,
-    λ is. subst (λ (items : List KeptItem). CreatedOnce (changes_in reading (model_items items))) (sym err.items) (are is),
+    subst (λ (start : Start). once_of once start new) (sym err.start_is)
+        (subst (λ (items : List KeptItem). once_of once stands.start items) (sym err.items) are),
   )
 
   -- a verdict
   pub once_verdict : (coming : ComingVerdict) (time : ℕ) → IsTelling reading (model_items old) coming.verdict coming
-      → HasRead topology packages me old new stands' (item_with time (Told coming.verdict)) → (once new_ones : Bool)
-      → new_ones ≡ are_new (stands.store).rows [] coming.changes.items → once_of once old → once_of (once && new_ones) new
-  once_verdict coming time tells h once new_ones is_new are is =
+      → HasRead topology packages me old new stands.start stands' (item_with time (Told coming.verdict)) → (once new_ones : Bool)
+      → (new_ones ≡ true → AreNew stands.start (stands.store).rows coming.changes.items) → once_of once stands.start old
+      → once_of (once && new_ones) stands'.start new
+  once_verdict coming time tells h once new_ones is_new are =
+      subst (λ (start : Start). once_of (once && new_ones) start new) (sym h.start_is)
+      (subst (λ (items : List Item). AreOnceIf (once && new_ones) reading stands.start items) (sym h.items) (λ is.
       let both = and_parts once new_ones is in
-      subst (λ (items : List Item). CreatedOnce (changes_in reading items)) (sym h.items)
-      (once_told reading (model_items old) (item_with time (Told coming.verdict)) coming.verdict refl (are both.0)
-      (ap (λ (rows : List StoreRow). are_new rows [] (changes_of (acts_of_verdict reading (model_items old) coming.verdict))) (sym i.follows.rows)
-      ∙ (ap (λ (cs : List Change). are_new (stands.store).rows [] cs) (sym tells.changes_are) ∙ (sym is_new ∙ both.1))))
+      once_told reading stands.start (model_items old) (item_with time (Told coming.verdict)) coming.verdict refl (are both.0)
+      (subst (λ (rows : List StoreRow). AreNew stands.start rows (changes_of (acts_of_verdict reading (model_items old) coming.verdict))) i.follows.rows
+      (subst (λ (cs : List Change). AreNew stands.start (stands.store).rows cs) tells.changes_are (is_new both.1)))))
 
 -- ---- what is offered
 

@@ -1,11 +1,13 @@
 -- The contracts with a hosted stakeholder that changes bring into a store, and whether they are new to it.
-use Rattle.std.specs.Prelude.{Bool, true, false, List, [], ◌∷◌, ◌++◌, if◌then◌else◌, ◌&&◌, ◌||◌, not}
+use Rattle.std.specs.Prelude.{◌≡◌, Bool, true, false, List, [], ◌∷◌, ◌++◌, if◌then◌else◌, ◌&&◌, ◌||◌, not}
+use Rattle.std.specs.List.{list_any}
 use Rattle.std.specs.Str.{bytes_eq}
 use Rattle.ledger_model.specs.Terms.{Hash, ParticipantId}
 use Rattle.ledger_model.specs.declared.status.Status.{Status}
 use Rattle.ledger_model.specs.declared.status.Status.TheVariants.{Unknown, Active, Consumed}
 use Rattle.canton_model.specs.Inbox.{is_stakeholder_hosted}
 use Rattle.canton_model.specs.Reading.{Reading}
+use Rattle.pruned_inbox.specs.Start.{Start, is_gone}
 use Rattle.contract_store.specs.Rows.{status_in}
 use Rattle.contract_store.specs.declared.row.StoreRow.{StoreRow}
 use Rattle.prepare_request.specs.Hosted.{is_among}
@@ -47,3 +49,12 @@ abbrev pub are_new : List StoreRow → (changed : List Hash) → List Change →
 are_new rows changed [] = true
 are_new rows changed (change ∷ rest) =
     (not change.is_create || is_unheard rows changed change.known.id) && are_new rows (change.known.id ∷ changed) rest
+
+-- the change creates a contract that is gone
+abbrev pub creates_gone : Start → Change → Bool
+creates_gone start change = change.is_create && is_gone start change.known.id
+
+-- Each contract that one of these changes creates is new: the rows don't know it, no change before is on it, and it isn't gone.
+pub record AreNew (start : Start) (rows : List StoreRow) (changes : List Change) : Type 0 where
+  pub unheard : are_new rows [] changes ≡ true
+  pub not_gone : list_any (creates_gone start) changes ≡ false

@@ -15,6 +15,7 @@ use Rattle.confirm_reply.specs.declared.id_facts.IdFacts.{IdFacts}
 use Rattle.inbox_standing.specs.ChangeLists.{changes_of, id_in}
 use Rattle.inbox_standing.specs.Changes.{acts_of_verdict}
 use Rattle.inbox_standing.specs.declared.change.Change.{Change}
+use Rattle.sealed_form.specs.SealedForm.{envelope_to}
 use Rattle.proto_model.specs.declared.notice.Notice.{Notice}
 use Rattle.node_inbox.specs.Acts.{blank_fact}
 use Rattle.node_inbox.specs.Kept.{Came}
@@ -29,13 +30,14 @@ pub record AreParts (offer : KeptOffer) (facts : List IdFacts) (changes : List C
   pub facts_are : facts ≡ map blank_fact (acts (roots_offered offer))
   pub changes_are : changes ≡ opened_changes offer
 
--- What is kept of a request is what a notice has of it.
-pub record IsKeptOf (request : Request) (notice : Notice) (kept : KeptRequest) : Type 0 where
+-- What is kept of a request is what a notice has of it, and the participant's envelope.
+pub record IsKeptOf (me : ParticipantId) (request : Request) (notice : Notice) (kept : KeptRequest) : Type 0 where
   pub sender : kept.sender ≡ request.sender
   pub command : kept.command ≡ request.command
   pub root : kept.root ≡ notice.root
   pub seen : kept.seen ≡ notice.seen
   pub confirmed : kept.confirmed ≡ notice.confirmed
+  pub envelope : kept.envelope ≡ envelope_to me request.envelopes
   pub offer : as_offered kept.offer ≡ notice.offered
 
 -- a request that comes

@@ -1,16 +1,19 @@
 -- What the items of an inbox keep beside what came.
-use Rattle.std.specs.Prelude.{◌≡◌, ℕ, suc, true, All, List, Option, Some, None, map, slice_get, take}
+use Rattle.std.specs.Prelude.{◌≡◌, ◌≤◌, ℕ, suc, true, length, All, List, Option, Some, None, is_some, map, slice_get, take}
 use Rattle.ledger_terms.specs.declared.topology.Topology.{Topology}
 use Rattle.ledger_model.specs.Terms.{ParticipantId}
-use Rattle.canton_model.specs.Inbox.{Item}
+use Rattle.canton_model.specs.Inbox.{Item, is_locked_in_inbox, notice_at}
 use Rattle.canton_model.specs.Reading.{is_recipient, paths_confirmed, paths_seen}
 use Rattle.canton_model.specs.declared.request.Request.{Request}
 use Rattle.lang_eval.specs.Found.{Packages}
+use Rattle.sealed_form.specs.SealedForm.{envelope_to}
 use Rattle.framed_form.specs.FramedForm.{offered, root_of}
 use Rattle.framed_form.specs.FramedReading.{framed_reading}
+use Rattle.inbox_standing.specs.Changes.{StandsBelow}
 use Rattle.inbox_standing.specs.Order.{IsInOrder}
 use Rattle.inbox_standing.specs.Standing.{Follows, Stands}
-use Rattle.confirm_reply.specs.Facts.{IsFactAt}
+use Rattle.pruned_inbox.specs.Start.{Start, status_kept}
+use Rattle.confirm_reply.specs.Facts.{IsFactOf}
 use Rattle.confirm_reply.specs.declared.id_facts.IdFacts.{IdFacts}
 use Rattle.node_inbox.specs.declared.kept_item.KeptItem.{KeptItem}
 use Rattle.node_inbox.specs.declared.kept_item.KeptRequest.{KeptRequest}
@@ -20,7 +23,8 @@ use Rattle.node_inbox.specs.Items.{model_items}
 use Rattle.node_inbox.specs.Offers.{as_offered, opened_changes, opened_ids}
 
 -- A framed request came of which this is kept, and the participant is a recipient: the request's sender and command, the hash of the
--- mediator's tree, the paths of the views that the participant sees and of those that it confirms, and what its envelope offers it.
+-- mediator's tree, the paths of the views that the participant sees and of those that it confirms, its envelope, and what that
+-- offers it.
 pub record Came (topology : Topology) (packages : Packages) (me : ParticipantId) (kept : KeptRequest) : Type 0 where
   pub request : Request
   pub is_framed : (framed_reading topology packages).is_framed request ≡ true
@@ -30,31 +34,35 @@ pub record Came (topology : Topology) (packages : Packages) (me : ParticipantId)
   pub root_is : kept.root ≡ root_of request
   pub seen_is : kept.seen ≡ paths_seen (framed_reading topology packages) me request
   pub confirmed_is : kept.confirmed ≡ paths_confirmed (framed_reading topology packages) me request
+  pub envelope_is : kept.envelope ≡ envelope_to me request.envelopes
   pub offer_is : as_offered kept.offer ≡ offered topology me request
 
 -- A request at place k of an inbox that ends with it: it came, the changes are those in what is opened, and the facts say of each
--- contract in that what the inbox says.
-pub record IsKept (topology : Topology) (packages : Packages) (me : ParticipantId) (items : List Item) (k : ℕ) (kept : KeptRequest) : Type 0 where
+-- contract in that what the start and the inbox say.
+pub record IsKept (topology : Topology) (packages : Packages) (me : ParticipantId) (start : Start) (items : List Item) (k : ℕ)
+    (kept : KeptRequest) : Type 0 where
   pub came : Came topology packages me kept
   pub changes : (kept.changes).items ≡ opened_changes kept.offer
-  pub facts : All (IsFactAt (framed_reading topology packages) topology.params items k) kept.facts
+  pub facts : All (IsFactOf (status_kept (framed_reading topology packages) start items k)
+      (is_locked_in_inbox (framed_reading topology packages) topology.params items k)) kept.facts
   pub all_ids : map (λ (fact : IdFacts). fact.id) kept.facts ≡ opened_ids kept.offer
 
-abbrev pub IsKeptContent : Topology → Packages → ParticipantId → List Item → ℕ → KeptContent → Type 0
-IsKeptContent topology packages me items k (Received kept) = IsKept topology packages me items k kept
-IsKeptContent topology packages me items k (Told verdict) = Unit {0}
-IsKeptContent topology packages me items k Nothing = Unit {0}
+-- a request as it is kept, or a verdict on one that was received before
+abbrev pub IsKeptContent : Topology → Packages → ParticipantId → Start → List Item → ℕ → KeptContent → Type 0
+IsKeptContent topology packages me start items k (Received kept) = IsKept topology packages me start items k kept
+IsKeptContent topology packages me start items k (Told verdict) = is_some (notice_at (take k items) verdict.request) ≡ true
+IsKeptContent topology packages me start items k Nothing = Unit {0}
 
 -- each as the inbox stood when it was read
-abbrev pub AreKept : Topology → Packages → ParticipantId → List KeptItem → Type 0
-AreKept topology packages me items =
-    (k : ℕ) (item : KeptItem) → slice_get items k ≡ Some item → IsKeptContent topology packages me (take (suc k) (model_items items)) k item.content
+abbrev pub AreKept : Topology → Packages → ParticipantId → Start → List KeptItem → Type 0
+AreKept topology packages me start items =
+    (k : ℕ) (item : KeptItem) → slice_get items k ≡ Some item → IsKeptContent topology packages me start (take (suc k) (model_items items)) k item.content
 
 -- An inbox in order, and what is kept beside it.
 pub record IsInbox (topology : Topology) (packages : Packages) (me : ParticipantId) (kept : List KeptItem) (stands : Stands) : Type 0 where
-  pub follows : Follows (framed_reading topology packages) topology.params (model_items kept) stands
+  pub follows : Follows (framed_reading topology packages) topology.params stands.start (model_items kept) stands
   pub order : IsInOrder (model_items kept)
-  pub each : AreKept topology packages me kept
+  pub each : AreKept topology packages me stands.start kept
 
 -- The request at a place, as it is kept.
 abbrev pub request_in : KeptContent → Option KeptRequest
@@ -68,3 +76,12 @@ request_in_item (Some item) = request_in item.content
 
 abbrev pub kept_at : List KeptItem → ℕ → Option KeptRequest
 kept_at items k = request_in_item (slice_get items k)
+
+-- An inbox begins at a base within it, from a start that stands below that.
+pub record BeginsAt (base : ℕ) (start : Start) (items : List Item) : Type 0 where
+  pub within : base ≤ length items
+  pub stands : StandsBelow base start items
+
+-- The same at some base.
+abbrev pub BeginsIn : Start → List Item → Type 0
+BeginsIn start items = (base : ℕ) × BeginsAt base start items

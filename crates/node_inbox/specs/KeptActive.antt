@@ -1,17 +1,19 @@
 -- The active contracts at an earlier place, and what stands behind them.
-use Rattle.std.specs.Prelude.{◌≡◌, ◌≤◌, ℕ, zero, suc, Bool, true, false, List, [], ◌∷◌, ◌++◌, if◌then◌else◌, length, map, nat_le, not}
+use Rattle.std.specs.Prelude.{◌≡◌, ◌≤◌, ℕ, zero, suc, Bool, true, false, List, [], ◌∷◌, ◌++◌, Option, Some, None, if◌then◌else◌, length, map, nat_le, not}
 use Rattle.ledger_terms.specs.declared.act.Act.{Act}
 use Rattle.ledger_terms.specs.declared.active_row.ActiveRow.{ActiveRow}
 use Rattle.ledger_model.specs.Status.{status_after}
 use Rattle.ledger_model.specs.Terms.{Hash, ParticipantId, id_of, is_create}
 use Rattle.ledger_model.specs.declared.status.Status.{Status}
 use Rattle.ledger_model.specs.declared.status.Status.TheVariants.{Unknown, Active, Consumed}
-use Rattle.canton_model.specs.Inbox.{Item, authentic_below, node_active}
+use Rattle.canton_model.specs.Inbox.{Item}
 use Rattle.canton_model.specs.Reading.{Reading}
-use Rattle.contract_store.specs.Below.{at_place, writes_of}
+use Rattle.pruned_inbox.specs.Start.{Start, active_kept}
+use Rattle.contract_store.specs.Below.{at_place, placed_below, writes_of}
 use Rattle.contract_store.specs.Rows.{status_in}
-use Rattle.contract_store.specs.Written.{Placed}
+use Rattle.contract_store.specs.Written.{Placed, acts_of}
 use Rattle.contract_store.specs.declared.row.StoreRow.{StoreRow}
+use Rattle.inbox_standing.specs.Changes.{creation_of}
 use Rattle.node_inbox.specs.AddedIds.{is_unknown}
 use Rattle.node_inbox.specs.declared.kept_active.KeptActive.{KeptActive}
 
@@ -35,17 +37,37 @@ abbrev pub CreateOnly : (Hash → Bool) → List Act → Type 0
 CreateOnly test [] = Unit {0}
 CreateOnly test (act ∷ actions) = (is_create act.action ≡ true → test (id_of act.action) ≡ true) × CreateOnly test actions
 
+-- the Creates of what a start left, and what approved requests below a place write
+abbrev pub begun_below : Reading → Start → List Item → ℕ → List Placed
+begun_below reading start items n = map creation_of start.active ++ placed_below reading items n
+
 -- the approved requests from a place on create only contracts of which nothing is known below it
-abbrev pub AreFresh : Reading → List Item → ℕ → Type 0
-AreFresh reading items n = (k : ℕ) → n ≤ k → CreateOnly (λ c. is_unknown (status_after (authentic_below reading items n) c)) (writes_of reading items k)
+abbrev pub AreFresh : Reading → Start → List Item → ℕ → Type 0
+AreFresh reading start items n =
+    (k : ℕ) → n ≤ k → CreateOnly (λ c. is_unknown (status_after (acts_of (begun_below reading start items n)) c)) (writes_of reading items k)
 
 -- they are the participant's active contracts at a place in the inbox
-pub record AreActive (reading : Reading) (p : ParticipantId) (items : List Item) (kept : KeptActive) : Type 0 where
+pub record AreActive (reading : Reading) (p : ParticipantId) (start : Start) (items : List Item) (kept : KeptActive) : Type 0 where
   pub within : kept.place ≤ length items
-  pub rows : kept.rows ≡ node_active reading p items kept.place
-  pub fresh : AreFresh reading items kept.place
+  pub rows : kept.rows ≡ active_kept reading p start items kept.place
+  pub fresh : AreFresh reading start items kept.place
+
+-- the same, where some are kept
+abbrev pub AreActiveIf : Reading → ParticipantId → Start → List Item → Option KeptActive → Type 0
+AreActiveIf reading p start items None = Unit {0}
+AreActiveIf reading p start items (Some kept) = AreActive reading p start items kept
 
 -- they are as they were, or else none
-abbrev pub IsKeptIf : Bool → (old new : KeptActive) → Type 0
+abbrev pub IsKeptIf : Bool → (old new : Option KeptActive) → Type 0
 IsKeptIf true old new = new ≡ old
-IsKeptIf false old new = (new.place ≡ 0) × (new.rows ≡ [])
+IsKeptIf false old new = new ≡ None
+
+-- their place is at most this one, where some are kept
+abbrev pub are_at_most : Option KeptActive → ℕ → Bool
+are_at_most None place = true
+are_at_most (Some kept) place = nat_le kept.place place
+
+-- those at a place that isn't behind another
+abbrev pub not_behind : Option KeptActive → ℕ → Option KeptActive
+not_behind None end = None
+not_behind (Some kept) end = if nat_le kept.place end then Some kept else None

@@ -2,6 +2,7 @@ pub mod Offers
 pub mod InboxState
 pub mod Entries
 pub mod Items
+pub mod Raw
 pub mod Kept
 pub mod Acts
 pub mod Coming
@@ -17,3 +18,5 @@ pub mod LiveRows
 pub mod Hosts
 pub mod Offered
 pub mod AddedIds
+pub mod Beginnings
+pub mod Leaving

@@ -6,7 +6,8 @@ use Rattle.canton_model.specs.Inbox.{Item}
 use Rattle.canton_model.specs.Reading.{Reading}
 use Rattle.contract_store.specs.Active.{active_rows}
 use Rattle.contract_store.specs.declared.row.StoreRow.{StoreRow}
-use Rattle.inbox_standing.specs.Changes.{changes_in}
+use Rattle.pruned_inbox.specs.Start.{Start}
+use Rattle.inbox_standing.specs.Changes.{NoneGone, changes_since}
 use Rattle.inbox_standing.specs.Offered.{CreatedOnce}
 use Rattle.node_inbox.specs.Listed.{is_offered}
 
@@ -14,6 +15,11 @@ use Rattle.node_inbox.specs.Listed.{is_offered}
 abbrev pub offered : Reading → ParticipantId → List StoreRow → List ActiveRow
 offered reading p rows = filter (is_offered reading p) (active_rows rows)
 
--- the approved requests of an inbox create no contract twice, where this holds
-abbrev pub AreOnceIf : Bool → Reading → List Item → Type 0
-AreOnceIf once reading items = once ≡ true → CreatedOnce (changes_in reading items)
+-- No contract is created twice, one of the start among them, and none that is gone.
+pub record AreOnce (reading : Reading) (start : Start) (items : List Item) : Type 0 where
+  pub once : CreatedOnce (changes_since reading start items)
+  pub none_gone : NoneGone start (changes_since reading start items)
+
+-- the same, where this holds
+abbrev pub AreOnceIf : Bool → Reading → Start → List Item → Type 0
+AreOnceIf once reading start items = once ≡ true → AreOnce reading start items

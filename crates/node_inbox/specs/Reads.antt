@@ -6,8 +6,8 @@ use Rattle.canton_model.specs.Inbox.{Content, Item}
 use Rattle.lang_eval.specs.Found.{Packages}
 use Rattle.canton_model.specs.declared.outcome.Outcome.{Outcome as Kind}
 use Rattle.contract_store.specs.Holds.{released}
-use Rattle.contract_store.specs.Stored.{Stored}
 use Rattle.request_track.specs.Pairs.{settled}
+use Rattle.pruned_inbox.specs.Start.{Start}
 use Rattle.inbox_standing.specs.ChangeLists.{write_changes}
 use Rattle.inbox_standing.specs.Standing.{Stands}
 use Rattle.inbox_standing.specs.declared.change.Change.{Change}
@@ -20,19 +20,22 @@ use Rattle.node_inbox.specs.Kept.{IsInbox}
 abbrev pub item_with : (time : ℕ) → Content → Item
 item_with time content = record { time = time; content = content }
 
--- it is an inbox, with this item behind those that it had
-pub record HasRead (topology : Topology) (packages : Packages) (me : ParticipantId) (old new : List KeptItem) (stands : Stands) (item : Item) : Type 0 where
+-- it is an inbox, with this item behind those that it had, and the start that it had
+pub record HasRead (topology : Topology) (packages : Packages) (me : ParticipantId) (old new : List KeptItem) (start : Start) (stands : Stands)
+    (item : Item) : Type 0 where
   pub inbox : IsInbox topology packages me new stands
+  pub start_is : stands.start ≡ start
   pub items : model_items new ≡ model_items old ++ item ∷ []
 
--- it is an inbox, with the items that it had
-pub record IsUnread (topology : Topology) (packages : Packages) (me : ParticipantId) (old new : List KeptItem) (stands : Stands) : Type 0 where
+-- it is an inbox, with the items and the start that it had
+pub record IsUnread (topology : Topology) (packages : Packages) (me : ParticipantId) (old new : List KeptItem) (start : Start) (stands : Stands) : Type 0 where
   pub inbox : IsInbox topology packages me new stands
+  pub start_is : stands.start ≡ start
   pub items : new ≡ old
 
--- with what a store says of the contracts
-abbrev pub kept_with : KeptRequest → Stored → KeptRequest
-kept_with kept store = record kept { facts = map (fact_in store) kept.facts }
+-- with what is known of the contracts
+abbrev pub kept_with : KeptRequest → Stands → KeptRequest
+kept_with kept stands = record kept { facts = map (fact_in stands) kept.facts }
 
 -- the request at a place got the outcome, holds nothing any more, and made these changes
 pub record IsSettled (old new : Stands) (place : ℕ) (outcome : Kind) (changes : List Change) : Type 0 where
@@ -40,3 +43,4 @@ pub record IsSettled (old new : Stands) (place : ℕ) (outcome : Kind) (changes 
   pub holds : (new.store).holds ≡ released place (old.store).holds
   pub pairs : (new.tracking).pairs ≡ settled place outcome (old.tracking).pairs
   pub cursor : (new.tracking).cursor ≡ (old.tracking).cursor
+  pub start : new.start ≡ old.start

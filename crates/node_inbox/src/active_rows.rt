@@ -1,20 +1,22 @@
 //! The active contracts at a place.
-ghost use Rattle.std.specs.Prelude.{◌≡◌, ◌++◌, ◌∷◌, ◌≤◌, [], IfOk, OnOk, filter, slice_get};
+ghost use Rattle.std.specs.Prelude.{◌≡◌, ◌++◌, ◌∷◌, ◌≤◌, [], IfOk, OnOk, filter, map, slice_get};
 ghost use Rattle.ledger_model.specs.Forest.{acts};
-ghost use Rattle.canton_model.specs.Inbox.{node_active};
 ghost use Rattle.interpret.specs.Ids.{is_authentic};
 ghost use Rattle.contract_store.specs.Written.{written};
 ghost use Rattle.framed_form.specs.FramedReading.{framed_reading};
+ghost use Rattle.pruned_inbox.specs.Start.{active_kept};
 ghost use Rattle.inbox_standing.specs.ChangeLists.{changes_of, write_changes};
+ghost use Rattle.inbox_standing.specs.Changes.{creation_of};
 ghost use Rattle.node_inbox.specs.Approved.{KeepChanges, TellsOutcomes, approved_at};
-ghost use Rattle.node_inbox.specs.Hosts.{reading_by};
+ghost use Rattle.node_inbox.specs.Hosts.{offers, reading_by};
 ghost use Rattle.node_inbox.specs.Items.{model_items};
-ghost use Rattle.node_inbox.specs.KeptActive.{AreActive, is_unconsumed, placed_between};
-ghost use Rattle.node_inbox.specs.Listed.{active_row_of, is_offered, listed, listed_at};
+ghost use Rattle.node_inbox.specs.Kept.{BeginsIn};
+ghost use Rattle.node_inbox.specs.KeptActive.{AreActive, AreActiveIf, is_unconsumed, placed_between};
+ghost use Rattle.node_inbox.specs.Listed.{active_row_of, listed, listed_at};
 
 use crate::applied::approved_at;
 use crate::hosting::Hosting;
-use crate::kept_active::KeptActive;
+use crate::kept_active::{KeptActive, not_behind};
 use crate::kept_item::KeptItem;
 use crate::live_row::LiveRow;
 use crate::live_rows::LiveRows;
@@ -52,29 +54,38 @@ fn write_approved<'k>(
     }
 }
 
-// The rows that the approved requests from one place on, below another, make.
-fn live_between<'k>(
-    alloc: Global,
+// Writes what the approved requests from one place on, below another, change.
+fn write_between<'k>(
     setup: &Setup,
     items: &'k [KeptItem],
     standing: &Standing,
     start: u64,
     end: u64,
-) -> Result<LiveRows<'k>, AllocError>
+    live: &mut LiveRows<'k>,
+) -> Result<(), AllocError>
     requires order { start ≤ end }
     requires told { TellsOutcomes setup.now.topology.params (model_items items.now) standing.now }
     requires kept { KeepChanges items.now }
-    ensures { IfOk result (λ live. live
-        ≡ written (placed_between (framed_reading setup.now.topology setup.now.checked) (model_items items.now) start end) []) }
+    ensures { OnOk result (live.new
+        ≡ written (placed_between (framed_reading setup.now.topology setup.now.checked) (model_items items.now) start end) live.old) }
 {
-    let mut live = LiveRows::new(alloc);
     'places: for place in start..end {
-        write_approved(setup, items, standing, place, &mut live)?;
+        write_approved(setup, items, standing, place, live)?;
     }
-    Ok(live)
+    Ok(())
 }
 
-fn push_if_hosted(
+// Writes the Creates of contracts.
+fn write_start<'k>(live: &mut LiveRows<'k>, rows: &'k [ActiveRow]) -> Result<(), AllocError>
+    ensures { OnOk result (live.new ≡ written (map creation_of rows.now) live.old) }
+{
+    for row in rows {
+        live.create(row.created_at, &row.known)?;
+    }
+    Ok(())
+}
+
+fn push_if_offered(
     alloc: Global,
     hosting: &Hosting<'_>,
     created_at: u64,
@@ -82,9 +93,9 @@ fn push_if_hosted(
     kept: &mut ActiveRowList,
 ) -> Result<(), AllocError>
     ensures { OnOk result (kept.new ≡ kept.old
-        ++ filter (is_offered (reading_by hosting.now) hosting.now.me) (active_row_of created_at known.now ∷ [])) }
+        ++ filter (offers hosting.now) (active_row_of created_at known.now ∷ [])) }
 {
-    if hosting.hosts(alloc, known)? {
+    if hosting.offers(alloc, created_at, known)? {
         let known = known.copied()?;
         kept.push(ActiveRow { created_at, known })?;
     }
@@ -98,10 +109,10 @@ fn push_if_active(
     kept: &mut ActiveRowList,
 ) -> Result<(), AllocError>
     ensures { OnOk result (kept.new ≡ kept.old
-        ++ filter (is_offered (reading_by hosting.now) hosting.now.me) (listed (row.now ∷ []))) }
+        ++ filter (offers hosting.now) (listed (row.now ∷ []))) }
 {
     match row.active_since() {
-        Some(place) => push_if_hosted(alloc, hosting, place, row.known(), kept),
+        Some(place) => push_if_offered(alloc, hosting, place, row.known(), kept),
         None => Ok(()),
     }
 }
@@ -114,7 +125,7 @@ fn push_row(
     kept: &mut ActiveRowList,
 ) -> Result<(), AllocError>
     ensures { OnOk result (kept.new ≡ kept.old
-        ++ filter (is_offered (reading_by hosting.now) hosting.now.me) (listed_at (slice_get live.now at))) }
+        ++ filter (offers hosting.now) (listed_at (slice_get live.now at))) }
 {
     match live.get(at) {
         Some(row) => push_if_active(alloc, hosting, row, kept),
@@ -122,14 +133,14 @@ fn push_row(
     }
 }
 
-// Those with a hosted stakeholder, in the order of the rows, come behind these.
-fn push_hosted(
+// Those that are offered, in the order of the rows, come behind these.
+fn push_offered(
     alloc: Global,
     hosting: &Hosting<'_>,
     live: &LiveRows<'_>,
     kept: &mut ActiveRowList,
 ) -> Result<(), AllocError>
-    ensures { OnOk result (kept.new ≡ kept.old ++ filter (is_offered (reading_by hosting.now) hosting.now.me) (listed live.now)) }
+    ensures { OnOk result (kept.new ≡ kept.old ++ filter (offers hosting.now) (listed live.now)) }
 {
     'rows: for at in 0..live.len() {
         push_row(alloc, hosting, live, at, kept)?;
@@ -170,9 +181,28 @@ fn left_of(
     Ok(left)
 }
 
-/// The contracts with a hosted stakeholder that the approved requests below a place create and none of them consumes, in order
-/// of creation. Goes on from those that are kept.
-pub fn active_rows(
+/// The rows of the contracts that were left at the base, and of those that approved requests below a place changed since.
+pub fn rows_below<'k>(
+    alloc: Global,
+    setup: &Setup,
+    items: &'k [KeptItem],
+    standing: &'k Standing,
+    end: u64,
+) -> Result<LiveRows<'k>, AllocError>
+    requires told { TellsOutcomes setup.now.topology.params (model_items items.now) standing.now }
+    requires kept { KeepChanges items.now }
+    ensures { IfOk result (λ live. live
+        ≡ written (placed_between (framed_reading setup.now.topology setup.now.checked) (model_items items.now) 0 end)
+        (written (map creation_of standing.now.start.active) [])) }
+{
+    let mut live = LiveRows::new(alloc);
+    write_start(&mut live, standing.start().active().as_slice())?;
+    write_between(setup, items, standing, 0, end, &mut live)?;
+    Ok(live)
+}
+
+// Goes on from those that are kept.
+fn active_from(
     alloc: Global,
     hosting: &Hosting<'_>,
     items: &[KeptItem],
@@ -182,13 +212,57 @@ pub fn active_rows(
 ) -> Result<ActiveRowList, AllocError>
     requires told { TellsOutcomes hosting.now.topology.params (model_items items.now) standing.now }
     requires kept { KeepChanges items.now }
-    requires active { AreActive (reading_by hosting.now) hosting.now.me (model_items items.now) kept.now }
-    ensures { IfOk result (λ rows. rows ≡ node_active (reading_by hosting.now) hosting.now.me (model_items items.now) end) }
+    requires order { kept.now.place ≤ end }
+    requires active { AreActive (reading_by hosting.now) hosting.now.me hosting.now.start (model_items items.now) kept.now }
+    requires begins { BeginsIn hosting.now.start (model_items items.now) }
+    ensures { IfOk result (λ rows. rows ≡ active_kept (reading_by hosting.now) hosting.now.me hosting.now.start (model_items items.now) end) }
 {
-    let none = KeptActive::new(alloc);
-    let known = kept.not_behind(&none, end);
-    let live = live_between(alloc, hosting.setup(), items, standing, known.place, end)?;
-    let mut rows = left_of(alloc, known.rows.as_slice(), &live)?;
-    push_hosted(alloc, hosting, &live, &mut rows)?;
+    let mut live = LiveRows::new(alloc);
+    write_between(hosting.setup(), items, standing, kept.place, end, &mut live)?;
+    let mut rows = left_of(alloc, kept.rows.as_slice(), &live)?;
+    push_offered(alloc, hosting, &live, &mut rows)?;
     Ok(rows)
+}
+
+// Goes through all that was read.
+fn active_from_start(
+    alloc: Global,
+    hosting: &Hosting<'_>,
+    items: &[KeptItem],
+    standing: &Standing,
+    end: u64,
+) -> Result<ActiveRowList, AllocError>
+    requires told { TellsOutcomes hosting.now.topology.params (model_items items.now) standing.now }
+    requires kept { KeepChanges items.now }
+    requires begins { BeginsIn hosting.now.start (model_items items.now) }
+    ensures { IfOk result (λ rows. rows ≡ active_kept (reading_by hosting.now) hosting.now.me hosting.now.start (model_items items.now) end) }
+{
+    let mut live = LiveRows::new(alloc);
+    write_start(&mut live, hosting.start().active().as_slice())?;
+    write_between(hosting.setup(), items, standing, 0, end, &mut live)?;
+    let mut rows = ActiveRowList::new(alloc);
+    push_offered(alloc, hosting, &live, &mut rows)?;
+    Ok(rows)
+}
+
+/// The contracts with a hosted stakeholder that were left at the base or that the approved requests below a place create, and that none of
+/// them consumes, in order of creation. Goes on from those that are kept.
+pub fn active_rows(
+    alloc: Global,
+    hosting: &Hosting<'_>,
+    items: &[KeptItem],
+    standing: &Standing,
+    kept: &Option<KeptActive>,
+    end: u64,
+) -> Result<ActiveRowList, AllocError>
+    requires told { TellsOutcomes hosting.now.topology.params (model_items items.now) standing.now }
+    requires kept { KeepChanges items.now }
+    requires active { AreActiveIf (reading_by hosting.now) hosting.now.me hosting.now.start (model_items items.now) kept.now }
+    requires begins { BeginsIn hosting.now.start (model_items items.now) }
+    ensures { IfOk result (λ rows. rows ≡ active_kept (reading_by hosting.now) hosting.now.me hosting.now.start (model_items items.now) end) }
+{
+    match not_behind(kept, end) {
+        Some(known) => active_from(alloc, hosting, items, standing, known, end),
+        None => active_from_start(alloc, hosting, items, standing, end),
+    }
 }

@@ -7,11 +7,11 @@ ghost use Rattle.contract_store.specs.Rows.{status_in};
 ghost use Rattle.prepare_request.specs.Hosted.{is_among};
 ghost use Rattle.framed_form.specs.FramedReading.{framed_reading};
 ghost use Rattle.inbox_standing.specs.ChangeLists.{id_in};
-ghost use Rattle.node_inbox.specs.AddedIds.{added_behind, added_if, are_new, is_new, is_on, is_unheard, is_unknown};
+ghost use Rattle.node_inbox.specs.AddedIds.{added_behind, added_if, are_new, creates_gone, is_new, is_on, is_unheard, is_unknown};
 
 use confirm_reply::{Setup, has_hosted_stakeholder};
 use contract_store::Store;
-use inbox_standing::Change;
+use inbox_standing::{Change, KeptStart};
 use indexmap::IndexMap;
 use ledger_model::Status;
 use ledger_terms::{Hash, HashList, ParticipantId};
@@ -124,6 +124,13 @@ pub fn added_ids(
         all_are_new = all_new(all_are_new, is_new, change);
     }
     Ok((ids, all_are_new))
+}
+
+/// Whether one of these changes creates a contract that is gone.
+pub fn create_gone(start: &KeptStart, changes: &[Change]) -> bool
+    ensures { result ≡ list_any (creates_gone start.now) changes.now }
+{
+    changes.iter().any(|change| change.is_create && start.is_gone(&change.known.id))
 }
 
 /// Puts ids among those of contracts with a hosted stakeholder, in the room that is there.

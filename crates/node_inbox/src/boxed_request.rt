@@ -5,7 +5,7 @@ ghost use Rattle.node_inbox.specs.Reads.{kept_with};
 use crate::facts::filled;
 use crate::kept_item::KeptRequest;
 use confirm_reply::IdFactsList;
-use contract_store::Store;
+use inbox_standing::Standing;
 use std::alloc::{AllocError, Global};
 use std::marker::Model;
 use std::mem;
@@ -54,11 +54,11 @@ impl BoxedRequest {
     }
 
     /// Puts the facts on its contracts as they stand. Takes no memory.
-    pub fn put_facts(&mut self, store: &Store)
-        ensures { self.new ≡ kept_with self.old store.now }
+    pub fn put_facts(&mut self, standing: &Standing)
+        ensures { self.new ≡ kept_with self.old standing.now }
     {
         let none = IdFactsList::new(*self.request.facts.allocator());
         let facts = mem::replace(&mut self.request.facts, none);
-        self.request.facts = filled(store, facts);
+        self.request.facts = filled(standing, facts);
     }
 }

@@ -1,5 +1,5 @@
 //! What comes of an entry before it is read: all that takes memory.
-ghost use Rattle.std.specs.Prelude.{◌≡◌, false, true, All, IfNone, IfOk, IfSome};
+ghost use Rattle.std.specs.Prelude.{◌≡◌, false, true, option_copied, All, IfNone, IfOk, IfSome};
 ghost use Rattle.ledger_terms.specs.declared.act.Act.{Act};
 ghost use Rattle.ledger_model.specs.Forest.{acts};
 ghost use Rattle.ledger_model.specs.Terms.{instance_of};
@@ -17,11 +17,11 @@ use crate::boxed_request::BoxedRequest;
 use crate::change_lists::ids_of;
 use crate::kept_item::KeptRequest;
 use crate::kept_offer::KeptOffer;
-use canton_model::Request;
+use canton_model::{Request, SharedBytes};
 use confirm_reply::{IdFactsList, Setup};
 use inbox_standing::Change;
 use ledger_terms::{HashList, ParticipantId};
-use proto_model::{Notice, Outline, read_notice};
+use proto_model::{Notice, Outline, envelope_of, read_notice};
 use std::alloc::{AllocError, Global};
 
 /// A request that comes, with the contracts that it will hold.
@@ -31,8 +31,8 @@ pub struct ComingRequest {
     pub ids: HashList,
 }
 
-// What is made of what is opened.
-fn parts_of(alloc: Global, offer: &KeptOffer) -> Result<(IdFactsList, Vec<Change>), AllocError>
+/// What is made of what is opened.
+pub fn parts_of(alloc: Global, offer: &KeptOffer) -> Result<(IdFactsList, Vec<Change>), AllocError>
     requires { All (λ (act : Act). IsSpellableInstance (instance_of act.action)) (acts (roots_offered offer.now)) }
     ensures { IfOk result (λ parts. AreParts offer.now parts.0 (parts.1).items) }
 {
@@ -42,10 +42,25 @@ fn parts_of(alloc: Global, offer: &KeptOffer) -> Result<(IdFactsList, Vec<Change
     Ok((facts, changes))
 }
 
+/// The same bytes, where there are some, with no copy.
+pub fn shared(bytes: Option<&SharedBytes>) -> Result<Option<SharedBytes>, AllocError>
+    ensures { IfOk result (λ shared. shared ≡ option_copied bytes.entry) }
+{
+    match bytes {
+        Some(bytes) => Ok(Some(bytes.clone()?)),
+        None => Ok(None),
+    }
+}
+
 // What is kept of a request, by what is read of it.
-fn kept_of(alloc: Global, request: &Request, notice: Notice) -> Result<KeptRequest, AllocError>
+fn kept_of(
+    alloc: Global,
+    me: ParticipantId,
+    request: &Request,
+    notice: Notice,
+) -> Result<KeptRequest, AllocError>
     requires { All (λ (act : Act). IsSpellableInstance (instance_of act.action)) (acts (roots_opened notice.offered)) }
-    ensures kept { IfOk result (λ kept. IsKeptOf request.now notice kept) }
+    ensures kept { IfOk result (λ kept. IsKeptOf me request.now notice kept) }
     ensures parts { IfOk result (λ kept. AreParts kept.offer kept.facts kept.changes.items) }
 {
     let Notice {
@@ -54,6 +69,7 @@ fn kept_of(alloc: Global, request: &Request, notice: Notice) -> Result<KeptReque
         confirmed,
         offered,
     } = notice;
+    let envelope = shared(envelope_of(request, me))?;
     let offer = KeptOffer::of(alloc, offered)?;
     let (facts, changes) = parts_of(alloc, &offer)?;
     Ok(KeptRequest {
@@ -62,6 +78,7 @@ fn kept_of(alloc: Global, request: &Request, notice: Notice) -> Result<KeptReque
         root,
         seen,
         confirmed,
+        envelope,
         offer,
         changes,
         facts,
@@ -87,7 +104,7 @@ pub fn coming(
     let Some(notice) = read_notice(alloc, &setup.topology, me, request, outline)? else {
         return Ok(None);
     };
-    let kept = kept_of(alloc, request, notice)?;
+    let kept = kept_of(alloc, me, request, notice)?;
     let ids = ids_of(alloc, kept.changes.as_slice())?;
     let kept = BoxedRequest::new(alloc, kept)?;
     Ok(Some(ComingRequest { kept, ids }))

@@ -1,5 +1,5 @@
 //! When a request was decided.
-ghost use Rattle.std.specs.Prelude.{◌≡◌, ◌+◌, ◌<◌, ◌≤◌, ◌^◌, drop, is_some, nat_lt, length};
+ghost use Rattle.std.specs.Prelude.{◌≡◌, ◌+◌, ◌<◌, ◌≤◌, ◌^◌, is_some, nat_lt, length};
 ghost use Rattle.canton_model.specs.Inbox.{verdict_in};
 ghost use Rattle.canton_model.specs.Timeline.{decision_on};
 ghost use Rattle.inbox_standing.specs.Order.{IsInOrder};
@@ -7,7 +7,7 @@ ghost use Rattle.node_inbox.specs.Decisions.{decided_from, start_of};
 ghost use Rattle.node_inbox.specs.InboxState.{decided_since};
 ghost use Rattle.node_inbox.specs.Items.{model_content, model_items};
 
-use crate::items::time_at;
+use crate::items::{items_from, time_at};
 use crate::kept_item::{KeptContent, KeptItem};
 use ledger_terms::Params;
 
@@ -34,13 +34,6 @@ fn start_of(items: &[KeptItem], place: u64) -> u64
     ensures within { result ≤ length items.now }
 {
     if place < items.len() as u64 { place } else { 0 }
-}
-
-fn items_from(items: &[KeptItem], start: u64) -> &[KeptItem]
-    requires { start ≤ length items.now }
-    ensures { result.now ≡ drop start items.now }
-{
-    &items[start as usize..]
 }
 
 // Where the request at a place, which came at that time, is decided among items the first of which stands at `start`.

@@ -3,31 +3,31 @@ ghost use Rattle.std.specs.Prelude.{◌≡◌, ◌<◌, map, slice_get, slice_se
 ghost use Rattle.node_inbox.specs.Acts.{fact_in};
 
 use confirm_reply::{IdFacts, IdFactsList};
-use contract_store::Store;
+use inbox_standing::Standing;
 
-fn fact_of(store: &Store, fact: &IdFacts) -> IdFacts
-    ensures { result ≡ fact_in store.now fact.now }
+fn fact_of(standing: &Standing, fact: &IdFacts) -> IdFacts
+    ensures { result ≡ fact_in standing.now fact.now }
 {
     IdFacts {
         id: fact.id,
-        status: store.status(&fact.id),
-        locked: store.locked(&fact.id),
+        status: standing.status(&fact.id),
+        locked: standing.store().locked(&fact.id),
     }
 }
 
-fn fill(store: &Store, facts: &mut Vec<IdFacts>)
-    ensures { facts.new.items ≡ map (fact_in store.now) facts.old.items }
+fn fill(standing: &Standing, facts: &mut Vec<IdFacts>)
+    ensures { facts.new.items ≡ map (fact_in standing.now) facts.old.items }
 {
     for at in 0..facts.len() {
-        facts[at] = fact_of(store, &facts[at]);
+        facts[at] = fact_of(standing, &facts[at]);
     }
 }
 
-/// The facts on the same contracts as a store has them.
-pub fn filled(store: &Store, facts: IdFactsList) -> IdFactsList
-    ensures { result ≡ map (fact_in store.now) facts }
+/// The facts on the same contracts as they stand.
+pub fn filled(standing: &Standing, facts: IdFactsList) -> IdFactsList
+    ensures { result ≡ map (fact_in standing.now) facts }
 {
     let mut kept = facts.into_vec();
-    fill(store, &mut kept);
+    fill(standing, &mut kept);
     IdFactsList::of(kept)
 }

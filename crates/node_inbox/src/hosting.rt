@@ -3,9 +3,11 @@ ghost use Rattle.std.specs.Prelude.{◌≡◌, option_copied, IfOk};
 ghost use Rattle.canton_model.specs.Inbox.{is_stakeholder_hosted};
 ghost use Rattle.prepare_request.specs.Hosted.{hosted_rows};
 ghost use Rattle.framed_form.specs.FramedReading.{framed_reading};
-ghost use Rattle.node_inbox.specs.Hosts.{AreHosted, host_of, reading_by, says_same};
+ghost use Rattle.node_inbox.specs.Hosts.{AreHosted, host_of, offers, reading_by, says_same};
+ghost use Rattle.node_inbox.specs.Listed.{active_row_of};
 
 use confirm_reply::{Setup, has_hosted_stakeholder};
+use inbox_standing::KeptStart;
 use ledger_terms::{Known, KnownContracts, ParticipantId};
 use prepare_request::HostedContracts;
 use std::alloc::{AllocError, Global};
@@ -17,6 +19,7 @@ use std::marker::Model;
 pub struct Hosting<'i> {
     setup: &'i Setup,
     me: ParticipantId,
+    start: &'i KeptStart,
     known: HostedContracts<'i>,
 }
 
@@ -32,7 +35,7 @@ impl<'i> Model for Hosting<'i> {
 
     ghost coded = { Prim.hlevel (codes, coded_forest, coded_package) };
 
-    ghost view = { λ s. host_of s.setup.now.topology s.setup.now.checked s.me };
+    ghost view = { λ s. host_of s.setup.now.topology s.setup.now.checked s.me s.start.now };
 
     ghost invariant = { λ s. AreHosted (framed_reading s.setup.now.topology s.setup.now.checked) s.me
         (hosted_rows s.known.hosted.now.ids s.known.store.now.rows) };
@@ -48,12 +51,22 @@ fn says_same(found: Option<&Known>, known: &Known) -> bool
 }
 
 impl<'i> Hosting<'i> {
-    /// A participant with such contracts.
-    pub fn new(setup: &'i Setup, me: ParticipantId, known: HostedContracts<'i>) -> Hosting<'i>
+    /// A participant with such contracts, and with what its inbox left at its base.
+    pub fn new(
+        setup: &'i Setup,
+        me: ParticipantId,
+        start: &'i KeptStart,
+        known: HostedContracts<'i>,
+    ) -> Hosting<'i>
         requires { AreHosted (framed_reading setup.now.topology setup.now.checked) me (hosted_rows known.hosted.now.ids known.store.now.rows) }
-        ensures { result ≡ host_of setup.now.topology setup.now.checked me }
+        ensures { result ≡ host_of setup.now.topology setup.now.checked me start.now }
     {
-        Hosting { setup, me, known }
+        Hosting {
+            setup,
+            me,
+            start,
+            known,
+        }
     }
 
     /// The participants and the packages.
@@ -64,6 +77,13 @@ impl<'i> Hosting<'i> {
         self.setup
     }
 
+    /// What its inbox left at its base.
+    pub fn start(&self) -> &'i KeptStart
+        ensures { result.now ≡ self.now.start }
+    {
+        self.start
+    }
+
     /// Whether the participant hosts a stakeholder of a contract.
     pub fn hosts(&self, alloc: Global, known: &Known) -> Result<bool, AllocError>
         ensures { IfOk result (λ b. b ≡ is_stakeholder_hosted (reading_by self.now) self.now.me known.now.instance) }
@@ -72,5 +92,15 @@ impl<'i> Hosting<'i> {
             return Ok(true);
         }
         has_hosted_stakeholder(alloc, self.setup, self.me, &known.instance)
+    }
+
+    /// Whether it offers a contract: one that isn't gone, with a stakeholder that it hosts.
+    pub fn offers(&self, alloc: Global, created_at: u64, known: &Known) -> Result<bool, AllocError>
+        ensures { IfOk result (λ b. b ≡ offers self.now (active_row_of created_at known.now)) }
+    {
+        if self.start.is_gone(&known.id) {
+            return Ok(false);
+        }
+        self.hosts(alloc, known)
     }
 }

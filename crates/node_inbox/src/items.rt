@@ -1,5 +1,5 @@
 //! Items by their places.
-ghost use Rattle.std.specs.Prelude.{◌≡◌, option_copied, slice_get};
+ghost use Rattle.std.specs.Prelude.{◌≡◌, ◌≤◌, drop, length, option_copied, slice_get, take};
 ghost use Rattle.canton_model.specs.Inbox.{item_time, last_time};
 ghost use Rattle.node_inbox.specs.Items.{model_items};
 ghost use Rattle.node_inbox.specs.Kept.{kept_at, request_in};
@@ -34,4 +34,23 @@ pub fn time_at(items: &[KeptItem], place: u64) -> u64
         Some(item) => item.time,
         None => 0,
     }
+}
+
+/// The time of the item before a place, and 0 where there is none.
+pub fn time_before(items: &[KeptItem], place: u64) -> u64
+    requires { place ≤ length items.now }
+    ensures { result ≡ last_time (take place (model_items items.now)) }
+{
+    if place == 0 {
+        return 0;
+    }
+    time_at(items, place - 1)
+}
+
+/// The items from a place on.
+pub fn items_from(items: &[KeptItem], start: u64) -> &[KeptItem]
+    requires { start ≤ length items.now }
+    ensures { result.now ≡ drop start items.now }
+{
+    &items[start as usize..]
 }

@@ -1,8 +1,10 @@
 //! The check that a participant owes to a request.
 ghost use Rattle.std.specs.Prelude.{◌≡◌, ◌<◌, true, IfOk, length};
 ghost use Rattle.framed_form.specs.FramedReading.{framed_reading};
-ghost use Rattle.world_model.specs.Node.{owed_at, owes_at};
+ghost use Rattle.pruned_inbox.specs.Start.{Start};
+ghost use Rattle.world_model.specs.Node.{owes_at};
 ghost use Rattle.validate_job.specs.Owed.{owed_on_each};
+ghost use Rattle.node_inbox.specs.InboxState.{owed_kept};
 ghost use Rattle.node_inbox.specs.Items.{model_items};
 ghost use Rattle.node_inbox.specs.JobInput.{input_of};
 ghost use Rattle.node_inbox.specs.Kept.{AreKept};
@@ -54,13 +56,14 @@ pub fn job<'s>(
     items: &[KeptItem],
     place: u64,
 ) -> Result<ValidateJob<'s>, AllocError>
-    requires kept { AreKept setup.now.topology setup.now.checked me items.now }
+    requires kept { (start : Start) × AreKept setup.now.topology setup.now.checked me start items.now }
     requires owes { owes_at (framed_reading setup.now.topology setup.now.checked) me (model_items items.now) place ≡ true }
     ensures place { IfOk result (λ job. job.given.place ≡ place) }
     ensures left { IfOk result (λ job. job.left ≡ length job.given.views) }
     ensures some { IfOk result (λ job. 0 < job.left) }
-    ensures owed { IfOk result (λ job. owed_on_each job.given.input job.given.views
-        ≡ owed_at (framed_reading setup.now.topology setup.now.checked) setup.now.topology.params me (model_items items.now) place) }
+    ensures owed { IfOk result (λ job. (start : Start) → AreKept setup.now.topology setup.now.checked me start items.now
+        → owed_on_each job.given.input job.given.views
+        ≡ owed_kept (framed_reading setup.now.topology setup.now.checked) setup.now.topology.params me start (model_items items.now) place) }
 {
     let Some(kept) = request_at(items, place) else {
         unreachable!()

@@ -1,9 +1,8 @@
 //! The active contracts at an earlier place.
-ghost use Rattle.std.specs.Prelude.{◌≡◌, [], if◌then◌else◌, nat_le};
-ghost use Rattle.node_inbox.specs.KeptActive.{IsKeptIf};
+ghost use Rattle.std.specs.Prelude.{◌≡◌, option_copied};
+ghost use Rattle.node_inbox.specs.KeptActive.{IsKeptIf, are_at_most, not_behind};
 
 use ledger_terms::ActiveRowList;
-use std::alloc::Global;
 
 // So many entries are gone through sooner than one contract is copied.
 const FAR: u64 = 4;
@@ -16,35 +15,48 @@ pub struct KeptActive {
 }
 
 impl KeptActive {
-    /// Those at the first place.
-    pub fn new(alloc: Global) -> KeptActive
-        ensures place { result.place ≡ 0 }
-        ensures rows { result.rows ≡ [] }
-    {
-        KeptActive {
-            place: 0,
-            rows: ActiveRowList::new(alloc),
-        }
-    }
-
-    /// Forgets them unless they are to be kept. Takes no memory.
-    pub fn keep_if(&mut self, kept: bool)
-        ensures { IsKeptIf kept self.old self.new }
-    {
-        if !kept {
-            *self = KeptActive::new(*self.rows.allocator());
-        }
-    }
-
     /// Whether a place is far behind theirs, as many of them as there are.
     pub fn is_far(&self, place: u64) -> bool {
-        place.saturating_sub(self.place) / FAR > self.rows.len() as u64
+        is_far(self.place, self.rows.len(), place)
     }
+}
 
-    /// Those at a place that isn't behind another, and else those at the first.
-    pub fn not_behind<'a>(&'a self, none: &'a KeptActive, end: u64) -> &'a KeptActive
-        ensures { result.now ≡ (if nat_le self.now.place end then self.now else none.now) }
-    {
-        if self.place <= end { self } else { none }
+/// Whether a place is far behind an earlier one, for so many contracts.
+pub fn is_far(earlier: u64, count: usize, place: u64) -> bool {
+    place.saturating_sub(earlier) / FAR > count as u64
+}
+
+/// Forgets them unless they are to be kept. Takes no memory.
+pub fn keep_active_if(active: &mut Option<KeptActive>, kept: bool)
+    ensures { IsKeptIf kept active.old active.new }
+{
+    if !kept {
+        *active = None;
+    }
+}
+
+/// Whether their place is at most this one, where some are kept.
+pub fn are_at_most(active: &Option<KeptActive>, place: u64) -> bool
+    ensures { result ≡ are_at_most active.now place }
+{
+    match active {
+        Some(active) => active.place <= place,
+        None => true,
+    }
+}
+
+/// Those at a place that isn't behind another.
+pub fn not_behind(active: &Option<KeptActive>, end: u64) -> Option<&KeptActive>
+    ensures { option_copied result ≡ not_behind active.now end }
+{
+    match active {
+        Some(active) => {
+            if active.place <= end {
+                Some(active)
+            } else {
+                None
+            }
+        }
+        None => None,
     }
 }

@@ -1,15 +1,15 @@
 //! The items of an inbox.
 use crate::boxed_request::BoxedRequest;
 use crate::kept_offer::KeptOffer;
-use canton_model::Verdict;
+use canton_model::{SharedBytes, Verdict};
 use confirm_reply::IdFactsList;
 use inbox_standing::Change;
 use ledger_terms::{Hash, Name, ParticipantId, PathList};
 
 /// What a participant keeps of a request of which it is a recipient: who sent it, the name that the sender gave the command, the hash
-/// of the mediator's tree, the paths of the views that the participant sees and of those that it confirms, and what its envelope
-/// offers. Beside these are the changes among the authentic actions in what is opened, so that nothing is read or hashed again, and
-/// what it knew of the contracts in that when it had read the request.
+/// of the mediator's tree, the paths of the views that the participant sees and of those that it confirms, its envelope, where there
+/// is one, and what that offers. Beside these are the changes among the authentic actions in what is opened, so that nothing is read or
+/// hashed again, and what it knew of the contracts in that when it had read the request.
 #[derive(Drop)]
 pub struct KeptRequest {
     pub sender: ParticipantId,
@@ -17,6 +17,7 @@ pub struct KeptRequest {
     pub root: Hash,
     pub seen: PathList,
     pub confirmed: PathList,
+    pub envelope: Option<SharedBytes>,
     pub offer: KeptOffer,
     pub changes: Vec<Change>,
     pub facts: IdFactsList,

@@ -2,7 +2,7 @@
 ghost use Rattle.std.specs.Prelude.{◌≡◌, [], length, option_copied, slice_get, IfOk, OnErr, OnOk};
 ghost use Rattle.std.specs.Str.{bytes_eq};
 ghost use Rattle.indexmap.specs.IndexMap.{get, insert_entry};
-ghost use Rattle.contract_store.specs.Rows.{status_in};
+ghost use Rattle.contract_store.specs.Rows.{created, status_in};
 ghost use Rattle.inbox_standing.specs.ChangeLists.{write_change};
 ghost use Rattle.node_inbox.specs.KeptActive.{is_consumed};
 ghost use Rattle.node_inbox.specs.LiveRows.{has_consumed_row, row_after};
@@ -10,7 +10,7 @@ ghost use Rattle.node_inbox.specs.LiveRows.{has_consumed_row, row_after};
 use crate::live_row::LiveRow;
 use inbox_standing::Change;
 use indexmap::IndexMap;
-use ledger_terms::Hash;
+use ledger_terms::{Hash, Known};
 use std::alloc::{AllocError, Global};
 use std::marker::Model;
 
@@ -37,15 +37,15 @@ impl<'k> Model for LiveRows<'k> {
 fn put<'k>(
     rows: &mut IndexMap<Hash, LiveRow<'k>>,
     place: u64,
-    change: &'k Change,
+    known: &'k Known,
+    is_create: bool,
 ) -> Result<(), AllocError>
-    ensures ok { OnOk result (rows.new.entries ≡ insert_entry bytes_eq rows.old.entries change.now.known.id
-        (row_after place change.now (get bytes_eq rows.old change.now.known.id))) }
+    ensures ok { OnOk result (rows.new.entries ≡ insert_entry bytes_eq rows.old.entries known.now.id
+        (row_after place (record { known = known.now; is_create = is_create }) (get bytes_eq rows.old known.now.id))) }
     ensures err { OnErr result (rows.new.entries ≡ rows.old.entries) }
 {
-    let Change { known, is_create } = change;
     let row = rows.entry(known.id)?.or_insert(LiveRow::new(known));
-    row.change(place, *is_create);
+    row.change(place, is_create);
     Ok(())
 }
 
@@ -73,7 +73,15 @@ impl<'k> LiveRows<'k> {
     pub fn write(&mut self, place: u64, change: &'k Change) -> Result<(), AllocError>
         ensures { OnOk result (self.new ≡ write_change place change.now self.old) }
     {
-        put(&mut self.rows, place, change)?;
+        put(&mut self.rows, place, &change.known, change.is_create)?;
+        Ok(())
+    }
+
+    /// A contract was created at a place.
+    pub fn create(&mut self, place: u64, known: &'k Known) -> Result<(), AllocError>
+        ensures { OnOk result (self.new ≡ created known.now place self.old) }
+    {
+        put(&mut self.rows, place, known, true)?;
         Ok(())
     }
 

@@ -46,8 +46,9 @@ pub fn put_nothing(
     requires few { length items.old.items < 2 ^ 63 }
     requires rises { last_time (model_items items.old.items) < time }
     requires inbox { IsInbox setup.now.topology setup.now.checked me items.old.items standing.old }
-    ensures ok { OnOk result (HasRead setup.now.topology setup.now.checked me items.old.items items.new.items standing.new (item_with time Nothing)) }
-    ensures err { OnErr result (IsUnread setup.now.topology setup.now.checked me items.old.items items.new.items standing.new) }
+    ensures ok { OnOk result (HasRead setup.now.topology setup.now.checked me items.old.items items.new.items standing.old.start standing.new
+        (item_with time Nothing)) }
+    ensures err { OnErr result (IsUnread setup.now.topology setup.now.checked me items.old.items items.new.items standing.old.start standing.new) }
 {
     items.reserve(1)?;
     standing.pass(time);
@@ -75,16 +76,16 @@ pub fn put_request(
     requires rises { last_time (model_items items.old.items) < time }
     requires inbox { IsInbox setup.now.topology setup.now.checked me items.old.items standing.old }
     requires coming { IsComing setup.now.topology setup.now.checked me coming }
-    ensures ok { OnOk result (HasRead setup.now.topology setup.now.checked me items.old.items items.new.items standing.new
+    ensures ok { OnOk result (HasRead setup.now.topology setup.now.checked me items.old.items items.new.items standing.old.start standing.new
         (item_with time (model_content (Content.Received coming.kept)))) }
-    ensures err { OnErr result (IsUnread setup.now.topology setup.now.checked me items.old.items items.new.items standing.new) }
+    ensures err { OnErr result (IsUnread setup.now.topology setup.now.checked me items.old.items items.new.items standing.old.start standing.new) }
 {
     let ComingRequest { mut kept, ids } = coming;
     items.reserve(1)?;
     standing.begin(decision_of(&setup.topology.params, time), &ids)?;
     let place = standing.cursor();
     standing.pass(time);
-    kept.put_facts(standing.store());
+    kept.put_facts(standing);
     standing.hold(place, &ids);
     standing.advance();
     put(
@@ -110,9 +111,9 @@ pub fn put_verdict(
     requires rises { last_time (model_items items.old.items) < time }
     requires inbox { IsInbox setup.now.topology setup.now.checked me items.old.items standing.old }
     requires coming { IsTelling (framed_reading setup.now.topology setup.now.checked) (model_items items.old.items) coming.verdict coming }
-    ensures ok { OnOk result (HasRead setup.now.topology setup.now.checked me items.old.items items.new.items standing.new
+    ensures ok { OnOk result (HasRead setup.now.topology setup.now.checked me items.old.items items.new.items standing.old.start standing.new
         (item_with time (Told coming.verdict))) }
-    ensures err { OnErr result (IsUnread setup.now.topology setup.now.checked me items.old.items items.new.items standing.new) }
+    ensures err { OnErr result (IsUnread setup.now.topology setup.now.checked me items.old.items items.new.items standing.old.start standing.new) }
 {
     let ComingVerdict {
         verdict,

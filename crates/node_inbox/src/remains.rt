@@ -12,7 +12,7 @@ pub struct InboxRemains {
     standing: Standing,
     hosted: HostedIds,
     approved: ApprovedPlaces,
-    active: KeptActive,
+    active: Option<KeptActive>,
 }
 
 impl InboxRemains {
@@ -22,7 +22,7 @@ impl InboxRemains {
         standing: Standing,
         hosted: HostedIds,
         approved: ApprovedPlaces,
-        active: KeptActive,
+        active: Option<KeptActive>,
     ) -> InboxRemains {
         InboxRemains {
             items,

@@ -1,2 +1,3 @@
 mod Reread
 mod Rows
+mod Whole

@@ -15,7 +15,7 @@ use Rattle.world_model.specs.Messages.{Entry, Message, RequestMessage, ResponseM
 use Rattle.world_model.proofs.NodeFacts.{inbox_length}
 use Rattle.framed_form.specs.FramedReading.{framed_reading}
 use Rattle.node_inbox.specs.Entries.{item_from}
-use Rattle.node_inbox.specs.InboxState.{InboxState, reading_of, with_item}
+use Rattle.node_inbox.specs.InboxState.{InboxState, begun, reading_of, with_item}
 use Rattle.node_inbox.proofs.Grows.{inbox_reads}
 use Rattle.page_data.specs.Courses.{MayRead, each_knowledge, inbox_over}
 use Rattle.page_data.specs.Knowledge.{knowledge_of}
@@ -94,7 +94,7 @@ module _ (topology : Topology) (packages : Packages) (me : ParticipantId) (log :
   reads_one old new same e =
       e
       ∙ (ap (λ (i : InboxState). with_item i (item_from (reading_of i) i.me i.items entry)) same
-      ∙ (ap (λ (items : List Item). record { topology = topology; packages = packages; me = me; items = items })
+      ∙ (ap (λ (items : List Item). record (begun topology packages me) { items = items })
       (inbox_reads (framed_reading topology packages) me (inbox (framed_reading topology packages) me (take at log)) (take at log) entry refl)
       ∙ ap (inbox_over topology packages me) (sym one_more)))
 

@@ -2,6 +2,7 @@
 use Rattle.std.specs.Prelude.{◌≡◌, ◌<◌, ◌^◌, ℕ, zero, suc, true, take, length, List, [], ◌∷◌, ◌++◌}
 use Rattle.ledger_terms.specs.declared.topology.Topology.{Topology}
 use Rattle.ledger_model.specs.Terms.{ParticipantId}
+use Rattle.pruned_inbox.specs.Start.{no_start}
 use Rattle.lang_eval.specs.Found.{Packages}
 use Rattle.canton_model.specs.Inbox.{inbox, last_time}
 use Rattle.canton_model.specs.declared.entry.Entry.{Entry}
@@ -12,10 +13,18 @@ use Rattle.node_inbox.specs.InboxState.{InboxState, reading_of}
 use Rattle.page_data.specs.Knowledge.{knowledge_of}
 use Rattle.page_data.specs.declared.knowledge.Knowledge.{Knowledge}
 
--- the inbox of a participant that has read a log
+-- the inbox of a participant that has read a log and forgotten nothing of it
 abbrev pub inbox_over : Topology → Packages → ParticipantId → List Entry → InboxState
 inbox_over topology packages me log =
-    record { topology = topology; packages = packages; me = me; items = inbox (framed_reading topology packages) me log }
+    record {
+      topology = topology;
+      packages = packages;
+      me = me;
+      base = 0;
+      base_time = 0;
+      start = no_start;
+      items = inbox (framed_reading topology packages) me log;
+    }
 
 -- what it knows at a place, when it has read the entries below
 abbrev pub knowledge_at : Topology → Packages → ParticipantId → List Entry → (place : ℕ) → Knowledge

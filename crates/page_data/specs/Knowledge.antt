@@ -1,5 +1,5 @@
 -- What a participant knows, by its inbox.
-use Rattle.std.specs.Prelude.{ℕ, zero, suc, List, [], ◌∷◌, ◌++◌, Option, Some, None, length, map, slice_get}
+use Rattle.std.specs.Prelude.{◌≡◌, ℕ, zero, suc, List, [], ◌∷◌, ◌++◌, Option, Some, None, length, map, slice_get}
 use Rattle.ledger_terms.specs.declared.active_row.ActiveRow.{ActiveRow}
 use Rattle.ledger_model.specs.Terms.{Hash}
 use Rattle.canton_model.specs.Inbox.{clean, clean_time, is_locked_in_inbox, node_active, status_in_inbox, withheld}
@@ -7,12 +7,17 @@ use Rattle.canton_model.specs.declared.outcome.Outcome.{Outcome}
 use Rattle.world_model.specs.Node.{owes_at}
 use Rattle.contract_store.specs.Written.{written}
 use Rattle.contract_store.specs.declared.row.StoreRow.{StoreRow}
+use Rattle.pruned_inbox.specs.Start.{no_start}
 use Rattle.inbox_standing.specs.Changes.{changes_in}
 use Rattle.inbox_standing.specs.Requests.{outcome_received}
 use Rattle.node_inbox.specs.InboxState.{InboxState, params_of, reading_of}
 use Rattle.page_data.specs.declared.contract_state.ContractState.{ContractState}
 use Rattle.page_data.specs.declared.knowledge.Knowledge.{Knowledge}
 use Rattle.page_data.specs.declared.request_state.RequestState.{RequestState}
+
+-- all that it knows of contracts comes of its items
+abbrev pub HasForgottenNothing : InboxState → Type 0
+HasForgottenNothing inbox = inbox.start ≡ no_start
 
 -- the contracts of which approved requests tell
 abbrev pub store_rows : InboxState → List StoreRow

@@ -1,5 +1,5 @@
 //! A log read again, entry by entry.
-ghost use Rattle.std.specs.Prelude.{◌≡◌, ◌<◌, ◌^◌, [], true, length, IfOk, OnOk};
+ghost use Rattle.std.specs.Prelude.{◌≡◌, ◌<◌, ◌^◌, true, length, IfOk, OnOk};
 ghost use Rattle.ledger_terms.specs.declared.topology.Topology.{Topology};
 ghost use Rattle.canton_model.specs.Genuine.{Genuine};
 ghost use Rattle.canton_model.specs.declared.message.Message.TheVariants.{Request as RequestMessage};
@@ -8,7 +8,7 @@ ghost use Rattle.framed_form.specs.Framed.{is_framed};
 ghost use Rattle.framed_form.specs.FramedReading.{framed_reading};
 ghost use Rattle.framed_form.specs.Outlines.{IsOutlined};
 ghost use Rattle.node_inbox.specs.Entries.{item_from};
-ghost use Rattle.node_inbox.specs.InboxState.{params_of, reading_of, with_item};
+ghost use Rattle.node_inbox.specs.InboxState.{begun, params_of, reading_of, with_item};
 ghost use Rattle.page_data.specs.Courses.{MayRead, each_knowledge, inbox_over};
 ghost use Rattle.page_data.specs.Knowledge.{store_rows};
 ghost use Rattle.page_data.specs.Owing.{owed_below};
@@ -54,7 +54,7 @@ fn states_of(
     inbox: &mut Inbox<'_>,
     log: &[Entry],
 ) -> Result<KnowledgeList, AllocError>
-    requires begun { inbox.old.items ≡ [] }
+    requires begun { inbox.old ≡ begun inbox.old.topology inbox.old.packages inbox.old.me }
     requires genuine { Genuine (reading_of inbox.old) (params_of inbox.old) log.now }
     requires few { length log.now < 2 ^ 63 }
     ensures inbox { OnOk result (inbox.new ≡ inbox_over inbox.old.topology inbox.old.packages inbox.old.me log.now) }
@@ -72,7 +72,7 @@ fn states_of(
 
 // Reads the whole log, and asks what was learnt of it.
 fn read_course(alloc: Global, inbox: &mut Inbox<'_>, log: &[Entry]) -> Result<Course, AllocError>
-    requires begun { inbox.old.items ≡ [] }
+    requires begun { inbox.old ≡ begun inbox.old.topology inbox.old.packages inbox.old.me }
     requires genuine { Genuine (reading_of inbox.old) (params_of inbox.old) log.now }
     requires few { length log.now < 2 ^ 63 }
     ensures states { IfOk result (λ course. course.states
@@ -92,7 +92,7 @@ fn read_course(alloc: Global, inbox: &mut Inbox<'_>, log: &[Entry]) -> Result<Co
     })
 }
 
-/// What a participant learns of a log. It reads it as it did in the run, and is asked at each place.
+/// What a participant that forgets nothing learns of a log. It reads it as in the run, and is asked at each place.
 pub fn course_of(
     alloc: Global,
     setup: &Setup,

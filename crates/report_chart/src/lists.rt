@@ -96,6 +96,7 @@ fn draw_standing(
     let Standing { clean, time, .. } = standing;
     let known = format!(in sheet.alloc; "{name}: clean to place {clean}, time {time}")?;
     let Standing {
+        pruned,
         withheld,
         commits,
         actions,
@@ -105,6 +106,9 @@ fn draw_standing(
     let mut words = format!(in sheet.alloc;
         "{known}; commits {commits}, actions {actions}, active contracts {actives}"
     )?;
+    if let Some(base) = pruned {
+        write!(words, ", restarted and pruned to place {base}")?;
+    }
     if *withheld > 0 {
         write!(words, ", withheld requests {withheld}")?;
     }

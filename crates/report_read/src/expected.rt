@@ -26,6 +26,7 @@ pub enum Expected {
     OutcomeOrParticipant,
     ParticipantOrEnd,
     Clean,
+    Base,
     Withheld,
     Action,
     Instance,
@@ -59,8 +60,9 @@ impl Expected {
             Expected::OutcomeOrParticipant =>
                 "a result, a rule that fired, an outcome or a participant",
             Expected::ParticipantOrEnd =>
-                "a withheld place, a commit, an active contract, a participant or 'end'",
+                "a base, a withheld place, a commit, an active contract, a participant or 'end'",
             Expected::Clean => "'clean' and a place, 'time' and a time",
+            Expected::Base => "the place to which a participant is pruned",
             Expected::Withheld => "the place of a withheld request",
             Expected::Action => "an action, at most one level below the one before",
             Expected::Instance => "a place and an instance",

@@ -32,6 +32,7 @@ pub(crate) fn read_finals<'t>(
         let lane = Lane(at);
         let line = lines.next(Expected::ParticipantOrEnd)?;
         let mut standing = lines.read(read_standing(line, lane, hosts))?;
+        standing.pruned = read_pruned(lines)?;
         standing.withheld = read_withheld(lines, lane, &mut withheld)?;
         read_commits(lines, &mut standing)?;
         standing.actives = read_actives(lines, lane, &mut actives)?;
@@ -59,11 +60,30 @@ fn read_standing<'t>(line: &'t str, lane: Lane, hosts: &Hosts<'t>) -> Result<Sta
         participant: lane,
         clean,
         time,
+        pruned: None,
         withheld: 0,
         commits: 0,
         actions: 0,
         actives: 0,
     })
+}
+
+/// The base that comes next, if the participant restarted.
+fn read_pruned(lines: &mut Lines<'_>) -> Result<Option<u64>, ReportFault> {
+    if !lines.begins_with("pruned ") {
+        return Ok(None);
+    }
+    let line = lines.next(Expected::ParticipantOrEnd)?;
+    let base = lines.read(read_base(line))?;
+    Ok(Some(base))
+}
+
+fn read_base(line: &str) -> Result<u64, Expected> {
+    let mut words = Words::of(line);
+    words.literal("pruned", Expected::ParticipantOrEnd)?;
+    let base = words.number(Expected::Base)?;
+    words.end()?;
+    Ok(base)
 }
 
 /// The requests that come next which are withheld, counted.

@@ -1,5 +1,5 @@
 -- The lines of the participants.
-use Rattle.std.specs.Prelude.{ℕ, List, ◌++◌, codes, decimal}
+use Rattle.std.specs.Prelude.{ℕ, List, [], ◌++◌, Option, None, Some, codes, decimal}
 use Rattle.std.specs.List.{flat_map}
 use Rattle.ledger_terms.specs.declared.host.Host.{Host}
 use Rattle.ledger_terms.specs.declared.active_row.ActiveRow.{ActiveRow}
@@ -22,7 +22,16 @@ abbrev pub participant_line : Host → NodeView → List ℕ
 participant_line host view =
     codes "participant " ++ host.name ++ codes " clean " ++ decimal view.clean ++ codes " time " ++ decimal view.clean_time ++ codes "\n"
 
+-- the base of one that restarted
+abbrev pub pruned_line : (pruned : Option ℕ) → List ℕ
+pruned_line None = []
+pruned_line (Some base) = codes "pruned " ++ decimal base ++ codes "\n"
+
 -- a participant with what it knows at its clean place
 abbrev pub participant_lines : Host × NodeView → List ℕ
 participant_lines (host, view) =
-    participant_line host view ++ flat_map withheld_line view.withheld ++ flat_map commit_lines view.commits ++ flat_map active_line view.active
+    participant_line host view
+    ++ pruned_line view.pruned
+    ++ flat_map withheld_line view.withheld
+    ++ flat_map commit_lines view.commits
+    ++ flat_map active_line view.active

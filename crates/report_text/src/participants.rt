@@ -1,7 +1,7 @@
 //! The lines of the participants.
 ghost use Rattle.std.specs.Prelude.{◌≡◌, ◌++◌, OnOk, string_bytes};
 ghost use Rattle.std.specs.List.{flat_map, zip};
-ghost use Rattle.report_text.specs.Participants.{commit_lines, active_line, participant_line, participant_lines, withheld_line};
+ghost use Rattle.report_text.specs.Participants.{commit_lines, active_line, participant_line, participant_lines, pruned_line, withheld_line};
 
 use crate::actions::put_trees;
 use crate::values::{put_instance, put_number};
@@ -73,10 +73,20 @@ fn put_participant_line(out: &mut String, host: &Host, view: &NodeView) -> Resul
     write!(out, "participant {name} clean {clean} time {time}\n")
 }
 
+fn put_pruned(out: &mut String, pruned: Option<u64>) -> Result<(), AllocError>
+    ensures { OnOk result (string_bytes out.new ≡ string_bytes out.old ++ pruned_line pruned) }
+{
+    match pruned {
+        None => Ok(()),
+        Some(base) => write!(out, "pruned {base}\n"),
+    }
+}
+
 fn put_participant(out: &mut String, host: &Host, view: &NodeView) -> Result<(), AllocError>
     ensures { OnOk result (string_bytes out.new ≡ string_bytes out.old ++ participant_lines (host.now, view.now)) }
 {
     put_participant_line(out, host, view)?;
+    put_pruned(out, view.pruned)?;
     put_withheld(out, &view.withheld)?;
     put_commits(out, &view.commits)?;
     put_actives(out, &view.active)

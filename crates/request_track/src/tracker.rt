@@ -172,11 +172,19 @@ impl Tracker {
         ensures pairs { result.pairs ≡ [] }
         ensures cursor { result.cursor ≡ 0 }
     {
+        Tracker::at(alloc, 0)
+    }
+
+    /// No requests, and so many entries read.
+    pub fn at(alloc: Global, cursor: u64) -> Tracker
+        ensures pairs { result.pairs ≡ [] }
+        ensures cursor { result.cursor ≡ cursor }
+    {
         Tracker {
             pairs: IndexMap::new(alloc),
             undecided: Vec::new(alloc),
-            cursor: 0,
-            clean: 0,
+            cursor,
+            clean: cursor,
         }
     }
 

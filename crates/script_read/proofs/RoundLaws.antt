@@ -18,7 +18,8 @@ use Rattle.json_walk.proofs.Kept.{after, given, walk_keeps, limit_kept, items_ke
 use Rattle.script_read.specs.Kept.{AreRules, IsSubmission, IsRaw, IsRound, AreRounds}
 use Rattle.script_read.specs.Participants.{participant_of}
 use Rattle.script_read.specs.Raws.{raws_in}
-use Rattle.script_read.specs.Rounds.{submission_of, submits_of, submits_if, submits_in, advance_if, advance_in, paused_if, paused_in, hold_in, has_round_members, round_of, rounds_in}
+use Rattle.script_read.specs.Rounds.{submission_of, submits_of, submits_if, submits_in, advance_if, advance_in, participants_if, participants_in, paused_in}
+use Rattle.script_read.specs.Rounds.{restarts_in, hold_in, has_round_members, round_of, rounds_in}
 use Rattle.script_read.specs.declared.round.Round.{Round}
 use Rattle.script_read.specs.declared.script.Script.{Script}
 use Rattle.script_read.proofs.Lists.{all_of}
@@ -56,9 +57,9 @@ advance_read : (at : Place) (o : Option Data) (n : ℕ) → advance_if at o ≡ 
 advance_read at None n h = let none : n ≡ 0 = given 0 n h in omega arith
 advance_read at (Some d) n h = let r = integer_range at ADVANCE d n h in omega (arith, r.1)
 
-paused_read : (read kept : List Host) (same : AreSame read kept) (at : Place) (o : Option Data) (a : List ℕ) → paused_if read at o ≡ Ok a → AllByRecursion (λ p. p < length kept) a
-paused_read read kept same at None a h = rw (given [] a h) tt
-paused_read read kept same at (Some d) a h = list_kept (participant_of read) (λ p. p < length kept) (participant_within read kept same) at d a h
+participants_read : (read kept : List Host) (same : AreSame read kept) (at : Place) (o : Option Data) (a : List ℕ) → participants_if read at o ≡ Ok a → AllByRecursion (λ p. p < length kept) a
+participants_read read kept same at None a h = rw (given [] a h) tt
+participants_read read kept same at (Some d) a h = list_kept (participant_of read) (λ p. p < length kept) (participant_within read kept same) at d a h
 
 record AreSoFar (hosts : List Host) (rules : List Rule) (i : ℕ) (a : List Round × ℕ) : Type 0 where
   many : length a.0 ≡ i
@@ -72,7 +73,7 @@ record IsRoundRead (hosts : List Host) (rules : List Rule) (before : ℕ) (r : R
   few : r.1 ≤ 2048
 
 round_read : (read kept : List Host) (same : AreSame read kept) (rules : List Rule) (before : ℕ) (at : Place) (d : Data) (r : Round × ℕ) → before ≤ 2048 → round_of read rules before at d ≡ Ok r → IsRoundRead kept rules before r
-unfolding round_of advance_in paused_in submits_in raws_in
+unfolding round_of advance_in participants_in paused_in restarts_in submits_in raws_in
 round_read read kept same rules before at d r p h =
     let a = after (check (has_round_members d) (Shape at)) _ r h in
     let v = after (advance_in at d) _ r a.2 in
@@ -80,15 +81,17 @@ round_read read kept same rules before at d r p h =
     let x = after (hold_in at d) _ r w.2 in
     let s = after (submits_in read rules before at d) _ r x.2 in
     let y = after (raws_in read rules at d) _ r s.2 in
+    let z = after (restarts_in read at d) _ r y.2 in
     let raws = raws_read read kept same rules (at_member at (codes "raw")) (get (codes "raw") d) y.0 y.1 in
     let given_ = submits_read read kept same rules before (at_member at (codes "submits")) (get (codes "submits") d) s.0 p s.1 in
-    rw (given (record { advance = v.0; paused = w.0; hold_verdicts = x.0; submits = s.0.0; raws = y.0 }, s.0.1) r y.2) (record {
+    rw (given (record { advance = v.0; paused = w.0; hold_verdicts = x.0; submits = s.0.0; raws = y.0; restarts = z.0 }, s.0.1) r z.2) (record {
       round = record {
         advance = advance_read (at_member at (codes "advance")) (get (codes "advance") d) v.0 v.1;
-        paused = all_of (λ p. p < length kept) w.0 (paused_read read kept same (at_member at (codes "paused")) (get (codes "paused") d) w.0 w.1);
+        paused = all_of (λ p. p < length kept) w.0 (participants_read read kept same (at_member at (codes "paused")) (get (codes "paused") d) w.0 w.1);
         submits = all_of (IsSubmission kept rules) s.0.0 given_.each;
         few_raws = raws.few;
         raws = all_of (IsRaw kept rules) y.0 raws.each;
+        restarts = all_of (λ p. p < length kept) z.0 (participants_read read kept same (at_member at (codes "restart")) (get (codes "restart") d) z.0 z.1);
       };
       counted = given_.counted;
       few = given_.few;

@@ -64,6 +64,7 @@ pub record IsRound (hosts : List Host) (rules : List Rule) (r : Round) : Type 0 
   pub submits : All (IsSubmission hosts rules) r.submits
   pub few_raws : length r.raws ≤ MOST_RAWS
   pub raws : All (IsRaw hosts rules) r.raws
+  pub restarts : All (λ p. p < length hosts) r.restarts
 
 -- at most 2,048 rounds with at most 2,048 submissions in all
 pub record AreRounds (s : Script) : Type 0 where

@@ -138,18 +138,26 @@ advance_if at (Some d) = integer_of at ADVANCE d
 unfoldable pub advance_in : Place → Data → Result ℕ WalkFault
 advance_in at d = advance_if (at_member at (codes "advance")) (get (codes "advance") d)
 
-abbrev pub paused_if : List Host → Place → Option Data → Result (List ℕ) WalkFault
-paused_if hosts at None = Ok []
-paused_if hosts at (Some d) = list_of (participant_of hosts) at d
+-- names of participants, which may repeat, in any order; none where the member is absent
+abbrev pub participants_if : List Host → Place → Option Data → Result (List ℕ) WalkFault
+participants_if hosts at None = Ok []
+participants_if hosts at (Some d) = list_of (participant_of hosts) at d
+
+unfoldable pub participants_in : List Host → Place → List ℕ → Data → Result (List ℕ) WalkFault
+participants_in hosts at k d = participants_if hosts (at_member at k) (get k d)
 
 unfoldable pub paused_in : List Host → Place → Data → Result (List ℕ) WalkFault
-paused_in hosts at d = paused_if hosts (at_member at (codes "paused")) (get (codes "paused") d)
+paused_in hosts at d = participants_in hosts at (codes "paused") d
+
+unfoldable pub restarts_in : List Host → Place → Data → Result (List ℕ) WalkFault
+restarts_in hosts at d = participants_in hosts at (codes "restart") d
 
 unfoldable pub hold_in : Place → Data → Result Bool WalkFault
 hold_in at d = truth_or at (codes "hold_verdicts") d
 
 unfoldable pub has_round_members : Data → Bool
-has_round_members d = has_members [] (codes "advance" ∷ codes "paused" ∷ codes "hold_verdicts" ∷ codes "submits" ∷ codes "raw" ∷ []) d
+has_round_members d =
+    has_members [] (codes "advance" ∷ codes "paused" ∷ codes "hold_verdicts" ∷ codes "submits" ∷ codes "raw" ∷ codes "restart" ∷ []) d
 
 unfoldable pub round_of : List Host → List Rule → ℕ → Place → Data → Result (Round × ℕ) WalkFault
 round_of hosts rules before at d = do
@@ -159,7 +167,11 @@ round_of hosts rules before at d = do
   hold ← hold_in at d
   submits ← submits_in hosts rules before at d
   raws ← raws_in hosts rules at d
-  Ok (record { advance = advance; paused = paused; hold_verdicts = hold; submits = submits.0; raws = raws }, submits.1)
+  restarts ← restarts_in hosts at d
+  Ok (
+    record { advance = advance; paused = paused; hold_verdicts = hold; submits = submits.0; raws = raws; restarts = restarts },
+    submits.1,
+  )
 
 unfoldable pub rounds_in : List Host → List Rule → Data → Result (List Round) WalkFault
 rounds_in hosts rules d = do

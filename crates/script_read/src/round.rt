@@ -2,7 +2,8 @@
 use ledger_terms::{ListOf, ParticipantIdList, RawRequestList, SubmissionList};
 
 /// A round of a script: how far the time is moved first, in microseconds, which participants are paused, whether the
-/// mediator holds its verdicts back, what is submitted, in order, and which requests that nobody prepared are handed in.
+/// mediator holds its verdicts back, what is submitted, in order, which requests that nobody prepared are handed in, and which
+/// participants restart before anything else.
 #[derive(Drop)]
 pub struct Round {
     pub advance: u64,
@@ -10,6 +11,7 @@ pub struct Round {
     pub hold_verdicts: bool,
     pub submits: SubmissionList,
     pub raws: RawRequestList,
+    pub restarts: ParticipantIdList,
 }
 
 /// Rounds in order.

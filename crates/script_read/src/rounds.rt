@@ -3,7 +3,8 @@ ghost use Rattle.std.specs.Prelude.{◌≡◌, ◌≤◌, [], length, IfOk, OnOk
 ghost use Rattle.serde_json.specs.View.{view, items_view};
 ghost use Rattle.ledger_terms.specs.Answers.{Follows};
 ghost use Rattle.json_walk.specs.Lists.{counted_of};
-ghost use Rattle.script_read.specs.Rounds.{advance_in, paused_in, hold_in, has_round_members, round_of, rounds_in};
+ghost use Rattle.script_read.specs.Rounds.{advance_in, participants_in, paused_in, restarts_in, hold_in, has_round_members, round_of};
+ghost use Rattle.script_read.specs.Rounds.{rounds_in};
 
 use crate::participant::read_participant;
 use crate::raws::raws_in;
@@ -28,6 +29,28 @@ fn advance_in(value: &Value, at: &Place) -> Result<u64, WalkFault>
     }
 }
 
+#[tactic(auto, unfolding(crate::specs::Rounds::participants_in))]
+fn participants_in(
+    alloc: Global,
+    value: &Value,
+    at: &Place,
+    name: &str,
+    topology: &Topology,
+) -> Result<ParticipantIdList, WalkFault>
+    requires { length topology.now.hosts ≤ 256 }
+    ensures { Follows WalkFault.Memory result (participants_in topology.now.hosts at.now name.now (view value.now)) }
+{
+    match value.get(name) {
+        Some(found) => read_list(
+            alloc,
+            found,
+            &at.member(name),
+            |item, here| read_participant(alloc, item, here, topology),
+        ),
+        None => Ok(ParticipantIdList::new(alloc)),
+    }
+}
+
 #[tactic(auto, unfolding(crate::specs::Rounds::paused_in))]
 fn paused_in(
     alloc: Global,
@@ -38,15 +61,20 @@ fn paused_in(
     requires { length topology.now.hosts ≤ 256 }
     ensures { Follows WalkFault.Memory result (paused_in topology.now.hosts at.now (view value.now)) }
 {
-    match value.get("paused") {
-        Some(found) => read_list(
-            alloc,
-            found,
-            &at.member("paused"),
-            |item, here| read_participant(alloc, item, here, topology),
-        ),
-        None => Ok(ParticipantIdList::new(alloc)),
-    }
+    participants_in(alloc, value, at, "paused", topology)
+}
+
+#[tactic(auto, unfolding(crate::specs::Rounds::restarts_in))]
+fn restarts_in(
+    alloc: Global,
+    value: &Value,
+    at: &Place,
+    topology: &Topology,
+) -> Result<ParticipantIdList, WalkFault>
+    requires { length topology.now.hosts ≤ 256 }
+    ensures { Follows WalkFault.Memory result (restarts_in topology.now.hosts at.now (view value.now)) }
+{
+    participants_in(alloc, value, at, "restart", topology)
 }
 
 #[tactic(auto, unfolding(crate::specs::Rounds::hold_in))]
@@ -63,7 +91,14 @@ fn has_round_members(value: &Value) -> bool
     fits(
         value,
         &[],
-        &["advance", "paused", "hold_verdicts", "submits", "raw"],
+        &[
+            "advance",
+            "paused",
+            "hold_verdicts",
+            "submits",
+            "raw",
+            "restart",
+        ],
     )
 }
 
@@ -90,12 +125,14 @@ fn read_round(
     let hold_verdicts = hold_in(value, at)?;
     let (submits, count) = submits_in(alloc, value, at, before, topology, rules)?;
     let raws = raws_in(alloc, value, at, topology, rules)?;
+    let restarts = restarts_in(alloc, value, at, topology)?;
     let round = Round {
         advance,
         paused,
         hold_verdicts,
         submits,
         raws,
+        restarts,
     };
     Ok((round, count))
 }

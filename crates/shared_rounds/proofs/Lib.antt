@@ -1,3 +1,4 @@
+pub mod Based
 mod Gathering
 mod Joining
 mod Queued

@@ -10,6 +10,7 @@ ghost use Rattle.world_model.specs.Mediator.{MediatorState};
 ghost use Rattle.world_model.specs.Rounds.{Round};
 ghost use Rattle.threads_model.specs.Shared.{Joined};
 ghost use Rattle.seq_log.specs.Sequenced.{IsFor};
+ghost use Rattle.node_core.specs.Bases.{AreBases, Bases};
 ghost use Rattle.node_core.specs.Machines.{why_of};
 ghost use Rattle.world_play.specs.Results.{IsPlainResult, results_of};
 ghost use Rattle.world_play.specs.Standing.{GoesOn};
@@ -68,12 +69,14 @@ fn gather<
     requires topology { setup.now.topology ≡ S.topology }
     requires set_up { IsSetUp S.topology S.packages S.machine S.why }
     requires nodes { AreSetUp S.topology S.packages (world.nodes).items }
+    requires bases { AreBases S.bases (world.nodes).items }
     requires world { (state : MediatorState) × IsWorldOf S.machine state world × Lawful S.machine (world_of state world) }
     requires history { ((world.sequencer).row ≡ S.history) × ((world.sequencer).list ≡ S.start) }
     requires now { world.now ≤ 10 ^ 16 }
     requires ledger { (blank.name ≡ S.name) × (blank.parts ≡ S.parts) × (S.parts ≡ 1025) }
     requires named { All (λ (what : Submission). AreKnown (is_hosted S.topology) (parties_in_what what.what)) input.submits.now }
     ensures nodes { IfOk result (λ all. AreSetUp S.topology S.packages (all.world.nodes).items) }
+    ensures bases { IfOk result (λ all. AreBases S.bases (all.world.nodes).items) }
     ensures world { IfOk result (λ all. (state : MediatorState) × IsWorldOf S.machine state all.world × Lawful S.machine (world_of state all.world)) }
     ensures history { IfOk result (λ all. ((all.world.sequencer).row ≡ S.history) × IsFor S.machine all.world.sequencer) }
     ensures now { IfOk result (λ all. all.world.now ≡ world.entry.now) }
@@ -96,7 +99,8 @@ fn gather<
 /// `workers` has. Each client submits what is its participant's, in order, and asks once after each request that was sent. Before a
 /// client's request is prepared, its participant reads at least what the client has seen. Lanes go on until they find nothing more to do.
 /// Where there are less than two submissions no thread is started, and no lane works. When all have ended the parts of the synchroniser are
-/// put together again, and it is not settled. After want of memory there is no synchroniser any more.
+/// put together again, with the participants' bases as they were, and it is not settled. After want of memory there is no synchroniser any
+/// more.
 pub fn submit_shared<'r, R: Threads + Wait + Sync + RandomSource + AllocGlobal, G: Gate + Sync>(
     workers: &Workers<'_, R, G>,
     setup: &Setup,
@@ -115,6 +119,7 @@ pub fn submit_shared<'r, R: Threads + Wait + Sync + RandomSource + AllocGlobal, 
     ensures on { IfOk result (λ a. GoesOn world.entry.sequencer a.world.sequencer) }
     ensures now { IfOk result (λ a. a.world.now ≡ world.entry.now) }
     ensures nodes { IfOk result (λ a. AreSetUp setup.now.topology setup.now.checked (a.world.nodes).items) }
+    ensures bases { IfOk result (λ a. (bases : Bases) → AreBases bases (world.entry.nodes).items → AreBases bases (a.world.nodes).items) }
     ensures world { IfOk result (λ a. (state : MediatorState) × IsWorldOf (machine_in setup.now world.entry) state a.world
         × Lawful (machine_in setup.now world.entry) (world_of state a.world)) }
     ensures many { IfOk result (λ a. length a.results ≡ length submits.now) }

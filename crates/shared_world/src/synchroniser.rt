@@ -1,11 +1,12 @@
 //! A synchroniser whose parts lie behind locks.
-ghost use Rattle.std.specs.Prelude.{◌≡◌, ◌+◌, ◌<◌, ◌≤◌, ◌^◌, [], false, length, not, nat_eq, IfOk, IfNone, OnOk, OnErr};
+ghost use Rattle.std.specs.Prelude.{◌≡◌, ◌+◌, ◌<◌, ◌≤◌, ◌^◌, ℕ, [], false, length, not, nat_eq, IfOk, IfNone, OnOk, OnErr};
 ghost use Rattle.canton_model.specs.Genuine.{IsReading};
 ghost use Rattle.world_model.specs.Lawful.{Lawful};
 ghost use Rattle.world_model.specs.Mediator.{MediatorState};
 ghost use Rattle.threads_model.specs.Inputs.{one_if};
 ghost use Rattle.threads_model.specs.Behind.{LogBehind};
 ghost use Rattle.seq_log.specs.Sequenced.{IsFor};
+ghost use Rattle.node_core.specs.Bases.{AreBases};
 ghost use Rattle.node_core.specs.Machines.{machine_of};
 ghost use Rattle.world_play.specs.Submitting.{AreSetUp};
 ghost use Rattle.world_play.specs.WorldOf.{IsWorldOf, world_of};
@@ -67,6 +68,7 @@ fn copied(participants: &ParticipantIdList) -> Result<ParticipantIdList, AllocEr
 fn shared_of<'r, S: Session>(alloc: Global, world: World<'r>, count: Book<S>) -> Shared<'r, S>
     requires set_up { IsSetUp S.topology S.packages S.machine S.why }
     requires nodes { AreSetUp S.topology S.packages (world.nodes).items }
+    requires bases { AreBases S.bases (world.nodes).items }
     requires world { (state : MediatorState) × IsWorldOf S.machine state world × Lawful S.machine (world_of state world) }
     requires log { ((world.sequencer).row ≡ S.history) × ((world.sequencer).list ≡ S.start) }
     requires now { world.now ≤ 10 ^ 16 }
@@ -94,6 +96,7 @@ impl<'r, S: Session> Synchroniser<'r, S> {
     pub fn of(alloc: Global, world: World<'r>, blank: Blank) -> Synchroniser<'r, S>
         requires set_up { IsSetUp S.topology S.packages S.machine S.why }
         requires nodes { AreSetUp S.topology S.packages (world.nodes).items }
+        requires bases { AreBases S.bases (world.nodes).items }
         requires world { (state : MediatorState) × IsWorldOf S.machine state world × Lawful S.machine (world_of state world) }
         requires history { (world.sequencer).row ≡ S.history }
         requires start { (world.sequencer).list ≡ S.start }
@@ -125,6 +128,7 @@ impl<'r, S: Session> Synchroniser<'r, S> {
     ) -> Result<Synchroniser<'r, S>, AllocError>
         requires topology { (setup.now.topology ≡ S.topology) × (setup.now.checked ≡ S.packages) }
         requires machine { S.machine ≡ machine_of S.topology S.packages capacity }
+        requires bases { (p : ℕ) → S.bases p ≡ 0 }
         requires set_up { IsSetUp S.topology S.packages S.machine S.why }
         requires log { (row.old ≡ S.history) × (S.start ≡ []) }
         requires ledger { (blank.name ≡ S.name) × (blank.parts ≡ S.parts) × (S.parts ≡ 1025) }
@@ -188,7 +192,8 @@ impl<'r, S: Session> Synchroniser<'r, S> {
     }
 
     /// The parts, without memory. Once every client is retired, the log has as many requests and Ticks more than when the sharing
-    /// began as the clients had tickets and the rounds brought in. What the mediator and each participant have read begins the log.
+    /// began as the clients had tickets and the rounds brought in. What the mediator and each participant have read begins the log, and the
+    /// bases are what they were.
     pub fn into_parts(self) -> World<'r>
         requires ledger { S.parts ≡ 1025 }
         requires out { self.out ≡ 0 }
@@ -196,6 +201,7 @@ impl<'r, S: Session> Synchroniser<'r, S> {
         ensures is_for { IsFor S.machine result.sequencer }
         ensures log { LogBehind S.machine S.start self.entry.counted (result.sequencer).list }
         ensures nodes { AreSetUp S.topology S.packages (result.nodes).items }
+        ensures bases { AreBases S.bases (result.nodes).items }
         ensures world { (state : MediatorState) × IsWorldOf S.machine state result × Lawful S.machine (world_of state result) }
         ensures now { result.now ≡ self.entry.round.time }
     {
@@ -218,6 +224,7 @@ fn world_from<'r, S: Session>(shared: Shared<'r, S>, home: &mut Share<S>) -> Wor
     ensures is_for { IsFor S.machine result.sequencer }
     ensures log { LogBehind S.machine S.start home.old.amount (result.sequencer).list }
     ensures nodes { AreSetUp S.topology S.packages (result.nodes).items }
+    ensures bases { AreBases S.bases (result.nodes).items }
     ensures world { (state : MediatorState) × IsWorldOf S.machine state result × Lawful S.machine (world_of state result) }
     ensures now { result.now ≡ shared.entry.round.time }
 {

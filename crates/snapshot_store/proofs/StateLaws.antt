@@ -30,10 +30,10 @@ use Rattle.snapshot_store.specs.Reading.{RowParts, row_of, row_at, rows_at, ids_
 use Rattle.snapshot_store.specs.Reading.{ItemParts, item_of, item_at, items_listed_at, responses_at, places_at, version_at, HeadParts, head_at, StateParts, state_of, state_at}
 use Rattle.snapshot_store.specs.InRange.{AreCounted, IsByte, IsRow, AreIds, ArePaths, IsEnvelope, IsWhat, IsTime, IsItem, ArePlaces, IsState}
 use Rattle.snapshot_store.specs.Spellable.{IsSpellableRow, AreSpellablePaths, IsSpellableEnvelope, IsSpellableWhat, IsSpellableItem, IsSpellableState}
-use Rattle.snapshot_store.specs.declared.item.Item.{Item}
-use Rattle.snapshot_store.specs.declared.item_what.ItemWhat.{ItemWhat}
-use Rattle.snapshot_store.specs.declared.item_what.ItemWhat.TheVariants.{Nothing, Request, Verdict}
-use Rattle.snapshot_store.specs.declared.node_state.NodeState.{NodeState}
+use Rattle.node_state.specs.declared.item.Item.{Item}
+use Rattle.node_state.specs.declared.item_what.ItemWhat.{ItemWhat}
+use Rattle.node_state.specs.declared.item_what.ItemWhat.TheVariants.{Nothing, Request, Verdict}
+use Rattle.node_state.specs.declared.node_state.NodeState.{NodeState}
 
 abbrev made : {A B : Type 0} → (A → B) → Result (A × List ℕ) ℕ → Result (B × List ℕ) ℕ
 made make r = r >>= λ x. Ok (make x.0, x.1)

@@ -8,10 +8,10 @@ use Rattle.wire_form.specs.InRange.{IsHash, IsInstance}
 use Rattle.message_bytes.specs.InRange.{IsPath, IsPlace, IsResponse, IsVerdict}
 use Rattle.message_bytes.specs.Reading.{MOST_OF_BYTE, MOST_OF_TWO_BYTES}
 use Rattle.interpret.specs.Ids.{contract_id}
-use Rattle.snapshot_store.specs.declared.item.Item.{Item}
-use Rattle.snapshot_store.specs.declared.item_what.ItemWhat.{ItemWhat}
-use Rattle.snapshot_store.specs.declared.item_what.ItemWhat.TheVariants.{Nothing, Request, Verdict}
-use Rattle.snapshot_store.specs.declared.node_state.NodeState.{NodeState}
+use Rattle.node_state.specs.declared.item.Item.{Item}
+use Rattle.node_state.specs.declared.item_what.ItemWhat.{ItemWhat}
+use Rattle.node_state.specs.declared.item_what.ItemWhat.TheVariants.{Nothing, Request, Verdict}
+use Rattle.node_state.specs.declared.node_state.NodeState.{NodeState}
 
 -- as many as four bytes count, each of which is so
 pub record AreCounted {A : Type 0} (Is : A → Type 0) (xs : List A) : Type 0 where

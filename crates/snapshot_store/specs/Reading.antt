@@ -10,10 +10,10 @@ use Rattle.wire_form.specs.Fields.{byte_at, bytes_at, number_at, count_at, hash_
 use Rattle.wire_form.specs.Reading.{instance_at}
 use Rattle.message_bytes.specs.Reading.{MOST_OF_BYTE, MOST_OF_TWO_BYTES, is_past, path_at, response_at, verdict_at}
 use Rattle.interpret.specs.Act.{created_known}
-use Rattle.snapshot_store.specs.declared.item.Item.{Item}
-use Rattle.snapshot_store.specs.declared.item_what.ItemWhat.{ItemWhat}
-use Rattle.snapshot_store.specs.declared.item_what.ItemWhat.TheVariants.{Nothing, Request, Verdict}
-use Rattle.snapshot_store.specs.declared.node_state.NodeState.{NodeState}
+use Rattle.node_state.specs.declared.item.Item.{Item}
+use Rattle.node_state.specs.declared.item_what.ItemWhat.{ItemWhat}
+use Rattle.node_state.specs.declared.item_what.ItemWhat.TheVariants.{Nothing, Request, Verdict}
+use Rattle.node_state.specs.declared.node_state.NodeState.{NodeState}
 
 -- the parts of a contract, whose id is computed
 abbrev pub RowParts : Type 0

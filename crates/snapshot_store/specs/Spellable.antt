@@ -8,10 +8,10 @@ use Rattle.message_bytes.specs.Reading.{MOST_OF_TWO_BYTES}
 use Rattle.message_bytes.specs.Spellable.{IsSpellablePath, IsSpellableResponse, IsSpellableVerdict}
 use Rattle.interpret.specs.Ids.{contract_id}
 use Rattle.snapshot_store.specs.InRange.{AreCounted}
-use Rattle.snapshot_store.specs.declared.item.Item.{Item}
-use Rattle.snapshot_store.specs.declared.item_what.ItemWhat.{ItemWhat}
-use Rattle.snapshot_store.specs.declared.item_what.ItemWhat.TheVariants.{Nothing, Request, Verdict}
-use Rattle.snapshot_store.specs.declared.node_state.NodeState.{NodeState}
+use Rattle.node_state.specs.declared.item.Item.{Item}
+use Rattle.node_state.specs.declared.item_what.ItemWhat.{ItemWhat}
+use Rattle.node_state.specs.declared.item_what.ItemWhat.TheVariants.{Nothing, Request, Verdict}
+use Rattle.node_state.specs.declared.node_state.NodeState.{NodeState}
 
 -- its id is that of its salt and instance
 pub record IsSpellableRow (row : ActiveRow) : Type 0 where

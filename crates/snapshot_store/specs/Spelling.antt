@@ -6,10 +6,10 @@ use Rattle.ledger_terms.specs.declared.active_row.ActiveRow.{ActiveRow}
 use Rattle.canton_model.specs.declared.response.Response.{Response}
 use Rattle.wire_form.specs.Spelling.{spell_name, spell_truth, spell_instance}
 use Rattle.message_bytes.specs.Spelling.{spell_participant, spell_path, spell_response, spell_verdict}
-use Rattle.snapshot_store.specs.declared.item.Item.{Item}
-use Rattle.snapshot_store.specs.declared.item_what.ItemWhat.{ItemWhat}
-use Rattle.snapshot_store.specs.declared.item_what.ItemWhat.TheVariants.{Nothing, Request, Verdict}
-use Rattle.snapshot_store.specs.declared.node_state.NodeState.{NodeState}
+use Rattle.node_state.specs.declared.item.Item.{Item}
+use Rattle.node_state.specs.declared.item_what.ItemWhat.{ItemWhat}
+use Rattle.node_state.specs.declared.item_what.ItemWhat.TheVariants.{Nothing, Request, Verdict}
+use Rattle.node_state.specs.declared.node_state.NodeState.{NodeState}
 
 -- four bytes of count and the items
 abbrev pub spell_counted : {A : Type 0} → (A → List ℕ) → List A → List ℕ

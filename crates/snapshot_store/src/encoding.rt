@@ -2,26 +2,28 @@
 ghost use Rattle.std.specs.Prelude.{◌≡◌, ◌++◌, IfOk, OnOk};
 ghost use Rattle.message_bytes.specs.Spellable.{IsSpellableResponse};
 ghost use Rattle.message_bytes.specs.Spelling.{spell_participant};
-ghost use Rattle.snapshot_store.specs.InRange.{AreCounted};
+ghost use Rattle.snapshot_store.specs.InRange.{AreCounted, IsState};
 ghost use Rattle.snapshot_store.specs.Spelling.{spell_envelope, spell_head, spell_ids, spell_item, spell_items, spell_owner, spell_paths, spell_places};
 ghost use Rattle.snapshot_store.specs.Spelling.{spell_position, spell_responses, spell_row, spell_rows, spell_state, spell_what};
 ghost use Rattle.snapshot_store.specs.Spellable.{AreSpellableIds, AreSpellablePaths, AreSpellablePlaces, IsSpellableEnvelope, IsSpellableItem};
 ghost use Rattle.snapshot_store.specs.Spellable.{IsSpellableRow, IsSpellableState, IsSpellableWhat};
 
-use crate::item::{Item, ItemList};
-use crate::item_what::ItemWhat;
-use crate::node_state::{NodeState, ResponseList};
+use crate::typed::keeps_state;
+use canton_model::SharedBytes;
 use ledger_terms::{ActiveRow, ActiveRowList, Bytes, HashList, ParticipantId, PathList, U64List};
 use message_bytes::{encode_path, encode_response, encode_verdict};
+use node_state::{Item, ItemList, ItemWhat, NodeState, ResponseList};
 use std::alloc::{AllocError, Global};
 use wire_form::{encode_hash, encode_instance, encode_name, encode_truth, encode_u32, encode_u64};
 
-/// The spelling of a state.
+/// The spelling of a state, which `decode` reads as that state again.
 #[tactic(auto, unfolding(crate::specs::Spelling::spell_state))]
 pub fn encode(alloc: Global, state: &NodeState) -> Result<Bytes, AllocError>
     requires { IsSpellableState state.now }
-    ensures { IfOk result (λ bytes. bytes ≡ spell_state state.now) }
+    ensures written { IfOk result (λ bytes. bytes ≡ spell_state state.now) }
+    ensures in_range { IfOk result (λ bytes. IsState state.now) }
 {
+    keeps_state(state);
     let mut out = Bytes::new(alloc);
     encode_head(state, &mut out)?;
     encode_rows(&state.active, &mut out)?;
@@ -111,16 +113,17 @@ fn encode_paths(paths: &PathList, out: &mut Bytes) -> Result<(), AllocError>
 }
 
 #[tactic(auto, unfolding(crate::specs::Spelling::spell_envelope))]
-fn encode_envelope(envelope: &Option<Bytes>, out: &mut Bytes) -> Result<(), AllocError>
+fn encode_envelope(envelope: &Option<SharedBytes>, out: &mut Bytes) -> Result<(), AllocError>
     requires { IsSpellableEnvelope envelope.now }
     ensures { OnOk result (out.new ≡ out.old ++ spell_envelope envelope.now) }
 {
     match envelope {
         None => out.push(0),
         Some(bytes) => {
+            let bytes = bytes.as_slice();
             out.push(1)?;
             encode_u32(bytes.len() as u32, out)?;
-            out.extend(bytes.as_slice())
+            out.extend(bytes)
         }
     }
 }

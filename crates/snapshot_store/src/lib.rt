@@ -1,20 +1,17 @@
-//! What a participant keeps, as a state apart from it, and its spelling as bytes.
+//! States of participants as bytes.
 #![tactic(auto)]
 
 mod decoding;
 mod encoding;
-mod item;
-mod item_what;
 mod known;
 pub mod laws;
-mod node_state;
+mod pruning;
 mod read_item;
 mod read_state;
 mod snap_fault;
+mod typed;
 
 pub use decoding::decode;
 pub use encoding::encode;
-pub use item::{Item, ItemList};
-pub use item_what::ItemWhat;
-pub use node_state::{NodeState, ResponseList};
+pub use pruning::prune;
 pub use snap_fault::SnapFault;

@@ -5,10 +5,10 @@ ghost use Rattle.message_bytes.specs.Reading.{path_at};
 ghost use Rattle.snapshot_store.specs.Reading.{envelope_at, item_at, items_listed_at, long_bytes_at, paths_at};
 ghost use Rattle.snapshot_store.specs.Reading.{request_at, tagged_envelope_at, tagged_what_at, what_at};
 
-use crate::item::{Item, ItemList};
-use crate::item_what::ItemWhat;
+use canton_model::SharedBytes;
 use ledger_terms::{Bytes, ParticipantId, PathList};
 use message_bytes::{read_path, read_verdict};
+use node_state::{Item, ItemList, ItemWhat};
 use std::alloc::Global;
 use wire_form::{Reader, ReaderFault};
 
@@ -59,7 +59,7 @@ fn read_bytes(reader: &mut Reader<'_>, alloc: Global) -> Result<Bytes, ReaderFau
 }
 
 #[tactic(auto, unfolding(crate::specs::Reading::envelope_at))]
-fn read_envelope(reader: &mut Reader<'_>, alloc: Global) -> Result<Option<Bytes>, ReaderFault>
+fn read_envelope(reader: &mut Reader<'_>, alloc: Global) -> Result<Option<SharedBytes>, ReaderFault>
     ensures { Gives (λ x. (x, reader.new)) result (envelope_at reader.old) }
 {
     let here = reader.len();
@@ -73,12 +73,15 @@ fn read_tagged_envelope(
     alloc: Global,
     tag: u8,
     here: usize,
-) -> Result<Option<Bytes>, ReaderFault>
+) -> Result<Option<SharedBytes>, ReaderFault>
     ensures { Gives (λ x. (x, reader.new)) result (tagged_envelope_at tag reader.old here) }
 {
     match tag {
         0 => Ok(None),
-        1 => Ok(Some(read_bytes(reader, alloc)?)),
+        1 => {
+            let bytes = read_bytes(reader, alloc)?;
+            Ok(Some(SharedBytes::new(alloc, bytes)?))
+        }
         _ => Err(ReaderFault::Left(here)),
     }
 }

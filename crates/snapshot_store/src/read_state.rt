@@ -8,10 +8,10 @@ ghost use Rattle.message_bytes.specs.Reading.{MOST_OF_BYTE, is_past, response_at
 ghost use Rattle.snapshot_store.specs.Reading.{head_at, ids_at, places_at, responses_at, row_at, rows_at, state_at, version_at};
 
 use crate::known::known_with;
-use crate::node_state::{NodeState, ResponseList};
 use crate::read_item::read_items;
 use ledger_terms::{ActiveRow, ActiveRowList, Hash, HashList, ParticipantId, U64List};
 use message_bytes::read_response;
+use node_state::{NodeState, ResponseList};
 use std::alloc::Global;
 use wire_form::laws::what_is_read_is_spellable;
 use wire_form::{Reader, ReaderFault};

@@ -1,6 +1,6 @@
 -- What a client knows after its request was handed in, and what waits or was decided over longer logs.
-use Rattle.std.proofs.Common.{◌≡◌, ◌≢◌, ℕ, ◌+◌, ◌<◌, true, false, List, [], ◌∷◌, ◌++◌, length, Some, None, refl, sym, ap, ◌∙◌, subst, arith}
-use Rattle.std.specs.Prelude.{slice_get, IfSome}
+use Rattle.std.proofs.Common.{◌≡◌, ◌≢◌, ℕ, ◌+◌, true, false, List, [], ◌∷◌, ◌++◌, length, Some, refl, sym, ap, subst, arith}
+use Rattle.std.specs.Prelude.{IfSome}
 use Rattle.std.proofs.lemmas.List.{length-append}
 use mathlib.Core.List.{IsPrefix}
 use Rattle.ledger_terms.specs.declared.submission.Submission.{Submission}
@@ -20,7 +20,7 @@ use Rattle.world_model.proofs.Appended.{framed_passes}
 use Rattle.world_model.proofs.Grown.{request_within, slice_get_last, owed_stands}
 use Rattle.prepare_request.specs.declared.submit_fault.SubmitFault.{SubmitFault}
 use Rattle.threads_model.specs.Clients.{ClientStep}
-use Rattle.threads_model.proofs.Begins.{begins_itself, begins_then}
+use Rattle.threads_model.proofs.Begins.{begins_itself}
 use Rattle.threads_model.proofs.Submits.{sent_step, already_step, full_step, request_already, request_in_time}
 use Rattle.seq_log.specs.declared.fault.AppendFault.{AppendFault}
 use Rattle.seq_log.specs.declared.fault.AppendFault.TheVariants as append

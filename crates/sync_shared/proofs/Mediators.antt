@@ -1,5 +1,5 @@
 -- The mediator behind its lock: it reads one entry more, and takes a verdict.
-use Rattle.std.proofs.Common.{◌≡◌, ℕ, ◌+◌, List, [], ◌∷◌, ◌++◌, length, Option, Some, None, Result, sym, ap, ◌∙◌, subst}
+use Rattle.std.proofs.Common.{◌≡◌, ℕ, ◌+◌, List, ◌∷◌, length, Option, Some, None, Result, sym, ◌∙◌, subst}
 use Rattle.std.specs.Prelude.{Ok, Err, IfOk, IfNone, IfSome, OnErr, slice_get}
 use mathlib.Core.List.{IsPrefix}
 use Rattle.canton_model.specs.Log.{Params}
@@ -9,7 +9,7 @@ use Rattle.world_model.specs.Mediator.{MediatorState, next_verdict, read_by_medi
 use Rattle.world_model.specs.Lawful.{MediatorHas}
 use Rattle.world_model.specs.Fits.{IsDecision}
 use Rattle.world_model.proofs.Steps.{mediator_has_read, mediator_has_taken}
-use Rattle.mediator.specs.KeptCases.{KeptMediator, Keeps, Knows, with_verdict_taken}
+use Rattle.mediator.specs.KeptCases.{KeptMediator, Keeps, with_verdict_taken}
 use Rattle.mediator.specs.Order.{HasGiven, IsFirstDue, NothingIsDue}
 use Rattle.mediator.proofs.Knowing.{known_first, known_none}
 use Rattle.sync_shared.specs.Behind.{IsMediatorBehind}

@@ -23,13 +23,16 @@ use Rattle.prepare_request.specs.Prepared.{prepared}
 use Rattle.prepare_request.specs.Within.{IsWithin, parties_in_what}
 use Rattle.prepare_request.specs.declared.submit_fault.SubmitFault.{SubmitFault}
 use Rattle.prepare_request.specs.declared.submit_fault.SubmitFault.TheVariants.{Paused, NotHosted, Command, Split, Duplicate, LogFull, Memory}
-use Rattle.node_core.specs.Participant.{Participant as NodeValue, items_of, reading_of}
+use Rattle.node_core.specs.Participant.{HasRead, IsPrunedTo, Participant as NodeValue, reading_of, whole_state}
 use Rattle.node_core.specs.Preparing.{offered_by, prepare_answer}
+use Rattle.node_core.specs.Answers.{IsOf}
+use Rattle.node_core.specs.Bases.{Bases}
 use Rattle.node_core.proofs.Alike.{offers_known}
+use Rattle.node_core.proofs.OverLog.{offered_is}
 use Rattle.node_core.specs.Machines.{offered_in, wanted_request, why_of}
 use Rattle.sync_shared.specs.Answers.{fault_of}
 use Rattle.sync_shared.specs.Behind.{IsNodeBehind}
-use Rattle.sync_shared.proofs.Nodes.{items_are}
+use Rattle.sync_shared.proofs.Nodes.{own_inbox}
 
 -- a fault that has a cause is that of a submission that wants no request
 module _ (topology : Topology) (packages : Packages) (me : ℕ) (known : List Known) (what : Submission) (now : ℕ) where
@@ -45,13 +48,32 @@ module _ (topology : Topology) (packages : Packages) (me : ℕ) (known : List Kn
   pub is_no_pause : (fault : SubmitFault) → HasCause topology packages me known what now fault → fault ≢ Paused
   is_no_pause fault c e = subst (HasCause topology packages me known what now) e c
 
-module _ (topology : Topology) (packages : Packages) (m : Machine) (why : Why SubmitFault) (p : ParticipantId) (list : List Entry) (node : NodeValue)
-    (b : IsNodeBehind topology packages m why p list node) (what : Submission) (now : ℕ) (mine : what.participant ≡ p) where
+module _ (topology : Topology) (packages : Packages) (m : Machine) (why : Why SubmitFault) (bases : Bases) (p : ParticipantId) (list : List Entry)
+    (node : NodeValue) (b : IsNodeBehind topology packages m why bases p list node) (what : Submission) (now : ℕ) (mine : what.participant ≡ p) where
   pub own : what.participant ≡ node.me
   own = mine ∙ sym (b.is).me
 
   pub is_valid : IsValid node.topology
   is_valid = subst IsValid (sym b.own_topology) (b.set_up).valid
+
+  abbrev pub read : List Item
+  read = inbox m.reading p list
+
+  is_of : IsOf m node
+  is_of = record { reading = sym (b.is).reading; params = sym (b.is).params }
+
+  has_own : HasRead m list node
+  has_own =
+      let same = own_inbox topology packages m why bases p list node b list in
+      record {
+        node = subst (λ (items : List Item). NodeHas m node.me list (whole_state node items)) same
+            (subst (λ (i : ParticipantId). NodeHas m i list (whole_state node read)) (sym (b.is).me) (b.behind).has);
+        pruned = subst (λ (items : List Item). IsPrunedTo items node) same (b.inbox).pruned;
+      }
+
+  -- what it offers is what it would with its whole inbox
+  pub offers_this : offered_in node.topology node.packages node.me read ≡ offered_by node
+  offers_this = sym (offered_is read node b.inbox)
 
   pub is_within : AreKnown (is_hosted topology) (parties_in_what what.what) → IsWithin node.topology node.packages node.me (offered_by node) what
   is_within named =
@@ -60,31 +82,18 @@ module _ (topology : Topology) (packages : Packages) (m : Machine) (why : Why Su
             (subst (λ (t : Topology). p < length t.hosts) (sym b.own_topology) b.is_host);
         named_by_packages = subst (λ (t : Topology). AreKnown (is_hosted t) (parties_in_packages node.packages)) (sym b.own_topology)
             (subst (λ (k : Packages). AreKnown (is_hosted topology) (parties_in_packages k)) (sym b.own_packages) (b.set_up).named);
-        named_by_known = offers_known m node list (record { reading = sym (b.is).reading; params = sym (b.is).params })
-            (subst (λ (i : ParticipantId). NodeHas m i list node.state) (sym (b.is).me) (b.behind).has) (b.behind).genuine;
+        named_by_known = offers_known m node list has_own is_of (b.behind).genuine;
         named_by_input = subst (λ (t : Topology). AreKnown (is_hosted t) (parties_in_what what.what)) (sym b.own_topology) named;
       }
 
-  abbrev its : List Item
-  its = items_of node
+  by_machine : (answer : Option Request) → wanted_request node.topology node.packages what read now ≡ answer → m.prepare what read now ≡ answer
+  by_machine answer e = ap (λ (f : Submission → List Item → ℕ → Option Request). f what read now) (b.is).prepares ∙ e
 
-  abbrev read : List Item
-  read = inbox m.reading p list
-
-  same_items : its ≡ read
-  same_items = items_are topology packages m why p list node b
-
-  by_machine : (answer : Option Request) → wanted_request node.topology node.packages what its now ≡ answer → m.prepare what read now ≡ answer
-  by_machine answer e =
-      ap (λ (items : List Item). m.prepare what items now) (sym same_items)
-      ∙ (ap (λ (f : Submission → List Item → ℕ → Option Request). f what its now) (b.is).prepares ∙ e)
-
-  by_why : (fault : SubmitFault) → why_of node.topology node.packages what its now ≡ fault → why what read now ≡ fault
+  by_why : (fault : SubmitFault) → why_of node.topology node.packages what read now ≡ fault → why what read now ≡ fault
   by_why fault e =
-      ap (λ (items : List Item). why what items now) (sym same_items)
-      ∙ (ap (λ (f : Why SubmitFault). f what its now) (b.set_up).why_is
-      ∙ (ap (λ (t : Topology). why_of t packages what its now) (sym b.own_topology)
-      ∙ (ap (λ (k : Packages). why_of node.topology k what its now) (sym b.own_packages) ∙ e)))
+      ap (λ (f : Why SubmitFault). f what read now) (b.set_up).why_is
+      ∙ (ap (λ (t : Topology). why_of t packages what read now) (sym b.own_topology)
+      ∙ (ap (λ (k : Packages). why_of node.topology k what read now) (sym b.own_packages) ∙ e))
 
   pub is_framed : {X : Type 0} (answer : Result Request X) → IfOk answer (λ q. (reading_of node).is_framed q ≡ true) → IfOk answer (λ q. m.reading.is_framed q ≡ true)
   is_framed (Ok q) h = subst (λ (r : Reading). r.is_framed q ≡ true) (b.is).reading h
@@ -96,10 +105,10 @@ module _ (topology : Topology) (packages : Packages) (m : Machine) (why : Why Su
 
   abbrev Tells : Result Request SubmitFault → Type 0
   Tells answer =
-      MatchResult answer (λ q. prepare_over node.topology node.packages (offered_in node.topology node.packages) what its now ≡ Some q)
+      MatchResult answer (λ q. prepare_over node.topology node.packages (offered_in node.topology node.packages) what read now ≡ Some q)
       (λ fault. fault ≢ Memory → fault ≢ Paused
-      → (prepare_over node.topology node.packages (offered_in node.topology node.packages) what its now ≡ None)
-      × (why_over node.topology node.packages (offered_in node.topology node.packages) what its now ≡ fault))
+      → (prepare_over node.topology node.packages (offered_in node.topology node.packages) what read now ≡ None)
+      × (why_over node.topology node.packages (offered_in node.topology node.packages) what read now ≡ fault))
 
   pub is_wanted : (answer : Result Request SubmitFault) → Tells answer → IfOk answer (λ q. m.prepare what read now ≡ Some q)
   is_wanted (Ok q) h = by_machine (Some q) h

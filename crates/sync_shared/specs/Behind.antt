@@ -5,6 +5,7 @@ use Rattle.ledger_terms.specs.declared.topology.Topology.{Topology}
 use Rattle.ledger_model.specs.Terms.{ParticipantId}
 use Rattle.lang_eval.specs.Found.{Packages}
 use Rattle.canton_model.specs.Genuine.{IsReading}
+use Rattle.canton_model.specs.Inbox.{inbox}
 use Rattle.world_model.specs.Messages.{Entry}
 use Rattle.world_model.specs.Machine.{Machine, GenuineLog}
 use Rattle.world_model.specs.Locks.{NodeBehind}
@@ -13,7 +14,9 @@ use Rattle.threads_model.specs.Behind.{LogBehind}
 use Rattle.log_row.specs.LogPrefix.{RowName}
 use Rattle.seq_log.specs.Sequenced.{Sequenced, IsFor}
 use Rattle.mediator.specs.KeptCases.{KeptMediator, Knows}
-use Rattle.node_core.specs.Participant.{Participant as NodeValue}
+use Rattle.node_core.specs.Bases.{Bases}
+use Rattle.node_core.specs.OverLog.{HasInbox}
+use Rattle.node_core.specs.Participant.{Participant as NodeValue, whole_state}
 use Rattle.prepare_request.specs.declared.submit_fault.SubmitFault.{SubmitFault}
 use Rattle.node_core.specs.Machines.{IsNodeOf}
 use Rattle.sync_shared.specs.SetUp.{IsSetUp}
@@ -24,16 +27,18 @@ pub record IsLogBehind (row : RowName) (m : Machine) (start : List Entry) (total
   pub is_for : IsFor m sequencer
   pub behind : LogBehind m start total sequencer.list
 
--- behind the lock of participant p: a participant that has read this list
-pub record IsNodeBehind (topology : Topology) (packages : Packages) (m : Machine) (why : Why SubmitFault) (p : ParticipantId) (list : List Entry)
-    (node : NodeValue) : Type 0 where
+-- behind the lock of participant p: a participant that has read this list, of which it has its inbox from its base on
+pub record IsNodeBehind (topology : Topology) (packages : Packages) (m : Machine) (why : Why SubmitFault) (bases : Bases) (p : ParticipantId)
+    (list : List Entry) (node : NodeValue) : Type 0 where
   pub set_up : IsSetUp topology packages m why
   pub is_reading : IsReading m.reading
   pub is_host : p < length topology.hosts
   pub own_topology : node.topology ≡ topology
   pub own_packages : node.packages ≡ packages
   pub is : IsNodeOf m p node
-  pub behind : NodeBehind m p list node.state
+  pub base : node.base ≡ bases p
+  pub behind : NodeBehind m p list (whole_state node (inbox m.reading p list))
+  pub inbox : HasInbox (inbox m.reading p list) node
 
 -- what contracts see of the mediator behind its lock: the entries that it has read, and what it keeps of them
 pub record Mediating : Type 0 where
@@ -46,7 +51,7 @@ pub record IsMediatorBehind (m : Machine) (list : List Entry) (mediator : KeptMe
   pub knows : Knows m list mediator
 
 -- each of these nodes is, in order, the participant of its place, and has read a beginning of the log
-pub record AreNodesBehind (topology : Topology) (packages : Packages) (m : Machine) (why : Why SubmitFault) (log : List Entry) (nodes : List NodeValue)
-    : Type 0 where
+pub record AreNodesBehind (topology : Topology) (packages : Packages) (m : Machine) (why : Why SubmitFault) (bases : Bases) (log : List Entry)
+    (nodes : List NodeValue) : Type 0 where
   pub each : (p : ParticipantId) (node : NodeValue) → slice_get nodes p ≡ Some node
-      → (list : List Entry) × IsPrefix list log × IsNodeBehind topology packages m why p list node
+      → (list : List Entry) × IsPrefix list log × IsNodeBehind topology packages m why bases p list node

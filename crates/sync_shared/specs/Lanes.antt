@@ -1,5 +1,5 @@
 -- What a lane holds outside every lock.
-use Rattle.std.specs.Prelude.{◌≡◌, ◌<◌}
+use Rattle.std.specs.Prelude.{◌≡◌, ◌<◌, ◌≤◌}
 use Rattle.ledger_model.specs.Terms.{ParticipantId}
 use Rattle.canton_model.specs.Inbox.{inbox}
 use Rattle.world_model.specs.Machine.{Machine}
@@ -8,17 +8,19 @@ use Rattle.world_model.specs.Fits.{IsOwed}
 use Rattle.world_model.specs.Node.{owed_at}
 use Rattle.log_row.specs.LogPrefix.{RowName}
 use Rattle.validate_job.specs.Owed.{owed_on_each}
+use Rattle.node_core.specs.Bases.{Bases}
 use Rattle.sync_shared.specs.Slips.{read_to, InRow}
 use Rattle.sync_shared.specs.declared.node_step.ClaimedJob.{ClaimedJob}
 use Rattle.sync_shared.specs.declared.node_step.CopiedResponse.{CopiedResponse}
 use Rattle.sync_shared.specs.declared.node_step.NodeStep.{NodeStep}
 use Rattle.sync_shared.specs.declared.node_step.NodeStep.TheVariants.{Done, Check, Send}
 
--- Participant p has claimed the job over what is known, and its views are those to which it owes verdicts.
-pub record IsClaimed (row : RowName) (m : Machine) (p : ParticipantId) (c : ClaimedJob) : Type 0 where
+-- Participant p has claimed the job, from its base on, over what is known, and its views are those to which it owes verdicts.
+pub record IsClaimed (row : RowName) (m : Machine) (bases : Bases) (p : ParticipantId) (c : ClaimedJob) : Type 0 where
   pub in_row : InRow row c.known
   pub left : 0 < c.job.left
   pub claimed : Claimed m p (read_to c.known) c.job.given.place
+  pub base : bases p ≤ c.job.given.place
   pub verdicts : owed_on_each c.job.given.input c.job.given.views ≡ owed_at m.reading m.params p (inbox m.reading p (read_to c.known)) c.job.given.place
 
 -- the response is owed over what is known
@@ -26,7 +28,7 @@ pub record IsCopied (row : RowName) (m : Machine) (c : CopiedResponse) : Type 0 
   pub in_row : InRow row c.known
   pub owed : IsOwed m.reading m.params (read_to c.known) c.response
 
-abbrev pub IsStep : RowName → Machine → ParticipantId → NodeStep → Type 0
-IsStep row m p Done = Unit {0}
-IsStep row m p (Check claimed) = IsClaimed row m p claimed
-IsStep row m p (Send copied) = IsCopied row m copied
+abbrev pub IsStep : RowName → Machine → Bases → ParticipantId → NodeStep → Type 0
+IsStep row m bases p Done = Unit {0}
+IsStep row m bases p (Check claimed) = IsClaimed row m bases p claimed
+IsStep row m bases p (Send copied) = IsCopied row m copied

@@ -1,5 +1,5 @@
 //! What became of a request.
-ghost use Rattle.std.specs.Prelude.{◌≡◌, ◌<◌, length, IfNone, IfOk, IfSome, OnOk, OnErr};
+ghost use Rattle.std.specs.Prelude.{◌≡◌, ◌<◌, ◌≤◌, length, IfNone, IfOk, IfSome, OnOk, OnErr};
 ghost use Rattle.canton_model.specs.Log.{decision_time_of};
 ghost use Rattle.canton_model.specs.Timeline.{outcome_of, timeline_of};
 ghost use Rattle.world_model.specs.Locks.{SequencerBehind};
@@ -73,6 +73,7 @@ fn complete_at<'r, S: Session, R: Wait, const I: u8>(
 ) -> Result<Completion, AllocError>
     requires there { I < length (S.topology).hosts }
     requires ticket { (ticket.old.row ≡ S.history) × (ticket.old.me ≡ I) }
+    requires base { S.bases I ≤ ticket.old.place }
     ensures same { ticket.new ≡ ticket.old }
     ensures seen { IsPrefix client.old.list client.new.list }
     ensures client { (client.new.tickets ≡ client.old.tickets) × (client.new.me ≡ client.old.me) }
@@ -101,6 +102,7 @@ pub fn complete<'r, S: Session, R: Wait>(
     ticket: &mut Ticket<'r>,
 ) -> Result<Completion, AllocError>
     requires ticket { (ticket.old.row ≡ S.history) × (ticket.old.me ≡ client.old.me) }
+    requires base { S.bases client.old.me ≤ ticket.old.place }
     ensures same { ticket.new ≡ ticket.old }
     ensures seen { IsPrefix client.old.list client.new.list }
     ensures client { (client.new.tickets ≡ client.old.tickets) × (client.new.me ≡ client.old.me) }

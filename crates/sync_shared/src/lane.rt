@@ -39,7 +39,7 @@ fn read_all<'r, S: Session, R: Wait, const I: u8>(
 fn next_work<'r, S: Session, const I: u8>(
     node: &mut LockedNode<'r, S, I>,
 ) -> Result<NodeStep<'r>, AllocError>
-    ensures { IfOk result (IsStep S.history S.machine I) }
+    ensures { IfOk result (IsStep S.history S.machine S.bases I) }
 {
     if let Some(job) = node.claim_job()? {
         let known = node.last();
@@ -60,7 +60,7 @@ fn next_step<'r, S: Session, R: Wait, const I: u8>(
     log: &Mutex<LockedLog<'r, S>>,
     lock: &Mutex<LockedNode<'r, S, I>>,
 ) -> Result<NodeStep<'r>, AllocError>
-    ensures { IfOk result (IsStep S.history S.machine I) }
+    ensures { IfOk result (IsStep S.history S.machine S.bases I) }
 {
     let mut node = lock.lock(rt);
     read_all(rt, log, &mut *node)?;
@@ -74,7 +74,7 @@ fn check<'r, S: Session, R: Wait + RandomSource + AllocGlobal, G: Gate, const I:
     claimed: ClaimedJob<'r>,
     gate: &G,
 ) -> Result<(), AllocError>
-    requires { IsClaimed S.history S.machine I claimed }
+    requires { IsClaimed S.history S.machine S.bases I claimed }
 {
     let mut claimed = claimed;
     let mut known = again(&mut claimed.known);

@@ -1,5 +1,5 @@
 //! A participant as it lies behind its lock.
-ghost use Rattle.std.specs.Prelude.{◌≡◌, ◌≢◌, ◌+◌, ◌<◌, None, Some, length, is_some, true, IfOk, IfErr, IfNone, IfSome, OnOk, OnErr};
+ghost use Rattle.std.specs.Prelude.{◌≡◌, ◌≢◌, ◌+◌, ◌<◌, ◌≤◌, None, Some, length, is_some, true, IfOk, IfErr, IfNone, IfSome, OnOk, OnErr};
 ghost use Rattle.lang_eval.specs.Named.{AreKnown};
 ghost use Rattle.canton_model.specs.Inbox.{inbox};
 ghost use Rattle.canton_model.specs.Log.{decision_time_of};
@@ -55,14 +55,14 @@ impl<'r, S: Session, const I: u8> Model for LockedNode<'r, S, I> {
 
     ghost view = { λ n. read_to n.last };
 
-    ghost invariant = { λ n. InRow S.history n.last × IsNodeBehind S.topology S.packages S.machine S.why I (read_to n.last) n.node };
+    ghost invariant = { λ n. InRow S.history n.last × IsNodeBehind S.topology S.packages S.machine S.why S.bases I (read_to n.last) n.node };
 }
 
 impl<'r, S: Session, const I: u8> LockedNode<'r, S, I> {
     /// A node with the slip of the last entry that it has read.
     pub fn of(alloc: Global, node: Node<'r>, last: Option<Slip<'r>>) -> LockedNode<'r, S, I>
         requires row { InRow S.history last }
-        requires behind { IsNodeBehind S.topology S.packages S.machine S.why I (read_to last) node }
+        requires behind { IsNodeBehind S.topology S.packages S.machine S.why S.bases I (read_to last) node }
         ensures { result ≡ read_to last.entry }
     {
         LockedNode {
@@ -76,7 +76,7 @@ impl<'r, S: Session, const I: u8> LockedNode<'r, S, I> {
     pub fn into_parts(self) -> (Node<'r>, Option<Slip<'r>>)
         ensures row { InRow S.history result.1 }
         ensures same { read_to result.1 ≡ self.entry }
-        ensures behind { IsNodeBehind S.topology S.packages S.machine S.why I self.entry result.0 }
+        ensures behind { IsNodeBehind S.topology S.packages S.machine S.why S.bases I self.entry result.0 }
     {
         let LockedNode {
             alloc: _,
@@ -89,7 +89,8 @@ impl<'r, S: Session, const I: u8> LockedNode<'r, S, I> {
 
     /// How many entries it has read.
     pub fn cursor(&self) -> u64
-        ensures { result ≡ length self.now }
+        ensures cursor { result ≡ length self.now }
+        ensures base { S.bases I ≤ result }
     {
         self.node.cursor()
     }
@@ -156,9 +157,10 @@ impl<'r, S: Session, const I: u8> LockedNode<'r, S, I> {
         prepared(self.alloc, &self.node, what, now)
     }
 
-    /// What became of a request of its own over what was read.
+    /// What became of a request of its own, from its base on, over what was read.
     pub fn completion_of(&self, place: u64) -> Result<Completion, AllocError>
-        requires { (list : _) × IsPrefix list self.now × IsRequestBy I place list }
+        requires base { S.bases I ≤ place }
+        requires request { (list : _) × IsPrefix list self.now × IsRequestBy I place list }
         ensures { IfOk result (λ c. c ≡ completion_of (length self.now)
             (outcome_of (timeline_of self.now) place (decision_time_of S.machine.params self.now place))) }
     {
@@ -170,6 +172,7 @@ impl<'r, S: Session, const I: u8> LockedNode<'r, S, I> {
         ensures same { self.new ≡ self.old }
         ensures left { IfOk result (λ o. IfSome o (λ job. 0 < job.left)) }
         ensures claimed { IfOk result (λ o. IfSome o (λ job. Claimed S.machine I self.old job.given.place)) }
+        ensures base { IfOk result (λ o. IfSome o (λ job. S.bases I ≤ job.given.place)) }
         ensures verdicts { IfOk result (λ o. IfSome o (λ job. owed_on_each job.given.input job.given.views
             ≡ owed_at S.machine.reading S.machine.params I (inbox S.machine.reading I self.old) job.given.place)) }
     {
@@ -181,6 +184,7 @@ impl<'r, S: Session, const I: u8> LockedNode<'r, S, I> {
     pub fn finish_job(&mut self, known: &mut Option<Slip<'r>>, done: Finished)
         requires row { InRow S.history known.old }
         requires claimed { Claimed S.machine I (read_to known.old) done.place }
+        requires base { S.bases I ≤ done.place }
         requires verdicts { done.verdicts ≡ owed_at S.machine.reading S.machine.params I (inbox S.machine.reading I (read_to known.old)) done.place }
         ensures same { self.new ≡ self.old }
     {
@@ -195,6 +199,7 @@ impl<'r, S: Session, const I: u8> LockedNode<'r, S, I> {
     pub fn decided_at(&mut self, known: &mut Option<Slip<'r>>, place: u64) -> Option<u64>
         requires row { InRow S.history known.old }
         requires claimed { Claimed S.machine I (read_to known.old) place }
+        requires base { S.bases I ≤ place }
         ensures same { (self.new ≡ self.old) × (known.new ≡ known.old) }
     {
         if !follows::<S>(known, &mut self.last) {

@@ -34,7 +34,7 @@ impl<'r, S: Session> LockedNodes<'r, S> {
         nodes: Vec<Node<'r>>,
         sequencer: &mut Sequencer<'r>,
     ) -> LockedNodes<'r, S>
-        requires nodes { AreNodesBehind S.topology S.packages S.machine S.why sequencer.old.list nodes.items }
+        requires nodes { AreNodesBehind S.topology S.packages S.machine S.why S.bases sequencer.old.list nodes.items }
         requires row { sequencer.old.row ≡ S.history }
         requires count { vec_len nodes ≡ length (S.topology).hosts }
         requires most { length (S.topology).hosts ≤ 8 }
@@ -66,7 +66,7 @@ impl<'r, S: Session> LockedNodes<'r, S> {
     #[tactic(auto, using(crate::proofs::NodeLists::no_nodes))]
     pub fn into_nodes(self, sequencer: &mut Sequencer<'r>) -> Vec<Node<'r>>
         requires { sequencer.old.row ≡ S.history }
-        ensures nodes { AreNodesBehind S.topology S.packages S.machine S.why sequencer.old.list result.items }
+        ensures nodes { AreNodesBehind S.topology S.packages S.machine S.why S.bases sequencer.old.list result.items }
         ensures count { length result.items ≡ length (S.topology).hosts }
         ensures same { sequencer.new ≡ sequencer.old }
     {

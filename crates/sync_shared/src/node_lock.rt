@@ -26,10 +26,10 @@ impl<'r, S: Session, const I: u8> NodeLock<'r, S, I> {
         nodes: &mut Vec<Node<'r>>,
         sequencer: &mut Sequencer<'r>,
     ) -> NodeLock<'r, S, I>
-        requires nodes { AreNodesBehind S.topology S.packages S.machine S.why sequencer.old.list nodes.old.items }
+        requires nodes { AreNodesBehind S.topology S.packages S.machine S.why S.bases sequencer.old.list nodes.old.items }
         requires row { sequencer.old.row ≡ S.history }
         requires count { vec_len nodes.old ≡ min (length (S.topology).hosts) (I + 1) }
-        ensures nodes { AreNodesBehind S.topology S.packages S.machine S.why sequencer.old.list nodes.new.items }
+        ensures nodes { AreNodesBehind S.topology S.packages S.machine S.why S.bases sequencer.old.list nodes.new.items }
         ensures count { vec_len nodes.new ≡ min (length (S.topology).hosts) I }
         ensures capacity { vec_capacity nodes.new ≡ vec_capacity nodes.old }
         ensures same { sequencer.new ≡ sequencer.old }
@@ -41,11 +41,11 @@ impl<'r, S: Session, const I: u8> NodeLock<'r, S, I> {
 
     /// The node stands behind these, where there is one.
     pub fn put_back(self, nodes: &mut Vec<Node<'r>>, sequencer: &mut Sequencer<'r>)
-        requires nodes { AreNodesBehind S.topology S.packages S.machine S.why sequencer.old.list nodes.old.items }
+        requires nodes { AreNodesBehind S.topology S.packages S.machine S.why S.bases sequencer.old.list nodes.old.items }
         requires row { sequencer.old.row ≡ S.history }
         requires count { vec_len nodes.old ≡ min (length (S.topology).hosts) I }
         requires enough { length (S.topology).hosts ≤ vec_capacity nodes.old }
-        ensures nodes { AreNodesBehind S.topology S.packages S.machine S.why sequencer.old.list nodes.new.items }
+        ensures nodes { AreNodesBehind S.topology S.packages S.machine S.why S.bases sequencer.old.list nodes.new.items }
         ensures count { vec_len nodes.new ≡ min (length (S.topology).hosts) (I + 1) }
         ensures capacity { vec_capacity nodes.new ≡ vec_capacity nodes.old }
         ensures same { sequencer.new ≡ sequencer.old }
@@ -60,10 +60,10 @@ fn locked<'r, S: Session, const I: u8>(
     room: &mut Vec<Node<'r>>,
     sequencer: &mut Sequencer<'r>,
 ) -> Option<Mutex<LockedNode<'r, S, I>>>
-    requires nodes { AreNodesBehind S.topology S.packages S.machine S.why sequencer.old.list room.old.items }
+    requires nodes { AreNodesBehind S.topology S.packages S.machine S.why S.bases sequencer.old.list room.old.items }
     requires row { sequencer.old.row ≡ S.history }
     requires most { vec_len room.old ≤ I + 1 }
-    ensures nodes { AreNodesBehind S.topology S.packages S.machine S.why sequencer.old.list room.new.items }
+    ensures nodes { AreNodesBehind S.topology S.packages S.machine S.why S.bases sequencer.old.list room.new.items }
     ensures some { I < vec_len room.old → is_some result ≡ true }
     ensures none { vec_len room.old ≤ I → is_some result ≡ false }
     ensures left { vec_len room.new ≡ min (vec_len room.old) I }
@@ -84,11 +84,11 @@ fn unlocked<'r, S: Session, const I: u8>(
     room: &mut Vec<Node<'r>>,
     sequencer: &mut Sequencer<'r>,
 )
-    requires nodes { AreNodesBehind S.topology S.packages S.machine S.why sequencer.old.list room.old.items }
+    requires nodes { AreNodesBehind S.topology S.packages S.machine S.why S.bases sequencer.old.list room.old.items }
     requires row { sequencer.old.row ≡ S.history }
     requires here { is_some lock ≡ true → vec_len room.old ≡ I }
     requires enough { is_some lock ≡ true → vec_len room.old < vec_capacity room.old }
-    ensures nodes { AreNodesBehind S.topology S.packages S.machine S.why sequencer.old.list room.new.items }
+    ensures nodes { AreNodesBehind S.topology S.packages S.machine S.why S.bases sequencer.old.list room.new.items }
     ensures none { is_some lock.entry ≡ false → vec_len room.new ≡ vec_len room.old }
     ensures some { is_some lock.entry ≡ true → vec_len room.new ≡ I + 1 }
     ensures capacity { vec_capacity room.new ≡ vec_capacity room.old }

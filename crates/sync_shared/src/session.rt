@@ -4,8 +4,8 @@ use std::marker::Brand;
 use std::sync::ledger::Ledger;
 
 /// Names a sharing of one synchroniser: its history, the ledger of what comes into the log, the topology, the packages, the
-/// machine, why submissions want no request, and the log when the sharing began. A function that is generic in it is called with
-/// `Brand`, and the call picks these.
+/// machine, why submissions want no request, the bases of the participants, which no call changes, and the log when the sharing
+/// began. A function that is generic in it is called with `Brand`, and the call picks these.
 pub trait Session: Row + Ledger {
     ghost use Rattle.std.specs.Prelude.{List};
     ghost use Rattle.ledger_terms.specs.declared.topology.Topology.{Topology};
@@ -14,6 +14,7 @@ pub trait Session: Row + Ledger {
     ghost use Rattle.world_model.specs.Machine.{Machine};
     ghost use Rattle.world_model.specs.Rounds.{Why};
     ghost use Rattle.prepare_request.specs.declared.submit_fault.SubmitFault.{SubmitFault};
+    ghost use Rattle.node_core.specs.Bases.{Bases};
 
     ghost topology: { Topology };
 
@@ -22,6 +23,8 @@ pub trait Session: Row + Ledger {
     ghost machine: { Machine };
 
     ghost why: { Why SubmitFault };
+
+    ghost bases: { Bases };
 
     ghost start: { List Entry };
 }
@@ -38,6 +41,8 @@ impl Session for Brand {
     ghost machine = { Example.machine };
 
     ghost why = { λ what items now. Memory };
+
+    ghost bases = { λ p. 0 };
 
     ghost start = { [] };
 }

@@ -63,7 +63,7 @@ impl<'r, S: Session> Shared<'r, S> {
         requires most { length (S.topology).hosts ≤ 8 }
         requires many { length (parts.nodes).items ≡ length (S.topology).hosts }
         requires log { IsLogBehind S.history S.machine S.start count.total parts.sequencer }
-        requires nodes { AreNodesBehind S.topology S.packages S.machine S.why (parts.sequencer).list (parts.nodes).items }
+        requires nodes { AreNodesBehind S.topology S.packages S.machine S.why S.bases (parts.sequencer).list (parts.nodes).items }
         requires within { (parts.mediator).cursor ≤ length (parts.sequencer).list }
         requires mediator { IsMediatorBehind S.machine (take (parts.mediator).cursor (parts.sequencer).list) parts.mediator }
         requires time { parts.time ≤ 10 ^ 16 }
@@ -95,7 +95,7 @@ impl<'r, S: Session> Shared<'r, S> {
         requires { home.old.parts ≡ S.parts }
         ensures log { IsLogBehind S.history S.machine S.start home.old.amount result.sequencer }
         ensures many { length (result.nodes).items ≡ length (S.topology).hosts }
-        ensures nodes { AreNodesBehind S.topology S.packages S.machine S.why (result.sequencer).list (result.nodes).items }
+        ensures nodes { AreNodesBehind S.topology S.packages S.machine S.why S.bases (result.sequencer).list (result.nodes).items }
         ensures mediator { (read : List Entry) × IsPrefix read (result.sequencer).list × IsMediatorBehind S.machine read result.mediator }
         ensures time { result.time ≡ self.entry.round.time }
     {
@@ -170,6 +170,7 @@ impl<'r, S: Session> Shared<'r, S> {
         ensures genuine { has_place self.now.round.paused what.now.participant ≡ false
             → IfSome (answer_of result) (λ r. SequencerBehind S.machine client.new.list) }
         ensures ticket { IfOk result (λ t. (t.row ≡ S.history) × (t.list ≡ client.new.list) × (t.me ≡ client.old.me)) }
+        ensures base { IfOk result (λ t. S.bases client.old.me ≤ t.place) }
         ensures tickets { client.new.tickets ≡ client.old.tickets + one_if (has_ticket result) }
         ensures seen { IsPrefix client.old.list client.new.list }
         ensures me { client.new.me ≡ client.old.me }
@@ -184,8 +185,8 @@ impl<'r, S: Session> Shared<'r, S> {
         submit_awake(rt, &self.log, &self.nodes, client, what, self.round.time)
     }
 
-    /// What became of a ticket's request. The participant, paused or not, first reads at least what the client has seen and past the
-    /// request.
+    /// What became of a ticket's request, from its participant's base on. The participant, paused or not, first reads at least what the
+    /// client has seen and past the request.
     pub fn completion<R: Wait>(
         &self,
         rt: &R,
@@ -193,6 +194,7 @@ impl<'r, S: Session> Shared<'r, S> {
         ticket: &mut Ticket<'r>,
     ) -> Result<Completion, AllocError>
         requires ticket { (ticket.old.row ≡ S.history) × (ticket.old.me ≡ client.old.me) }
+        requires base { S.bases client.old.me ≤ ticket.old.place }
         ensures same { ticket.new ≡ ticket.old }
         ensures seen { IsPrefix client.old.list client.new.list }
         ensures client { (client.new.tickets ≡ client.old.tickets) × (client.new.me ≡ client.old.me) }

@@ -112,6 +112,7 @@ fn hand_in<'r, S: Session, const I: u8>(
         → ClientStep S.machine S.why now paused client.old.list what.now r client.new.list) }
     ensures genuine { IfSome (answer_of result) (λ r. SequencerBehind S.machine client.new.list) }
     ensures ticket { IfOk result (λ t. (t.row ≡ S.history) × (t.list ≡ client.new.list) × (t.me ≡ client.old.me)) }
+    ensures base { IfOk result (λ t. S.bases client.old.me ≤ t.place) }
     ensures tickets { client.new.tickets ≡ client.old.tickets + one_if (has_ticket result) }
     ensures seen { IsPrefix client.old.list client.new.list }
     ensures me { client.new.me ≡ client.old.me }
@@ -177,6 +178,7 @@ fn submit_at<'r, S: Session, R: Wait, const I: u8>(
         → ClientStep S.machine S.why now paused client.old.list what.now r client.new.list) }
     ensures genuine { IfSome (answer_of result) (λ r. SequencerBehind S.machine client.new.list) }
     ensures ticket { IfOk result (λ t. (t.row ≡ S.history) × (t.list ≡ client.new.list) × (t.me ≡ client.old.me)) }
+    ensures base { IfOk result (λ t. S.bases client.old.me ≤ t.place) }
     ensures tickets { client.new.tickets ≡ client.old.tickets + one_if (has_ticket result) }
     ensures seen { IsPrefix client.old.list client.new.list }
     ensures me { client.new.me ≡ client.old.me }
@@ -214,6 +216,7 @@ pub fn submit_awake<'r, S: Session, R: Wait>(
         → ClientStep S.machine S.why now paused client.old.list what.now r client.new.list) }
     ensures genuine { IfSome (answer_of result) (λ r. SequencerBehind S.machine client.new.list) }
     ensures ticket { IfOk result (λ t. (t.row ≡ S.history) × (t.list ≡ client.new.list) × (t.me ≡ client.old.me)) }
+    ensures base { IfOk result (λ t. S.bases client.old.me ≤ t.place) }
     ensures tickets { client.new.tickets ≡ client.old.tickets + one_if (has_ticket result) }
     ensures seen { IsPrefix client.old.list client.new.list }
     ensures me { client.new.me ≡ client.old.me }

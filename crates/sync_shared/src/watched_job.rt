@@ -45,7 +45,7 @@ impl<'a, 'r, S: Session, R: Wait, G: Gate, const I: u8> Future for WatchedJob<'a
     // None where the job was cancelled.
     type Output = Result<Option<Finished>, AllocError>;
 
-    ghost can_poll = { λ w. IsSomeAnd w.claimed (IsClaimed S.history S.machine I) };
+    ghost can_poll = { λ w. IsSomeAnd w.claimed (IsClaimed S.history S.machine S.bases I) };
 
     ghost gives = { λ w r. IfSome w.claimed (λ c. IfOk r (λ o. IfSome o (IsOutcome c.job.given))) };
 
@@ -82,7 +82,7 @@ pub fn run_job<'r, S: Session, R: Wait + RandomSource + AllocGlobal, G: Gate, co
     claimed: ClaimedJob<'r>,
     gate: &G,
 ) -> Result<Option<Finished>, AllocError>
-    requires { IsClaimed S.history S.machine I claimed }
+    requires { IsClaimed S.history S.machine S.bases I claimed }
     ensures { IfOk result (λ o. IfSome o (IsOutcome claimed.entry.job.given)) }
 {
     let watched = WatchedJob {

@@ -1,10 +1,11 @@
 -- Where the verdicts of a job are those that a participant owes to a request.
-use Rattle.std.specs.Prelude.{◌≡◌, ℕ, false, List, None, Some, Contains}
+use Rattle.std.specs.Prelude.{◌≡◌, Bool, false, None, Contains}
 use Rattle.ledger_terms.specs.Forest.{NoRoots}
-use Rattle.ledger_model.specs.Terms.{Path}
-use Rattle.canton_model.specs.Inbox.{Item, Notice, notice_at}
+use Rattle.ledger_model.specs.Terms.{Hash, Path}
+use Rattle.ledger_model.specs.declared.status.Status.{Status}
+use Rattle.canton_model.specs.Inbox.{Notice}
 use Rattle.canton_model.specs.Reading.{Reading, Missing}
-use Rattle.confirm_reply.specs.Verdict.{IsAtPlace, reading_of}
+use Rattle.confirm_reply.specs.Verdict.{IsGivenKnown, reading_of}
 use Rattle.confirm_reply.specs.declared.check_input.CheckInput.{CheckInput}
 
 -- The part of a reading on which verdicts hang: all but what requests show.
@@ -24,10 +25,9 @@ without_requests reading =
       has_vetted = reading.has_vetted;
     }
 
--- A participant checks the request at place k of an inbox, of which it has this notice, by this: its set-up says what the reading
--- says, the sender is the notice's, and of each view that it confirms what it is shown, the time and the facts are of that place.
-pub record IsInputAt (reading : Reading) (items : List Item) (k : ℕ) (notice : Notice) (input : CheckInput) : Type 0 where
+-- A participant checks a request of which it has this notice by this: its set-up says what the reading says, the sender is the notice's,
+-- and of each view that it confirms what it is shown and the facts are what is known of contracts.
+pub record IsInputOf (reading : Reading) (known : Hash → Status) (held : Hash → Bool) (notice : Notice) (input : CheckInput) : Type 0 where
   pub rules : without_requests reading ≡ reading_of input
-  pub received : notice_at items k ≡ Some notice
   pub sender : input.sender ≡ notice.sender
-  pub places : (path : Path) → Contains notice.confirmed path → IsAtPlace input items k path notice.offer
+  pub places : (path : Path) → Contains notice.confirmed path → IsGivenKnown input known held path notice.offer

@@ -1,10 +1,11 @@
 //! Laws of jobs, each the contract of a function with nothing to do.
-ghost use Rattle.std.specs.Prelude.{◌≡◌, ℕ, All, Contains, List};
+ghost use Rattle.std.specs.Prelude.{◌≡◌, Bool, Some, All, Contains, List};
 ghost use Rattle.ledger_model.specs.Opening.{OpenedView};
-ghost use Rattle.ledger_model.specs.Terms.{Path};
-ghost use Rattle.canton_model.specs.Checks.{verdicts_owed};
-ghost use Rattle.canton_model.specs.Inbox.{Item, Notice};
+ghost use Rattle.ledger_model.specs.Terms.{Hash, Path};
+ghost use Rattle.ledger_model.specs.declared.status.Status.{Status};
+ghost use Rattle.canton_model.specs.Inbox.{Notice};
 ghost use Rattle.canton_model.specs.Reading.{Reading};
+ghost use Rattle.pruned_inbox.specs.Start.{verdicts_by};
 ghost use Rattle.view_split.specs.Placed.{shown_by};
 ghost use Rattle.view_split.specs.declared.opened_tree.OpenedTree.{OpenedTree};
 ghost use Rattle.confirm_reply.specs.Opened.{CanBeChecked};
@@ -14,20 +15,20 @@ ghost use Rattle.confirm_reply.specs.declared.shown.Shown.TheVariants.{Open};
 ghost use Rattle.validate_job.specs.Job.{Assignment};
 ghost use Rattle.validate_job.specs.Outcome.{IsOutcome};
 ghost use Rattle.validate_job.specs.Owed.{owed_on_each};
-ghost use Rattle.validate_job.specs.OwedAt.{IsInputAt};
+ghost use Rattle.validate_job.specs.OwedAt.{IsInputOf};
 ghost use Rattle.validate_job.specs.declared.finished.Finished.{Finished};
 
-/// The verdicts on the views that a participant confirms are those that it owes to the request, and a job that is given
-/// their paths ends with them.
+/// The verdicts on the views that a participant confirms are those that it owes to the request, by what it knows of contracts, and a
+/// job that is given their paths ends with them.
 pub fn verdicts_of_jobs_are_owed()
-    ensures verdicts { (reading : Reading) (items : List Item) (k : ℕ) (notice : Notice) (input : CheckInput)
-        → IsInputAt reading items k notice input
-        → owed_on_each input notice.confirmed ≡ verdicts_owed reading input.setup.now.topology.params input.me items k }
-    ensures finished { (reading : Reading) (items : List Item) (notice : Notice) (given : Assignment) (finished : Finished)
-        → IsInputAt reading items given.place notice given.input
+    ensures verdicts { (reading : Reading) (known : Hash → Status) (held : Hash → Bool) (notice : Notice) (input : CheckInput)
+        → IsInputOf reading known held notice input
+        → owed_on_each input notice.confirmed ≡ verdicts_by reading input.setup.now.topology.params input.me input.time known held (Some notice) }
+    ensures finished { (reading : Reading) (known : Hash → Status) (held : Hash → Bool) (notice : Notice) (given : Assignment) (finished : Finished)
+        → IsInputOf reading known held notice given.input
         → given.views ≡ notice.confirmed
         → IsOutcome given finished
-        → finished.verdicts ≡ verdicts_owed reading given.input.setup.now.topology.params given.input.me items given.place }
+        → finished.verdicts ≡ verdicts_by reading given.input.setup.now.topology.params given.input.me given.input.time known held (Some notice) }
 {}
 
 /// A job can be given any paths, where each view that is opened can be checked.

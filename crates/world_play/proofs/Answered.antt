@@ -13,3 +13,7 @@ module _ {X : Type 0} {Y : Type 0} where
   pub both_ok : (r : Result X Y) (P Q R : Type 0) → OnOk r P → OnOk r Q → (P → Q → R) → OnOk r R
   both_ok (Ok x) P Q R p q f = f p q
   both_ok (Err y) P Q R p q f = p
+
+  pub three_ok : (r : Result X Y) (P Q R S : Type 0) → OnOk r P → OnOk r Q → OnOk r R → (P → Q → R → S) → OnOk r S
+  three_ok (Ok x) P Q R S p q s f = f p q s
+  three_ok (Err y) P Q R S p q s f = p

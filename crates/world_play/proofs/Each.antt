@@ -9,7 +9,9 @@ use Rattle.node_core.specs.Participant.{Participant as NodeValue, with_state}
 use Rattle.node_core.specs.Machines.{IsNodeOf}
 use Rattle.ledger_terms.specs.declared.topology.Topology.{Topology}
 use Rattle.lang_eval.specs.Found.{Packages}
+use Rattle.node_core.specs.Bases.{AreBases, Bases}
 use Rattle.world_play.specs.Submitting.{AreSetUp}
+use Rattle.node_core.specs.OverLog.{HasInbox, inbox_over}
 use Rattle.world_play.specs.Worlds.{AreNodesOf}
 
 -- lists
@@ -69,9 +71,10 @@ module _ (R : ℕ → NodeValue → NodeValue → Type 0) (first : List NodeValu
           after = λ i le. set_other nodes k i node' (λ e. omega (arith, le, e)) ∙ r.after i (omega (arith, le));
         }
 
-  pub done_nodes : ((i : ℕ) (x y : NodeValue) → R i x y → y ≡ with_state x y.state) → (s : Sequenced) (nodes : List NodeValue) (k : ℕ)
-      → AreDone nodes k → k ≡ length nodes → (m : Machine) → AreNodesOf m first s → AreNodesOf m nodes s
-  done_nodes same s nodes k r end m a =
+  pub done_nodes : ((i : ℕ) (x y : NodeValue) → R i x y → y ≡ with_state x y.state) → (s : Sequenced)
+      → ((i : ℕ) (x y : NodeValue) → R i x y → HasInbox (inbox_over s.list x) x → HasInbox (inbox_over s.list y) y)
+      → (nodes : List NodeValue) (k : ℕ) → AreDone nodes k → k ≡ length nodes → (m : Machine) → AreNodesOf m first s → AreNodesOf m nodes s
+  done_nodes same s keeps nodes k r end m a =
       record {
         is_reading = a.is_reading;
         is_for = a.is_for;
@@ -82,6 +85,11 @@ module _ (R : ℕ → NodeValue → NodeValue → Type 0) (first : List NodeValu
             let is = a.node p x.0 x.1 in
             subst (IsNodeOf m p) (sym (same p x.0 node (r.before p x.0 node (omega (arith, within, end)) x.1 there)))
             (record { reading = is.reading; params = is.params; me = is.me; prepares = is.prepares });
+        inbox = λ p node there.
+            let within = slice_get_within nodes p node there in
+            let long = r.long in
+            let x = item_of first p (omega (arith, within, long)) in
+            keeps p x.0 node (r.before p x.0 node (omega (arith, within, end)) x.1 there) (a.inbox p x.0 x.1);
       }
 
   pub done_set_up : ((i : ℕ) (x y : NodeValue) → R i x y → y ≡ with_state x y.state) → (nodes : List NodeValue) (k : ℕ) → AreDone nodes k
@@ -97,3 +105,11 @@ module _ (R : ℕ → NodeValue → NodeValue → Type 0) (first : List NodeValu
             let kept = same p x.0 node (r.before p x.0 node (omega (arith, within, end)) x.1 there) in
             (ap (λ (y : NodeValue). y.topology) kept ∙ is.0, ap (λ (y : NodeValue). y.packages) kept ∙ is.1);
       }
+
+  pub done_bases : ((i : ℕ) (x y : NodeValue) → R i x y → y ≡ with_state x y.state) → (nodes : List NodeValue) (k : ℕ) → AreDone nodes k
+      → k ≡ length nodes → (bases : Bases) → AreBases bases first → AreBases bases nodes
+  done_bases same nodes k r end bases u p node there =
+      let within = slice_get_within nodes p node there in
+      let long = r.long in
+      let x = item_of first p (omega (arith, within, long)) in
+      ap (λ (y : NodeValue). y.base) (same p x.0 node (r.before p x.0 node (omega (arith, within, end)) x.1 there)) ∙ u p x.0 x.1

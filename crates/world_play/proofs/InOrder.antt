@@ -24,6 +24,7 @@ use Rattle.world_play.specs.Flags.{ArePaused}
 use Rattle.node_core.specs.Machines.{why_of}
 use Rattle.world_play.specs.Results.{IsPlainResult, result_of, results_of}
 use Rattle.world_play.specs.Standing.{GoesOn}
+use Rattle.node_core.specs.Bases.{AreBases, Bases}
 use Rattle.world_play.specs.Submitting.{AreSetUp}
 use Rattle.world_play.specs.WorldOf.{IsWorldOf, world_of}
 use Rattle.world_play.proofs.Sends.{goes_further, stays}
@@ -50,11 +51,12 @@ pub record Keeps (first world : World) : Type 0 where
   pub lawful : (m : Machine) (state : MediatorState) → IsWorldOf m state first → Lawful m (world_of state first)
       → IsWorldOf m state world × Lawful m (world_of state world)
   pub set_up : (topology : Topology) (packages : Packages) → AreSetUp topology packages (first.nodes).items → AreSetUp topology packages (world.nodes).items
+  pub bases : (bases : Bases) → AreBases bases (first.nodes).items → AreBases bases (world.nodes).items
   pub paused : (paused : List ParticipantId) → ArePaused paused (first.nodes).items → ArePaused paused (world.nodes).items
 
 pub keeps_same : (world : World) → Keeps world world
 keeps_same world =
-    record { on = stays world.sequencer; now = refl; lawful = λ m state is l. (is, l); set_up = λ topology packages u. u; paused = λ paused p. p }
+    record { on = stays world.sequencer; now = refl; lawful = λ m state is l. (is, l); set_up = λ topology packages u. u; bases = λ bases u. u; paused = λ paused p. p }
 
 pub keeps_both : (a b c : World) → Keeps a b → Keeps b c → Keeps a c
 keeps_both a b c x y =
@@ -63,6 +65,7 @@ keeps_both a b c x y =
       now = y.now ∙ x.now;
       lawful = λ m state is l. let h = x.lawful m state is l in y.lawful m state h.0 h.1;
       set_up = λ topology packages u. y.set_up topology packages (x.set_up topology packages u);
+      bases = λ bases u. y.bases bases (x.bases bases u);
       paused = λ paused p. y.paused paused (x.paused paused p);
     }
 

@@ -1,7 +1,9 @@
 pub mod Refused
 pub mod Answered
 pub mod Moved
+pub mod LogMore
 pub mod Readers
+pub mod Fewer
 pub mod Jobs
 pub mod Sends
 pub mod Turns
@@ -11,6 +13,7 @@ pub mod Passed
 pub mod Settles
 pub mod Scanned
 pub mod Each
+pub mod Dues
 pub mod Resumes
 pub mod Catches
 pub mod Makes

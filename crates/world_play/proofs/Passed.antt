@@ -1,9 +1,10 @@
 -- The end of a pass.
-use Rattle.std.proofs.Common.{◌≡◌, ◌≤◌, ℕ, Bool, true, false, List, refl, sym, ap, ◌∙◌, subst}
+use Rattle.std.proofs.Common.{◌≡◌, ◌≤◌, ℕ, Bool, true, false, List, map, refl, sym, ap, ◌∙◌, subst}
 use Rattle.ledger_model.specs.Terms.{ParticipantId}
 use Rattle.world_model.specs.Messages.{Entry}
 use Rattle.world_model.specs.Machine.{Machine, GenuineLog}
 use Rattle.world_model.specs.Mediator.{MediatorState, cases_of}
+use Rattle.world_model.specs.Node.{NodeState}
 use Rattle.world_model.specs.Sequencing.{reserved}
 use Rattle.world_model.specs.Lawful.{Lawful}
 use Rattle.world_model.specs.Settled.{append_each, pass}
@@ -13,14 +14,25 @@ use Rattle.world_model.proofs.Steps.{lawful_grown, lawful_with_mediator}
 use Rattle.world_model.proofs.WorldPasses.{pass_ends, pass_ends_held}
 use Rattle.mediator.specs.KeptCases.{KeptMediator}
 use Rattle.seq_log.specs.Sequenced.{Sequenced}
+use Rattle.node_core.specs.OverLog.{state_over}
 use Rattle.node_core.specs.Participant.{Participant as NodeValue}
 use Rattle.world_play.specs.Standing.{IsMediator, HasAll, GoesOn}
 use Rattle.world_play.specs.Worlds.{world_with, AreNodesOf, IsMediatorOf}
+use Rattle.world_play.proofs.LogMore.{has_inbox_more, states_more}
 use Rattle.world_play.proofs.Sends.{still_for}
 
 module _ (m : Machine) (now : ℕ) (nodes : List NodeValue) (s : Sequenced) (a : AreNodesOf m nodes s) where
   pub nodes_grown : (s2 : Sequenced) → GoesOn s s2 → AreNodesOf m nodes s2
-  nodes_grown s2 on = record { is_reading = a.is_reading; is_for = still_for m s s2 on a.is_for; node = a.node }
+  nodes_grown s2 on =
+      record {
+        is_reading = a.is_reading;
+        is_for = still_for m s s2 on a.is_for;
+        node = a.node;
+        inbox = λ p node there. has_inbox_more s s2 on node (a.inbox p node there);
+      }
+
+  pub states_grown : (s2 : Sequenced) → GoesOn s s2 → map (state_over s2.list) nodes ≡ map (state_over s.list) nodes
+  states_grown s2 on = states_more s s2 on nodes a.inbox
 
   module _ (state : MediatorState) (l : Lawful m (world_with now state nodes s)) where
     pub mediator_in : (mediator : KeptMediator) → IsMediatorOf m state mediator → IsMediator m state (l.mediator).0 mediator s
@@ -42,9 +54,10 @@ module _ (m : Machine) (now : ℕ) (nodes : List NodeValue) (s : Sequenced) (a :
         let grown =
         lawful_grown m w on.more now l (subst (GenuineLog m) on.is_more (i.behind).genuine)
         (subst (λ (xs : List Entry). reserved xs ≤ m.capacity) on.is_more (i.behind).within_capacity) in
-        lawful_with_mediator m (world_with now state nodes s2) after
+        subst (λ (states : List NodeState). Lawful m (record { log = s2.list; now = now; mediator = after; nodes = states })) (sym (states_grown s2 on))
+        (lawful_with_mediator m (record { log = s2.list; now = now; mediator = state; nodes = w.nodes }) after
         (subst (λ (xs : List Entry). Lawful m (record { log = xs; now = now; mediator = state; nodes = w.nodes })) (sym on.is_more) grown)
-        (k, i.within, i.has)
+        (k, i.within, i.has))
 
   pub mediator_is : (after : MediatorState) (mediator : KeptMediator) (log : List Entry) → HasAll m after mediator log → IsMediatorOf m after mediator
   mediator_is after mediator log h = record { params = h.params; keeps = h.keeps }
@@ -63,7 +76,8 @@ module _ (m : Machine) (now : ℕ) (nodes : List NodeValue) (s : Sequenced) (a :
       let list = ap (λ (q : Sequenced). q.list) w.3 in (
         w.0,
         mediator_is w.0 mediator s.list w.1,
-        subst (λ (xs : List Entry). WorldReady m paused (record { log = xs; now = now; mediator = w.0; nodes = (world_with now state nodes s).nodes })) (sym list) e.0,
+        subst (λ (states : List NodeState). WorldReady m paused (record { log = s2.list; now = now; mediator = w.0; nodes = states })) (sym (states_grown s2 on))
+            (subst (λ (xs : List Entry). WorldReady m paused (record { log = xs; now = now; mediator = w.0; nodes = map (state_over s.list) nodes })) (sym list) e.0),
         list ∙ e.1,
       )
   pass_done paused false state began mediator s2 done on h g =
@@ -71,6 +85,7 @@ module _ (m : Machine) (now : ℕ) (nodes : List NodeValue) (s : Sequenced) (a :
       let e = pass_ends m paused began (world_with now state nodes s) w.0 done (w.1).has in (
         w.0,
         mediator_is w.0 mediator s.list w.1,
-        subst (λ (xs : List Entry). WorldReady m paused (record { log = xs; now = now; mediator = w.0; nodes = (world_with now state nodes s).nodes })) (sym w.2) e.0,
+        subst (λ (states : List NodeState). WorldReady m paused (record { log = s2.list; now = now; mediator = w.0; nodes = states })) (sym (states_grown s2 on))
+            (subst (λ (xs : List Entry). WorldReady m paused (record { log = xs; now = now; mediator = w.0; nodes = map (state_over s.list) nodes })) (sym w.2) e.0),
         w.2 ∙ e.1,
       )

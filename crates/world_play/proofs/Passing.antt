@@ -20,28 +20,34 @@ use Rattle.world_model.proofs.WorldPasses.{turn, turn_skipped}
 use Rattle.seq_log.specs.Sequenced.{Sequenced}
 use Rattle.node_core.specs.Participant.{Participant as NodeValue, with_state}
 use Rattle.node_core.specs.Machines.{IsNodeOf}
+use Rattle.node_core.specs.Bases.{AreBases, Bases}
 use Rattle.world_play.specs.Standing.{IsParticipant, GoesOn}
-use Rattle.world_play.specs.Worlds.{state_of, world_with, AreNodesOf}
+use Rattle.node_core.specs.OverLog.{HasInbox, inbox_over, state_over}
+use Rattle.world_play.specs.Worlds.{world_with, AreNodesOf}
 use Rattle.ledger_terms.specs.declared.topology.Topology.{Topology}
 use Rattle.lang_eval.specs.Found.{Packages}
 use Rattle.world_play.specs.Submitting.{AreSetUp}
 use Rattle.world_play.proofs.Each.{length_slice_set}
+use Rattle.world_play.proofs.LogMore.{has_inbox_more, states_more}
 use Rattle.world_play.proofs.Sends.{stays, goes_further, still_for}
 
 -- one node changed
-pub map_set : (nodes : List NodeValue) (k : ℕ) (x : NodeValue) → map state_of (slice_set nodes k x) ≡ set_at (map state_of nodes) k x.state
-map_set [] k x = refl
-map_set (y ∷ ys) zero x = refl
-map_set (y ∷ ys) (suc k) x = ap (λ (zs : List NodeState). y.state ∷ zs) (map_set ys k x)
+module _ (log : List Entry) where
+  pub map_set : (nodes : List NodeValue) (k : ℕ) (x : NodeValue)
+      → map (state_over log) (slice_set nodes k x) ≡ set_at (map (state_over log) nodes) k (state_over log x)
+  map_set [] k x = refl
+  map_set (y ∷ ys) zero x = refl
+  map_set (y ∷ ys) (suc k) x = ap (λ (zs : List NodeState). state_over log y ∷ zs) (map_set ys k x)
 
-pub map_at : (nodes : List NodeValue) (k : ℕ) (x : NodeValue) → slice_get nodes k ≡ Some x → slice_get (map state_of nodes) k ≡ Some x.state
-map_at [] k x e = absurd (none-some x e)
-map_at (y ∷ ys) zero x e = ap Some (ap state_of (same_Some y x e))
-map_at (y ∷ ys) (suc k) x e = map_at ys k x e
+  pub map_at : (nodes : List NodeValue) (k : ℕ) (x : NodeValue) → slice_get nodes k ≡ Some x
+      → slice_get (map (state_over log) nodes) k ≡ Some (state_over log x)
+  map_at [] k x e = absurd (none-some x e)
+  map_at (y ∷ ys) zero x e = ap Some (ap (state_over log) (same_Some y x e))
+  map_at (y ∷ ys) (suc k) x e = map_at ys k x e
 
-pub length_states : (nodes : List NodeValue) → length (map state_of nodes) ≡ length nodes
-length_states [] = refl
-length_states (x ∷ xs) = ap suc (length_states xs)
+  pub length_states : (nodes : List NodeValue) → length (map (state_over log) nodes) ≡ length nodes
+  length_states [] = refl
+  length_states (x ∷ xs) = ap suc (length_states xs)
 
 -- the item of a loop
 pub item_at : {X : Type 0} (xs : List X) (k : ℕ) (x : X) → k < length xs → slice_get xs k ≡ Some (slice_index_or xs k x)
@@ -72,7 +78,7 @@ module _ (nodes : List NodeValue) (s : Sequenced) (k : ℕ) (node : NodeValue) (
   pub in_turn : (m : Machine) (now : ℕ) (state : MediatorState) → AreNodesOf m nodes s → Lawful m (world_with now state nodes s)
       → IsParticipant m k node s
   in_turn m now state a l =
-      let n = l.node k node.state (map_at nodes k node at) in
+      let n = l.node k (state_over s.list node) (map_at s.list nodes k node at) in
       record {
         is_reading = a.is_reading;
         is_for = a.is_for;
@@ -81,7 +87,14 @@ module _ (nodes : List NodeValue) (s : Sequenced) (k : ℕ) (node : NodeValue) (
         read = n.0;
         within = n.1;
         has = n.2;
+        inbox = a.inbox k node at;
       }
+
+  -- its inbox after it
+  pub inbox_turned : (node' : NodeValue) (s' : Sequenced) → ((m : Machine) (p : ParticipantId) → IsParticipant m p node s → IsParticipant m p node' s')
+      → (m : Machine) (now : ℕ) (state : MediatorState) → AreNodesOf m nodes s → Lawful m (world_with now state nodes s)
+      → HasInbox (inbox_over s'.list node') node'
+  inbox_turned node' s' keeps m now state a l = (keeps m k (in_turn m now state a l)).inbox
 
   pub set_up_then : (node' : NodeValue) → node' ≡ with_state node node'.state → (topology : Topology) (packages : Packages)
       → AreSetUp topology packages nodes → AreSetUp topology packages (slice_set nodes k node')
@@ -97,12 +110,20 @@ module _ (nodes : List NodeValue) (s : Sequenced) (k : ℕ) (node : NodeValue) (
         ];
       }
 
+  pub bases_then : (node' : NodeValue) → node' ≡ with_state node node'.state → (bases : Bases) → AreBases bases nodes
+      → AreBases bases (slice_set nodes k node')
+  bases_then node' same bases u p x there =
+      elim (set_at_cases nodes k p node' x there) [
+        | inl here ↦ ap (λ (y : NodeValue). y.base) (sym here.1 ∙ same) ∙ (u k node at ∙ ap bases (sym here.0))
+        | inr old ↦ u p x old
+      ]
+
   module _ (node' : NodeValue) (s' : Sequenced) (on : GoesOn s s') (same : node' ≡ with_state node node'.state) where
     abbrev nodes' : List NodeValue
     nodes' = slice_set nodes k node'
 
-    pub nodes_then : (m : Machine) → AreNodesOf m nodes s → AreNodesOf m nodes' s'
-    nodes_then m a =
+    pub nodes_then : HasInbox (inbox_over s'.list node') node' → (m : Machine) → AreNodesOf m nodes s → AreNodesOf m nodes' s'
+    nodes_then inbox m a =
         record {
           is_reading = a.is_reading;
           is_for = still_for m s s' on a.is_for;
@@ -113,19 +134,29 @@ module _ (nodes : List NodeValue) (s : Sequenced) (k : ℕ) (node : NodeValue) (
                 (subst (IsNodeOf m k) (sym same ∙ here.1) (record { reading = i.reading; params = i.params; me = i.me; prepares = i.prepares }))
             | inr old ↦ let i = a.node p x old in record { reading = i.reading; params = i.params; me = i.me; prepares = i.prepares }
           ];
+          inbox = λ p x there. elim (set_at_cases nodes k p node' x there) [
+            | inl here ↦ subst (λ (y : NodeValue). HasInbox (inbox_over s'.list y) y) here.1 inbox
+            | inr old ↦ has_inbox_more s s' on x (a.inbox p x old)
+          ];
         }
+
+    pub moved_states : (m : Machine) → AreNodesOf m nodes s
+        → map (state_over s'.list) nodes' ≡ set_at (map (state_over s.list) nodes) k (state_over s'.list node')
+    moved_states m a =
+        map_set s'.list nodes k node' ∙ ap (λ (states : List NodeState). set_at states k (state_over s'.list node')) (states_more s s' on nodes a.inbox)
 
     pub lawful_then : ((m : Machine) (p : ParticipantId) → IsParticipant m p node s → IsParticipant m p node' s') → (m : Machine) (now : ℕ)
         (state : MediatorState) → AreNodesOf m nodes s → Lawful m (world_with now state nodes s) → Lawful m (world_with now state nodes' s')
     lawful_then keeps m now state a l =
         let p' = keeps m k (in_turn m now state a l) in
-        let grown : Lawful m (record { log = s.list ++ on.more; now = now; mediator = state; nodes = map state_of nodes }) =
+        let states = map (state_over s.list) nodes in
+        let grown : Lawful m (record { log = s.list ++ on.more; now = now; mediator = state; nodes = states }) =
         lawful_grown m (world_with now state nodes s) on.more now l (subst (λ (xs : List Entry). Genuine m.reading m.params xs) on.is_more (p'.behind).genuine)
         (subst (λ (xs : List Entry). reserved xs ≤ m.capacity) on.is_more (p'.behind).within_capacity) in
-        let here : Lawful m (record { log = s'.list; now = now; mediator = state; nodes = map state_of nodes }) =
-        subst (λ (xs : List Entry). Lawful m (record { log = xs; now = now; mediator = state; nodes = map state_of nodes })) (sym on.is_more) grown in
-        subst (λ (xs : List NodeState). Lawful m (record { log = s'.list; now = now; mediator = state; nodes = xs })) (sym (map_set nodes k node'))
-        (lawful_with_node m (record { log = s'.list; now = now; mediator = state; nodes = map state_of nodes }) k node'.state here
+        let here : Lawful m (record { log = s'.list; now = now; mediator = state; nodes = states }) =
+        subst (λ (xs : List Entry). Lawful m (record { log = xs; now = now; mediator = state; nodes = states })) (sym on.is_more) grown in
+        subst (λ (xs : List NodeState). Lawful m (record { log = s'.list; now = now; mediator = state; nodes = xs })) (sym (moved_states m a))
+        (lawful_with_node m (record { log = s'.list; now = now; mediator = state; nodes = states }) k (state_over s'.list node') here
         (p'.read, p'.within, p'.has))
 
 module _ (paused : List ParticipantId) (first : List NodeValue) (began_at : Sequenced) where
@@ -135,6 +166,7 @@ module _ (paused : List ParticipantId) (first : List NodeValue) (began_at : Sequ
     pub lawful : (m : Machine) (now : ℕ) (state : MediatorState) → AreNodesOf m first began_at
         → Lawful m (world_with now state first began_at) → Lawful m (world_with now state nodes s)
     pub set_up : (topology : Topology) (packages : Packages) → AreSetUp topology packages first → AreSetUp topology packages nodes
+    pub bases : (bases : Bases) → AreBases bases first → AreBases bases nodes
     pub passed : (m : Machine) (now : ℕ) (state : MediatorState) (began : List Entry) → AreNodesOf m first began_at
         → PassedTo m paused began 0 (world_with now state first began_at) → PassedTo m paused began k (world_with now state nodes s)
 
@@ -145,6 +177,7 @@ module _ (paused : List ParticipantId) (first : List NodeValue) (began_at : Sequ
         nodes_of = λ m a. a;
         lawful = λ m now state a l. l;
         set_up = λ topology packages u. u;
+        bases = λ bases u. u;
         passed = λ m now state began a h. h;
       }
 
@@ -155,8 +188,11 @@ module _ (paused : List ParticipantId) (first : List NodeValue) (began_at : Sequ
       moved = slice_set nodes k node'
 
       -- it broke off
-      pub left_nodes : (m : Machine) → AreNodesOf m first began_at → AreNodesOf m moved s'
-      left_nodes m a = nodes_then nodes s k node at node' s' on same m (t.nodes_of m a)
+      pub left_nodes : (m : Machine) × (now : ℕ) × (state : MediatorState) × AreNodesOf m first began_at × Lawful m (world_with now state first began_at)
+          → (m : Machine) → AreNodesOf m first began_at → AreNodesOf m moved s'
+      left_nodes g m a =
+          nodes_then nodes s k node at node' s' on same
+          (inbox_turned nodes s k node at node' s' keeps g.0 g.1 g.2 (t.nodes_of g.0 g.3) (t.lawful g.0 g.1 g.2 g.3 g.4)) m (t.nodes_of m a)
 
       pub left_lawful : (m : Machine) (now : ℕ) (state : MediatorState) → AreNodesOf m first began_at
           → Lawful m (world_with now state first began_at) → Lawful m (world_with now state moved s')
@@ -166,30 +202,36 @@ module _ (paused : List ParticipantId) (first : List NodeValue) (began_at : Sequ
       pub left_set_up : (topology : Topology) (packages : Packages) → AreSetUp topology packages first → AreSetUp topology packages moved
       left_set_up topology packages u = set_up_then nodes s k node at node' same topology packages (t.set_up topology packages u)
 
+      pub left_bases : (bases : Bases) → AreBases bases first → AreBases bases moved
+      left_bases bases u = bases_then nodes s k node at node' same bases (t.bases bases u)
+
       pub left_on : GoesOn began_at s'
       left_on = goes_further began_at s s' t.on on
 
       -- it was at its end
       module _ (awake : has_place paused k ≡ false)
           (sends : (m : Machine) (p : ParticipantId) (now : ℕ) → IsParticipant m p node s
-          → s'.list ≡ append_each m now s.list (turn_messages m p s.list node.state))
-          (has : (m : Machine) (p : ParticipantId) → IsParticipant m p node s → NodeHas m p s.list node'.state) where
+          → s'.list ≡ append_each m now s.list (turn_messages m p s.list (state_over s.list node)))
+          (has : (m : Machine) (p : ParticipantId) → IsParticipant m p node s → NodeHas m p s.list (state_over s'.list node'))
+          (g : (m : Machine) × (now : ℕ) × (state : MediatorState) × AreNodesOf m first began_at × Lawful m (world_with now state first began_at)) where
         turned : IsTurning moved s' (suc k)
         turned =
             record {
               on = left_on;
-              nodes_of = left_nodes;
+              nodes_of = left_nodes g;
               lawful = left_lawful;
               set_up = left_set_up;
+              bases = left_bases;
               passed = λ m now state began a h.
                   let w = world_with now state nodes s in
                   let done = t.passed m now state began a h in
                   let a' = t.nodes_of m a in
                   let given = in_turn nodes s k node at m now state a' ((done.ready).lawful) in
                   subst (λ (xs : List NodeState). PassedTo m paused began (suc k) (record { log = s'.list; now = now; mediator = state; nodes = xs }))
-                  (sym (map_set nodes k node'))
-                  (subst (λ (xs : List Entry). PassedTo m paused began (suc k) (with_node (with_log w xs) k node'.state)) (sym (sends m k now given))
-                  (turn m paused began k w node.state node'.state a'.is_reading done (map_at nodes k node at) awake (has m k given)));
+                  (sym (moved_states nodes s k node at node' s' on same m a'))
+                  (subst (λ (xs : List Entry). PassedTo m paused began (suc k) (with_node (with_log w xs) k (state_over s'.list node'))) (sym (sends m k now given))
+                  (turn m paused began k w (state_over s.list node) (state_over s'.list node') a'.is_reading done (map_at s.list nodes k node at) awake
+                  (has m k given)));
             }
 
         pub turning_on : IsTurning moved s' (k + 1)
@@ -204,6 +246,7 @@ module _ (paused : List ParticipantId) (first : List NodeValue) (began_at : Sequ
         nodes_of = t.nodes_of;
         lawful = t.lawful;
         set_up = t.set_up;
+        bases = t.bases;
         passed = λ m now state began a h. turn_skipped m paused began k (world_with now state nodes s) (t.passed m now state began a h) asleep;
       })
 
@@ -212,4 +255,4 @@ module _ (paused : List ParticipantId) (first : List NodeValue) (began_at : Sequ
       → PassedTo m paused began m.hosts (world_with now state nodes s)
   turning_ends nodes s k t end m now state began a h =
       let done = t.passed m now state began a h in
-      subst (λ (i : ℕ). PassedTo m paused began i (world_with now state nodes s)) (end ∙ (sym (length_states nodes) ∙ ((done.ready).lawful).hosts)) done
+      subst (λ (i : ℕ). PassedTo m paused began i (world_with now state nodes s)) (end ∙ (sym (length_states s.list nodes) ∙ ((done.ready).lawful).hosts)) done

@@ -6,7 +6,7 @@ use Rattle.std.proofs.lemmas.Bool.{and_parts, cases_Bool, le-ltb, lt-ltb, ltb-tr
 use Rattle.std.proofs.lemmas.List.{take_all}
 use Rattle.std.proofs.lemmas.Option.{slice_get_within}
 use Rattle.ledger_model.specs.Terms.{ParticipantId}
-use Rattle.canton_model.specs.Log.{Params, request_at, request_in}
+use Rattle.canton_model.specs.Log.{Params, request_at}
 use Rattle.canton_model.specs.Mediation.{has_responded}
 use Rattle.canton_model.specs.Reading.{Reading}
 use Rattle.world_model.specs.Messages.{Entry, Request}
@@ -17,16 +17,17 @@ use Rattle.world_model.specs.Settled.{is_asked_in, is_due, is_undecided}
 use Rattle.world_model.specs.Settling.{resume_at, resume_below, resumed, resume_each, return_at, return_below, returned}
 use Rattle.canton_model.specs.Inbox.{Item}
 use Rattle.world_model.specs.Lawful.{Lawful}
-use Rattle.world_model.proofs.NodeFacts.{owes_is}
 use Rattle.world_model.proofs.Steps.{mediator_has_back, take_next}
 use Rattle.mediator.specs.KeptCases.{KeptMediator, Keeps}
 use Rattle.seq_log.specs.OpenRequests.{is_open, open_requests, place_if, places_below}
 use Rattle.seq_log.specs.Sequenced.{Sequenced, IsFor}
 use Rattle.seq_log.proofs.Queues.{place_passes}
+use Rattle.node_core.specs.OverLog.{HasInbox, inbox_over, state_over}
 use Rattle.node_core.specs.Participant.{Participant as NodeValue, reading_of, with_state}
+use Rattle.node_core.proofs.OverLog.{cursor_is, put_back_one}
 use Rattle.world_play.specs.Standing.{IsMediator, IsParticipant}
-use Rattle.world_play.specs.Worlds.{state_of, world_with, AreNodesOf}
-use Rattle.world_play.proofs.Moved.{from_machine}
+use Rattle.world_play.specs.Worlds.{world_with, AreNodesOf}
+use Rattle.world_play.proofs.Dues.{owes_due}
 use Rattle.world_play.proofs.Each.{AreDone}
 use Rattle.world_play.proofs.Passing.{in_turn, item_at}
 use Rattle.world_play.proofs.Turns.{cursor_of}
@@ -125,25 +126,29 @@ module _ (at : ℕ) (first : NodeValue) (s : Sequenced) where
   pub record IsResumer (node : NodeValue) (places : List ℕ) : Type 0 where
     pub same : node ≡ with_state first node.state
     pub items : (node.state).items ≡ (first.state).items
-    pub resumed_to : (m : Machine) → IsParticipant m at first s → node.state ≡ fold (resume_at m s.list at) first.state places
+    pub inbox : HasInbox (inbox_over s.list first) first → HasInbox (inbox_over s.list node) node
+    pub resumed_to : (m : Machine) → IsParticipant m at first s → state_over s.list node ≡ fold (resume_at m s.list at) (state_over s.list first) places
 
   pub resumer_starts : IsResumer first []
-  resumer_starts = record { same = refl; items = refl; resumed_to = λ m given. refl }
+  resumer_starts = record { same = refl; items = refl; inbox = λ has. has; resumed_to = λ m given. refl }
 
   module _ (node : NodeValue) (places : List ℕ) (r : IsResumer node places) (k : ℕ) (test : Bool)
       (is : (m : Machine) → IsParticipant m at first s → test ≡ (is_due m s.list at k && nat_lt k (length (node.state).items))) where
     holds : (m : Machine) → IsParticipant m at first s → (b : Bool) → test ≡ b
-        → (is_due m s.list at k && nat_lt k (length (fold (resume_at m s.list at) first.state places).items)) ≡ b
+        → (is_due m s.list at k && nat_lt k (length (fold (resume_at m s.list at) (state_over s.list first) places).items)) ≡ b
     holds m given b t =
-        ap (λ (x : NodeState). is_due m s.list at k && nat_lt k (length x.items)) (sym (r.resumed_to m given)) ∙ (sym (is m given) ∙ t)
+        ap (λ (x : NodeState). is_due m s.list at k && nat_lt k (length x.items)) (sym (r.resumed_to m given))
+        ∙ (ap (λ (n : ℕ). is_due m s.list at k && nat_lt k n) (sym (cursor_is (inbox_over s.list node) node (r.inbox given.inbox)))
+        ∙ (sym (is m given) ∙ t))
 
     pub resumer_past : test ≡ false → IsResumer node (places ++ k ∷ [])
     resumer_past no_test =
         record {
           same = r.same;
           items = r.items;
+          inbox = r.inbox;
           resumed_to = λ m given.
-              let h = holds m given false no_test in rw (fold_on (resume_at m s.list at) first.state places k, h) (r.resumed_to m given);
+              let h = holds m given false no_test in rw (fold_on (resume_at m s.list at) (state_over s.list first) places k, h) (r.resumed_to m given);
         }
 
     module _ (yes_test : test ≡ true) where
@@ -154,22 +159,10 @@ module _ (at : ℕ) (first : NodeValue) (s : Sequenced) where
           let long = ap length r.items in
           let cursor = cursor_of m at first s given in
           let read : k < given.read = omega (arith, within, long, cursor) in
-          let asked : is_asked_in m.reading at (request_at s.list k) ≡ true = (and_parts (is_asked_in m.reading at (request_at s.list k)) _ both.0).0 in
-          let owes : owes_at m.reading at (first.state).items k ≡ true =
-          ap (λ (items : List Item). owes_at m.reading at items k) (given.has).items
-          ∙ (owes_is m.reading at (take given.read s.list) k ∙ (ap (is_asked_in m.reading at) (request_taken s.list given.read k read) ∙ asked)) in
+          let due = and_parts (is_asked_in m.reading at (request_at s.list k)) _ both.0 in
+          let undecided = (and_parts (not (has_responded k s.list at)) _ due.1).1 in
           subst (λ (x : NodeValue). owes_at (reading_of x) x.me (node.state).items k ≡ true) (sym r.same)
-          (ap (λ (items : List Item). owes_at (reading_of first) first.me items k) r.items
-          ∙ from_machine m at first given.is (λ (q : Reading) (t : Params) (i : ParticipantId). owes_at q i (first.state).items k ≡ true) owes)
-        where
-          taken : (xs : List Entry) (n i : ℕ) → i < n → slice_get (take n xs) i ≡ slice_get xs i
-          taken xs zero i lt = absurd (omega (arith, lt))
-          taken [] (suc n) i lt = refl
-          taken (x ∷ xs) (suc n) zero lt = refl
-          taken (x ∷ xs) (suc n) (suc i) lt = taken xs n i (omega (arith, lt))
-
-          request_taken : (xs : List Entry) (n i : ℕ) → i < n → request_at (take n xs) i ≡ request_at xs i
-          request_taken xs n i lt = ap request_in (taken xs n i lt)
+          (ap (λ (items : List Item). owes_at (reading_of first) first.me items k) r.items ∙ owes_due m at first s given k read due.0 undecided)
 
       pub resumer_on : (after : NodeValue) → after ≡ with_state node (put_back node.state k) → IsResumer after (places ++ k ∷ [])
       resumer_on after a =
@@ -177,16 +170,19 @@ module _ (at : ℕ) (first : NodeValue) (s : Sequenced) where
           record {
             same = here ∙ ap (λ (x : NodeValue). with_state first x.state) (sym here);
             items = ap (λ (x : NodeValue). (x.state).items) here ∙ r.items;
+            inbox = λ has.
+                subst (λ (x : NodeValue). HasInbox (inbox_over s.list x) x) (sym a) (put_back_one (inbox_over s.list node) node (r.inbox has) k);
             resumed_to = λ m given.
                 let h = holds m given true yes_test in
-                rw (fold_on (resume_at m s.list at) first.state places k, h)
-                (ap (λ (x : NodeValue). x.state) here ∙ ap (λ (x : NodeState). put_back x k) (r.resumed_to m given));
+                rw (fold_on (resume_at m s.list at) (state_over s.list first) places k, h)
+                (ap (state_over s.list) a ∙ ap (λ (x : NodeState). put_back x k) (r.resumed_to m given));
           }
 
   pub resumer_ends : (node : NodeValue) (places : List ℕ) → IsResumer node places → places ≡ open_of s → (m : Machine) → IsParticipant m at first s
-      → node.state ≡ resumed m s.list at first.state
+      → state_over s.list node ≡ resumed m s.list at (state_over s.list first)
   resumer_ends node places r end m given =
-      r.resumed_to m given ∙ (ap (fold (resume_at m s.list at) first.state) end ∙ resumed_open m s given.is_for at first.state)
+      r.resumed_to m given
+      ∙ (ap (fold (resume_at m s.list at) (state_over s.list first)) end ∙ resumed_open m s given.is_for at (state_over s.list first))
 
 -- the mediator
 module _ (first : KeptMediator) (s : Sequenced) where
@@ -244,29 +240,32 @@ module _ (first : KeptMediator) (s : Sequenced) where
 
 -- all participants
 abbrev pub Resumed : Sequenced → ℕ → NodeValue → NodeValue → Type 0
-Resumed s i x y = (y ≡ with_state x y.state) × ((m : Machine) → IsParticipant m i x s → y.state ≡ resumed m s.list i x.state)
+Resumed s i x y =
+    (y ≡ with_state x y.state) × (HasInbox (inbox_over s.list x) x → HasInbox (inbox_over s.list y) y)
+    × ((m : Machine) → IsParticipant m i x s → state_over s.list y ≡ resumed m s.list i (state_over s.list x))
 
 each_is : (m : Machine) (log : List Entry) (p : ℕ) (xs ys : List NodeValue) → length ys ≡ length xs
-    → ((i : ℕ) (x y : NodeValue) → slice_get xs i ≡ Some x → slice_get ys i ≡ Some y → y.state ≡ resumed m log (p + i) x.state)
-    → map state_of ys ≡ resume_each m log p (map state_of xs)
+    → ((i : ℕ) (x y : NodeValue) → slice_get xs i ≡ Some x → slice_get ys i ≡ Some y → state_over log y ≡ resumed m log (p + i) (state_over log x))
+    → map (state_over log) ys ≡ resume_each m log p (map (state_over log) xs)
 each_is m log p [] [] long h = refl
 each_is m log p [] (y ∷ ys) long h = absurd (omega (arith, long))
 each_is m log p (x ∷ xs) [] long h = absurd (omega (arith, long))
 each_is m log p (x ∷ xs) (y ∷ ys) long h =
     let z : p + 0 ≡ p = omega arith in
-    let head : y.state ≡ resumed m log p x.state = h 0 x y refl refl ∙ ap (λ (n : ℕ). resumed m log n x.state) z in
+    let head : state_over log y ≡ resumed m log p (state_over log x) = h 0 x y refl refl ∙ ap (λ (n : ℕ). resumed m log n (state_over log x)) z in
     let rest =
     each_is m log (suc p) xs ys (omega (arith, long))
     (λ i u v a b.
-    let n : p + suc i ≡ suc p + i = omega arith in h (suc i) u v a b ∙ ap (λ (j : ℕ). resumed m log j u.state) n) in
-    ap (λ (t : NodeState). t ∷ map state_of ys) head ∙ ap (λ (ts : List NodeState). resumed m log p x.state ∷ ts) rest
+    let n : p + suc i ≡ suc p + i = omega arith in h (suc i) u v a b ∙ ap (λ (j : ℕ). resumed m log j (state_over log u)) n) in
+    ap (λ (t : NodeState). t ∷ map (state_over log) ys) head ∙ ap (λ (ts : List NodeState). resumed m log p (state_over log x) ∷ ts) rest
 
 pub resumed_states : (first : List NodeValue) (s : Sequenced) (nodes : List NodeValue) (k : ℕ) → AreDone (Resumed s) first nodes k → k ≡ length nodes
     → (m : Machine) (now : ℕ) (state : MediatorState) → AreNodesOf m first s → Lawful m (world_with now state first s)
-    → map state_of nodes ≡ resume_each m s.list 0 (map state_of first)
+    → map (state_over s.list) nodes ≡ resume_each m s.list 0 (map (state_over s.list) first)
 resumed_states first s nodes k r end m now state a l =
     each_is m s.list 0 first nodes r.long
     (λ i x y at there.
     let within = slice_get_within nodes i y there in
     let z : i ≡ 0 + i = omega arith in
-    (r.before i x y (omega (arith, within, end)) at there).1 m (in_turn first s i x at m now state a l) ∙ ap (λ (j : ℕ). resumed m s.list j x.state) z)
+    (r.before i x y (omega (arith, within, end)) at there).2 m (in_turn first s i x at m now state a l)
+    ∙ ap (λ (j : ℕ). resumed m s.list j (state_over s.list x)) z)

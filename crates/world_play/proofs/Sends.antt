@@ -24,7 +24,10 @@ use Rattle.world_model.proofs.Steps.{has_sent, waiting_in, waiting_owed}
 use Rattle.seq_log.specs.Sequenced.{Sequenced, IsFor}
 use Rattle.node_core.specs.Participant.{Participant as NodeValue, with_state}
 use Rattle.node_core.specs.Machines.{IsNodeOf}
+use Rattle.node_core.specs.OverLog.{HasInbox, inbox_over, state_over}
+use Rattle.node_core.proofs.OverLog.{sent_one}
 use Rattle.world_play.specs.Standing.{IsParticipant, GoesOn}
+use Rattle.world_play.proofs.LogMore.{has_inbox_more, state_more}
 
 -- a log that goes on
 pub stays : (s : Sequenced) → GoesOn s s
@@ -48,8 +51,9 @@ still_for m a b x f =
 -- a participant stays one while the log goes on
 module _ (m : Machine) (p : ParticipantId) where
   pub over_more : (node after : NodeValue) (a b : Sequenced) (given : IsParticipant m p node a) → GoesOn a b → SequencerBehind m b.list
-      → IsNodeOf m p after → NodeHas m p (take given.read a.list) after.state → IsParticipant m p after b
-  over_more node after a b given on behind is has =
+      → IsNodeOf m p after → HasInbox (inbox_over a.list after) after → NodeHas m p (take given.read a.list) (state_over a.list after)
+      → IsParticipant m p after b
+  over_more node after a b given on behind is inbox has =
       record {
         is_reading = given.is_reading;
         is_for = still_for m a b on given.is_for;
@@ -58,8 +62,10 @@ module _ (m : Machine) (p : ParticipantId) where
         read = given.read;
         within = let long = length-append a.list on.more in let same = ap length on.is_more in let le = given.within in omega arith;
         has =
-            subst (λ (xs : List Entry). NodeHas m p xs after.state)
-            (sym (ap (take given.read) on.is_more ∙ take_grown a.list on.more given.read given.within)) has;
+            subst (λ (state : NodeState). NodeHas m p (take given.read b.list) state) (sym (state_more a b on after inbox))
+            (subst (λ (xs : List Entry). NodeHas m p xs (state_over a.list after))
+            (sym (ap (take given.read) on.is_more ∙ take_grown a.list on.more given.read given.within)) has);
+        inbox = has_inbox_more a b on after inbox;
       }
 
   -- the head of the outbox may stand
@@ -72,7 +78,7 @@ module _ (m : Machine) (p : ParticipantId) where
   head_may node s r given h =
       subst (λ (xs : List Entry). IsOwed m.reading m.params xs r) (take-append-drop given.read s.list)
       (owed_stands m.reading m.params (take given.read s.list) (drop given.read s.list) r
-      (waiting_owed m p (take given.read s.list) node.state r given.is_reading
+      (waiting_owed m p (take given.read s.list) (state_over s.list node) r given.is_reading
       (genuine_take m.reading m.params s.list given.read (given.behind).genuine) given.has
       (in_outbox node.state r (first_from (is_waiting_at m.params node.state) 0 (length (node.state).items)) h)))
 
@@ -104,14 +110,16 @@ module _ (first : NodeValue) (began : Sequenced) where
 
       kept : (m : Machine) (p : ParticipantId) → IsParticipant m p first began → IsParticipant m p after next
       kept m p given =
-          let now = sends.keeps m p given in
+          let mine = with_state first node.state in
+          let now : IsParticipant m p mine s = subst (λ (x : NodeValue). IsParticipant m p x s) sends.same (sends.keeps m p given) in
           let head_m : outbox_head m.params node.state ≡ Some r =
-          subst (λ (q : Params). outbox_head q node.state ≡ Some r) ((now.is).params) head in
+          subst (λ (q : Params). outbox_head q node.state ≡ Some r) (now.is).params head_first in
           subst (λ (x : NodeValue). IsParticipant m p x next) (sym after_first)
-          (over_more m p node (with_state first (sent node.state r.request)) s next now on
-          (behind m now.is_for now.behind (head_may m p node s r now head_m))
+          (over_more m p mine (with_state first (sent node.state r.request)) s next now on
+          (behind m now.is_for now.behind (head_may m p mine s r now head_m))
           (record { reading = (given.is).reading; params = (given.is).params; me = (given.is).me; prepares = (given.is).prepares })
-          (has_sent m p (take now.read s.list) node.state r.request now.has))
+          (sent_one (inbox_over s.list mine) mine now.inbox r.request)
+          (has_sent m p (take now.read s.list) (state_over s.list mine) r.request now.has))
 
       same_all : (m : Machine) (now : ℕ) → IsFor m began
           → append_each m now next.list (waiting after.state) ≡ append_each m now began.list (waiting first.state)

@@ -15,6 +15,7 @@ use Rattle.world_model.proofs.WorldPasses.{one_pass_more, same_end}
 use Rattle.seq_log.specs.Sequenced.{Sequenced}
 use Rattle.world_play.specs.declared.world.World.{World}
 use Rattle.world_play.specs.Standing.{GoesOn}
+use Rattle.node_core.specs.Bases.{AreBases, Bases}
 use Rattle.world_play.specs.Submitting.{AreSetUp}
 use Rattle.world_play.specs.WorldOf.{world_of, IsWorldOf}
 use Rattle.world_play.proofs.Passing.{length_states}
@@ -28,6 +29,7 @@ module _ (paused : List ParticipantId) (held : Bool) (first : World) where
         → (after : MediatorState) × IsWorldOf m after world × Lawful m (world_of after world)
     pub set_up : (topology : Topology) (packages : Packages) → AreSetUp topology packages (first.nodes).items
         → AreSetUp topology packages (world.nodes).items
+    pub bases : (bases : Bases) → AreBases bases (first.nodes).items → AreBases bases (world.nodes).items
     pub passed : (m : Machine) (state : MediatorState) → IsWorldOf m state first → WorldReady m paused (world_of state first)
         → (after : MediatorState) × (n : ℕ) × IsWorldOf m after world × WorldReady m paused (world_of after world)
         × ((world.sequencer).list ≡ passes m first.now paused held n (first.sequencer).list)
@@ -39,6 +41,7 @@ module _ (paused : List ParticipantId) (held : Bool) (first : World) where
         now = refl;
         lawful = λ m state is l. (state, is, l);
         set_up = λ topology packages u. u;
+        bases = λ bases u. u;
         passed = λ m state is r. (state, zero, is, r, refl);
       }
 
@@ -46,10 +49,13 @@ module _ (paused : List ParticipantId) (held : Bool) (first : World) where
       (lawful : (m : Machine) (state : MediatorState) → IsWorldOf m state world → Lawful m (world_of state world)
       → (after : MediatorState) × IsWorldOf m after next × Lawful m (world_of after next))
       (set_up : (topology : Topology) (packages : Packages) → AreSetUp topology packages (world.nodes).items
-      → AreSetUp topology packages (next.nodes).items) where
+      → AreSetUp topology packages (next.nodes).items) (keeps : (bases : Bases) → AreBases bases (world.nodes).items → AreBases bases (next.nodes).items) where
     pub left_set_up : (topology : Topology) (packages : Packages) → AreSetUp topology packages (first.nodes).items
         → AreSetUp topology packages (next.nodes).items
     left_set_up topology packages u = set_up topology packages (p.set_up topology packages u)
+
+    pub left_bases : (bases : Bases) → AreBases bases (first.nodes).items → AreBases bases (next.nodes).items
+    left_bases bases u = keeps bases (p.bases bases u)
 
     pub left_on : GoesOn first.sequencer next.sequencer
     left_on = goes_further first.sequencer world.sequencer next.sequencer p.on on
@@ -79,6 +85,7 @@ module _ (paused : List ParticipantId) (held : Bool) (first : World) where
             now = left_now;
             lawful = left_lawful;
             set_up = left_set_up;
+            bases = left_bases;
             passed = λ m state is r.
                 let w = p.passed m state is r in
                 let n = stepped m state is r in
@@ -107,8 +114,8 @@ module _ (paused : List ParticipantId) (held : Bool) (first : World) where
       passing_less m state is r longer =
           let w = p.passed m state is r in
           let n = stepped m state is r in
-          let now_hosts : length (world.nodes).items ≡ m.hosts = sym (length_states (world.nodes).items) ∙ ((w.3).lawful).hosts in
-          let next_hosts : length (next.nodes).items ≡ m.hosts = sym (length_states (next.nodes).items) ∙ ((n.2).lawful).hosts in
+          let now_hosts : length (world.nodes).items ≡ m.hosts = sym (length_states (world.sequencer).list (world.nodes).items) ∙ ((w.3).lawful).hosts in
+          let next_hosts : length (next.nodes).items ≡ m.hosts = sym (length_states (next.sequencer).list (next.nodes).items) ∙ ((n.2).lawful).hosts in
           elim (pass_less m first.now paused held (world.sequencer).list) [
             | inl e ↦ absurd (longer (ap length (n.3 ∙ e)))
             | inr l ↦

@@ -2,11 +2,9 @@
 use Rattle.std.specs.Prelude.{◌≡◌, ℕ, List, Some, length, slice_get}
 use Rattle.ledger_terms.specs.declared.topology.Topology.{Topology}
 use Rattle.lang_eval.specs.Found.{Packages}
-use Rattle.world_model.specs.Node.{new_node}
-use Rattle.node_core.specs.Participant.{Participant as NodeValue}
+use Rattle.node_core.specs.Participant.{Participant as NodeValue, begun}
 
 -- so many, in order
 pub record AreNewNodes (topology : Topology) (packages : Packages) (count : ℕ) (nodes : List NodeValue) : Type 0 where
   pub many : length nodes ≡ count
-  pub each : (p : ℕ) (node : NodeValue) → slice_get nodes p ≡ Some node
-      → node ≡ record { topology = topology; packages = packages; me = p; state = new_node }
+  pub each : (p : ℕ) (node : NodeValue) → slice_get nodes p ≡ Some node → node ≡ begun topology packages p

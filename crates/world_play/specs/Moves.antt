@@ -8,6 +8,7 @@ use Rattle.world_model.specs.Mediator.{MediatorState}
 use Rattle.world_model.specs.Node.{NodeState, validate}
 use Rattle.world_model.specs.World.{Event, NodeRead, Validate, Reply, LoseReply, Pause, happens, set_at}
 use Rattle.seq_log.specs.Sequenced.{Sequenced}
+use Rattle.node_core.specs.OverLog.{state_over}
 use Rattle.node_core.specs.Participant.{Participant as NodeValue}
 use Rattle.world_play.specs.declared.moving.NodeMove.{NodeMove}
 use Rattle.world_play.specs.declared.moving.NodeMove.TheVariants as move
@@ -23,8 +24,8 @@ event_at (move.Pause paused) p = Pause p paused
 -- Participant p and the log are, after the event, what they are in every world where they were so before.
 abbrev pub Happens : Machine → ParticipantId → Event → (node : NodeValue) → (log : Sequenced) → (node' : NodeValue) → (log' : Sequenced) → Type 0
 Happens m p event node log node' log' =
-    (now : ℕ) (mediator : MediatorState) (nodes : List NodeState) → slice_get nodes p ≡ Some node.state
-    → record { log = log'.list; now = now; mediator = mediator; nodes = set_at nodes p node'.state }
+    (now : ℕ) (mediator : MediatorState) (nodes : List NodeState) → slice_get nodes p ≡ Some (state_over log.list node)
+    → record { log = log'.list; now = now; mediator = mediator; nodes = set_at nodes p (state_over log'.list node') }
     ≡ happens m (record { log = log.list; now = now; mediator = mediator; nodes = nodes }) event
 
 -- claimed and finished, where there is a place to be claimed

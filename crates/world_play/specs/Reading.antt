@@ -4,17 +4,17 @@ use Rattle.canton_model.specs.Genuine.{Genuine}
 use Rattle.canton_model.specs.Inbox.{inbox}
 use Rattle.world_model.specs.Messages.{Entry}
 use Rattle.world_model.specs.Node.{with_items}
+use Rattle.node_core.specs.OverLog.{HasInbox, inbox_over, kept_of}
 use Rattle.node_core.specs.Participant.{Participant as NodeValue, reading_of, with_state}
 
--- its items are the inbox of these entries
+-- its items are what it keeps of the inbox of these entries
 abbrev pub has_read : NodeValue → List Entry → NodeValue
-has_read node read = with_state node (with_items node.state (inbox (reading_of node) node.me read))
+has_read node read = with_state node (with_items node.state (kept_of node (inbox (reading_of node) node.me read)))
 
 -- The log is genuine, and the participant has read a beginning of it.
 pub record Reads (node : NodeValue) (log : List Entry) : Type 0 where
   pub genuine : Genuine (reading_of node) (node.topology).params log
-  pub within : length (node.state).items ≤ length log
-  pub items : (node.state).items ≡ inbox (reading_of node) node.me (take (length (node.state).items) log)
+  pub inbox : HasInbox (inbox_over log node) node
 
 -- a participant that has read some more of the log
 pub record IsReader (first : NodeValue) (log : List Entry) (node : NodeValue) : Type 0 where

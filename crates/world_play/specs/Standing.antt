@@ -12,6 +12,7 @@ use Rattle.mediator.specs.KeptCases.{KeptMediator, Keeps}
 use Rattle.seq_log.specs.Sequenced.{Sequenced, IsFor}
 use Rattle.node_core.specs.Participant.{Participant as NodeValue}
 use Rattle.node_core.specs.Machines.{IsNodeOf}
+use Rattle.node_core.specs.OverLog.{HasInbox, inbox_over, state_over}
 
 -- participant p has read a beginning of a genuine log
 pub record IsParticipant (m : Machine) (p : ParticipantId) (node : NodeValue) (sequencer : Sequenced) : Type 0 where
@@ -21,7 +22,8 @@ pub record IsParticipant (m : Machine) (p : ParticipantId) (node : NodeValue) (s
   pub is : IsNodeOf m p node
   pub read : ℕ
   pub within : read ≤ length sequencer.list
-  pub has : NodeHas m p (take read sequencer.list) node.state
+  pub has : NodeHas m p (take read sequencer.list) (state_over sequencer.list node)
+  pub inbox : HasInbox (inbox_over sequencer.list node) node
 
 -- the log of a sequencer goes on, and nothing else of it changes
 pub record GoesOn (before after : Sequenced) : Type 0 where

@@ -7,20 +7,21 @@ use Rattle.ledger_model.specs.Terms.{ParticipantId}
 use Rattle.lang_eval.specs.Found.{Packages}
 use Rattle.lang_eval.specs.Named.{AreKnown, parties_in_packages}
 use Rattle.sealed_form.specs.Within.{is_hosted}
-use Rattle.world_model.specs.Messages.{Request}
+use Rattle.world_model.specs.Messages.{Entry, Request}
 use Rattle.prepare_request.specs.Within.{IsWithin, parties_in_what}
 use Rattle.node_core.specs.Participant.{Participant as NodeValue}
 use Rattle.node_core.specs.Preparing.{offered_by}
 use Rattle.node_core.specs.Machines.{wanted_request}
+use Rattle.node_core.specs.OverLog.{inbox_over}
 
--- none where there is no such participant, or it is paused
-abbrev pub wanted_of : Submission → (now : ℕ) → Option NodeValue → Option Request
-wanted_of what now None = None
-wanted_of what now (Some node) =
-    if (node.state).is_paused then None else wanted_request node.topology node.packages what (node.state).items now
+-- over a log, none where there is no such participant, or it is paused
+abbrev pub wanted_of : List Entry → Submission → (now : ℕ) → Option NodeValue → Option Request
+wanted_of log what now None = None
+wanted_of log what now (Some node) =
+    if (node.state).is_paused then None else wanted_request node.topology node.packages what (inbox_over log node) now
 
--- The submission is this participant's, the topology is valid, and packages, what the participant offers and the submission name
--- only parties of it.
+-- The submission is this participant's, the topology is valid, and packages, what the participant offers and the submission name only
+-- parties of it.
 pub record CanPrepare (node : NodeValue) (what : Submission) : Type 0 where
   pub own : what.participant ≡ node.me
   pub valid : IsValid node.topology

@@ -4,25 +4,24 @@ use Rattle.ledger_model.specs.Terms.{ParticipantId}
 use Rattle.canton_model.specs.Genuine.{IsReading}
 use Rattle.world_model.specs.Machine.{Machine}
 use Rattle.world_model.specs.Mediator.{MediatorState}
-use Rattle.world_model.specs.Node.{NodeState}
 use Rattle.world_model.specs.World.{World}
 use Rattle.mediator.specs.KeptCases.{KeptMediator, Keeps}
 use Rattle.seq_log.specs.Sequenced.{Sequenced, IsFor}
 use Rattle.node_core.specs.Participant.{Participant as NodeValue}
 use Rattle.node_core.specs.Machines.{IsNodeOf}
+use Rattle.node_core.specs.OverLog.{HasInbox, inbox_over, state_over}
 
-abbrev pub state_of : NodeValue → NodeState
-state_of node = node.state
-
--- the world of these parts, where the mediator keeps this state
+-- The world of these parts, where the mediator keeps this state. What participants have read is told by the log, of which they may have
+-- pruned a beginning.
 abbrev pub world_with : (now : ℕ) → MediatorState → List NodeValue → Sequenced → World
-world_with now mediator nodes sequencer = record { log = sequencer.list; now = now; mediator = mediator; nodes = map state_of nodes }
+world_with now mediator nodes sequencer = record { log = sequencer.list; now = now; mediator = mediator; nodes = map (state_over sequencer.list) nodes }
 
--- the nodes are the machine's participants, in order
+-- the nodes are the machine's participants, in order, and each has read a beginning of the log
 pub record AreNodesOf (m : Machine) (nodes : List NodeValue) (sequencer : Sequenced) : Type 0 where
   pub is_reading : IsReading m.reading
   pub is_for : IsFor m sequencer
   pub node : (p : ParticipantId) (node : NodeValue) → slice_get nodes p ≡ Some node → IsNodeOf m p node
+  pub inbox : (p : ParticipantId) (node : NodeValue) → slice_get nodes p ≡ Some node → HasInbox (inbox_over sequencer.list node) node
 
 -- the mediator is the machine's, and keeps this state
 pub record IsMediatorOf (m : Machine) (state : MediatorState) (mediator : KeptMediator) : Type 0 where

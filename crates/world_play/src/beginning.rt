@@ -7,6 +7,7 @@ ghost use Rattle.world_model.specs.Mediator.{MediatorState};
 ghost use Rattle.world_model.specs.Lawful.{Lawful};
 ghost use Rattle.world_model.specs.Rounds.{Round, ticked};
 ghost use Rattle.seq_log.specs.Sequenced.{Sequenced};
+ghost use Rattle.node_core.specs.Bases.{AreBases, Bases};
 ghost use Rattle.world_play.specs.Flags.{ArePaused};
 ghost use Rattle.world_play.specs.Standing.{GoesOn};
 ghost use Rattle.world_play.specs.Submitting.{AreSetUp};
@@ -26,6 +27,7 @@ fn set_paused_slice(nodes: &mut [Node<'_>], paused: &[ParticipantId])
     ensures lawful { (m : Machine) (now : ℕ) (state : MediatorState) (s : Sequenced) → Lawful m (world_with now state nodes.old s)
         → Lawful m (world_with now state nodes.new s) }
     ensures set_up { (topology : Topology) (packages : Packages) → AreSetUp topology packages nodes.old → AreSetUp topology packages nodes.new }
+    ensures bases { (bases : Bases) → AreBases bases nodes.old → AreBases bases nodes.new }
     ensures paused { ArePaused paused.now nodes.new }
 {
     let mut at: usize = 0;
@@ -41,6 +43,7 @@ fn set_paused(nodes: &mut NodeList<'_>, paused: &[ParticipantId])
     ensures lawful { (m : Machine) (now : ℕ) (state : MediatorState) (s : Sequenced) → Lawful m (world_with now state nodes.old.items s)
         → Lawful m (world_with now state nodes.new.items s) }
     ensures set_up { (topology : Topology) (packages : Packages) → AreSetUp topology packages nodes.old.items → AreSetUp topology packages nodes.new.items }
+    ensures bases { (bases : Bases) → AreBases bases nodes.old.items → AreBases bases nodes.new.items }
     ensures paused { ArePaused paused.now nodes.new.items }
 {
     set_paused_slice(nodes.as_mut_slice(), paused);
@@ -62,6 +65,8 @@ pub fn begin_round(
         → IsWorldOf m state world.new × Lawful m (world_of state world.new) }
     ensures set_up { (topology : Topology) (packages : Packages) → AreSetUp topology packages (world.old.nodes).items
         → AreSetUp topology packages (world.new.nodes).items }
+    ensures bases { (bases : Bases) → AreBases bases (world.old.nodes).items
+        → AreBases bases (world.new.nodes).items }
     ensures paused { ArePaused paused.now (world.new.nodes).items }
     ensures log { OnOk result ((m : Machine) (state : MediatorState) (round : Round) → IsWorldOf m state world.old → round.advance ≡ advance
         → (world.new.sequencer).list ≡ ticked m (world.old.now + advance) round (world.old.sequencer).list) }

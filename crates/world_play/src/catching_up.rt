@@ -6,8 +6,10 @@ ghost use Rattle.world_model.specs.Machine.{Machine};
 ghost use Rattle.world_model.specs.Mediator.{MediatorState};
 ghost use Rattle.world_model.specs.Lawful.{Lawful};
 ghost use Rattle.world_model.specs.Settling.{catch_each, caught_up_world};
+ghost use Rattle.node_core.specs.OverLog.{state_over};
+ghost use Rattle.node_core.specs.Bases.{AreBases, Bases};
 ghost use Rattle.world_play.specs.Submitting.{AreSetUp};
-ghost use Rattle.world_play.specs.Worlds.{AreNodesOf, state_of, world_with};
+ghost use Rattle.world_play.specs.Worlds.{AreNodesOf, world_with};
 ghost use Rattle.world_play.specs.WorldOf.{IsWorldOf, world_of};
 
 use crate::reading::read_to_end;
@@ -22,11 +24,12 @@ fn read_nodes_slice(nodes: &mut [Node<'_>], sequencer: &mut Sequencer<'_>) -> Re
     ensures log { sequencer.new ≡ sequencer.old }
     ensures nodes { (m : Machine) → AreNodesOf m nodes.old sequencer.old → AreNodesOf m nodes.new sequencer.old }
     ensures set_up { (topology : Topology) (packages : Packages) → AreSetUp topology packages nodes.old → AreSetUp topology packages nodes.new }
+    ensures bases { (bases : Bases) → AreBases bases nodes.old → AreBases bases nodes.new }
     ensures lawful { (m : Machine) (now : ℕ) (state : MediatorState) → AreNodesOf m nodes.old sequencer.old
         → Lawful m (world_with now state nodes.old sequencer.old) → Lawful m (world_with now state nodes.new sequencer.old) }
     ensures ok { OnOk result ((m : Machine) (now : ℕ) (state : MediatorState) → AreNodesOf m nodes.old sequencer.old
         → Lawful m (world_with now state nodes.old sequencer.old)
-        → map state_of nodes.new ≡ catch_each m sequencer.old.list 0 (map state_of nodes.old)) }
+        → map (state_over sequencer.old.list) nodes.new ≡ catch_each m sequencer.old.list 0 (map (state_over sequencer.old.list) nodes.old)) }
 {
     'nodes: for node in nodes.iter_mut() {
         read_to_end(node, sequencer)?;
@@ -40,11 +43,12 @@ fn read_nodes(nodes: &mut NodeList<'_>, sequencer: &mut Sequencer<'_>) -> Result
     ensures log { sequencer.new ≡ sequencer.old }
     ensures nodes { (m : Machine) → AreNodesOf m nodes.old.items sequencer.old → AreNodesOf m nodes.new.items sequencer.old }
     ensures set_up { (topology : Topology) (packages : Packages) → AreSetUp topology packages nodes.old.items → AreSetUp topology packages nodes.new.items }
+    ensures bases { (bases : Bases) → AreBases bases nodes.old.items → AreBases bases nodes.new.items }
     ensures lawful { (m : Machine) (now : ℕ) (state : MediatorState) → AreNodesOf m nodes.old.items sequencer.old
         → Lawful m (world_with now state nodes.old.items sequencer.old) → Lawful m (world_with now state nodes.new.items sequencer.old) }
     ensures ok { OnOk result ((m : Machine) (now : ℕ) (state : MediatorState) → AreNodesOf m nodes.old.items sequencer.old
         → Lawful m (world_with now state nodes.old.items sequencer.old)
-        → map state_of nodes.new.items ≡ catch_each m sequencer.old.list 0 (map state_of nodes.old.items)) }
+        → map (state_over sequencer.old.list) nodes.new.items ≡ catch_each m sequencer.old.list 0 (map (state_over sequencer.old.list) nodes.old.items)) }
 {
     read_nodes_slice(nodes.as_mut_slice(), sequencer)
 }
@@ -58,6 +62,8 @@ impl<'r> World<'r> {
         ensures is { (m : Machine) (state : MediatorState) → IsWorldOf m state self.old → IsWorldOf m state self.new }
         ensures set_up { (topology : Topology) (packages : Packages) → AreSetUp topology packages (self.old.nodes).items
             → AreSetUp topology packages (self.new.nodes).items }
+        ensures bases { (bases : Bases) → AreBases bases (self.old.nodes).items
+            → AreBases bases (self.new.nodes).items }
         ensures lawful { (m : Machine) (state : MediatorState) → IsWorldOf m state self.old → Lawful m (world_of state self.old)
             → Lawful m (world_of state self.new) }
         ensures ok { OnOk result ((m : Machine) (state : MediatorState) → IsWorldOf m state self.old → Lawful m (world_of state self.old)

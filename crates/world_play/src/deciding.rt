@@ -1,8 +1,7 @@
 //! What the mediator does in an event.
-ghost use Rattle.std.specs.Prelude.{◌≡◌, ℕ, List, OnOk};
+ghost use Rattle.std.specs.Prelude.{◌≡◌, ℕ, OnOk};
 ghost use Rattle.world_model.specs.Machine.{Machine};
 ghost use Rattle.world_model.specs.Mediator.{MediatorState};
-ghost use Rattle.world_model.specs.Node.{NodeState};
 ghost use Rattle.world_model.specs.World.{MediatorRead, GiveVerdict, LoseVerdict};
 ghost use Rattle.seq_log.specs.Sequenced.{Sequenced};
 ghost use Rattle.world_play.specs.Decides.{Decides};

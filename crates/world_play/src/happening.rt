@@ -6,6 +6,7 @@ ghost use Rattle.world_model.specs.Machine.{Machine};
 ghost use Rattle.world_model.specs.Mediator.{MediatorState};
 ghost use Rattle.world_model.specs.Lawful.{Lawful};
 ghost use Rattle.world_model.specs.World.{MediatorRead, GiveVerdict, LoseVerdict, SubmitRaw};
+ghost use Rattle.node_core.specs.Bases.{AreBases, Bases};
 ghost use Rattle.world_play.specs.Becoming.{Becomes};
 ghost use Rattle.world_play.specs.Events.{CanHappen, advance_of, event_of};
 ghost use Rattle.world_play.specs.Moves.{event_at};
@@ -34,6 +35,8 @@ fn move_at<'r>(
     ensures now { world.new.now ≡ world.old.now }
     ensures set_up { OnOk result ((topology : Topology) (packages : Packages) → AreSetUp topology packages (world.old.nodes).items
         → AreSetUp topology packages (world.new.nodes).items) }
+    ensures bases { OnOk result ((bases : Bases) → AreBases bases (world.old.nodes).items
+        → AreBases bases (world.new.nodes).items) }
     ensures ok { OnOk result ((m : Machine) (state : MediatorState) → IsWorldOf m state world.old → Lawful m (world_of state world.old)
         → Becomes m (event_at action node) state world.old world.new) }
 {
@@ -105,6 +108,8 @@ pub fn happen<'r>(
     ensures now { OnOk result (world.new.now ≡ world.old.now + advance_of event.now) }
     ensures set_up { OnOk result ((topology : Topology) (packages : Packages) → AreSetUp topology packages (world.old.nodes).items
         → AreSetUp topology packages (world.new.nodes).items) }
+    ensures bases { OnOk result ((bases : Bases) → AreBases bases (world.old.nodes).items
+        → AreBases bases (world.new.nodes).items) }
     ensures ok { OnOk result ((m : Machine) (state : MediatorState) → IsWorldOf m state world.old → Lawful m (world_of state world.old)
         → Becomes m (event_of event.now) state world.old world.new) }
 {

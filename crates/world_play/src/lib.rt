@@ -27,9 +27,11 @@ mod turn;
 mod validating;
 mod world;
 
+pub use among::is_among;
 pub use beginning::begin_round;
 pub use event::{Event, EventList};
 pub use playing::play;
+pub use reading::read_to_end;
 pub use settling::settle;
 pub use submitting_each::submit_each;
 pub use submitting_raw::hand_in_raw;

@@ -1,15 +1,18 @@
 //! What one participant does in an event.
-ghost use Rattle.std.specs.Prelude.{◌≡◌, ℕ, OnOk};
+ghost use Rattle.std.specs.Prelude.{◌≡◌, ℕ, List, OnOk};
 ghost use Rattle.ledger_terms.specs.declared.topology.Topology.{Topology};
 ghost use Rattle.ledger_model.specs.Terms.{ParticipantId};
 ghost use Rattle.lang_eval.specs.Found.{Packages};
+ghost use Rattle.canton_model.specs.Inbox.{Item};
 ghost use Rattle.world_model.specs.Machine.{Machine};
 ghost use Rattle.world_model.specs.Mediator.{MediatorState};
 ghost use Rattle.world_model.specs.Node.{next_claim};
 ghost use Rattle.world_model.specs.Lawful.{Lawful};
 ghost use Rattle.world_model.specs.World.{NodeRead, Reply, LoseReply, happens};
 ghost use Rattle.seq_log.specs.Sequenced.{Sequenced};
-ghost use Rattle.node_core.specs.Participant.{reading_of, with_state};
+ghost use Rattle.node_core.specs.OverLog.{HasInbox, inbox_over};
+ghost use Rattle.node_core.specs.Participant.{reading_of, whole_state, with_state};
+ghost use Rattle.node_core.specs.Bases.{AreBases, Bases};
 ghost use Rattle.world_play.specs.Moves.{Happens, event_at, validated_if};
 ghost use Rattle.world_play.specs.Standing.{GoesOn, IsParticipant};
 ghost use Rattle.world_play.specs.Submitting.{AreSetUp};
@@ -40,6 +43,8 @@ fn read_next(node: &mut Node<'_>, sequencer: &mut Sequencer<'_>) -> Result<(), A
     ensures same { OnOk result (node.new ≡ with_state node.old node.new.state) }
     ensures ok { OnOk result ((m : Machine) (p : ParticipantId) → IsParticipant m p node.old sequencer.old
         → Happens m p (NodeRead p) node.old sequencer.old node.new sequencer.old) }
+    ensures inbox { OnOk result ((m : Machine) (p : ParticipantId) → IsParticipant m p node.old sequencer.old
+        → HasInbox (inbox_over sequencer.old.list node.new) node.new) }
 {
     match sequencer.entry(node.cursor()) {
         Some(slip) => node.read(&slip),
@@ -53,9 +58,12 @@ fn validate_next<'r>(
     natives: &'r NativeList,
     node: &mut Node<'r>,
 ) -> Result<(), AllocError>
-    ensures ok { OnOk result (node.new ≡ with_state node.old
-        (validated_if (reading_of node.old) (node.old.topology).params node.old.me node.old.state
-        (next_claim (reading_of node.old) (node.old.topology).params node.old.me node.old.state))) }
+    ensures same { OnOk result (node.new ≡ with_state node.old node.new.state) }
+    ensures items { OnOk result ((node.new.state).items ≡ (node.old.state).items) }
+    ensures inbox { OnOk result ((whole : List Item) → HasInbox whole node.old → HasInbox whole node.new) }
+    ensures ok { OnOk result ((whole : List Item) → HasInbox whole node.old → whole_state node.new whole
+        ≡ validated_if (reading_of node.old) (node.old.topology).params node.old.me (whole_state node.old whole)
+        (next_claim (reading_of node.old) (node.old.topology).params node.old.me (whole_state node.old whole))) }
 {
     if let Some(job) = node.claim_job(alloc)? {
         let finished = run_job(natives, job)?;
@@ -75,6 +83,8 @@ fn reply(
     ensures same { node.new ≡ with_state node.old node.new.state }
     ensures ok { OnOk result ((m : Machine) (p : ParticipantId) → IsParticipant m p node.old sequencer.old
         → Happens m p (Reply p) node.old sequencer.old node.new sequencer.new) }
+    ensures inbox { OnOk result ((m : Machine) (p : ParticipantId) → IsParticipant m p node.old sequencer.old
+        → HasInbox (inbox_over sequencer.new.list node.new) node.new) }
 {
     if let Some(response) = node.outbox(alloc)? {
         let request = response.request;
@@ -89,6 +99,8 @@ fn lose_reply(alloc: Global, node: &mut Node<'_>) -> Result<(), AllocError>
     ensures same { node.new ≡ with_state node.old node.new.state }
     ensures ok { OnOk result ((m : Machine) (p : ParticipantId) (log : Sequenced) → IsParticipant m p node.old log
         → Happens m p (LoseReply p) node.old log node.new log) }
+    ensures inbox { OnOk result ((m : Machine) (p : ParticipantId) (log : Sequenced) → IsParticipant m p node.old log
+        → HasInbox (inbox_over log.list node.new) node.new) }
 {
     if let Some(response) = node.outbox(alloc)? {
         node.sent(response.request);
@@ -109,6 +121,8 @@ fn move_once<'r>(
     ensures same { OnOk result (node.new ≡ with_state node.old node.new.state) }
     ensures ok { OnOk result ((m : Machine) (p : ParticipantId) → IsParticipant m p node.old sequencer.old
         → Happens m p (event_at action p) node.old sequencer.old node.new sequencer.new) }
+    ensures inbox { OnOk result ((m : Machine) (p : ParticipantId) → IsParticipant m p node.old sequencer.old
+        → HasInbox (inbox_over sequencer.new.list node.new) node.new) }
 {
     match action {
         NodeMove::Read => read_next(node, sequencer),
@@ -135,6 +149,8 @@ fn move_slice<'r>(
     ensures nodes { OnOk result ((m : Machine) → AreNodesOf m nodes.old sequencer.old → AreNodesOf m nodes.new sequencer.new) }
     ensures set_up { OnOk result ((topology : Topology) (packages : Packages) → AreSetUp topology packages nodes.old
         → AreSetUp topology packages nodes.new) }
+    ensures bases { OnOk result ((bases : Bases) → AreBases bases nodes.old
+        → AreBases bases nodes.new) }
     ensures ok { OnOk result ((m : Machine) (now : ℕ) (state : MediatorState) → AreNodesOf m nodes.old sequencer.old
         → Lawful m (world_with now state nodes.old sequencer.old)
         → world_with now state nodes.new sequencer.new ≡ happens m (world_with now state nodes.old sequencer.old) (event_at action at)) }
@@ -159,6 +175,8 @@ pub fn move_node<'r>(
     ensures nodes { OnOk result ((m : Machine) → AreNodesOf m nodes.old.items sequencer.old → AreNodesOf m nodes.new.items sequencer.new) }
     ensures set_up { OnOk result ((topology : Topology) (packages : Packages) → AreSetUp topology packages nodes.old.items
         → AreSetUp topology packages nodes.new.items) }
+    ensures bases { OnOk result ((bases : Bases) → AreBases bases nodes.old.items
+        → AreBases bases nodes.new.items) }
     ensures ok { OnOk result ((m : Machine) (now : ℕ) (state : MediatorState) → AreNodesOf m nodes.old.items sequencer.old
         → Lawful m (world_with now state nodes.old.items sequencer.old)
         → world_with now state nodes.new.items sequencer.new

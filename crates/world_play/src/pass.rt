@@ -8,6 +8,7 @@ ghost use Rattle.world_model.specs.Mediator.{MediatorState};
 ghost use Rattle.world_model.specs.Lawful.{Lawful};
 ghost use Rattle.world_model.specs.Settled.{pass};
 ghost use Rattle.world_model.specs.Settling.{PassedTo, WorldReady};
+ghost use Rattle.node_core.specs.Bases.{AreBases, Bases};
 ghost use Rattle.world_play.specs.Standing.{GoesOn};
 ghost use Rattle.world_play.specs.Submitting.{AreSetUp};
 ghost use Rattle.world_play.specs.Worlds.{AreNodesOf, world_with};
@@ -38,6 +39,7 @@ fn take_turns_slice<'r>(
     ensures lawful { (m : Machine) (now : ℕ) (state : MediatorState) → AreNodesOf m nodes.old sequencer.old
         → Lawful m (world_with now state nodes.old sequencer.old) → Lawful m (world_with now state nodes.new sequencer.new) }
     ensures set_up { (topology : Topology) (packages : Packages) → AreSetUp topology packages nodes.old → AreSetUp topology packages nodes.new }
+    ensures bases { (bases : Bases) → AreBases bases nodes.old → AreBases bases nodes.new }
     ensures ok { OnOk result ((m : Machine) (now : ℕ) (state : MediatorState) (began : List Entry) → AreNodesOf m nodes.old sequencer.old
         → PassedTo m paused.now began 0 (world_with now state nodes.old sequencer.old)
         → PassedTo m paused.now began m.hosts (world_with now state nodes.new sequencer.new)) }
@@ -67,6 +69,7 @@ fn take_turns<'r>(
     ensures lawful { (m : Machine) (now : ℕ) (state : MediatorState) → AreNodesOf m nodes.old.items sequencer.old
         → Lawful m (world_with now state nodes.old.items sequencer.old) → Lawful m (world_with now state nodes.new.items sequencer.new) }
     ensures set_up { (topology : Topology) (packages : Packages) → AreSetUp topology packages nodes.old.items → AreSetUp topology packages nodes.new.items }
+    ensures bases { (bases : Bases) → AreBases bases nodes.old.items → AreBases bases nodes.new.items }
     ensures ok { OnOk result ((m : Machine) (now : ℕ) (state : MediatorState) (began : List Entry) → AreNodesOf m nodes.old.items sequencer.old
         → PassedTo m paused.now began 0 (world_with now state nodes.old.items sequencer.old)
         → PassedTo m paused.now began m.hosts (world_with now state nodes.new.items sequencer.new)) }
@@ -89,6 +92,8 @@ pub fn pass<'r>(
         → (after : MediatorState) × IsWorldOf m after world.new × Lawful m (world_of after world.new) }
     ensures set_up { (topology : Topology) (packages : Packages) → AreSetUp topology packages (world.old.nodes).items
         → AreSetUp topology packages (world.new.nodes).items }
+    ensures bases { (bases : Bases) → AreBases bases (world.old.nodes).items
+        → AreBases bases (world.new.nodes).items }
     ensures ok { OnOk result ((m : Machine) (state : MediatorState) → IsWorldOf m state world.old
         → WorldReady m paused.now (world_of state world.old)
         → (after : MediatorState) × IsWorldOf m after world.new × WorldReady m paused.now (world_of after world.new)

@@ -6,6 +6,7 @@ ghost use Rattle.lang_eval.specs.Found.{Packages};
 ghost use Rattle.world_model.specs.Machine.{Machine};
 ghost use Rattle.world_model.specs.Mediator.{MediatorState};
 ghost use Rattle.world_model.specs.Lawful.{Lawful};
+ghost use Rattle.node_core.specs.Bases.{AreBases, Bases};
 ghost use Rattle.world_play.specs.Flags.{ArePaused, HaveAwakeRead};
 ghost use Rattle.world_play.specs.Reading.{IsReader, Reads, has_read};
 ghost use Rattle.world_play.specs.Submitting.{AreSetUp};
@@ -37,6 +38,7 @@ fn read_awake_slice(nodes: &mut [Node<'_>], sequencer: &mut Sequencer<'_>) -> Re
     ensures log { sequencer.new ≡ sequencer.old }
     ensures nodes { (m : Machine) → AreNodesOf m nodes.old sequencer.old → AreNodesOf m nodes.new sequencer.old }
     ensures set_up { (topology : Topology) (packages : Packages) → AreSetUp topology packages nodes.old → AreSetUp topology packages nodes.new }
+    ensures bases { (bases : Bases) → AreBases bases nodes.old → AreBases bases nodes.new }
     ensures lawful { (m : Machine) (now : ℕ) (state : MediatorState) → AreNodesOf m nodes.old sequencer.old
         → Lawful m (world_with now state nodes.old sequencer.old) → Lawful m (world_with now state nodes.new sequencer.old) }
     ensures paused { (paused : List ParticipantId) → ArePaused paused nodes.old → ArePaused paused nodes.new }
@@ -57,6 +59,7 @@ fn read_awake_list(
     ensures log { sequencer.new ≡ sequencer.old }
     ensures nodes { (m : Machine) → AreNodesOf m nodes.old.items sequencer.old → AreNodesOf m nodes.new.items sequencer.old }
     ensures set_up { (topology : Topology) (packages : Packages) → AreSetUp topology packages nodes.old.items → AreSetUp topology packages nodes.new.items }
+    ensures bases { (bases : Bases) → AreBases bases nodes.old.items → AreBases bases nodes.new.items }
     ensures lawful { (m : Machine) (now : ℕ) (state : MediatorState) → AreNodesOf m nodes.old.items sequencer.old
         → Lawful m (world_with now state nodes.old.items sequencer.old) → Lawful m (world_with now state nodes.new.items sequencer.old) }
     ensures paused { (paused : List ParticipantId) → ArePaused paused nodes.old.items → ArePaused paused nodes.new.items }
@@ -74,6 +77,8 @@ impl<'r> World<'r> {
         ensures is { (m : Machine) (state : MediatorState) → IsWorldOf m state self.old → IsWorldOf m state self.new }
         ensures set_up { (topology : Topology) (packages : Packages) → AreSetUp topology packages (self.old.nodes).items
             → AreSetUp topology packages (self.new.nodes).items }
+        ensures bases { (bases : Bases) → AreBases bases (self.old.nodes).items
+            → AreBases bases (self.new.nodes).items }
         ensures lawful { (m : Machine) (state : MediatorState) → IsWorldOf m state self.old → Lawful m (world_of state self.old)
             → Lawful m (world_of state self.new) }
         ensures paused { (paused : List ParticipantId) → ArePaused paused (self.old.nodes).items → ArePaused paused (self.new.nodes).items }

@@ -10,10 +10,12 @@ ghost use Rattle.world_model.specs.Settled.{is_due};
 ghost use Rattle.world_model.specs.Settling.{resume_each, resumed, resumed_world, returned};
 ghost use Rattle.seq_log.specs.OpenRequests.{is_open};
 ghost use Rattle.seq_log.specs.Sequenced.{IsFor};
+ghost use Rattle.node_core.specs.OverLog.{HasInbox, inbox_over, state_over};
 ghost use Rattle.node_core.specs.Participant.{with_state};
+ghost use Rattle.node_core.specs.Bases.{AreBases, Bases};
 ghost use Rattle.world_play.specs.Standing.{IsMediator, IsParticipant};
 ghost use Rattle.world_play.specs.Submitting.{AreSetUp};
-ghost use Rattle.world_play.specs.Worlds.{AreNodesOf, state_of, world_with};
+ghost use Rattle.world_play.specs.Worlds.{AreNodesOf, world_with};
 ghost use Rattle.world_play.specs.WorldOf.{IsWorldOf, world_of};
 
 use crate::scanning::is_due;
@@ -40,8 +42,9 @@ fn resume_node(node: &mut Node<'_>, sequencer: &mut Sequencer<'_>, at: usize)
     requires { (m : Machine) × IsParticipant m at node.old sequencer.old }
     ensures log { sequencer.new ≡ sequencer.old }
     ensures same { node.new ≡ with_state node.old node.new.state }
+    ensures inbox { HasInbox (inbox_over sequencer.old.list node.old) node.old → HasInbox (inbox_over sequencer.old.list node.new) node.new }
     ensures resumed { (m : Machine) → IsParticipant m at node.old sequencer.old
-        → node.new.state ≡ resumed m sequencer.old.list at node.old.state }
+        → state_over sequencer.old.list node.new ≡ resumed m sequencer.old.list at (state_over sequencer.old.list node.old) }
 {
     'places: for number in 0..sequencer.open_requests().len() {
         let place = sequencer.open_requests()[number];
@@ -58,9 +61,10 @@ fn resume_nodes_slice(nodes: &mut [Node<'_>], sequencer: &mut Sequencer<'_>)
     ensures log { sequencer.new ≡ sequencer.old }
     ensures nodes { (m : Machine) → AreNodesOf m nodes.old sequencer.old → AreNodesOf m nodes.new sequencer.old }
     ensures set_up { (topology : Topology) (packages : Packages) → AreSetUp topology packages nodes.old → AreSetUp topology packages nodes.new }
+    ensures bases { (bases : Bases) → AreBases bases nodes.old → AreBases bases nodes.new }
     ensures resumed { (m : Machine) (now : ℕ) (state : MediatorState) → AreNodesOf m nodes.old sequencer.old
         → Lawful m (world_with now state nodes.old sequencer.old)
-        → map state_of nodes.new ≡ resume_each m sequencer.old.list 0 (map state_of nodes.old) }
+        → map (state_over sequencer.old.list) nodes.new ≡ resume_each m sequencer.old.list 0 (map (state_over sequencer.old.list) nodes.old) }
 {
     let mut at: usize = 0;
     'nodes: for node in nodes.iter_mut() {
@@ -76,9 +80,10 @@ fn resume_nodes(nodes: &mut NodeList<'_>, sequencer: &mut Sequencer<'_>)
     ensures log { sequencer.new ≡ sequencer.old }
     ensures nodes { (m : Machine) → AreNodesOf m nodes.old.items sequencer.old → AreNodesOf m nodes.new.items sequencer.old }
     ensures set_up { (topology : Topology) (packages : Packages) → AreSetUp topology packages nodes.old.items → AreSetUp topology packages nodes.new.items }
+    ensures bases { (bases : Bases) → AreBases bases nodes.old.items → AreBases bases nodes.new.items }
     ensures resumed { (m : Machine) (now : ℕ) (state : MediatorState) → AreNodesOf m nodes.old.items sequencer.old
         → Lawful m (world_with now state nodes.old.items sequencer.old)
-        → map state_of nodes.new.items ≡ resume_each m sequencer.old.list 0 (map state_of nodes.old.items) }
+        → map (state_over sequencer.old.list) nodes.new.items ≡ resume_each m sequencer.old.list 0 (map (state_over sequencer.old.list) nodes.old.items) }
 {
     resume_nodes_slice(nodes.as_mut_slice(), sequencer);
 }
@@ -107,6 +112,8 @@ pub fn resume(world: &mut World<'_>)
         → IsWorldOf m (returned m.params (world.old.sequencer).list state) world.new }
     ensures set_up { (topology : Topology) (packages : Packages) → AreSetUp topology packages (world.old.nodes).items
         → AreSetUp topology packages (world.new.nodes).items }
+    ensures bases { (bases : Bases) → AreBases bases (world.old.nodes).items
+        → AreBases bases (world.new.nodes).items }
     ensures resumed { (m : Machine) (state : MediatorState) → IsWorldOf m state world.old → Lawful m (world_of state world.old)
         → world_of (returned m.params (world.old.sequencer).list state) world.new ≡ resumed_world m (world_of state world.old) }
 {

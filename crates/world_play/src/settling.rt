@@ -1,5 +1,5 @@
 //! How a synchroniser settles.
-ghost use Rattle.std.specs.Prelude.{◌≡◌, ℕ, OnOk};
+ghost use Rattle.std.specs.Prelude.{◌≡◌, OnOk};
 ghost use Rattle.ledger_terms.specs.declared.topology.Topology.{Topology};
 ghost use Rattle.lang_eval.specs.Found.{Packages};
 ghost use Rattle.world_model.specs.Machine.{Machine};
@@ -7,6 +7,7 @@ ghost use Rattle.world_model.specs.Mediator.{MediatorState};
 ghost use Rattle.world_model.specs.Lawful.{Lawful};
 ghost use Rattle.world_model.specs.Settled.{Settled, left, passes};
 ghost use Rattle.world_model.specs.Settling.{WorldReady};
+ghost use Rattle.node_core.specs.Bases.{AreBases, Bases};
 ghost use Rattle.world_play.specs.Standing.{GoesOn};
 ghost use Rattle.world_play.specs.Submitting.{AreSetUp};
 ghost use Rattle.world_play.specs.WorldOf.{IsWorldOf, world_of};
@@ -33,6 +34,8 @@ fn pass_until_settled<'r>(
         → (after : MediatorState) × IsWorldOf m after world.new × Lawful m (world_of after world.new) }
     ensures set_up { (topology : Topology) (packages : Packages) → AreSetUp topology packages (world.old.nodes).items
         → AreSetUp topology packages (world.new.nodes).items }
+    ensures bases { (bases : Bases) → AreBases bases (world.old.nodes).items
+        → AreBases bases (world.new.nodes).items }
     ensures passes { OnOk result ((m : Machine) (state : MediatorState) → IsWorldOf m state world.old
         → WorldReady m paused.now (world_of state world.old)
         → (world.new.sequencer).list
@@ -68,6 +71,8 @@ pub fn settle<'r>(
         → (after : MediatorState) × IsWorldOf m after world.new × Lawful m (world_of after world.new) }
     ensures set_up { (topology : Topology) (packages : Packages) → AreSetUp topology packages (world.old.nodes).items
         → AreSetUp topology packages (world.new.nodes).items }
+    ensures bases { (bases : Bases) → AreBases bases (world.old.nodes).items
+        → AreBases bases (world.new.nodes).items }
     ensures passes { OnOk result ((m : Machine) (state : MediatorState) → IsWorldOf m state world.old → Lawful m (world_of state world.old)
         → (world.new.sequencer).list
         ≡ passes m world.old.now paused.now hold_verdicts (left m.hosts (world.old.sequencer).list) (world.old.sequencer).list) }

@@ -1,5 +1,5 @@
 //! How submissions and Ticks come into the log.
-ghost use Rattle.std.specs.Prelude.{◌≡◌, ◌≢◌, ◌+◌, ◌≤◌, ◌^◌, Err, Some, slice_get, IfOk, OnErr, OnOk};
+ghost use Rattle.std.specs.Prelude.{◌≡◌, ◌≢◌, ◌+◌, ◌≤◌, ◌^◌, Err, List, Some, slice_get, IfOk, OnErr, OnOk};
 ghost use Rattle.std.specs.Result.{result_ok};
 ghost use Rattle.ledger_terms.specs.declared.topology.Topology.{Topology};
 ghost use Rattle.lang_eval.specs.Found.{Packages};
@@ -7,9 +7,11 @@ ghost use Rattle.world_model.specs.Machine.{Machine};
 ghost use Rattle.world_model.specs.Mediator.{MediatorState};
 ghost use Rattle.world_model.specs.Lawful.{Lawful};
 ghost use Rattle.world_model.specs.Locks.{SequencerBehind};
+ghost use Rattle.world_model.specs.Messages.{Entry};
 ghost use Rattle.world_model.specs.World.{Advance, Submit, happens};
 ghost use Rattle.prepare_request.specs.declared.submit_fault.SubmitFault.TheVariants as SubmitFault;
 ghost use Rattle.seq_log.specs.Sequenced.{IsFor};
+ghost use Rattle.node_core.specs.OverLog.{HasInbox, inbox_over};
 ghost use Rattle.node_core.specs.Participant.{Participant};
 ghost use Rattle.world_play.specs.Standing.{GoesOn};
 ghost use Rattle.world_play.specs.Submitting.{AreSetUp, CanPrepare, CanSubmit, wanted_of};
@@ -42,7 +44,9 @@ fn wanted(
     now: u64,
 ) -> Result<Option<Request>, AllocError>
     requires { (node : Participant) → slice_get nodes.now what.now.participant ≡ Some node → CanPrepare node what.now }
-    ensures { IfOk result (λ request. request ≡ wanted_of what.now now (slice_get nodes.now what.now.participant)) }
+    ensures { IfOk result (λ request. (log : List Entry)
+        → ((node : Participant) → slice_get nodes.now what.now.participant ≡ Some node → HasInbox (inbox_over log node) node)
+        → request ≡ wanted_of log what.now now (slice_get nodes.now what.now.participant)) }
 {
     let at = what.participant.0 as usize;
     if at >= nodes.len() {

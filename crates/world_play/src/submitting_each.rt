@@ -10,6 +10,7 @@ ghost use Rattle.world_model.specs.Lawful.{Lawful};
 ghost use Rattle.world_model.specs.Rounds.{Round};
 ghost use Rattle.world_model.specs.Plain.{Submitted};
 ghost use Rattle.node_core.specs.declared.submit_result.SubmitResult.{SubmitResult};
+ghost use Rattle.node_core.specs.Bases.{AreBases, Bases};
 ghost use Rattle.world_play.specs.Answering.{IsAnswer};
 ghost use Rattle.world_play.specs.Flags.{ArePaused};
 ghost use Rattle.node_core.specs.Machines.{why_of};
@@ -46,6 +47,7 @@ fn answer_slice(
     ensures lawful { (m : Machine) (time : ℕ) (state : MediatorState) → AreNodesOf m nodes.old sequencer.old
         → Lawful m (world_with time state nodes.old sequencer.old) → Lawful m (world_with time state nodes.new sequencer.new) }
     ensures set_up { (topology : Topology) (packages : Packages) → AreSetUp topology packages nodes.old → AreSetUp topology packages nodes.new }
+    ensures bases { (bases : Bases) → AreBases bases nodes.old → AreBases bases nodes.new }
     ensures paused { (paused : List ParticipantId) → ArePaused paused nodes.old → ArePaused paused nodes.new }
     ensures plain { IfOk result IsPlainResult }
     ensures placed { IfOk result (IsPlaced sequencer.new.list) }
@@ -74,6 +76,7 @@ fn answer_list(
     ensures lawful { (m : Machine) (time : ℕ) (state : MediatorState) → AreNodesOf m nodes.old.items sequencer.old
         → Lawful m (world_with time state nodes.old.items sequencer.old) → Lawful m (world_with time state nodes.new.items sequencer.new) }
     ensures set_up { (topology : Topology) (packages : Packages) → AreSetUp topology packages nodes.old.items → AreSetUp topology packages nodes.new.items }
+    ensures bases { (bases : Bases) → AreBases bases nodes.old.items → AreBases bases nodes.new.items }
     ensures paused { (paused : List ParticipantId) → ArePaused paused nodes.old.items → ArePaused paused nodes.new.items }
     ensures plain { IfOk result IsPlainResult }
     ensures placed { IfOk result (IsPlaced sequencer.new.list) }
@@ -101,6 +104,8 @@ fn submit_one(
         → IsWorldOf m state world.new × Lawful m (world_of state world.new) }
     ensures set_up { (topology : Topology) (packages : Packages) → AreSetUp topology packages (world.old.nodes).items
         → AreSetUp topology packages (world.new.nodes).items }
+    ensures bases { (bases : Bases) → AreBases bases (world.old.nodes).items
+        → AreBases bases (world.new.nodes).items }
     ensures paused { (paused : List ParticipantId) → ArePaused paused (world.old.nodes).items → ArePaused paused (world.new.nodes).items }
     ensures plain { IfOk result IsPlainResult }
     ensures placed { IfOk result (IsPlaced (world.new.sequencer).list) }
@@ -149,6 +154,8 @@ impl<'r> World<'r> {
             → IsWorldOf m state self.new × Lawful m (world_of state self.new) }
         ensures set_up { (topology : Topology) (packages : Packages) → AreSetUp topology packages (self.old.nodes).items
             → AreSetUp topology packages (self.new.nodes).items }
+        ensures bases { (bases : Bases) → AreBases bases (self.old.nodes).items
+            → AreBases bases (self.new.nodes).items }
         ensures paused { (paused : List ParticipantId) → ArePaused paused (self.old.nodes).items → ArePaused paused (self.new.nodes).items }
         ensures answers { IsOutOfMemory result ⊎ ((answer : SubmitResult) × IsPlainResult answer × IsSlipOf answer self.new.sequencer result
             × IsAnsweredBy answer self.old what.now self.new) }
@@ -182,6 +189,8 @@ pub fn submit_each(
         → IsWorldOf m state world.new × Lawful m (world_of state world.new) }
     ensures set_up { (topology : Topology) (packages : Packages) → AreSetUp topology packages (world.old.nodes).items
         → AreSetUp topology packages (world.new.nodes).items }
+    ensures bases { (bases : Bases) → AreBases bases (world.old.nodes).items
+        → AreBases bases (world.new.nodes).items }
     ensures paused { (paused : List ParticipantId) → ArePaused paused (world.old.nodes).items → ArePaused paused (world.new.nodes).items }
     ensures answers { OnOk result ((answers : List SubmitResult) × (results.new ≡ results.old ++ answers) × (length answers ≡ length submits.now)
         × All IsPlainResult answers

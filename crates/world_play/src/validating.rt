@@ -1,11 +1,13 @@
 //! How a participant checks what it owes verdicts to.
-ghost use Rattle.std.specs.Prelude.{◌≡◌, ◌<◌, ℕ, List, length, IfOk, OnOk};
+ghost use Rattle.std.specs.Prelude.{◌≡◌, ◌<◌, List, length, IfOk, OnOk};
+ghost use Rattle.canton_model.specs.Inbox.{Item};
 ghost use Rattle.ledger_model.specs.Terms.{ParticipantId};
 ghost use Rattle.world_model.specs.Machine.{Machine};
 ghost use Rattle.world_model.specs.Messages.{Entry};
 ghost use Rattle.world_model.specs.Lawful.{NodeHas};
 ghost use Rattle.world_model.specs.Turns.{validate_below};
-ghost use Rattle.node_core.specs.Participant.{reading_of, with_state};
+ghost use Rattle.node_core.specs.OverLog.{HasInbox};
+ghost use Rattle.node_core.specs.Participant.{reading_of, whole_state, with_state};
 ghost use Rattle.validate_job.specs.Outcome.{IsOutcome};
 ghost use Rattle.node_core.specs.Machines.{IsNodeOf};
 
@@ -27,7 +29,7 @@ pub fn run_job(natives: &NativeList, job: ValidateJob<'_>) -> Result<Finished, A
     }
 }
 
-/// The participant claims and finishes its jobs, one after another. After want of memory a job may be left claimed.
+/// A participant claims and finishes its jobs, one after another. After want of memory a job may be left claimed.
 pub fn validate_all<'r>(
     alloc: Global,
     natives: &'r NativeList,
@@ -35,10 +37,11 @@ pub fn validate_all<'r>(
 ) -> Result<(), AllocError>
     ensures same { node.new ≡ with_state node.old node.new.state }
     ensures items { (node.new.state).items ≡ (node.old.state).items }
-    ensures has { (m : Machine) (p : ParticipantId) (read : List Entry) → IsNodeOf m p node.old → NodeHas m p read node.old.state
-        → NodeHas m p read node.new.state }
-    ensures ok { OnOk result (node.new.state
-        ≡ validate_below (reading_of node.old) (node.old.topology).params node.old.me node.old.state (length (node.old.state).items)) }
+    ensures inbox { (whole : List Item) → HasInbox whole node.old → HasInbox whole node.new }
+    ensures has { (m : Machine) (p : ParticipantId) (read : List Entry) (whole : List Item) → IsNodeOf m p node.old → HasInbox whole node.old
+        → NodeHas m p read (whole_state node.old whole) → NodeHas m p read (whole_state node.new whole) }
+    ensures ok { OnOk result ((whole : List Item) → HasInbox whole node.old → whole_state node.new whole
+        ≡ validate_below (reading_of node.old) (node.old.topology).params node.old.me (whole_state node.old whole) (length whole)) }
 {
     'jobs: while let Some(job) = node.claim_job(alloc)? {
         let finished = run_job(natives, job)?;

@@ -1,9 +1,9 @@
 //! The world of one synchroniser.
-ghost use Rattle.std.specs.Prelude.{◌≡◌, ◌≤◌, [], length, map, replicate, IfOk, OnOk};
-ghost use Rattle.world_model.specs.Node.{new_node};
+ghost use Rattle.std.specs.Prelude.{◌≡◌, ◌≤◌, length, IfOk};
 ghost use Rattle.world_model.specs.Mediator.{new_mediator};
 ghost use Rattle.world_model.specs.World.{new_world};
 ghost use Rattle.node_core.specs.Machines.{machine_of};
+ghost use Rattle.node_core.specs.Bases.{AreBases};
 ghost use Rattle.world_play.specs.Making.{AreNewNodes};
 ghost use Rattle.world_play.specs.Submitting.{AreSetUp};
 ghost use Rattle.world_play.specs.WorldOf.{IsWorldOf, world_of};
@@ -71,6 +71,7 @@ impl<'r> World<'r> {
         ensures is { IfOk result (λ world. IsWorldOf (machine_of setup.now.topology setup.now.checked capacity) new_mediator world) }
         ensures row { IfOk result (λ world. (world.sequencer).row ≡ row.old) }
         ensures set_up { IfOk result (λ world. AreSetUp setup.now.topology setup.now.checked (world.nodes).items) }
+        ensures bases { IfOk result (λ world. AreBases (λ p. 0) (world.nodes).items) }
         ensures new { IfOk result (λ world. world_of new_mediator world
             ≡ new_world (machine_of setup.now.topology setup.now.checked capacity)) }
     {

@@ -1,5 +1,5 @@
 //! Clients that submit and ask, and go out of use.
-ghost use Rattle.std.specs.Prelude.{◌≡◌, ◌<◌, true, length, IfSome};
+ghost use Rattle.std.specs.Prelude.{◌≡◌, ◌<◌, ◌≤◌, ℕ, true, length, IfSome};
 ghost use Rattle.lang_eval.specs.Named.{AreKnown};
 ghost use Rattle.sealed_form.specs.Within.{is_hosted};
 ghost use Rattle.prepare_request.specs.Within.{parties_in_what};
@@ -89,6 +89,7 @@ pub(crate) fn ask_by<'r, S: Session, R: Wait>(
     requires parts { S.parts ≡ 1025 }
     requires clients { shared.old.out ≡ 0 }
     requires ticket { IfSome ticket (λ t. t.row ≡ S.history) }
+    requires bases { (p : ℕ) → S.bases p ≡ 0 }
     ensures clients { shared.new.out ≡ 0 }
     ensures round { shared.new.round ≡ shared.old.round }
 {
@@ -109,7 +110,8 @@ fn ask<'r, S: Session, R: Wait>(
     ticket: &mut Ticket<'r>,
     out: &mut Answer,
 )
-    requires { (ticket.old.row ≡ S.history) × (ticket.old.me ≡ client.old.me) }
+    requires ticket { (ticket.old.row ≡ S.history) × (ticket.old.me ≡ client.old.me) }
+    requires base { S.bases client.old.me ≤ ticket.old.place }
     ensures same { ticket.new ≡ ticket.old }
     ensures client { client.new.me ≡ client.old.me }
 {

@@ -1,5 +1,5 @@
 //! Sharings, one after another.
-ghost use Rattle.std.specs.Prelude.{◌≡◌, IfOk, IfSome};
+ghost use Rattle.std.specs.Prelude.{◌≡◌, ℕ, IfOk, IfSome};
 ghost use Rattle.lang_eval.specs.Named.{AreKnown};
 ghost use Rattle.sealed_form.specs.Within.{is_hosted};
 ghost use Rattle.prepare_request.specs.Within.{parties_in_what};
@@ -64,6 +64,7 @@ fn share<'r, S: Session, R: Wait + RandomSource + AllocGlobal>(
 ) -> Result<Kept<'r>, AllocError>
     requires topology { setup.now.topology ≡ S.topology }
     requires set_up { IsSetUp S.topology S.packages S.machine S.why }
+    requires bases { (p : ℕ) → S.bases p ≡ 0 }
     requires world { CanBeShared S.topology S.packages S.machine last.world.value }
     requires log { ((last.world.value.sequencer).row ≡ S.history) × ((last.world.value.sequencer).list ≡ S.start) }
     requires ticket { IfSome last.ticket (λ t. t.row ≡ S.history) }

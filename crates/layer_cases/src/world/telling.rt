@@ -28,7 +28,7 @@ pub(crate) fn put_told(
 fn views_of(alloc: Global, nodes: &[Node<'_>]) -> Result<NodeViewList, AllocError> {
     let mut views = NodeViewList::new(alloc);
     for node in nodes {
-        views.push(NodeView::of(alloc, node)?)?;
+        views.push(NodeView::of(alloc, node, false)?)?;
     }
     Ok(views)
 }

@@ -53,7 +53,7 @@ settle-requires g c =
     let can =
     can_be_answered r.0 r.2 round r.4 r.5 r.1 c.args.workers.now.count c.args.world w1 (c.args.answers.now).results (c.args.answers.now).ends p
     begun.now begun.is begun.set_up begun.paused in
-    let a = c.in_ok-answered.ensures r.0 r.1 r.3 can in record { lawful = (m, a.state, a.is, a.lawful) }
+    let a = c.in_ok-answered.ensures.answered r.0 r.1 r.3 can in record { lawful = (m, a.state, a.is, a.lawful) }
 
 pub returns-clause-on : goal.returns-clause-on
 returns-clause-on g c = λ script capacity parts setup is fits p.
@@ -72,7 +72,7 @@ returns-clause-on g c = λ script capacity parts setup is fits p.
     let can =
     can_be_answered script parts round is fits capacity c.args.workers.now.count c.args.world w1 (c.args.answers.now).results
     (c.args.answers.now).ends p begun.now begun.is begun.set_up begun.paused in
-    let a = c.in_ok-answered.ensures script capacity setup can in
+    let a = c.in_ok-answered.ensures.answered script capacity setup can in
     let s = c.in_ok-settle.ensures in
     let answered = c.in_ok-answered.answered in
     let on =
@@ -89,3 +89,8 @@ returns-clause-on g c = λ script capacity parts setup is fits p.
     IsPlayedOn script capacity c.args.workers.now.count parts round c.args.world c.settle.new.world old.results (old.results ++ answered.results)
     old.ends xs)
     (sym c.in_ok-push.ensures.ok) on)
+
+pub returns-clause-bases : goal.returns-clause-bases
+returns-clause-bases g c = λ bases had.
+    let same = c.in_ok-hand_in_raws.ensures.nodes in
+    c.in_ok-settle.ensures.bases bases (c.in_ok-answered.ensures.bases bases (rw same (c.in_ok-begin_round.ensures.bases bases had)))

@@ -14,8 +14,8 @@ submit_each-requires-clause-within g c = let r = c.requires in ((r.0).topology, 
 pub submit_each-requires-clause-there : goal.submit_each-requires-clause-there
 submit_each-requires-clause-there g c = let r = c.requires in there_each r.0 r.1 c.args.round.now c.args.world r.2
 
-pub returns : goal.returns
-returns g c = λ script capacity can.
+pub returns-clause-answered : goal.returns-clause-answered
+returns-clause-answered g c = λ script capacity can.
     let m = machine_for script capacity in
     let e = c.in_ok-submit_each.ensures in
     let answers = e.answers in

@@ -69,3 +69,8 @@ pub returns-clause-paused : goal.returns-clause-paused
 returns-clause-paused g c =
     if_ok c.fire_each.result _ _ c.fire_each.ensures.asked
     (λ caused h. c.in_ok-read_awake.ensures.paused c.args.round.now.paused c.in_ok-begin_round.ensures.paused)
+
+pub returns-clause-bases : goal.returns-clause-bases
+returns-clause-bases g c =
+    if_ok c.fire_each.result _ _ c.fire_each.ensures.asked
+    (λ caused h bases had. c.in_ok-read_awake.ensures.bases bases (c.in_ok-begin_round.ensures.bases bases had))

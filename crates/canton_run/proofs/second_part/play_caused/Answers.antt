@@ -42,3 +42,6 @@ returns-clause-answers g c =
 
 pub returns-clause-ends : goal.returns-clause-ends
 returns-clause-ends g c = c.in_ok-push.ensures.ok ∙ ap (λ (n : ℕ). (c.args.answers.now).ends ++ n ∷ []) c.len.ensures
+
+pub returns-clause-bases : goal.returns-clause-bases
+returns-clause-bases g c = λ bases had. c.in_ok-settle.ensures.bases bases (c.in_ok-submit_caused.ensures.bases bases had)

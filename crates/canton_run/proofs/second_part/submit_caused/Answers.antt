@@ -60,7 +60,7 @@ caused-preserved g c =
     let one = c.submit_one.ensures in
     submitting_on c.args.world.now (submissions_in c.args.caused.now) c.args.results.now k e.submission (submission_at c.args.caused.now k e at)
     c.caused.world c.caused.results c.caused.invariant c.submit_one.new.world
-    (record { on = one.on; now = one.now; lawful = one.lawful; set_up = one.set_up; paused = one.paused }) c.in_ok-answer.answer
+    (record { on = one.on; now = one.now; lawful = one.lawful; set_up = one.set_up; bases = one.bases; paused = one.paused }) c.in_ok-answer.answer
     (c.in_ok-answer.ensures.answers).0 (c.in_ok-answer.ensures.answers).1 c.push.new.self c.in_ok-push.ensures.ok
 
 pub returns-clause-answers : goal.returns-clause-answers

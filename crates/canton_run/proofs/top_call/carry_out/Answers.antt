@@ -10,29 +10,30 @@ use Rattle.canton_run.proofs.top_call.carry_out.Goals as goal
 
 -- the text of the record is that of the end
 of_end : (job : Job) (bytes : List ℕ) (script : Script) (log log' : List Entry) → log' ≡ log → (results results' : List SubmitResult)
-    → results' ≡ results → (caused caused' : List Caused) → caused' ≡ caused
-    → told_text job bytes script log results caused ≡ told_text job bytes script log' results' caused'
-of_end job bytes script log log' one results results' two caused caused' three =
-    ap (λ (l : List Entry). told_text job bytes script l results caused) (sym one)
-    ∙ ap (λ (r : List SubmitResult). told_text job bytes script log' r caused) (sym two)
-    ∙ ap (λ (x : List Caused). told_text job bytes script log' results' x) (sym three)
+    → results' ≡ results → (ends ends' : List ℕ) → ends' ≡ ends → (caused caused' : List Caused) → caused' ≡ caused
+    → told_text job bytes script log results ends caused ≡ told_text job bytes script log' results' ends' caused'
+of_end job bytes script log log' one results results' two ends ends' three caused caused' four =
+    ap (λ (l : List Entry). told_text job bytes script l results ends caused) (sym one)
+    ∙ ap (λ (r : List SubmitResult). told_text job bytes script log' r ends caused) (sym two)
+    ∙ ap (λ (e : List ℕ). told_text job bytes script log' results' e caused) (sym three)
+    ∙ ap (λ (x : List Caused). told_text job bytes script log' results' ends' x) (sym four)
 
 pub returns-clause-done : goal.returns-clause-done
 returns-clause-done g c at =
     let end = c.finished.ensures in
-    let is = c.as_slice.ensures ∙ c.in-Ok.ensures.text ∙ of_end c.args.job c.args.given.bytes c.args.given.script _ _ end.log _ _ end.results _ _ end.caused in
+    let is = c.as_slice.ensures ∙ c.in-Ok.ensures.text ∙ of_end c.args.job c.args.given.bytes c.args.given.script _ _ end.log _ _ end.results _ _ end.ends _ _ end.caused in
     subst (λ (bytes : List ℕ). Appends (g.K.Sink.held c.args.sink.now) (g.K.Sink.held c.write.new.sink) bytes) is
     (c.write.ensures.done (sym end.status ∙ at))
 
 pub returns-clause-sure : goal.returns-clause-sure
 returns-clause-sure g c at =
     let end = c.finished.ensures in
-    let is = c.as_slice.ensures ∙ c.in-Ok.ensures.text ∙ of_end c.args.job c.args.given.bytes c.args.given.script _ _ end.log _ _ end.results _ _ end.caused in
+    let is = c.as_slice.ensures ∙ c.in-Ok.ensures.text ∙ of_end c.args.job c.args.given.bytes c.args.given.script _ _ end.log _ _ end.results _ _ end.ends _ _ end.caused in
     subst (λ (bytes : List ℕ). g.K.Sink.room c.args.sink.now < length bytes) is (c.write.ensures.sure (sym end.status ∙ at))
 
 pub returns-clause-cut : goal.returns-clause-cut
 returns-clause-cut g c at =
     let end = c.finished.ensures in
-    let is = c.as_slice.ensures ∙ c.in-Ok.ensures.text ∙ of_end c.args.job c.args.given.bytes c.args.given.script _ _ end.log _ _ end.results _ _ end.caused in
+    let is = c.as_slice.ensures ∙ c.in-Ok.ensures.text ∙ of_end c.args.job c.args.given.bytes c.args.given.script _ _ end.log _ _ end.results _ _ end.ends _ _ end.caused in
     subst (λ (bytes : List ℕ). (n : ℕ) × Appends (g.K.Sink.held c.args.sink.now) (g.K.Sink.held c.write.new.sink) (take n bytes)) is
     (c.write.ensures.cut (sym end.status ∙ at))

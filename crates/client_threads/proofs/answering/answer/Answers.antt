@@ -1,4 +1,3 @@
-use Rattle.std.proofs.Common.{◌≡◌}
 use Rattle.client_threads.proofs.OneAnswer.{refused_answers}
 use Rattle.client_threads.proofs.answering.answer.Goals as goal
 

@@ -4,8 +4,7 @@ use Rattle.lang_eval.specs.Found.{Packages}
 use Rattle.canton_model.specs.Checks.{verdicts_owed}
 use Rattle.canton_model.specs.Inbox.{inbox}
 use Rattle.world_model.specs.Messages.{Entry, ViewVerdict}
-use Rattle.world_model.specs.Node.{owed_at}
-use Rattle.node_inbox.specs.InboxState.{params_of, reading_of}
+use Rattle.node_inbox.specs.InboxState.{owed_kept, params_of, reading_of}
 use Rattle.framed_form.specs.FramedReading.{framed_reading}
 use Rattle.log_audit.specs.Inboxes.{HaveRead}
 use Rattle.log_audit.proofs.Knowing.{owed_here}
@@ -16,7 +15,7 @@ pub returns : goal.returns
 returns c =
     let i = c.index.result.now in
     let inboxes = c.args.inboxes.now.items in
-    if_ok_map c.owed_by.result (λ (v : List ViewVerdict). v ≡ owed_at (reading_of i) (params_of i) i.me i.items c.args.place)
+    if_ok_map c.owed_by.result (λ (v : List ViewVerdict). v ≡ owed_kept (reading_of i) (params_of i) i.me i.start i.items c.args.place)
     (λ (v : List ViewVerdict). (topology : Topology) (packages : Packages) (log : List Entry) → HaveRead topology packages inboxes log
     → v ≡ verdicts_owed (framed_reading topology packages) topology.params c.args.p
     (inbox (framed_reading topology packages) c.args.p (take (suc c.args.place) log)) c.args.place)

@@ -1,4 +1,4 @@
-use Rattle.std.proofs.Common.{◌≤◌, ◌-◌, ◌^◌, arith}
+use Rattle.std.proofs.Common.{◌≤◌, ◌-◌, ◌^◌, ◌∙◌, arith}
 use Rattle.node_inbox.proofs.Put.{read_nothing, steps}
 use Rattle.node_inbox.proofs.putting.put_nothing.Goals as goal
 
@@ -12,4 +12,4 @@ returns-clause-ok c =
     let a = c.advance.ensures in
     read_nothing c.args.setup.now.topology c.args.setup.now.checked c.args.me c.args.items.now.items c.put.new.items.items c.args.time c.args.standing.now
     c.pass.new.self c.advance.new.self c.requires.inbox c.requires.rises fits e.rows e.pairs e.holds e.cursor a.store a.pairs a.cursor
-    (rw (c.reserve.ensures.items) at c.put.ensures)
+    (rw (c.reserve.ensures.items) at c.put.ensures) (a.start ∙ e.start)

@@ -12,7 +12,7 @@ returns-in_err-begin-clause-err c =
     let e = c.in_err-begin.ensures in
     on_err c.from_residual-in_err-begin.result
     (unread c.args.setup.now.topology c.args.setup.now.checked c.args.me c.args.items.now.items c.reserve.new.self.items c.args.standing.now c.begin.new.self
-    c.requires.inbox c.reserve.ensures.items e.rows e.holds e.err e.cursor)
+    c.requires.inbox c.reserve.ensures.items e.rows e.holds e.err e.cursor e.start)
 
 pub pass-requires : goal.pass-requires
 pass-requires c =
@@ -31,4 +31,4 @@ returns-clause-ok c =
     b.rows b.holds (rw (c.decision_of.ensures) at b.ok) b.cursor c.cursor-place.ensures e.rows e.pairs e.holds e.cursor
     (ap (λ s. s.rows) a.store ∙ h.rows) (ap (λ s. s.holds) a.store ∙ h.holds) (a.pairs ∙ ap (λ t. t.pairs) h.tracking)
     (a.cursor ∙ ap (λ t. t.cursor + 1) h.tracking)
-    (rw (c.reserve.ensures.items, c.put_facts.ensures, c.store.ensures) at c.put.ensures)
+    (rw (c.reserve.ensures.items, c.put_facts.ensures) at c.put.ensures) (e.start ∙ b.start) (a.start ∙ (h.start ∙ (e.start ∙ b.start)))

@@ -12,7 +12,7 @@ returns-in_err-make_room-clause-err c =
     let e = c.in_err-make_room.ensures in
     on_err c.from_residual-in_err-make_room.result
     (unread c.args.setup.now.topology c.args.setup.now.checked c.args.me c.args.items.now.items c.reserve.new.self.items c.args.standing.now c.make_room.new.self
-    c.requires.inbox c.reserve.ensures.items e.rows e.holds (ap (λ t. t.pairs) e.tracking) (ap (λ t. t.cursor) e.tracking))
+    c.requires.inbox c.reserve.ensures.items e.rows e.holds (ap (λ t. t.pairs) e.tracking) (ap (λ t. t.cursor) e.tracking) e.start)
 
 pub pass-requires : goal.pass-requires
 pass-requires c =
@@ -31,3 +31,4 @@ returns-clause-ok c =
     (e.rows ∙ m.rows) (e.pairs ∙ ap (λ t. expired c.args.time t.pairs) m.tracking)
     (λ f n h. e.holds f n (m.holds ∙ h ∙ ap (λ t. holding (placed_below (is_open_at t.pairs) f n)) (sym m.tracking)))
     (e.cursor ∙ ap (λ t. t.cursor) m.tracking) a.store a.pairs a.cursor s.some s.none (rw (c.reserve.ensures.items) at c.put.ensures)
+    (e.start ∙ m.start) a.start

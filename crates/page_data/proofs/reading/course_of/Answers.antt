@@ -1,11 +1,15 @@
-use Rattle.std.proofs.Common.{◌≡◌, length, IfOk, sym, subst}
+use Rattle.std.proofs.Common.{◌≡◌, length, IfOk, refl, sym, subst}
 use Rattle.canton_model.specs.Genuine.{Genuine}
-use Rattle.node_inbox.specs.InboxState.{InboxState, params_of, reading_of}
+use Rattle.node_inbox.specs.InboxState.{InboxState, begun, params_of, reading_of}
 use Rattle.page_data.specs.Courses.{each_knowledge, inbox_over}
 use Rattle.page_data.specs.Knowledge.{store_rows}
 use Rattle.page_data.specs.Owing.{owed_below}
 use Rattle.page_data.specs.declared.course.Course.{Course}
 use Rattle.page_data.proofs.reading.course_of.Goals as goal
+
+pub read_course-requires-clause-begun : goal.read_course-requires-clause-begun
+read_course-requires-clause-begun c =
+    subst (λ (i : InboxState). i ≡ begun i.topology i.packages i.me) (sym c.new-inbox.ensures) refl
 
 pub read_course-requires-clause-genuine : goal.read_course-requires-clause-genuine
 read_course-requires-clause-genuine c =

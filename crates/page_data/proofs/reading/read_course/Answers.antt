@@ -6,6 +6,12 @@ use Rattle.page_data.specs.Knowledge.{store_rows}
 use Rattle.page_data.specs.Owing.{owed_below}
 use Rattle.page_data.proofs.reading.read_course.Goals as goal
 
+pub store_rows-requires : goal.store_rows-requires
+store_rows-requires c = ap (λ (i : InboxState). i.start) c.in_ok-states.ensures.inbox
+
+pub owed_by-requires : goal.owed_by-requires
+owed_by-requires c = ap (λ (i : InboxState). i.start) c.in_ok-states.ensures.inbox
+
 pub returns-clause-contracts : goal.returns-clause-contracts
 returns-clause-contracts c = c.in_ok-contracts.ensures ∙ ap store_rows c.in_ok-states.ensures.inbox
 

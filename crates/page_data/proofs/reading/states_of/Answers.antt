@@ -1,13 +1,21 @@
-use Rattle.std.proofs.Common.{◌+◌, List, [], ◌∷◌, ◌++◌, sym, subst, ◌∙◌}
+use Rattle.std.proofs.Common.{◌+◌, List, [], ◌∷◌, ◌++◌, sym, ap, subst, ◌∙◌}
+use Rattle.node_inbox.specs.InboxState.{InboxState}
 use Rattle.page_data.specs.declared.knowledge.Knowledge.{Knowledge}
 use Rattle.page_data.proofs.Reread.{HasRead, got, may_read, reads_all, reads_none, reads_on}
 use Rattle.page_data.proofs.reading.states_of.Goals as goal
+
+pub knowledge_of-requires : goal.knowledge_of-requires
+knowledge_of-requires c = ap (λ (i : InboxState). i.start) c.requires.begun
+
+pub knowledge_of-requires-in-entries : goal.knowledge_of-requires-in-entries
+knowledge_of-requires-in-entries c =
+    ap (λ (i : InboxState). i.start) c.in_ok-read_entry.ensures ∙ ap (λ (i : InboxState). i.start) c.entries.invariant.inbox
 
 pub entries-init : goal.entries-init
 entries-init c =
     let inbox = c.args.inbox.now in
     reads_none inbox.topology inbox.packages inbox.me c.args.log.now c.push.new.self inbox
-    (λ i. record { topology = inbox.topology; packages = inbox.packages; me = inbox.me; items = c.requires.begun i })
+    c.requires.begun
     (c.in_ok-push.ensures.ok ∙ (λ i. c.new-states.ensures i ++ c.in_ok-knowledge_of.ensures i ∷ []))
 
 pub read_entry-requires : goal.read_entry-requires

@@ -1,19 +1,24 @@
 use Rattle.std.proofs.Common.{rules, ◌≡◌, List, length, map, sym, ◌∙◌, subst}
 use Rattle.std.specs.Prelude.{All, sum_by}
 use mathlib.Core.List.{IsPrefix}
+use Rattle.log_row.specs.LogPrefix.{RowName}
 use Rattle.seq_log.specs.Sequenced.{Sequenced}
 use Rattle.world_model.specs.Lawful.{Lawful}
 use Rattle.world_model.specs.Mediator.{MediatorState}
 use Rattle.world_model.specs.Messages.{Entry}
 use Rattle.world_play.specs.WorldOf.{IsWorldOf, world_of}
 use Rattle.shared_rounds.specs.Joined.{AreAnswered}
-use Rattle.shared_rounds.specs.Retired.{list_seen, tickets_brought}
+use Rattle.shared_rounds.specs.Retired.{IsLeftIn, list_seen, tickets_brought}
 use Rattle.shared_rounds.proofs.Gathering.{all_fresh, each_of_clients, gathered}
 use Rattle.shared_rounds.proofs.submitting.gather.Goals as goal
 
 pub serve_beside-requires-clause-fresh : goal.serve_beside-requires-clause-fresh
 serve_beside-requires-clause-fresh g c κs within =
     all_fresh g.S.Session.start c.in_ok-clients.clients.items c.in_ok-clients.ensures.each
+
+pub results_of_each-requires : goal.results_of_each-requires
+results_of_each-requires g c =
+    subst (λ (row : RowName). All (IsLeftIn row) c.in_ok-retired.retired.items) (sym c.into_parts-world.ensures.row) c.in_ok-retired.ensures.row
 
 pub returns-clause-world : goal.returns-clause-world
 returns-clause-world g c =

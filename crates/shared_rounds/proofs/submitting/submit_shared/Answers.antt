@@ -15,6 +15,7 @@ use Rattle.world_play.specs.Submitting.{CanSubmit}
 use Rattle.shared_rounds.specs.Joined.{AreAnswered}
 use Rattle.shared_rounds.specs.Machine.{machine_in}
 use Rattle.shared_rounds.specs.Queues.{queued}
+use Rattle.shared_rounds.proofs.Based.{own_bases, same_bases}
 use Rattle.shared_rounds.proofs.Joining.{goes_on, joined_of}
 use Rattle.shared_rounds.proofs.submitting.submit_shared.Goals as goal
 
@@ -24,6 +25,9 @@ gather-requires-clause-set_up g c κs within =
 
 pub gather-requires-clause-nodes : goal.gather-requires-clause-nodes
 gather-requires-clause-nodes g c κs within = c.requires.nodes
+
+pub gather-requires-clause-bases : goal.gather-requires-clause-bases
+gather-requires-clause-bases g c κs within = own_bases c.args.world.nodes.items
 
 pub gather-requires-clause-world : goal.gather-requires-clause-world
 gather-requires-clause-world g c κs within = c.requires.world
@@ -55,6 +59,11 @@ returns-clause-on g c =
 
 pub returns-clause-nodes : goal.returns-clause-nodes
 returns-clause-nodes g c = c.in_ok-world.ensures.nodes
+
+pub returns-clause-bases : goal.returns-clause-bases
+returns-clause-bases g c =
+    let told = c.in_ok-world.ensures in
+    same_bases c.args.world.nodes.items c.in_ok-world.field-0.world.nodes.items (told.nodes.many ∙ sym c.requires.nodes.many) told.bases
 
 pub returns-clause-world : goal.returns-clause-world
 returns-clause-world g c = c.in_ok-world.ensures.world

@@ -1,5 +1,6 @@
 use Rattle.shared_rounds.proofs.submitting.submit_shared.Given as goal
 use Rattle.shared_rounds.specs.Machine.{machine_in}
+use Rattle.node_core.specs.Bases.{bases_of}
 use Rattle.node_core.specs.Machines.{why_of}
 
 abbrev pub ghosts-gather-S-Row : goal.ghosts-gather-S-Row
@@ -15,5 +16,6 @@ ghosts-gather-S-Session g a =
       packages = a.setup.now.checked;
       machine = machine_in a.setup.now a.world;
       why = why_of a.setup.now.topology a.setup.now.checked;
+      bases = bases_of a.world.nodes.items;
       start = a.world.sequencer.list;
     }

@@ -1,5 +1,5 @@
 use Rattle.std.proofs.Common.{◌≡◌, ◌≢◌, ℕ, zero, suc, ◌+◌, ◌-◌, List, [], ◌∷◌, length, Result, Err, refl, ap, arith}
-use Rattle.snapshot_store.specs.declared.node_state.NodeState.{NodeState}
+use Rattle.node_state.specs.declared.node_state.NodeState.{NodeState}
 use Rattle.snapshot_store.specs.declared.snap_fault.SnapFault.{SnapFault}
 use Rattle.snapshot_store.specs.declared.snap_fault.SnapFault.TheVariants.{Bad}
 use Rattle.snapshot_store.specs.Reading.{version_at, head_at, state_at}

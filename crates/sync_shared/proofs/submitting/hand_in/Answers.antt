@@ -1,16 +1,18 @@
-use Rattle.std.proofs.Common.{◌≡◌, ◌∷◌, [], ◌++◌, length, List, Some, false, sym, ap, ◌∙◌, subst}
+use Rattle.std.proofs.Common.{◌≡◌, ◌≤◌, ◌∷◌, [], ◌++◌, length, List, Some, false, sym, ap, ◌∙◌, subst, arith}
+use Rattle.std.proofs.lemmas.List.{length-append}
 use Rattle.std.specs.Prelude.{IfSome}
 use Rattle.world_model.specs.Messages.{Entry, RequestMessage}
 use Rattle.ledger_model.specs.Terms.{ParticipantId}
 use Rattle.prepare_request.specs.declared.submit_fault.SubmitFault.{SubmitFault}
 use Rattle.threads_model.specs.Clients.{ClientStep}
+use Rattle.threads_model.proofs.Begins.{begins_length}
 use Rattle.world_model.specs.Locks.{SequencerBehind}
 use Rattle.world_model.specs.Rounds.{SubmitResult}
 use Rattle.world_model.specs.Places.{has_place}
 use Rattle.world_model.specs.Sequencing.{append_fault, entry_after}
 use Rattle.seq_log.specs.Sequenced.{cause_of}
 use Rattle.sync_shared.specs.Slips.{read_to}
-use Rattle.sync_shared.specs.Answers.{fault_of, refused_at, seen_after, told_of}
+use Rattle.sync_shared.specs.Answers.{fault_of, refused_at, seen_after}
 use Rattle.sync_shared.proofs.Handing.{hand_sent, hand_refused, is_appended, is_in_time, is_of_framed, refused_genuine}
 use Rattle.sync_shared.proofs.submitting.hand_in.Goals as goal
 
@@ -35,7 +37,26 @@ returns-in-Ok-clause-step g c paused awake =
     let slip : c.again.result.list ≡ c.of.result.list = ap (λ p. p.list) (c.again.ensures.again ∙ sym c.again.ensures.same) ∙ sym t.slip.1 in
     hand_sent g.S.Session.machine g.S.Session.why now c.args.client.now.list c.args.node.now c.args.log.now c.args.what.now g.row.I c.args.request
     c.requires.mine.0 c.requires.knows r.begins c.requires.wanted c.again.result.list c.of.result.read_to
-    (t.given.0 ∙ (c.cursor-read_to.ensures ∙ ap length r.same.0)) paused awake c.of.result.place is (ap length slip ∙ t.request.last)
+    (t.given.0 ∙ (c.cursor-read_to.ensures.cursor ∙ ap length r.same.0)) paused awake c.of.result.place is (ap length slip ∙ t.request.last)
+
+pub returns-in-Ok-clause-base : goal.returns-in-Ok-clause-base
+returns-in-Ok-clause-base g c =
+    let r = c.reaches.ensures in
+    let e = c.in-Ok.ensures.ok in
+    let now = c.args.now in
+    let t = c.of.ensures in
+    let log = c.args.log.now in
+    let told : c.again.result.list ≡ c.append.new.self = ap (λ p. p.list) c.again.ensures.again ∙ e.3 in
+    let is = subst (λ (xs : List Entry). c.again.result.list ≡ xs ++ entry_after now xs (RequestMessage c.args.request) ∷ []) r.same.1 (told ∙ e.1) in
+    let slip : c.again.result.list ≡ c.of.result.list = ap (λ p. p.list) (c.again.ensures.again ∙ sym c.again.ensures.same) ∙ sym t.slip.1 in
+    let total = ap length (sym slip ∙ is) in
+    let long = length-append log (entry_after now log (RequestMessage c.args.request) ∷ []) in
+    let last = t.request.last in
+    let base = c.cursor-read_to.ensures.base in
+    let read : c.cursor-read_to.result ≡ length c.args.node.now = c.cursor-read_to.ensures.cursor ∙ ap length r.same.0 in
+    let begins = begins_length c.args.node.now log r.begins in
+    subst (λ (i : ParticipantId). g.S.Session.bases i ≤ c.of.result.place) (sym c.requires.mine.1)
+    (omega (arith, base, read, begins, total, long, last))
 
 pub told-requires : goal.told-requires
 told-requires g c =
@@ -64,7 +85,7 @@ returns-in-Err-clause-step g c =
     → ClientStep m g.S.Session.why c.args.now paused c.args.client.now.list c.args.what.now x c.told.new.client.list)) (sym c.told.ensures.fault)
     (hand_refused m g.S.Session.why c.args.now c.args.client.now.list c.args.node.now c.args.log.now c.args.what.now g.row.I c.args.request
     c.requires.mine.0 c.requires.knows r.begins c.requires.wanted c.told.new.client.list c.cursor-read_to.result
-    (c.cursor-read_to.ensures ∙ ap length r.same.0) fault cause list)
+    (c.cursor-read_to.ensures.cursor ∙ ap length r.same.0) fault cause list)
 
 pub returns-in-Ok-clause-genuine : goal.returns-in-Ok-clause-genuine
 returns-in-Ok-clause-genuine g c =

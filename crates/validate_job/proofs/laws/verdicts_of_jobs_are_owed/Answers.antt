@@ -7,5 +7,5 @@ pub returns-clause-verdicts : goal.returns-clause-verdicts
 returns-clause-verdicts c = owed_is
 
 pub returns-clause-finished : goal.returns-clause-finished
-returns-clause-finished c rules items notice given ended fits views outcome =
-    outcome.verdicts ∙ (ap (owed_on_each given.input) views ∙ owed_is rules items given.place notice given.input fits)
+returns-clause-finished c rules known held notice given ended fits views outcome =
+    outcome.verdicts ∙ (ap (owed_on_each given.input) views ∙ owed_is rules known held notice given.input fits)

@@ -1,4 +1,4 @@
-use Rattle.std.proofs.Common.{◌≡◌, ◌≢◌, false, rules, refl, sym, ap, ◌∙◌, subst}
+use Rattle.std.proofs.Common.{◌≡◌, ◌≢◌, false, rules, sym, ap, ◌∙◌, subst}
 use Rattle.world_model.specs.Messages.{RequestMessage}
 use Rattle.world_model.specs.Locks.{SequencerBehind}
 use Rattle.world_model.specs.Plain.{HandedIn}
@@ -12,7 +12,7 @@ use Rattle.world_play.specs.Answering.{AnswersAwake}
 use Rattle.node_core.specs.Machines.{offered_in}
 use Rattle.world_play.specs.Results.{result_of}
 use Rattle.world_play.specs.Standing.{GoesOn, IsParticipant}
-use Rattle.world_play.proofs.Awake.{may_prepare, refuses, sends, stays_one}
+use Rattle.world_play.proofs.Awake.{may_prepare, offers_of, refuses, sends, stays_one, whole}
 use Rattle.world_play.proofs.Catches.{read_same, reader_same}
 use Rattle.world_play.proofs.OwnFaults.{not_paused, own_fault}
 use Rattle.world_play.proofs.Sends.{stays}
@@ -86,7 +86,8 @@ returns-in-Ok-clause-answers g c =
     let next = c.send.new.sequencer in
     let own = (may_prepare node s after is c.requires.can.0 what c.requires.can.1).own in
     sends node s after is m what c.args.now given request answer next
-    (rw c.in-Ok.is at (c.prepare.ensures.wanted (offered_in after.topology after.packages) own refl))
+    (rw c.in-Ok.is at (c.prepare.ensures.wanted (offered_in after.topology after.packages) (whole node s after is) own
+    (offers_of node s after is m what.participant given)))
     (subst
     (λ (q : Sequenced). HandedIn c.args.now q.list request (append_fault m q.list (RequestMessage request)) (result_of answer) next.list)
     c.read_to_end.ensures.same (h m c.args.now (subst (IsFor m) (sym c.read_to_end.ensures.same) given.is_for))))
@@ -129,7 +130,8 @@ returns-in-Err-clause-answers g c = λ m given.
     own_fault after what c.args.now awake fault some (rw c.in-Err.is at c.prepare.ensures.exact)
     (c.faults_have_causes.ensures after.topology after.packages after.me (offered_by after) what c.args.now fault) in
     let none =
-    (rw c.in-Err.is at (c.prepare.ensures.wanted (offered_in after.topology after.packages) own refl)) some (not_paused fault mine) in
+    (rw c.in-Err.is at (c.prepare.ensures.wanted (offered_in after.topology after.packages) (whole node s after is) own
+    (offers_of node s after is m what.participant given))) some (not_paused fault mine) in
     subst
     (λ (q : Sequenced). AnswersAwake m node.topology node.packages c.args.now s.list what (Refused fault c.cursor.result) q.list)
     (sym c.read_to_end.ensures.same)

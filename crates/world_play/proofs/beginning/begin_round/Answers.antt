@@ -16,11 +16,14 @@ returns-clause-lawful c = λ m state is l.
       rw c.advance.ensures.nodes
           (lawful_on m world.now next.now state (c.set_paused.new.nodes).items s next.sequencer c.advance.ensures.on
           (c.advance.ensures.behind m (is.nodes).is_for (record { genuine = l.genuine; within_capacity = l.within_capacity }))
-          (c.set_paused.ensures.lawful m world.now state s l)),
+          (c.set_paused.ensures.nodes m s is.nodes) (c.set_paused.ensures.lawful m world.now state s l)),
     )
 
 pub returns-clause-set_up : goal.returns-clause-set_up
 returns-clause-set_up c = λ topology packages u. rw c.advance.ensures.nodes (c.set_paused.ensures.set_up topology packages u)
+
+pub returns-clause-bases : goal.returns-clause-bases
+returns-clause-bases c = λ bases u. rw c.advance.ensures.nodes (c.set_paused.ensures.bases bases u)
 
 pub returns-clause-paused : goal.returns-clause-paused
 returns-clause-paused c =

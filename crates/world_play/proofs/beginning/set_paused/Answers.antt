@@ -2,6 +2,7 @@ use Rattle.std.proofs.Common.{List, rules, sym, subst}
 use Rattle.std.proofs.lemmas.List.{with_items_is, places}
 use Rattle.world_model.specs.Lawful.{Lawful}
 use Rattle.node_core.specs.Participant.{Participant as NodeValue}
+use Rattle.node_core.specs.Bases.{AreBases}
 use Rattle.world_play.specs.Flags.{ArePaused}
 use Rattle.world_play.specs.Submitting.{AreSetUp}
 use Rattle.world_play.specs.Worlds.{world_with, AreNodesOf}
@@ -26,6 +27,13 @@ returns-clause-set_up c = λ topology packages u.
     subst (λ (xs : List NodeValue). AreSetUp topology packages xs) (sym all)
     (c.set_paused_slice.ensures.set_up topology packages
     (subst (λ (xs : List NodeValue). AreSetUp topology packages xs) (sym c.as_mut_slice.ensures.value) u))
+
+pub returns-clause-bases : goal.returns-clause-bases
+returns-clause-bases c = λ bases u.
+    let all = with_items_is c.args.nodes.now c.set_paused_slice.new.nodes (search (rules, places)) in
+    subst (λ (xs : List NodeValue). AreBases bases xs) (sym all)
+    (c.set_paused_slice.ensures.bases bases
+    (subst (λ (xs : List NodeValue). AreBases bases xs) (sym c.as_mut_slice.ensures.value) u))
 
 pub returns-clause-paused : goal.returns-clause-paused
 returns-clause-paused c =

@@ -3,8 +3,8 @@ use Rattle.std.specs.Prelude.{slice_index_or}
 use Rattle.world_model.specs.Node.{with_flag}
 use Rattle.world_model.specs.Places.{has_place}
 use Rattle.node_core.specs.Participant.{with_state}
-use Rattle.world_play.proofs.Each.{done_on, done_nodes, done_set_up}
-use Rattle.world_play.proofs.Flagged.{Flagged, flag_same, flags_are, flags_lawful}
+use Rattle.world_play.proofs.Each.{done_on, done_nodes, done_set_up, done_bases}
+use Rattle.world_play.proofs.Flagged.{Flagged, flag_inbox, flag_same, flags_are, flags_lawful}
 use Rattle.world_play.proofs.Passing.{item_at, item_within}
 use Rattle.world_play.proofs.beginning.set_paused_slice.Goals as goal
 
@@ -22,7 +22,7 @@ nodes-preserved c =
 
 pub returns-clause-nodes : goal.returns-clause-nodes
 returns-clause-nodes c = λ m s a.
-    done_nodes (Flagged c.args.paused.now) c.args.nodes.now (flag_same c.args.paused.now) s c.nodes.nodes c.nodes.node-index c.nodes.invariant.1
+    done_nodes (Flagged c.args.paused.now) c.args.nodes.now (flag_same c.args.paused.now) s (flag_inbox c.args.paused.now s.list) c.nodes.nodes c.nodes.node-index c.nodes.invariant.1
     (let ends = c.nodes.auto.node-index-end in let out = c.nodes-test.false in let same = c.nodes.auto.nodes in omega (arith, ends, out, same)) m a
 
 pub returns-clause-lawful : goal.returns-clause-lawful
@@ -33,6 +33,11 @@ returns-clause-lawful c =
 pub returns-clause-set_up : goal.returns-clause-set_up
 returns-clause-set_up c =
     done_set_up (Flagged c.args.paused.now) c.args.nodes.now (flag_same c.args.paused.now) c.nodes.nodes c.nodes.node-index c.nodes.invariant.1
+    (let ends = c.nodes.auto.node-index-end in let out = c.nodes-test.false in let same = c.nodes.auto.nodes in omega (arith, ends, out, same))
+
+pub returns-clause-bases : goal.returns-clause-bases
+returns-clause-bases c =
+    done_bases (Flagged c.args.paused.now) c.args.nodes.now (flag_same c.args.paused.now) c.nodes.nodes c.nodes.node-index c.nodes.invariant.1
     (let ends = c.nodes.auto.node-index-end in let out = c.nodes-test.false in let same = c.nodes.auto.nodes in omega (arith, ends, out, same))
 
 pub returns-clause-paused : goal.returns-clause-paused

@@ -28,7 +28,7 @@ returns-in_err-read_to_end-clause-nodes c =
     let node = slice_index_or c.nodes.nodes k c.node-item.result in
     let at = item_at c.nodes.nodes k c.node-item.result (item_within c.nodes-test.true c.nodes.auto.nodes) in
     (reading_on c.args.nodes.now c.args.sequencer.now c.nodes.nodes k inv.1 node at c.read_to_end.new.node
-    (subst (λ (q : Sequenced). IsReader node q.list c.read_to_end.new.node) inv.0 c.read_to_end.ensures.some)).nodes_of
+    (subst (λ (q : Sequenced). IsReader node q.list c.read_to_end.new.node) inv.0 c.read_to_end.ensures.some) c.requires).nodes_of
 
 pub returns-in_err-read_to_end-clause-set_up : goal.returns-in_err-read_to_end-clause-set_up
 returns-in_err-read_to_end-clause-set_up c =
@@ -37,7 +37,16 @@ returns-in_err-read_to_end-clause-set_up c =
     let node = slice_index_or c.nodes.nodes k c.node-item.result in
     let at = item_at c.nodes.nodes k c.node-item.result (item_within c.nodes-test.true c.nodes.auto.nodes) in
     (reading_on c.args.nodes.now c.args.sequencer.now c.nodes.nodes k inv.1 node at c.read_to_end.new.node
-    (subst (λ (q : Sequenced). IsReader node q.list c.read_to_end.new.node) inv.0 c.read_to_end.ensures.some)).set_up
+    (subst (λ (q : Sequenced). IsReader node q.list c.read_to_end.new.node) inv.0 c.read_to_end.ensures.some) c.requires).set_up
+
+pub returns-in_err-read_to_end-clause-bases : goal.returns-in_err-read_to_end-clause-bases
+returns-in_err-read_to_end-clause-bases c =
+    let inv = c.nodes.invariant in
+    let k = c.nodes.node-index in
+    let node = slice_index_or c.nodes.nodes k c.node-item.result in
+    let at = item_at c.nodes.nodes k c.node-item.result (item_within c.nodes-test.true c.nodes.auto.nodes) in
+    (reading_on c.args.nodes.now c.args.sequencer.now c.nodes.nodes k inv.1 node at c.read_to_end.new.node
+    (subst (λ (q : Sequenced). IsReader node q.list c.read_to_end.new.node) inv.0 c.read_to_end.ensures.some) c.requires).bases
 
 pub returns-in_err-read_to_end-clause-lawful : goal.returns-in_err-read_to_end-clause-lawful
 returns-in_err-read_to_end-clause-lawful c =
@@ -47,7 +56,7 @@ returns-in_err-read_to_end-clause-lawful c =
     let at = item_at c.nodes.nodes k c.node-item.result (item_within c.nodes-test.true c.nodes.auto.nodes) in
     λ m now state a l.
     (reading_on c.args.nodes.now c.args.sequencer.now c.nodes.nodes k inv.1 node at c.read_to_end.new.node
-    (subst (λ (q : Sequenced). IsReader node q.list c.read_to_end.new.node) inv.0 c.read_to_end.ensures.some)).lawful m now state a l
+    (subst (λ (q : Sequenced). IsReader node q.list c.read_to_end.new.node) inv.0 c.read_to_end.ensures.some) c.requires).lawful m now state a l
 
 pub nodes-preserved : goal.nodes-preserved
 nodes-preserved c =
@@ -58,7 +67,7 @@ nodes-preserved c =
     let at = item_at c.nodes.nodes k c.node-item.result (item_within c.nodes-test.true c.nodes.auto.nodes) in (
       c.read_to_end.ensures.same ∙ inv.0,
       reading_on c.args.nodes.now s c.nodes.nodes k inv.1 node at c.read_to_end.new.node
-          (subst (λ (q : Sequenced). IsReader node q.list c.read_to_end.new.node) inv.0 c.read_to_end.ensures.some),
+          (subst (λ (q : Sequenced). IsReader node q.list c.read_to_end.new.node) inv.0 c.read_to_end.ensures.some) c.requires,
       done_on (HasRead s) c.args.nodes.now c.nodes.nodes k inv.2 node at c.read_to_end.new.node
           (subst (λ (q : Sequenced). c.read_to_end.new.node ≡ has_read node q.list) inv.0 c.in_ok-read_to_end.ensures.ok),
     )

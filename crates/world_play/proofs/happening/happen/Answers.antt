@@ -1,8 +1,10 @@
-use Rattle.std.proofs.Common.{sym, subst}
+use Rattle.std.proofs.Common.{List, sym, ap, subst}
+use Rattle.node_core.specs.Bases.{AreBases}
+use Rattle.node_core.specs.Participant.{Participant as NodeValue}
 use Rattle.world_play.specs.declared.event.Event.{Event}
 use Rattle.world_play.specs.Becoming.{Becomes}
 use Rattle.world_play.specs.Events.{CanHappen, event_of}
-use Rattle.world_play.proofs.Answered.{on_ok}
+use Rattle.world_play.proofs.Answered.{always, on_ok}
 use Rattle.world_play.proofs.happening.happen.Goals as goal
 
 pub returns-in-NodeRead-clause-ok : goal.returns-in-NodeRead-clause-ok
@@ -62,3 +64,18 @@ returns-in-SubmitRaw-clause-ok g c =
     on_ok c.raw_comes.result _ _ c.raw_comes.ensures.ok
     (λ ok m state is l.
     subst (λ (e : Event). Becomes m (event_of e) state c.args.world.now c.raw_comes.new.world) (sym c.in-SubmitRaw.is) (ok m state is l))
+
+pub returns-in-MediatorRead-clause-bases : goal.returns-in-MediatorRead-clause-bases
+returns-in-MediatorRead-clause-bases g c =
+    always c.mediator_reads.result _
+    (λ bases u. subst (λ (xs : List NodeValue). AreBases bases xs) (sym (ap (λ v. v.items) c.mediator_reads.ensures.nodes)) u)
+
+pub returns-in-GiveVerdict-clause-bases : goal.returns-in-GiveVerdict-clause-bases
+returns-in-GiveVerdict-clause-bases g c =
+    always c.verdict_comes.result _
+    (λ bases u. subst (λ (xs : List NodeValue). AreBases bases xs) (sym (ap (λ v. v.items) c.verdict_comes.ensures.nodes)) u)
+
+pub returns-in-LoseVerdict-clause-bases : goal.returns-in-LoseVerdict-clause-bases
+returns-in-LoseVerdict-clause-bases g c =
+    always c.verdict_is_lost.result _
+    (λ bases u. subst (λ (xs : List NodeValue). AreBases bases xs) (sym (ap (λ v. v.items) c.verdict_is_lost.ensures.nodes)) u)

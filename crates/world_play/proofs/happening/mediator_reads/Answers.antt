@@ -1,6 +1,7 @@
 use Rattle.std.proofs.Common.{map, sym, ap, ◌∙◌, subst}
 use Rattle.seq_log.specs.Sequenced.{Sequenced}
-use Rattle.world_play.specs.Worlds.{state_of, AreNodesOf}
+use Rattle.node_core.specs.OverLog.{state_over}
+use Rattle.world_play.specs.Worlds.{AreNodesOf}
 use Rattle.world_play.proofs.Answered.{on_ok}
 use Rattle.world_play.proofs.Passed.{mediator_in}
 use Rattle.world_play.proofs.happening.mediator_reads.Goals as goal
@@ -22,6 +23,6 @@ returns-clause-ok c =
     let w = ok m state (l.mediator).0 (mediator_in m world.now nodes world.sequencer is.nodes state l world.mediator is.mediator) in (
       w.0,
       record { nodes = subst (λ (q : Sequenced). AreNodesOf m nodes q) (sym c.read_next.ensures.log) is.nodes; mediator = w.1 },
-      ap (λ (q : Sequenced). record { log = q.list; now = world.now; mediator = w.0; nodes = map state_of nodes }) c.read_next.ensures.log
-          ∙ w.2 world.now (map state_of nodes),
+      ap (λ (q : Sequenced). record { log = q.list; now = world.now; mediator = w.0; nodes = map (state_over q.list) nodes }) c.read_next.ensures.log
+          ∙ w.2 world.now (map (state_over (world.sequencer).list) nodes),
     ))

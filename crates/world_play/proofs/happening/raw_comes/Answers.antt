@@ -18,5 +18,6 @@ returns-clause-ok c =
       state,
       kept.0,
       rw (c.hand_in_raw.ensures.nodes, c.hand_in_raw.ensures.now)
-          (raw_happens m world.now state (world.nodes).items world.sequencer after.sequencer c.args.request.now list),
+          (raw_happens m world.now state (world.nodes).items world.sequencer after.sequencer c.args.request.now is.nodes
+          c.hand_in_raw.ensures.on list),
     ))

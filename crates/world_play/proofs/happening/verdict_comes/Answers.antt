@@ -1,7 +1,8 @@
-use Rattle.std.proofs.Common.{map}
-use Rattle.world_play.specs.Worlds.{state_of}
+use Rattle.std.proofs.Common.{List, map, ap, ◌∙◌}
+use Rattle.world_model.specs.Node.{NodeState}
+use Rattle.node_core.specs.OverLog.{state_over}
 use Rattle.world_play.proofs.Answered.{on_ok}
-use Rattle.world_play.proofs.Passed.{mediator_in, nodes_grown}
+use Rattle.world_play.proofs.Passed.{mediator_in, nodes_grown, states_grown}
 use Rattle.world_play.proofs.happening.verdict_comes.Goals as goal
 
 pub returns-clause-ok : goal.returns-clause-ok
@@ -13,5 +14,7 @@ returns-clause-ok c =
     let w = ok m state (l.mediator).0 (mediator_in m world.now nodes world.sequencer is.nodes state l world.mediator is.mediator) in (
       w.0,
       record { nodes = nodes_grown m world.now nodes world.sequencer is.nodes c.give.new.sequencer c.give.ensures.on; mediator = w.1 },
-      w.2 world.now (map state_of nodes),
+      ap (λ (states : List NodeState). record { log = (c.give.new.sequencer).list; now = world.now; mediator = w.0; nodes = states })
+          (states_grown m world.now nodes world.sequencer is.nodes c.give.new.sequencer c.give.ensures.on)
+          ∙ w.2 world.now (map (state_over (world.sequencer).list) nodes),
     ))

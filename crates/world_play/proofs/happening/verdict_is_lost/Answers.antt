@@ -1,5 +1,5 @@
 use Rattle.std.proofs.Common.{map}
-use Rattle.world_play.specs.Worlds.{state_of}
+use Rattle.node_core.specs.OverLog.{state_over}
 use Rattle.world_play.proofs.Answered.{on_ok}
 use Rattle.world_play.proofs.Passed.{mediator_in}
 use Rattle.world_play.proofs.happening.verdict_is_lost.Goals as goal
@@ -12,4 +12,4 @@ returns-clause-ok c =
     let nodes = (world.nodes).items in
     let w =
     ok m state (l.mediator).0 world.sequencer (mediator_in m world.now nodes world.sequencer is.nodes state l world.mediator is.mediator) in
-    (w.0, record { nodes = is.nodes; mediator = w.1 }, w.2 world.now (map state_of nodes)))
+    (w.0, record { nodes = is.nodes; mediator = w.1 }, w.2 world.now (map (state_over (world.sequencer).list) nodes)))

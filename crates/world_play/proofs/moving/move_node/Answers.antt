@@ -3,6 +3,7 @@ use Rattle.std.proofs.lemmas.List.{with_items_is, places}
 use Rattle.world_model.specs.Lawful.{Lawful}
 use Rattle.world_model.specs.World.{happens}
 use Rattle.node_core.specs.Participant.{Participant as NodeValue}
+use Rattle.node_core.specs.Bases.{AreBases}
 use Rattle.world_play.specs.Moves.{event_at}
 use Rattle.world_play.specs.Submitting.{AreSetUp}
 use Rattle.world_play.specs.Worlds.{world_with, AreNodesOf}
@@ -25,6 +26,14 @@ returns-clause-set_up g c =
     let new = c.move_slice.new.nodes in
     subst (λ (xs : List NodeValue). AreSetUp topology packages xs) (sym (with_items_is c.args.nodes.now new (search (rules, places))))
     (ok topology packages (subst (λ (xs : List NodeValue). AreSetUp topology packages xs) (sym c.as_mut_slice.ensures.value) u)))
+
+pub returns-clause-bases : goal.returns-clause-bases
+returns-clause-bases g c =
+    on_ok c.move_slice.result _ _ c.move_slice.ensures.bases
+    (λ ok bases u.
+    let new = c.move_slice.new.nodes in
+    subst (λ (xs : List NodeValue). AreBases bases xs) (sym (with_items_is c.args.nodes.now new (search (rules, places))))
+    (ok bases (subst (λ (xs : List NodeValue). AreBases bases xs) (sym c.as_mut_slice.ensures.value) u)))
 
 pub returns-clause-ok : goal.returns-clause-ok
 returns-clause-ok g c =

@@ -82,6 +82,9 @@ places-preserved c =
       ],
     )
 
+pub returns-clause-inbox : goal.returns-clause-inbox
+returns-clause-inbox c = c.places.invariant.1.inbox
+
 pub returns-clause-resumed : goal.returns-clause-resumed
 returns-clause-resumed c = λ m given.
     let s = c.args.sequencer.now in

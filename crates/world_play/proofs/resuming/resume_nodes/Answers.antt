@@ -3,8 +3,10 @@ use Rattle.std.proofs.lemmas.List.{with_items_is, places}
 use Rattle.world_model.specs.Lawful.{Lawful}
 use Rattle.world_model.specs.Settling.{resume_each}
 use Rattle.node_core.specs.Participant.{Participant as NodeValue}
+use Rattle.node_core.specs.Bases.{AreBases}
 use Rattle.world_play.specs.Submitting.{AreSetUp}
-use Rattle.world_play.specs.Worlds.{state_of, world_with, AreNodesOf}
+use Rattle.node_core.specs.OverLog.{state_over}
+use Rattle.world_play.specs.Worlds.{world_with, AreNodesOf}
 use Rattle.world_play.proofs.resuming.resume_nodes.Goals as goal
 
 pub returns-clause-resumed : goal.returns-clause-resumed
@@ -13,8 +15,8 @@ returns-clause-resumed c = λ m now state a l.
     let s = c.args.sequencer.now in
     let new = c.resume_nodes_slice.new.nodes in
     let all = with_items_is c.args.nodes.now new (search (rules, places)) in
-    subst (λ (xs : List NodeValue). map state_of xs ≡ resume_each m s.list 0 (map state_of (c.args.nodes.now).items)) (sym all)
-    (subst (λ (xs : List NodeValue). map state_of new ≡ resume_each m s.list 0 (map state_of xs)) c.as_mut_slice.ensures.value
+    subst (λ (xs : List NodeValue). map (state_over s.list) xs ≡ resume_each m s.list 0 (map (state_over s.list) (c.args.nodes.now).items)) (sym all)
+    (subst (λ (xs : List NodeValue). map (state_over s.list) new ≡ resume_each m s.list 0 (map (state_over s.list) xs)) c.as_mut_slice.ensures.value
     (c.resume_nodes_slice.ensures.resumed m now state (subst (λ (xs : List NodeValue). AreNodesOf m xs s) at a)
     (subst (λ (xs : List NodeValue). Lawful m (world_with now state xs s)) at l)))
 
@@ -23,3 +25,9 @@ returns-clause-set_up c = λ topology packages u.
     let all = with_items_is c.args.nodes.now c.resume_nodes_slice.new.nodes (search (rules, places)) in
     subst (λ (xs : List NodeValue). AreSetUp topology packages xs) (sym all)
     (c.resume_nodes_slice.ensures.set_up topology packages (subst (λ (xs : List NodeValue). AreSetUp topology packages xs) (sym c.as_mut_slice.ensures.value) u))
+
+pub returns-clause-bases : goal.returns-clause-bases
+returns-clause-bases c = λ bases u.
+    let all = with_items_is c.args.nodes.now c.resume_nodes_slice.new.nodes (search (rules, places)) in
+    subst (λ (xs : List NodeValue). AreBases bases xs) (sym all)
+    (c.resume_nodes_slice.ensures.bases bases (subst (λ (xs : List NodeValue). AreBases bases xs) (sym c.as_mut_slice.ensures.value) u))

@@ -58,3 +58,7 @@ returns-clause-settled g c =
 pub returns-clause-set_up : goal.returns-clause-set_up
 returns-clause-set_up g c = λ topology packages u.
     c.pass_until_settled.ensures.set_up topology packages (c.resume.ensures.set_up topology packages u)
+
+pub returns-clause-bases : goal.returns-clause-bases
+returns-clause-bases g c = λ bases u.
+    c.pass_until_settled.ensures.bases bases (c.resume.ensures.bases bases u)

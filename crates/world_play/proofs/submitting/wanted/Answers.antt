@@ -1,7 +1,9 @@
-use Rattle.std.proofs.Common.{◌≡◌, ℕ, Some, refl, sym, ap, ◌∙◌, subst}
+use Rattle.std.proofs.Common.{◌≡◌, ℕ, Some, sym, ap, ◌∙◌, subst}
 use Rattle.std.specs.Prelude.{slice_get}
 use Rattle.ledger_terms.specs.declared.submission.Submission.{Submission}
 use Rattle.node_core.specs.Machines.{offered_in}
+use Rattle.node_core.specs.OverLog.{inbox_over}
+use Rattle.node_core.proofs.OverLog.{offered_is}
 use Rattle.world_play.specs.Submitting.{wanted_of}
 use Rattle.world_play.proofs.Passing.{item_at}
 use Rattle.world_play.proofs.Submits.{if_ok, only_wanted, told}
@@ -36,7 +38,9 @@ returns g c =
     let at = subst (λ (i : ℕ). slice_get nodes i ≡ Some node) own there in
     let can = c.requires node at in
     if_ok c.request_of.result _ _ c.request_of.ensures
-    (λ o h.
-    h.0 ∙ (told node what c.args.now can.own c.prepare.result h.1 c.prepare.ensures.paused c.prepare.ensures.exact
-    (only_wanted c.prepare.result _ _ (c.prepare.ensures.wanted (offered_in node.topology node.packages) can.own refl))
-    ∙ ap (wanted_of what c.args.now) (sym at)))
+    (λ o h log inbox.
+    h.0 ∙ (told node what c.args.now can.own log (inbox node at) c.prepare.result h.1 c.prepare.ensures.paused c.prepare.ensures.exact
+    (only_wanted c.prepare.result _ _
+    (c.prepare.ensures.wanted (offered_in node.topology node.packages) (inbox_over log node) can.own
+    (sym (offered_is (inbox_over log node) node (inbox node at)))))
+    ∙ ap (wanted_of log what c.args.now) (sym at)))

@@ -46,7 +46,7 @@ submits-preserved g c =
     (item_at c.as_slice-what-items.result.now k e c.submits-test.true ∙ ap Some (sym c.what-item.is)) in
     let one = c.submit_one.ensures in
     submitting_on c.args.world.now c.args.submits.now c.args.results.now k e at c.submits.world c.submits.results c.submits.invariant c.submit_one.new.world
-    (record { on = one.on; now = one.now; lawful = one.lawful; set_up = one.set_up; paused = one.paused }) c.in_ok-answer.answer
+    (record { on = one.on; now = one.now; lawful = one.lawful; set_up = one.set_up; bases = one.bases; paused = one.paused }) c.in_ok-answer.answer
     c.in_ok-answer.ensures.plain c.in_ok-answer.ensures.answers c.push.new.self c.in_ok-push.ensures.ok
 
 pub returns-clause-answers : goal.returns-clause-answers
@@ -59,6 +59,10 @@ pub returns-in_err-answer-clause-set_up : goal.returns-in_err-answer-clause-set_
 returns-in_err-answer-clause-set_up g c = λ topology packages u.
     c.submit_one.ensures.set_up topology packages (((c.submits.invariant).kept).set_up topology packages u)
 
+pub returns-in_err-answer-clause-bases : goal.returns-in_err-answer-clause-bases
+returns-in_err-answer-clause-bases g c = λ bases u.
+    c.submit_one.ensures.bases bases (((c.submits.invariant).kept).bases bases u)
+
 pub returns-in_err-answer-clause-paused : goal.returns-in_err-answer-clause-paused
 returns-in_err-answer-clause-paused g c = λ paused p.
     c.submit_one.ensures.paused paused (((c.submits.invariant).kept).paused paused p)
@@ -66,6 +70,10 @@ returns-in_err-answer-clause-paused g c = λ paused p.
 pub returns-in_err-push-clause-set_up : goal.returns-in_err-push-clause-set_up
 returns-in_err-push-clause-set_up g c = λ topology packages u.
     c.submit_one.ensures.set_up topology packages (((c.submits.invariant).kept).set_up topology packages u)
+
+pub returns-in_err-push-clause-bases : goal.returns-in_err-push-clause-bases
+returns-in_err-push-clause-bases g c = λ bases u.
+    c.submit_one.ensures.bases bases (((c.submits.invariant).kept).bases bases u)
 
 pub returns-in_err-push-clause-paused : goal.returns-in_err-push-clause-paused
 returns-in_err-push-clause-paused g c = λ paused p.

@@ -21,7 +21,7 @@ returns-in_err-validate_all-clause-keeps g c = λ m p given.
     subst (λ (q : Sequenced). IsParticipant m p c.read_to_end.new.node q) (sym c.read_to_end.ensures.same)
     (reader_is m p c.args.node.now c.args.sequencer.now given c.read_to_end.new.node c.read_to_end.ensures.some) in
     validated_is m p c.read_to_end.new.node c.validate_all.new.node c.read_to_end.new.sequencer read c.validate_all.ensures.same
-    (λ xs. c.validate_all.ensures.has m p xs read.is)
+    c.validate_all.ensures.items c.validate_all.ensures.inbox (λ xs whole. c.validate_all.ensures.has m p xs whole read.is)
 
 pub returns-clause-keeps : goal.returns-clause-keeps
 returns-clause-keeps g c = λ m p given.
@@ -30,7 +30,7 @@ returns-clause-keeps g c = λ m p given.
     (reader_is m p c.args.node.now c.args.sequencer.now given c.read_to_end.new.node c.read_to_end.ensures.some) in
     c.send_all.ensures.keeps m p
     (validated_is m p c.read_to_end.new.node c.validate_all.new.node c.read_to_end.new.sequencer read c.validate_all.ensures.same
-    (λ xs. c.validate_all.ensures.has m p xs read.is))
+    c.validate_all.ensures.items c.validate_all.ensures.inbox (λ xs whole. c.validate_all.ensures.has m p xs whole read.is))
 
 pub returns-clause-sends : goal.returns-clause-sends
 returns-clause-sends g c =
@@ -42,7 +42,7 @@ returns-clause-sends g c =
     c.read_to_end.ensures.same
     ∙ ap (append_each m now (c.args.sequencer.now).list)
     (waiting_is m p c.args.node.now c.args.sequencer.now given c.read_to_end.new.node c.in_ok-read_to_end.ensures.ok after c.validate_all.ensures.same
-    c.validate_all.ensures.items c.in_ok-validate_all.ensures.ok)))
+    c.validate_all.ensures.items c.validate_all.ensures.inbox c.in_ok-validate_all.ensures.ok)))
 
 pub returns-clause-has : goal.returns-clause-has
 returns-clause-has g c =
@@ -55,7 +55,7 @@ returns-clause-has g c =
     (subst (λ (q : Sequenced). GoesOn q c.send_all.new.sequencer) c.read_to_end.ensures.same c.send_all.ensures.on)
     (c.send_all.ensures.keeps m p
     (validated_is m p c.read_to_end.new.node c.validate_all.new.node c.read_to_end.new.sequencer read c.validate_all.ensures.same
-    (λ xs. c.validate_all.ensures.has m p xs read.is)))
+    c.validate_all.ensures.items c.validate_all.ensures.inbox (λ xs whole. c.validate_all.ensures.has m p xs whole read.is)))
     (ap length c.send_all.ensures.items
     ∙ (ap length c.validate_all.ensures.items
     ∙ all_long m p c.args.node.now c.args.sequencer.now given c.read_to_end.new.node c.in_ok-read_to_end.ensures.ok)))

@@ -1,8 +1,11 @@
-use Rattle.std.proofs.Common.{refl, sym, subst}
-use Rattle.world_model.specs.Lawful.{NodeHas}
-use Rattle.node_core.specs.Participant.{Participant}
-use Rattle.world_play.proofs.Jobs.{left_claimed, may_finish, owed_then, goes_on, smaller, done_all}
+use Rattle.std.proofs.Common.{refl, sym}
+use Rattle.world_play.proofs.Jobs.{left_claimed, kept_still, may_finish, owed_then, goes_on, smaller, done_all}
 use Rattle.world_play.proofs.validating.validate_all.Goals as goal
+
+pub returns-in_err-finished-clause-inbox : goal.returns-in_err-finished-clause-inbox
+returns-in_err-finished-clause-inbox g c =
+    (left_claimed c.args.node.now c.jobs.node c.jobs.invariant (c.in-Some.job.given).place (sym (rw c.in-Some.is at c.in_ok-job.ensures.place))
+    c.claim_job.new.self (rw c.in-Some.is at c.in_ok-job.ensures.some)).inbox
 
 pub returns-in_err-finished-clause-has : goal.returns-in_err-finished-clause-has
 returns-in_err-finished-clause-has g c =
@@ -26,14 +29,21 @@ returns-clause-ok g c =
     done_all c.args.node.now c.jobs.node c.claim_job.new.self c.jobs.invariant (sym (rw c.in_default.is at c.in_ok-job.ensures.place))
     (rw c.in_default.is at c.in_ok-job.ensures.none)
 
+pub returns-in_err-job-clause-inbox : goal.returns-in_err-job-clause-inbox
+returns-in_err-job-clause-inbox g c =
+    (kept_still c.args.node.now c.jobs.node c.claim_job.new.self c.jobs.invariant.kept c.in_err-job.ensures.err).inbox
+
 pub returns-in_err-job-clause-has : goal.returns-in_err-job-clause-has
-returns-in_err-job-clause-has g c = λ m p read is h.
-    subst (λ (x : Participant). NodeHas m p read x.state) (sym c.in_err-job.ensures.err) ((c.jobs.invariant.kept).has m p read is h)
+returns-in_err-job-clause-has g c =
+    (kept_still c.args.node.now c.jobs.node c.claim_job.new.self c.jobs.invariant.kept c.in_err-job.ensures.err).has
+
+pub returns-clause-inbox : goal.returns-clause-inbox
+returns-clause-inbox g c =
+    (kept_still c.args.node.now c.jobs.node c.claim_job.new.self c.jobs.invariant.kept (rw c.in_default.is at c.in_ok-job.ensures.none)).inbox
 
 pub returns-clause-has : goal.returns-clause-has
-returns-clause-has g c = λ m p read is h.
-    subst (λ (x : Participant). NodeHas m p read x.state) (sym (rw c.in_default.is at c.in_ok-job.ensures.none))
-    ((c.jobs.invariant.kept).has m p read is h)
+returns-clause-has g c =
+    (kept_still c.args.node.now c.jobs.node c.claim_job.new.self c.jobs.invariant.kept (rw c.in_default.is at c.in_ok-job.ensures.none)).has
 
 pub finish_job-requires-clause-unfinished : goal.finish_job-requires-clause-unfinished
 finish_job-requires-clause-unfinished g c =

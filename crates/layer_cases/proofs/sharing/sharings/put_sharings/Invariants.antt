@@ -14,5 +14,6 @@ ghosts-share-S-Session g a =
       packages = a.setup.now.checked;
       machine = machine_of a.setup.now.topology a.setup.now.checked 20;
       why = why_of a.setup.now.topology a.setup.now.checked;
+      bases = λ p. 0;
       start = a.last.world.value.sequencer.list;
     }

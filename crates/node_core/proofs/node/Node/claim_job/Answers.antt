@@ -1,11 +1,10 @@
 use Rattle.std.proofs.Common.{◌≡◌, None, Some, false, sym, ap, ◌∙◌, subst}
 use Rattle.validate_job.specs.Owed.{owed_on_each}
-use Rattle.world_model.specs.Node.{owed_at}
 use Rattle.world_model.specs.Places.{has_place}
 use Rattle.node_core.specs.Duties.{Kept, IsPassed}
 use Rattle.node_core.specs.Kept.{IsKept}
 use Rattle.node_core.specs.Participant.{Participant, is_received_decided, next_place, owed_there}
-use Rattle.node_inbox.specs.InboxState.{params_of, reading_of}
+use Rattle.node_inbox.specs.InboxState.{owed_kept, params_of, reading_of}
 use Rattle.node_core.proofs.Claims.{free_is_next, next_is_owed, next_is_unclaimed}
 use Rattle.node_core.proofs.KeptSteps.{claim_keeps, passed_keeps}
 use Rattle.node_core.proofs.node.Node.claim_job.Goals as goal
@@ -74,4 +73,4 @@ returns-clause-verdicts c =
     let given = c.in_ok-job.job.given in
     subst (λ (p : Participant). owed_on_each given.input given.views ≡ owed_there p given.place) c.self.view_is
     (c.in_ok-job.ensures.owed
-    ∙ ap (owed_at (reading_of inbox) (params_of inbox) inbox.me inbox.items) (sym c.in_ok-job.ensures.place))
+    ∙ ap (owed_kept (reading_of inbox) (params_of inbox) inbox.me inbox.start inbox.items) (sym c.in_ok-job.ensures.place))

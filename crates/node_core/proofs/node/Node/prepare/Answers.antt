@@ -1,11 +1,12 @@
-use Rattle.std.proofs.Common.{◌≡◌, IfOk, sym, ap, ◌∙◌, subst}
+use Rattle.std.proofs.Common.{◌≡◌, IfOk, List, sym, ap, ◌∙◌, subst}
+use Rattle.canton_model.specs.Inbox.{Item}
 use Rattle.ledger_model.specs.Terms.{ParticipantId}
 use Rattle.ledger_terms.specs.Answers.{Follows}
 use Rattle.sealed_form.specs.SealedForm.{IsSealedForm}
 use Rattle.prepare_request.specs.Machine.{Offered}
 use Rattle.prepare_request.specs.Opens.{OpensByRules}
 use Rattle.prepare_request.specs.declared.submit_fault.SubmitFault.TheVariants.{Memory}
-use Rattle.node_core.specs.Participant.{Participant, items_of}
+use Rattle.node_core.specs.Participant.{Participant}
 use Rattle.node_core.specs.Preparing.{offered_by, prepare_answer}
 use Rattle.node_core.proofs.Preparing.{WantedUnlessPaused, follows_awake, over_setup, unless_paused}
 use Rattle.node_core.proofs.node.Node.prepare.Goals as goal
@@ -15,13 +16,13 @@ returns-clause-wanted g c =
     let i = c.self.inside.inbox in
     let inv = c.self.invariant in
     let what = c.args.what.now in
-    subst (λ (p : Participant). (offered : Offered) → what.participant ≡ p.me → offered p.me (items_of p) ≡ offered_by p
-    → WantedUnlessPaused p.topology p.packages offered what (items_of p) c.args.now c.prepare.result) c.self.view_is
-    (λ offered own offers.
-    unless_paused c.self.inside.setup.now.topology i.topology c.self.inside.setup.now.checked i.packages offered what i.items c.args.now c.prepare.result
+    subst (λ (p : Participant). (offered : Offered) (items : List Item) → what.participant ≡ p.me → offered p.me items ≡ offered_by p
+    → WantedUnlessPaused p.topology p.packages offered what items c.args.now c.prepare.result) c.self.view_is
+    (λ offered items own offers.
+    unless_paused c.self.inside.setup.now.topology i.topology c.self.inside.setup.now.checked i.packages offered what items c.args.now c.prepare.result
     inv.2 inv.3
-    (c.prepare.ensures.machine offered i.items (own ∙ sym inv.0)
-    (ap (λ (me : ParticipantId). offered me i.items) inv.0 ∙ (offers ∙ sym c.in_ok-known.ensures))))
+    (c.prepare.ensures.machine offered items (own ∙ sym inv.0)
+    (ap (λ (me : ParticipantId). offered me items) inv.0 ∙ (offers ∙ sym c.in_ok-known.ensures))))
 
 pub returns-clause-sealed : goal.returns-clause-sealed
 returns-clause-sealed g c =

@@ -7,10 +7,10 @@ use Rattle.node_inbox.specs.Entries.{item_from}
 use Rattle.node_inbox.specs.InboxState.{InboxState, params_of, reading_of}
 use Rattle.node_core.specs.Duties.{Kept, state_of}
 use Rattle.node_core.specs.Kept.{IsKept}
-use Rattle.node_core.specs.Participant.{Participant, CanRead, with_state, reading_of as reads}
+use Rattle.node_core.specs.Participant.{CanRead, IsPrunedTo, Participant, with_state, reading_of as reads}
 use Rattle.node_core.proofs.Growth.{where_below}
 use Rattle.node_core.proofs.KeptSteps.{item_keeps, placed_if}
-use Rattle.node_core.proofs.ReadSteps.{inbox_is, participant_of, rises_here, framed_here, state_is}
+use Rattle.node_core.proofs.ReadSteps.{framed_here, participant_of, pruned_is, rises_here, state_is}
 use Rattle.node_core.proofs.node.Node.read.Goals as goal
 
 pub read-requires-clause-rises : goal.read-requires-clause-rises
@@ -114,10 +114,9 @@ returns-then-owes-clause-ok c =
 pub returns-then-owes-clause-inbox : goal.returns-then-owes-clause-inbox
 returns-then-owes-clause-inbox c =
     let can = subst (λ (p : Participant). CanRead p c.args.slip.now.list) (sym c.self.view_is) c.requires in
-    subst (λ (p : Participant). c.read.new.self.items ≡ inbox (reads p) p.me c.args.slip.now.list) c.self.view_is
-    (ap (λ (i : InboxState). i.items) c.in_ok-read.ensures.ok
-    ∙ inbox_is c.self.inside.inbox c.self.inside.is_paused c.self.inside.duties c.args.slip.now.list can c.entry.result.now
-    (c.entry.ensures _ can.cursor))
+    subst (λ (p : Participant). IsPrunedTo (inbox (reads p) p.me c.args.slip.now.list) (participant_of c.read.new.self c.self.inside.is_paused c.owe.new.self)) c.self.view_is
+    (pruned_is c.self.inside.inbox c.self.inside.is_paused c.self.inside.duties c.args.slip.now.list can c.entry.result.now (c.entry.ensures _ can.cursor)
+    c.read.new.self c.owe.new.self c.in_ok-read.ensures.ok)
 
 pub returns-else-owes-clause-ok : goal.returns-else-owes-clause-ok
 returns-else-owes-clause-ok c =
@@ -132,7 +131,6 @@ returns-else-owes-clause-ok c =
 pub returns-else-owes-clause-inbox : goal.returns-else-owes-clause-inbox
 returns-else-owes-clause-inbox c =
     let can = subst (λ (p : Participant). CanRead p c.args.slip.now.list) (sym c.self.view_is) c.requires in
-    subst (λ (p : Participant). c.read.new.self.items ≡ inbox (reads p) p.me c.args.slip.now.list) c.self.view_is
-    (ap (λ (i : InboxState). i.items) c.in_ok-read.ensures.ok
-    ∙ inbox_is c.self.inside.inbox c.self.inside.is_paused c.self.inside.duties c.args.slip.now.list can c.entry.result.now
-    (c.entry.ensures _ can.cursor))
+    subst (λ (p : Participant). IsPrunedTo (inbox (reads p) p.me c.args.slip.now.list) (participant_of c.read.new.self c.self.inside.is_paused c.reserve.new.self)) c.self.view_is
+    (pruned_is c.self.inside.inbox c.self.inside.is_paused c.self.inside.duties c.args.slip.now.list can c.entry.result.now (c.entry.ensures _ can.cursor)
+    c.read.new.self c.reserve.new.self c.in_ok-read.ensures.ok)

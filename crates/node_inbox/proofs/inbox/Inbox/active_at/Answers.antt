@@ -1,7 +1,7 @@
 use Rattle.std.proofs.Common.{[]}
 use Rattle.contract_store.specs.Written.{written}
 use Rattle.framed_form.specs.FramedReading.{framed_reading}
-use Rattle.inbox_standing.specs.Changes.{changes_in}
+use Rattle.inbox_standing.specs.Changes.{changes_since}
 use Rattle.node_inbox.specs.Items.{model_items}
 use Rattle.node_inbox.proofs.HostedRows.{offered_are_hosted}
 use Rattle.node_inbox.proofs.Seen.{keep_changes, outcome_at_is}
@@ -12,7 +12,7 @@ new-hosting-requires c =
     let i = c.self.inside in
     let reading = framed_reading i.setup.now.topology i.setup.now.checked in
     let known = rw (← c.self.view_is) at c.hosted_contracts.ensures in
-    rw known (offered_are_hosted reading i.me (written (changes_in reading (model_items i.items.items)) []))
+    rw known (offered_are_hosted reading i.me (written (changes_since reading i.standing.start (model_items i.items.items)) []))
 
 pub active_rows-requires-clause-told : goal.active_rows-requires-clause-told
 active_rows-requires-clause-told c =
@@ -22,10 +22,13 @@ active_rows-requires-clause-told c =
 pub active_rows-requires-clause-kept : goal.active_rows-requires-clause-kept
 active_rows-requires-clause-kept c =
     rw (c.as_slice.ensures.value)
-    (keep_changes c.self.inside.setup.now.topology c.self.inside.setup.now.checked c.self.inside.me c.self.inside.items.items c.self.invariant.0.each)
+    (keep_changes c.self.inside.setup.now.topology c.self.inside.setup.now.checked c.self.inside.me c.self.inside.standing.start c.self.inside.items.items c.self.invariant.0.each)
 
 pub active_rows-requires-clause-active : goal.active_rows-requires-clause-active
-active_rows-requires-clause-active c = rw (c.new-hosting.ensures, c.as_slice.ensures.value) (c.self.invariant.4)
+active_rows-requires-clause-active c = rw (c.new-hosting.ensures, c.as_slice.ensures.value, c.start.ensures) (c.self.invariant.4)
+
+pub active_rows-requires-clause-begins : goal.active_rows-requires-clause-begins
+active_rows-requires-clause-begins c = rw (c.new-hosting.ensures, c.as_slice.ensures.value, c.start.ensures) (c.self.inside.base, c.self.invariant.5)
 
 pub returns : goal.returns
-returns c = rw (← c.self.view_is) (rw (c.new-hosting.ensures, c.as_slice.ensures.value) at c.active_rows.ensures)
+returns c = rw (← c.self.view_is) (rw (c.new-hosting.ensures, c.as_slice.ensures.value, c.start.ensures) at c.active_rows.ensures)

@@ -9,7 +9,7 @@ applied-requires-clause-told c =
 pub applied-requires-clause-kept : goal.applied-requires-clause-kept
 applied-requires-clause-kept c =
     rw (c.as_slice.ensures.value)
-    (keep_changes c.self.inside.setup.now.topology c.self.inside.setup.now.checked c.self.inside.me c.self.inside.items.items c.self.invariant.0.each)
+    (keep_changes c.self.inside.setup.now.topology c.self.inside.setup.now.checked c.self.inside.me c.self.inside.standing.start c.self.inside.items.items c.self.invariant.0.each)
 
 pub applied-requires-clause-approved : goal.applied-requires-clause-approved
 applied-requires-clause-approved c = rw (c.as_slice.ensures.value) (c.self.invariant.3)

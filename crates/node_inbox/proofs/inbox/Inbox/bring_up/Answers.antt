@@ -28,4 +28,5 @@ invariant_of-self c =
         places = c.bring_up.ensures.places ∙ tracked_are params items i.standing.tracking.pairs c.bring_up.new.approved.below tells;
       },
       c.self.invariant.4,
+      c.self.invariant.5,
     )

@@ -1,6 +1,7 @@
 use Rattle.std.proofs.Common.{refl}
 use Rattle.canton_model.specs.Inbox.{Nothing}
 use Rattle.node_inbox.specs.Reads.{item_with}
+use Rattle.node_inbox.proofs.Begins.{begins_anyway}
 use Rattle.node_inbox.proofs.KeptAnswers.{both_anyway}
 use Rattle.node_inbox.proofs.Told.{kept_anyway}
 use Rattle.node_inbox.proofs.inbox.Inbox.read_nothing.Goals as goal
@@ -18,4 +19,6 @@ invariant_of-self c =
     let both =
     both_anyway topology packages i.me i.items.items put.new.items.items i.standing put.new.standing c.self.invariant.0 i.approved i.active put.result x refl
     put.ensures.ok put.ensures.err (c.self.invariant.3, c.self.invariant.4) in
-    (kept.0, kept.1, kept.2, both.0, both.1)
+    let begins =
+    begins_anyway topology packages i.me i.base i.items.items put.new.items.items i.standing.start put.new.standing put.result x put.ensures.ok put.ensures.err c.self.invariant.5 in
+    (kept.0, kept.1, kept.2, both.0, both.1, begins)

@@ -3,6 +3,7 @@ use Rattle.node_inbox.specs.Items.{model_content}
 use Rattle.node_inbox.specs.Reads.{item_with}
 use Rattle.node_inbox.specs.declared.kept_item.KeptContent.TheVariants as kept
 use Rattle.node_inbox.proofs.Came.{reads}
+use Rattle.node_inbox.proofs.Begins.{begins_anyway}
 use Rattle.node_inbox.proofs.KeptAnswers.{both_anyway}
 use Rattle.node_inbox.proofs.Told.{kept_anyway}
 use Rattle.node_inbox.proofs.inbox.Inbox.read_request.Goals as goal
@@ -20,7 +21,9 @@ invariant_of-self c =
     let both =
     both_anyway topology packages i.me i.items.items put.new.items.items i.standing put.new.standing c.self.invariant.0 i.approved i.active put.result x refl
     put.ensures.ok put.ensures.err (c.self.invariant.3, c.self.invariant.4) in
-    (told.0, told.1, told.2, both.0, both.1)
+    let begins =
+    begins_anyway topology packages i.me i.base i.items.items put.new.items.items i.standing.start put.new.standing put.result x put.ensures.ok put.ensures.err c.self.invariant.5 in
+    (told.0, told.1, told.2, both.0, both.1, begins)
 
 pub returns-in-Some-clause-ok : goal.returns-in-Some-clause-ok
 returns-in-Some-clause-ok c =
@@ -28,4 +31,4 @@ returns-in-Some-clause-ok c =
     let put = c.put_request in
     let is = rw c.in-Some.is at c.in_ok-coming.ensures.received in
     rw (← c.self.view_is)
-    (reads i.setup.now.topology i.setup.now.checked i.me put.result i.items.items put.new.items.items put.new.standing c.args.time _ c.in-Some.coming.kept is put.ensures.ok)
+    (reads i.setup.now.topology i.setup.now.checked i.me put.result i.base i.base_time i.items.items put.new.items.items i.standing.start put.new.standing c.args.time _ c.in-Some.coming.kept is put.ensures.ok)

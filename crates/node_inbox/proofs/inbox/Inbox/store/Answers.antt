@@ -8,7 +8,7 @@ returns-clause-status c =
     let i = c.self.inside in
     let v = c.self.invariant.0 in
     rw (c.store.ensures, ← c.self.view_is) (λ h.
-    status_now (framed_reading i.setup.now.topology i.setup.now.checked) (model_items i.items.items) i.standing.store.rows h v.order v.follows.rows)
+    status_now (framed_reading i.setup.now.topology i.setup.now.checked) (model_items i.items.items) i.standing.start i.standing.store.rows h v.order v.follows.rows)
 
 pub returns-clause-locked : goal.returns-clause-locked
 returns-clause-locked c =

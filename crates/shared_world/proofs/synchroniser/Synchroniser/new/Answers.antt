@@ -3,7 +3,6 @@ use Rattle.ledger_terms.specs.declared.topology.Topology.{Topology}
 use Rattle.lang_eval.specs.Found.{Packages}
 use Rattle.world_model.specs.Machine.{Machine}
 use Rattle.world_model.specs.Mediator.{new_mediator}
-use Rattle.world_model.specs.World.{World as WorldState}
 use Rattle.world_model.specs.Lawful.{Lawful}
 use Rattle.world_model.proofs.Steps.{new_lawful}
 use Rattle.node_core.specs.Machines.{machine_of}
@@ -22,3 +21,6 @@ of-requires-clause-world g c =
       subst (λ (m : Machine). Lawful m (world_of new_mediator world)) is
           (subst (Lawful first) (sym c.in_ok-world.ensures.new) (new_lawful first)),
     )
+
+pub of-requires-clause-bases : goal.of-requires-clause-bases
+of-requires-clause-bases g c = λ p node at. c.in_ok-world.ensures.bases p node at ∙ sym (c.requires.bases p)

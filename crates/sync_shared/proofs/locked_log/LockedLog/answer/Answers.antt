@@ -1,4 +1,4 @@
-use Rattle.std.proofs.Common.{◌≡◌, ◌+◌, ℕ, List, sym, ap, ◌∙◌, subst, arith}
+use Rattle.std.proofs.Common.{◌≡◌, List, sym, ap, subst, arith}
 use Rattle.world_model.specs.Messages.{Entry}
 use Rattle.world_model.specs.Fits.{MayStand}
 use Rattle.threads_model.specs.Inputs.{one_if, is_input}

@@ -9,5 +9,5 @@ use Rattle.sync_shared.proofs.locked_node.LockedNode.outbox.Goals as goal
 pub returns : goal.returns
 returns g c =
     subst (λ (xs : List Entry). IfOk c.outbox.result (λ o. IfSome o (IsOwed g.S.Session.machine.reading g.S.Session.machine.params xs))) c.self.view_is
-    (head_owed g.S.Session.topology g.S.Session.packages g.S.Session.machine g.S.Session.why g.row.I (read_to c.self.inside.last) c.self.inside.node
+    (head_owed g.S.Session.topology g.S.Session.packages g.S.Session.machine g.S.Session.why g.S.Session.bases g.row.I (read_to c.self.inside.last) c.self.inside.node
     c.self.invariant.1 c.outbox.result c.outbox.ensures)

@@ -11,7 +11,7 @@ read-requires g c =
     let t = c.tie.ensures in
     let was = read_to c.self.inside.last in
     let same : c.tie.new.slip.list ≡ c.args.slip.list = ap (λ s. s.list) t.same.1 in
-    can_read g.S.Session.topology g.S.Session.packages g.S.Session.machine g.S.Session.why g.row.I was c.self.inside.node c.self.invariant.1 c.tie.new.slip.list
+    can_read g.S.Session.topology g.S.Session.packages g.S.Session.machine g.S.Session.why g.S.Session.bases g.row.I was c.self.inside.node c.self.invariant.1 c.tie.new.slip.list
     (subst (λ (xs : List Entry). IsPrefix was xs) (sym same) t.begins)
     (ap length same ∙ (c.requires.next ∙ ap (λ (xs : List Entry). length xs + 1) (sym c.self.view_is)))
     (subst (GenuineLog g.S.Session.machine) (sym same) c.requires.genuine)
@@ -22,9 +22,9 @@ invariant_of-self-2 g c =
     let was = read_to c.self.inside.last in
     let same : c.tie.new.slip.list ≡ c.args.slip.list = ap (λ s. s.list) t.same.1 in (
       ap (λ s. s.row) t.same.1 ∙ c.requires.row,
-      reads g.S.Session.topology g.S.Session.packages g.S.Session.machine g.S.Session.why g.row.I was c.self.inside.node c.self.invariant.1 c.tie.new.slip.list
+      reads g.S.Session.topology g.S.Session.packages g.S.Session.machine g.S.Session.why g.S.Session.bases g.row.I was c.self.inside.node c.self.invariant.1 c.tie.new.slip.list
           (subst (λ (xs : List Entry). IsPrefix was xs) (sym same) t.begins)
           (ap length same ∙ (c.requires.next ∙ ap (λ (xs : List Entry). length xs + 1) (sym c.self.view_is)))
           (subst (GenuineLog g.S.Session.machine) (sym same) c.requires.genuine)
-          c.read.new.self c.in_ok-read.ensures.ok,
+          c.read.new.self c.in_ok-read.ensures.ok c.in_ok-read.ensures.inbox,
     )

@@ -6,9 +6,11 @@ use Rattle.mediator.specs.KeptCases.{KeptMediator, Keeps}
 use Rattle.seq_log.specs.Sequenced.{Sequenced}
 use Rattle.node_core.specs.Participant.{Participant as NodeValue}
 use Rattle.node_core.specs.Machines.{machine_of}
+use Rattle.node_core.specs.Bases.{AreBases}
 use Rattle.world_play.specs.Submitting.{AreSetUp}
-use Rattle.world_play.specs.Worlds.{state_of, AreNodesOf}
-use Rattle.world_play.proofs.Makes.{new_nodes_are, new_states, set_up_new}
+use Rattle.node_core.specs.OverLog.{state_over}
+use Rattle.world_play.specs.Worlds.{AreNodesOf}
+use Rattle.world_play.proofs.Makes.{bases_new, new_nodes_are, new_states, set_up_new}
 use Rattle.world_play.proofs.world.World.new.Goals as goal
 
 pub returns-clause-is : goal.returns-clause-is
@@ -39,10 +41,10 @@ returns-clause-new c =
     let p = c.args.setup.now.checked in
     let of = c.of.ensures in
     let states =
-    ap (λ v. map state_of v.items) of.2 ∙ new_states t p (length t.hosts) (c.in_ok-nodes.nodes).items c.in_ok-nodes.ensures in
-    ap (λ (xs : List Entry). record { log = xs; now = (c.of.result).now; mediator = new_mediator; nodes = map state_of ((c.of.result).nodes).items })
+    ap (λ v. map (state_over []) v.items) of.2 ∙ new_states t p [] (length t.hosts) (c.in_ok-nodes.nodes).items c.in_ok-nodes.ensures in
+    ap (λ (xs : List Entry). record { log = xs; now = (c.of.result).now; mediator = new_mediator; nodes = map (state_over xs) ((c.of.result).nodes).items })
     (ap (λ (q : Sequenced). q.list) (of.0 ∙ c.in_ok-sequencer.ensures))
-    ∙ (ap (λ (n : ℕ). record { log = []; now = n; mediator = new_mediator; nodes = map state_of ((c.of.result).nodes).items }) of.3
+    ∙ (ap (λ (n : ℕ). record { log = []; now = n; mediator = new_mediator; nodes = map (state_over []) ((c.of.result).nodes).items }) of.3
     ∙ ap (λ (ns : List NodeState). record { log = []; now = 0; mediator = new_mediator; nodes = ns }) states)
 
 pub returns-clause-set_up : goal.returns-clause-set_up
@@ -51,3 +53,9 @@ returns-clause-set_up c =
     let p = c.args.setup.now.checked in
     subst (λ (xs : List NodeValue). AreSetUp t p xs) (sym (ap (λ v. v.items) (c.of.ensures).2))
     (set_up_new t p (c.in_ok-nodes.nodes).items c.in_ok-nodes.ensures)
+
+pub returns-clause-bases : goal.returns-clause-bases
+returns-clause-bases c =
+    let t = c.args.setup.now.topology in
+    subst (λ (xs : List NodeValue). AreBases (λ p. 0) xs) (sym (ap (λ v. v.items) (c.of.ensures).2))
+    (bases_new t c.args.setup.now.checked (length t.hosts) (c.in_ok-nodes.nodes).items c.in_ok-nodes.ensures)

@@ -1,0 +1,48 @@
+-- Which participants restart in a run, and where that leaves their bases.
+use Rattle.std.specs.Prelude.{ℕ, ◌++◌, Bool, List, Option, map}
+use Rattle.std.specs.List.{list_any}
+use Rattle.canton_model.specs.declared.entry.Entry.{Entry}
+use Rattle.ledger_model.specs.Terms.{ParticipantId}
+use Rattle.node_core.specs.Bases.{AreBases, Bases}
+use Rattle.node_core.specs.Participant.{Participant}
+use Rattle.node_core.specs.Views.{view_of}
+use Rattle.node_core.specs.declared.node_view.NodeView.{NodeView}
+use Rattle.run_model.specs.Restarts.{RoundBegin, base_or_first, begins_of, pruned_to}
+use Rattle.script_read.specs.declared.round.Round.{Round}
+use Rattle.script_read.specs.declared.script.Script.{Script}
+use Rattle.world_model.specs.Places.{has_place}
+use Rattle.world_play.specs.declared.world.World.{World}
+use Rattle.canton_run.specs.Run.{params_of, reading_for}
+
+-- whether one of the rounds restarts the participant
+abbrev pub is_restarted : List Round → ParticipantId → Bool
+is_restarted rounds p = list_any (λ (round : Round). has_place round.restarts p) rounds
+
+-- what a participant knows once these rounds were played
+abbrev pub view_in : List Round → Participant → NodeView
+view_in rounds participant = view_of (is_restarted rounds participant.me) participant
+
+-- where the rounds of a script begin, and who restarts there
+abbrev pub begins_in : List Round → (ends : List ℕ) → List RoundBegin
+begins_in rounds ends = begins_of 0 (map (λ (round : Round). round.restarts) rounds) ends
+
+-- the base where a participant restarted last in these rounds, and the first place where it never did
+abbrev pub bases_in : Script → List Entry → List RoundBegin → Bases
+bases_in script log begins p = base_or_first (pruned_to (reading_for script) (params_of script) log begins p)
+
+-- each participant is pruned to that
+abbrev pub ArePrunedIn : Script → List Entry → List RoundBegin → List Participant → Type 0
+ArePrunedIn script log begins nodes = AreBases (bases_in script log begins) nodes
+
+-- The same once these rounds were played with these ends. What is said of the log holds of every log that goes on with it.
+abbrev pub ArePrunedBy : Script → List Round → (ends : List ℕ) → World → Type 0
+ArePrunedBy script rounds ends world =
+    (more : List Entry) → ArePrunedIn script ((world.sequencer).list ++ more) (begins_in rounds ends) (world.nodes).items
+
+-- the base of a participant that restarted in the run
+abbrev pub pruned_in : Script → List Entry → (ends : List ℕ) → ParticipantId → Option ℕ
+pruned_in script log ends p = pruned_to (reading_for script) (params_of script) log (begins_in script.rounds ends) p
+
+-- the base of any, which is the first place where it never restarted
+abbrev pub base_in : Script → List Entry → (ends : List ℕ) → ParticipantId → ℕ
+base_in script log ends p = bases_in script log (begins_in script.rounds ends) p

@@ -1,0 +1,221 @@
+//! A participant's state, apart from it.
+ghost use Rattle.std.specs.Prelude.{◌≡◌, ◌+◌, ◌<◌, ◌≤◌, ◌^◌, ◌++◌, ◌∷◌, [], ℕ, List, true, false, IfOk, OnOk, length, map};
+ghost use Rattle.std.specs.List.Sorted.{IsStrictlyIncreasing};
+ghost use Rattle.canton_model.specs.Inbox.{Item as ItemValue, last_time};
+ghost use Rattle.world_model.specs.Node.{waits_at, with_items};
+ghost use Rattle.world_model.specs.Places.{has_place};
+ghost use Rattle.node_inbox.specs.Raw.{IsCame, item_by};
+ghost use Rattle.pruned_inbox.specs.Base;
+ghost use Rattle.pruned_inbox.specs.Start.{GoesOn};
+ghost use Rattle.node_core.specs.Participant.{IsPrunedTo, items_of, owes_there, params_of, pruned_at, reading_of, with_state};
+ghost use Rattle.node_core.specs.States.{AreToCome, IsStateOf, MayBegin, begun_again, read_nothing, responses_from, start_in, with_claimed, with_outbox};
+
+use crate::copies::{copy_item, copy_response};
+use crate::duties::Duties;
+use crate::node::Node;
+use canton_model::Response;
+use confirm_reply::Setup;
+use node_inbox::{Beginning, Inbox};
+use node_state::{Item, NodeState};
+use std::alloc::{AllocError, Global};
+
+impl<'s> Node<'s> {
+    /// What it keeps, as a state apart from it. Envelopes aren't copied.
+    pub fn state(&self, alloc: Global) -> Result<NodeState, AllocError>
+        ensures { IfOk result (λ state. IsStateOf self.now state) }
+    {
+        let beginning = self.inbox.beginning(alloc)?;
+        let items = self.inbox.items(alloc)?;
+        let outbox = self.duties.responses(alloc)?;
+        let done = self.duties.done(alloc, beginning.base)?;
+        let Beginning {
+            base,
+            base_time,
+            active,
+            gone,
+        } = beginning;
+        Ok(NodeState {
+            me: self.me,
+            base,
+            base_time,
+            paused: self.is_paused,
+            active,
+            gone,
+            items,
+            outbox,
+            done,
+        })
+    }
+
+    /// Its state, pruned to the base of its inbox: what it would be, had it forgotten all that it read below that but what that leaves there.
+    pub fn pruned_state(&self, alloc: Global) -> Result<NodeState, AllocError>
+        ensures base { IfOk result (λ state. state.base ≡ Base.base (params_of self.now) (items_of self.now)) }
+        ensures start { IfOk result (λ state. GoesOn (reading_of self.now) (items_of self.now) state.base self.now.start (start_in state)) }
+        ensures state { IfOk result (λ state. (whole : List ItemValue) → IsPrunedTo whole self.now
+            → IsStateOf (pruned_at state.base (start_in state) self.now) state) }
+    {
+        let base = self.inbox.next_base();
+        let beginning = self.inbox.beginning_at(alloc, base)?;
+        let items = self.inbox.items_from(alloc, base)?;
+        let outbox = self.duties.responses(alloc)?;
+        let done = self.duties.done(alloc, base)?;
+        let Beginning {
+            base_time,
+            active,
+            gone,
+            ..
+        } = beginning;
+        Ok(NodeState {
+            me: self.me,
+            base,
+            base_time,
+            paused: self.is_paused,
+            active,
+            gone,
+            items,
+            outbox,
+            done,
+        })
+    }
+
+    // A participant that begins at the base of a state, and has read nothing there.
+    fn begin_at(alloc: Global, setup: &'s Setup, state: &NodeState) -> Result<Node<'s>, AllocError>
+        requires { MayBegin setup.now.topology setup.now.checked state.now }
+        ensures { IfOk result (λ node. node ≡ read_nothing setup.now.topology setup.now.checked state.now) }
+    {
+        let beginning = Beginning::with_copies(
+            alloc,
+            state.base,
+            state.base_time,
+            state.active.as_slice(),
+            state.gone.as_slice(),
+        )?;
+        let inbox = Inbox::begin_at(alloc, setup, state.me, beginning)?;
+        Ok(Node {
+            setup,
+            me: state.me,
+            inbox,
+            duties: Duties::new(alloc),
+            is_paused: state.paused,
+        })
+    }
+
+    // An item comes that came before.
+    fn put(&mut self, item: Item) -> Result<(), AllocError>
+        requires few { length (items_of self.old) < 2 ^ 63 }
+        requires rises { last_time (items_of self.old) < item.time }
+        requires came { IsCame self.old.topology self.old.packages self.old.me (items_of self.old) item.what }
+        ensures { OnOk result (self.new ≡ with_state self.old (with_items self.old.state (items_of self.old ++ item_by self.old.topology item ∷ []))) }
+    {
+        let place = self.inbox.cursor();
+        self.duties.reserve()?;
+        self.inbox.put(item)?;
+        if self.inbox.owes(place) {
+            self.duties.owe(place);
+        }
+        Ok(())
+    }
+
+    // Items come that came before.
+    fn put_all(&mut self, items: &[Item]) -> Result<(), AllocError>
+        requires { AreToCome self.old.topology self.old.packages self.old.me (items_of self.old) items.now }
+        ensures { OnOk result (self.new
+            ≡ with_state self.old (with_items self.old.state (items_of self.old ++ map (item_by self.old.topology) items.now))) }
+    {
+        for item in items {
+            let copy = copy_item(item)?;
+            self.put(copy)?;
+        }
+        Ok(())
+    }
+
+    // A job was done before.
+    fn claim_done(&mut self, place: u64) -> Result<(), AllocError>
+        requires owes { owes_there self.old place ≡ true }
+        requires new { has_place self.old.state.claimed place ≡ false }
+        ensures { OnOk result (self.new ≡ with_state self.old (with_claimed self.old.state (self.old.state.claimed ++ place ∷ []))) }
+    {
+        self.duties.claim_done(place)?;
+        Ok(())
+    }
+
+    // Jobs were done before.
+    fn claim_all(&mut self, places: &[u64]) -> Result<(), AllocError>
+        requires owes { (k : ℕ) → has_place places.now k ≡ true → owes_there self.old k ≡ true }
+        requires none { self.old.state.claimed ≡ [] }
+        requires ascend { IsStrictlyIncreasing places.now }
+        ensures { OnOk result (self.new ≡ with_state self.old (with_claimed self.old.state places.now)) }
+    {
+        for place in places {
+            self.claim_done(*place)?;
+        }
+        Ok(())
+    }
+
+    // A response waited before.
+    fn wait(&mut self, response: Response) -> Result<(), AllocError>
+        requires { owes_there self.old response.request ≡ true }
+        ensures { OnOk result (self.new ≡ with_state self.old (with_outbox self.old.state (self.old.state.outbox ++ response ∷ []))) }
+    {
+        self.duties.wait(response)?;
+        Ok(())
+    }
+
+    // A response waited before, and waits on where its request isn't below a place.
+    fn wait_from(&mut self, alloc: Global, base: u64, response: &Response) -> Result<(), AllocError>
+        requires { base ≤ response.now.request → owes_there self.old response.now.request ≡ true }
+        ensures { OnOk result (self.new ≡ with_state self.old (with_outbox self.old.state
+            (self.old.state.outbox ++ responses_from base (response.now ∷ [])))) }
+    {
+        if response.request < base {
+            return Ok(());
+        }
+        let copy = copy_response(alloc, response)?;
+        self.wait(copy)?;
+        Ok(())
+    }
+
+    // Responses waited before.
+    fn wait_all(
+        &mut self,
+        alloc: Global,
+        base: u64,
+        responses: &[Response],
+    ) -> Result<(), AllocError>
+        requires { (k : ℕ) → base ≤ k → waits_at responses.now k ≡ true → owes_there self.old k ≡ true }
+        ensures { OnOk result (self.new ≡ with_state self.old (with_outbox self.old.state
+            (self.old.state.outbox ++ responses_from base responses.now))) }
+    {
+        for response in responses {
+            self.wait_from(alloc, base, response)?;
+        }
+        Ok(())
+    }
+
+    // All that the state keeps from its base on comes again.
+    fn take_up(&mut self, alloc: Global, state: &NodeState) -> Result<(), AllocError>
+        requires begun { self.old ≡ read_nothing self.old.topology self.old.packages state.now }
+        requires may { MayBegin self.old.topology self.old.packages state.now }
+        ensures { OnOk result (self.new ≡ begun_again self.old.topology self.old.packages state.now) }
+    {
+        self.put_all(state.items.as_slice())?;
+        self.claim_all(state.done.as_slice())?;
+        self.wait_all(alloc, state.base, state.outbox.as_slice())?;
+        Ok(())
+    }
+
+    /// The participant that begins again from a state: the same to every question but `base` and `state` as the one of which that is the
+    /// state, if it put back what it hasn't finished (`restarted_participants_are_pruned`).
+    pub fn from_state(
+        alloc: Global,
+        setup: &'s Setup,
+        state: &NodeState,
+    ) -> Result<Node<'s>, AllocError>
+        requires { MayBegin setup.now.topology setup.now.checked state.now }
+        ensures { IfOk result (λ node. node ≡ begun_again setup.now.topology setup.now.checked state.now) }
+    {
+        let mut node = Node::begin_at(alloc, setup, state)?;
+        node.take_up(alloc, state)?;
+        Ok(node)
+    }
+}

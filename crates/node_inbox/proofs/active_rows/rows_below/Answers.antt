@@ -1,0 +1,22 @@
+use Rattle.std.proofs.Common.{◌≡◌, List, [], map, ap, ◌∙◌}
+use Rattle.ledger_terms.specs.declared.active_row.ActiveRow.{ActiveRow}
+use Rattle.contract_store.specs.Written.{written}
+use Rattle.contract_store.specs.declared.row.StoreRow.{StoreRow}
+use Rattle.framed_form.specs.FramedReading.{framed_reading}
+use Rattle.inbox_standing.specs.Changes.{creation_of}
+use Rattle.pruned_inbox.specs.Start.{Start}
+use Rattle.node_inbox.specs.Items.{model_items}
+use Rattle.node_inbox.specs.KeptActive.{placed_between}
+use Rattle.node_inbox.proofs.active_rows.rows_below.Goals as goal
+
+pub returns : goal.returns
+returns c =
+    let reading = framed_reading c.args.setup.now.topology c.args.setup.now.checked in
+    let start = c.args.standing.now.start in
+    let begun : c.write_start.new.live ≡ written (map creation_of start.active) [] =
+    c.in_ok-write_start.ensures
+    ∙ (ap (λ (rows : List StoreRow). written (map creation_of c.as_slice.result.now) rows) c.new-live.ensures
+    ∙ ap (λ (rows : List ActiveRow). written (map creation_of rows) [])
+    (c.as_slice.ensures ∙ (c.active.ensures ∙ ap (λ (start : Start). start.active) c.start.ensures))) in
+    c.in_ok-write_between.ensures
+    ∙ ap (λ (rows : List StoreRow). written (placed_between reading (model_items c.args.items.now) 0 c.args.end) rows) begun

@@ -1,0 +1,24 @@
+-- Where an inbox may begin.
+use Rattle.std.specs.Prelude.{◌+◌, ◌<◌, ◌≤◌, ◌^◌, ℕ, All, map}
+use Rattle.ledger_terms.specs.Parties.{IsRising}
+use Rattle.ledger_terms.specs.declared.active_row.ActiveRow.{ActiveRow}
+use Rattle.contract_store.specs.ActiveLaw.{InOrder}
+use Rattle.pruned_inbox.specs.Start.{Start}
+use Rattle.inbox_standing.specs.Changes.{NoneGone, creation_of}
+use Rattle.inbox_standing.specs.Offered.{CreatedOnce}
+use Rattle.node_inbox.specs.declared.beginning.Beginning.{Beginning}
+
+-- what was left there
+abbrev pub start_of : Beginning → Start
+start_of beginning = record { active = beginning.active; gone = beginning.gone }
+
+-- The base is no later than times allow, which rise with places. The contracts that were active there were created below it, in this order,
+-- each once; none of them is gone; and the ids of those that are ascend.
+pub record IsBeginning (base base_time : ℕ) (start : Start) : Type 0 where
+  pub few : base < 2 ^ 63
+  pub early : base ≤ base_time + 1
+  pub order : InOrder (map creation_of start.active)
+  pub below : All (λ (row : ActiveRow). row.created_at < base) start.active
+  pub once : CreatedOnce (map creation_of start.active)
+  pub none_gone : NoneGone start (map creation_of start.active)
+  pub ascend : IsRising start.gone

@@ -1,0 +1,194 @@
+//! Where an inbox begins.
+ghost use Rattle.std.specs.Prelude.{◌≡◌, ◌+◌, ◌<◌, ◌≤◌, ◌++◌, ◌∷◌, [], true, List, IfOk, OnOk, get_or, length, map};
+ghost use Rattle.canton_model.specs.Inbox.{Nothing};
+ghost use Rattle.contract_store.specs.Rows.{created};
+ghost use Rattle.contract_store.specs.Written.{Placed, written};
+ghost use Rattle.framed_form.specs.FramedReading.{framed_reading};
+ghost use Rattle.pruned_inbox.specs.Forgotten.{silent_front};
+ghost use Rattle.inbox_standing.specs.Changes.{creation_of};
+ghost use Rattle.prepare_request.specs.Hosted.{AreTold};
+ghost use Rattle.node_inbox.specs.Items.{model_items};
+ghost use Rattle.node_inbox.specs.Reads.{item_with};
+
+use crate::added_ids::{added_ids, put_ids};
+use crate::kept_item::{KeptContent, KeptItem};
+use confirm_reply::Setup;
+use inbox_standing::{Change, Standing};
+use ledger_terms::{ActiveRow, ActiveRowList, Exact, Hash, HashList, Known, ParticipantId};
+use prepare_request::HostedIds;
+use prepare_request::laws::ids_tell_after_each_change;
+use std::alloc::{AllocError, Global};
+
+/// Where an inbox begins: its base, the time of the entry before that, in microseconds, the contracts that were active there, in order
+/// of creation, and the ids of the others that requests below it were on, ascending.
+#[derive(Drop)]
+pub struct Beginning {
+    pub base: u64,
+    pub base_time: u64,
+    pub active: ActiveRowList,
+    pub gone: HashList,
+}
+
+// One item more, of which nothing but the time is known.
+fn push_silent(items: &mut Vec<KeptItem>, time: u64) -> Result<(), AllocError>
+    ensures { OnOk result (model_items items.new.items ≡ model_items items.old.items ++ item_with time Nothing ∷ []) }
+{
+    items.push(KeptItem {
+        time,
+        content: KeptContent::Nothing,
+    })?;
+    Ok(())
+}
+
+/// Items of which nothing but the times is known, one microsecond after another, as many as stand below the base.
+pub fn silent_items(alloc: Global, base: u64, base_time: u64) -> Result<Vec<KeptItem>, AllocError>
+    requires { base ≤ base_time + 1 }
+    ensures { IfOk result (λ items. model_items items.items ≡ silent_front base base_time) }
+{
+    let mut items = Vec::new(alloc);
+    'places: for place in 0..base {
+        push_silent(&mut items, base_time - (base - 1 - place))?;
+    }
+    Ok(items)
+}
+
+// The creation of a contract, and nothing else.
+fn creation(alloc: Global, known: Known) -> Result<Vec<Change>, AllocError>
+    ensures { IfOk result (λ changes. changes.items ≡ record { known = known; is_create = true } ∷ []) }
+{
+    let mut changes = Vec::new(alloc);
+    changes.push(Change {
+        known,
+        is_create: true,
+    })?;
+    Ok(changes)
+}
+
+// The contract of a row was created at its place.
+fn write_created(
+    setup: &Setup,
+    me: ParticipantId,
+    hosted: &mut HostedIds,
+    standing: &mut Standing,
+    row: ActiveRow,
+) -> Result<(), AllocError>
+    requires told { AreTold (framed_reading setup.now.topology setup.now.checked) me hosted.old.ids standing.old.store.rows }
+    requires written { (ps : List Placed) × (standing.old.store.rows ≡ written ps []) }
+    ensures told { OnOk result (AreTold (framed_reading setup.now.topology setup.now.checked) me hosted.new.ids standing.new.store.rows) }
+    ensures rows { OnOk result (standing.new.store.rows ≡ created row.known row.created_at standing.old.store.rows) }
+    ensures holds { standing.new.store.holds ≡ standing.old.store.holds }
+    ensures tracking { standing.new.tracking ≡ standing.old.tracking }
+    ensures start { standing.new.start ≡ standing.old.start }
+{
+    let alloc = *standing.start().active().allocator();
+    let ActiveRow { created_at, known } = row;
+    let changes = creation(alloc, known)?;
+    let (ids, _) = added_ids(alloc, setup, me, standing.store(), changes.as_slice())?;
+    hosted.reserve(ids.as_slice().len())?;
+    standing.make_room(&changes)?;
+    ids_tell_after_each_change();
+    put_ids(hosted, &ids);
+    standing.write(created_at, changes);
+    Ok(())
+}
+
+fn copy_of(row: &ActiveRow) -> Result<ActiveRow, AllocError>
+    ensures { IfOk result (λ copy. copy ≡ row.now) }
+{
+    let known = row.known.copied()?;
+    Ok(ActiveRow {
+        created_at: row.created_at,
+        known,
+    })
+}
+
+fn copy_at(rows: &[ActiveRow], at: usize) -> Result<ActiveRow, AllocError>
+    requires { at < length rows.now }
+    ensures { IfOk result (λ copy. copy ≡ get_or rows.now at copy) }
+{
+    let row = &rows[at];
+    let copy = copy_of(row)?;
+    Ok(copy)
+}
+
+fn rows_copy(alloc: Global, rows: &[ActiveRow]) -> Result<ActiveRowList, AllocError>
+    ensures { IfOk result (λ copy. copy ≡ rows.now) }
+{
+    let mut copy = ActiveRowList::with_room(alloc, rows.len())?;
+    for row in rows {
+        copy.push(copy_of(row)?)?;
+    }
+    Ok(copy)
+}
+
+fn ids_copy(alloc: Global, ids: &[Hash]) -> Result<HashList, AllocError>
+    ensures { IfOk result (λ copy. copy ≡ ids.now) }
+{
+    let mut copy = HashList::with_room(alloc, ids.len())?;
+    for id in ids {
+        copy.push(*id)?;
+    }
+    Ok(copy)
+}
+
+impl Beginning {
+    /// Where an inbox begins with copies of these contracts and of these ids of others.
+    pub fn with_copies(
+        alloc: Global,
+        base: u64,
+        base_time: u64,
+        active: &[ActiveRow],
+        gone: &[Hash],
+    ) -> Result<Beginning, AllocError>
+        ensures base { IfOk result (λ beginning. beginning.base ≡ base) }
+        ensures base_time { IfOk result (λ beginning. beginning.base_time ≡ base_time) }
+        ensures active { IfOk result (λ beginning. beginning.active ≡ active.now) }
+        ensures gone { IfOk result (λ beginning. beginning.gone ≡ gone.now) }
+    {
+        let active = rows_copy(alloc, active)?;
+        let gone = ids_copy(alloc, gone)?;
+        Ok(Beginning {
+            base,
+            base_time,
+            active,
+            gone,
+        })
+    }
+}
+
+// How many contracts were active at the base.
+fn start_len(standing: &Standing) -> usize
+    ensures { result ≡ length standing.now.start.active }
+{
+    standing.start().active().len()
+}
+
+fn start_row(standing: &Standing, at: usize) -> Result<ActiveRow, AllocError>
+    requires { at < length standing.now.start.active }
+    ensures { IfOk result (λ row. row ≡ get_or standing.now.start.active at row) }
+{
+    copy_at(standing.start().active().as_slice(), at)
+}
+
+/// The contracts that were active at the base are written into the store, as the Creates that made them.
+pub fn write_start(
+    setup: &Setup,
+    me: ParticipantId,
+    hosted: &mut HostedIds,
+    standing: &mut Standing,
+) -> Result<(), AllocError>
+    requires told { AreTold (framed_reading setup.now.topology setup.now.checked) me hosted.old.ids standing.old.store.rows }
+    requires none { standing.old.store.rows ≡ [] }
+    ensures told { OnOk result (AreTold (framed_reading setup.now.topology setup.now.checked) me hosted.new.ids standing.new.store.rows) }
+    ensures rows { OnOk result (standing.new.store.rows ≡ written (map creation_of standing.old.start.active) []) }
+    ensures holds { standing.new.store.holds ≡ standing.old.store.holds }
+    ensures tracking { standing.new.tracking ≡ standing.old.tracking }
+    ensures start { standing.new.start ≡ standing.old.start }
+{
+    let count = start_len(standing);
+    'rows: for at in 0..count {
+        let row = start_row(standing, at)?;
+        write_created(setup, me, hosted, standing, row)?;
+    }
+    Ok(())
+}

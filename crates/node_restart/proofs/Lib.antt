@@ -1,0 +1,4 @@
+pub mod Spelled
+mod Restarts
+mod ReadBack
+mod GoingOn

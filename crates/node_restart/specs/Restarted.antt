@@ -1,0 +1,33 @@
+-- A participant that restarts.
+use Rattle.std.specs.Prelude.{◌≡◌, ℕ, ◌<◌, ◌≤◌, ◌^◌, [], List, length}
+use Rattle.canton_model.specs.Inbox.{inbox}
+use Rattle.world_model.specs.Machine.{GenuineLog, Machine}
+use Rattle.world_model.specs.Messages.{Entry}
+use Rattle.world_model.specs.Places.{has_place}
+use Rattle.pruned_inbox.specs.Base
+use Rattle.node_core.specs.Answers.{IsOf}
+use Rattle.node_core.specs.OverLog.{HasInbox}
+use Rattle.node_core.specs.Participant.{HasRead, Participant, params_of, reading_of}
+use Rattle.node_core.specs.States.{is_done_from, responses_from}
+
+-- It has read all of a short genuine log of few participants.
+pub record CanRestart (m : Machine) (log : List Entry) (p : Participant) : Type 0 where
+  pub is_of : IsOf m p
+  pub hosts : length (p.topology).hosts ≤ 255
+  pub genuine : GenuineLog m log
+  pub short : length log < 2 ^ 15
+  pub read : HasRead m log p
+
+-- It has read the same log, and forgotten what is below the base of its inbox, with the jobs and responses to requests there. Nothing is
+-- unfinished: what wasn't finished is claimed again.
+pub record HasRestarted (m : Machine) (log : List Entry) (before after : Participant) : Type 0 where
+  pub topology : after.topology ≡ before.topology
+  pub packages : after.packages ≡ before.packages
+  pub me : after.me ≡ before.me
+  pub base : after.base ≡ Base.base (params_of before) (inbox (reading_of before) before.me log)
+  pub paused : (after.state).is_paused ≡ (before.state).is_paused
+  pub claimed : (k : ℕ) → has_place (after.state).claimed k ≡ is_done_from after.base before.state k
+  pub unfinished : (after.state).unfinished ≡ []
+  pub outbox : (after.state).outbox ≡ responses_from after.base (before.state).outbox
+  pub read : HasRead m log after
+  pub inbox : HasInbox (inbox (reading_of before) before.me log) after

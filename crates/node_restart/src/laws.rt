@@ -1,0 +1,34 @@
+//! Laws of restarts, each the contract of a function with nothing to do.
+ghost use Rattle.std.specs.Prelude.{◌≡◌, ◌++◌, List};
+ghost use Rattle.canton_model.specs.Inbox.{inbox};
+ghost use Rattle.canton_model.specs.declared.entry.Entry.{Entry};
+ghost use Rattle.pruned_inbox.specs.Alike.{AnswersAlike};
+ghost use Rattle.world_model.specs.Machine.{Machine};
+ghost use Rattle.world_model.specs.Node.{next_claim, outbox_head};
+ghost use Rattle.node_core.specs.Participant.{HasRead, Participant, items_of, next_place, next_response, params_of, reading_of};
+ghost use Rattle.node_restart.specs.GoingOn.{CanGoOn, having_read, never_stopped};
+ghost use Rattle.node_restart.specs.Short.{HasReadShort};
+ghost use Rattle.node_state.specs.declared.node_state.NodeState.{NodeState as State};
+ghost use Rattle.snapshot_store.specs.Spellable.{IsSpellableState};
+
+/// The state of a participant that has read a short log of framed requests, pruned or not, has a spelling: by the bytes of their trees such
+/// requests tell, show and open little.
+pub fn states_are_spellable()
+    ensures { (p : Participant) (log : List Entry) (state : State) → HasReadShort p log state → IsSpellableState state }
+{}
+
+/// Whatever it reads then, a participant that has restarted answers all that is asked of places from its base on as one that never stopped
+/// and has taken back what it hadn't finished, and claims and sends next what that does.
+pub fn restarted_participants_go_on()
+    ensures read { (m : Machine) (log more : List Entry) (before after : Participant) → CanGoOn m log more before after
+        → HasRead m (log ++ more) (having_read log more after) }
+    ensures answers { (m : Machine) (log more : List Entry) (before after : Participant) → CanGoOn m log more before after
+        → AnswersAlike (reading_of after) (params_of after) after.me (inbox (reading_of after) after.me (log ++ more))
+        (items_of (having_read log more after)) after.base after.start }
+    ensures claim { (m : Machine) (log more : List Entry) (before after : Participant) → CanGoOn m log more before after
+        → next_place (having_read log more after) ≡ next_claim (reading_of after) (params_of after) after.me
+        (never_stopped before (inbox (reading_of after) after.me (log ++ more))) }
+    ensures response { (m : Machine) (log more : List Entry) (before after : Participant) → CanGoOn m log more before after
+        → next_response (having_read log more after)
+        ≡ outbox_head (params_of after) (never_stopped before (inbox (reading_of after) after.me (log ++ more))) }
+{}

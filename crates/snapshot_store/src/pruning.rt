@@ -1,0 +1,27 @@
+//! Pruning a state.
+ghost use Rattle.std.specs.Prelude.{◌≡◌, IfOk};
+ghost use Rattle.pruned_inbox.specs.Base;
+ghost use Rattle.node_core.specs.Participant.{pruned_at};
+ghost use Rattle.node_core.specs.States.{IsLawful, IsStateOf, items_in, owner_of, start_in};
+
+use confirm_reply::Setup;
+use node_core::laws::lawful_states_may_begin;
+use node_core::{Node, copy_responses};
+use node_state::NodeState;
+use std::alloc::{AllocError, Global};
+
+/// The state, pruned to the base of its inbox, the greatest place below which every request is decided at it. It is what it would be, had its
+/// participant been pruned there at once.
+pub fn prune(alloc: Global, setup: &Setup, state: &NodeState) -> Result<NodeState, AllocError>
+    requires { IsLawful setup.now.topology setup.now.checked state.now }
+    ensures base { IfOk result (λ pruned. pruned.base ≡ Base.base setup.now.topology.params (items_in setup.now.topology state.now)) }
+    ensures state { IfOk result (λ pruned. IsStateOf (pruned_at pruned.base (start_in pruned)
+        (owner_of setup.now.topology setup.now.checked state.now)) pruned) }
+    ensures lawful { IfOk result (λ pruned. IsLawful setup.now.topology setup.now.checked pruned) }
+{
+    lawful_states_may_begin();
+    let node = Node::from_state(alloc, setup, state)?;
+    let mut pruned = node.pruned_state(alloc)?;
+    pruned.outbox = copy_responses(alloc, state.outbox.as_slice())?;
+    Ok(pruned)
+}

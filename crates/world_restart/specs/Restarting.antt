@@ -1,0 +1,52 @@
+-- Participants of a synchroniser that restart.
+use Rattle.std.specs.Prelude.{◌≡◌, true, false, List, [], Some, length, slice_get, if◌then◌else◌}
+use Rattle.canton_model.specs.Inbox.{inbox}
+use Rattle.canton_model.specs.Log.{Params}
+use Rattle.canton_model.specs.Reading.{Reading}
+use Rattle.ledger_model.specs.Terms.{ParticipantId}
+use Rattle.pruned_inbox.specs.Base
+use Rattle.world_model.specs.Machine.{Machine}
+use Rattle.world_model.specs.Messages.{Entry}
+use Rattle.world_model.specs.Places.{has_place}
+use Rattle.seq_log.specs.Sequenced.{Sequenced}
+use Rattle.node_core.specs.Bases.{Bases}
+use Rattle.node_core.specs.OverLog.{HasInbox}
+use Rattle.node_core.specs.Participant.{Participant as NodeValue, items_of, params_of, reading_of}
+use Rattle.world_play.specs.Standing.{IsParticipant}
+
+-- It is the participant that it was, it has read to the end of the log, and it has forgotten what is below the base of its inbox there. It is
+-- paused as it was, and no job of it is unfinished.
+pub record IsRestarted (log : List Entry) (before after : NodeValue) : Type 0 where
+  pub topology : after.topology ≡ before.topology
+  pub packages : after.packages ≡ before.packages
+  pub me : after.me ≡ before.me
+  pub cursor : length (items_of after) ≡ length log
+  pub base : after.base ≡ Base.base (params_of before) (inbox (reading_of before) before.me log)
+  pub inbox : HasInbox (inbox (reading_of before) before.me log) after
+  pub paused : (after.state).is_paused ≡ (before.state).is_paused
+  pub unfinished : (after.state).unfinished ≡ []
+
+-- each of these participants has restarted, and each other is as it was
+pub record AreRestarted (participants : List ParticipantId) (log : List Entry) (before after : List NodeValue) : Type 0 where
+  pub many : length after ≡ length before
+  pub each : (p : ParticipantId) (x y : NodeValue) → slice_get before p ≡ Some x → slice_get after p ≡ Some y → has_place participants p ≡ true
+      → IsRestarted log x y
+  pub others : (p : ParticipantId) (x y : NodeValue) → slice_get before p ≡ Some x → slice_get after p ≡ Some y → has_place participants p ≡ false
+      → y ≡ x
+
+-- The bases once these participants have restarted at the end of the log: each of theirs is that of all that was received, and each other is
+-- as it was.
+abbrev pub bases_after : Reading → Params → List Entry → List ParticipantId → Bases → Bases
+bases_after reading params log participants bases p = if has_place participants p then Base.base params (inbox reading p log) else bases p
+
+-- it is still the participant of each machine that it was, and paused as it was
+pub record Remains (sequencer : Sequenced) (before after : NodeValue) : Type 0 where
+  pub topology : after.topology ≡ before.topology
+  pub packages : after.packages ≡ before.packages
+  pub paused : (after.state).is_paused ≡ (before.state).is_paused
+  pub is : (m : Machine) (p : ParticipantId) → IsParticipant m p before sequencer → IsParticipant m p after sequencer
+
+-- each of them is
+pub record AllRemain (sequencer : Sequenced) (before after : List NodeValue) : Type 0 where
+  pub many : length after ≡ length before
+  pub each : (p : ParticipantId) (x y : NodeValue) → slice_get before p ≡ Some x → slice_get after p ≡ Some y → Remains sequencer x y
