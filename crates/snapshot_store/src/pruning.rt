@@ -1,6 +1,8 @@
 //! Pruning a state.
 ghost use Rattle.std.specs.Prelude.{◌≡◌, IfOk};
+ghost use Rattle.framed_form.specs.FramedReading.{framed_reading};
 ghost use Rattle.pruned_inbox.specs.Base;
+ghost use Rattle.pruned_inbox.specs.Start.{GoesOn};
 ghost use Rattle.node_core.specs.Participant.{pruned_at};
 ghost use Rattle.node_core.specs.States.{IsLawful, IsStateOf, items_in, owner_of, start_in};
 
@@ -15,6 +17,8 @@ use std::alloc::{AllocError, Global};
 pub fn prune(alloc: Global, setup: &Setup, state: &NodeState) -> Result<NodeState, AllocError>
     requires { IsLawful setup.now.topology setup.now.checked state.now }
     ensures base { IfOk result (λ pruned. pruned.base ≡ Base.base setup.now.topology.params (items_in setup.now.topology state.now)) }
+    ensures start { IfOk result (λ pruned. GoesOn (framed_reading setup.now.topology setup.now.checked) (items_in setup.now.topology state.now)
+        pruned.base (start_in state.now) (start_in pruned)) }
     ensures state { IfOk result (λ pruned. IsStateOf (pruned_at pruned.base (start_in pruned)
         (owner_of setup.now.topology setup.now.checked state.now)) pruned) }
     ensures lawful { IfOk result (λ pruned. IsLawful setup.now.topology setup.now.checked pruned) }

@@ -15,6 +15,11 @@ returns-clause-base c =
     c.in_ok-pruned.ensures.base
     ∙ ap (λ (p : Participant). base_specs.base (params_of p) (items_of p)) c.in_ok-node.ensures
 
+pub returns-clause-start : goal.returns-clause-start
+returns-clause-start c =
+    let pruned = c.in_ok-pruned.pruned in
+    subst (λ (p : Participant). GoesOn (reading_of p) (items_of p) pruned.base p.start (start_in pruned)) c.in_ok-node.ensures c.in_ok-pruned.ensures.start
+
 pub returns-clause-state : goal.returns-clause-state
 returns-clause-state c =
     let topology = c.args.setup.now.topology in
@@ -41,5 +46,4 @@ returns-clause-lawful c =
     let is = c.requires in
     let node = c.in_ok-node.ensures in
     let at = c.in_ok-pruned.ensures.base ∙ ap (λ (p : Participant). base_specs.base (params_of p) (items_of p)) node in
-    let on = subst (λ (p : Participant). GoesOn (reading_of p) (items_of p) pruned.base p.start (start_in pruned)) node c.in_ok-pruned.ensures.start in
-    c.lawful_states_may_begin.ensures.pruned topology packages state (record pruned { outbox = c.in_ok-outbox.outbox }) is at on (returns-clause-state c)
+    c.lawful_states_may_begin.ensures.pruned topology packages state (record pruned { outbox = c.in_ok-outbox.outbox }) is at (returns-clause-start c) (returns-clause-state c)
