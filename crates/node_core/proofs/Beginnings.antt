@@ -3,10 +3,11 @@ use Rattle.std.proofs.Common.{◌≡◌, ◌+◌, ◌<◌, ◌≤◌, ℕ, zero,
 use Rattle.std.specs.Prelude.{if◌then◌else◌, nat_le, slice_get}
 use Rattle.std.specs.List.{list_any}
 use Rattle.std.specs.List.Sorted.{IsStrictlyIncreasing}
-use Rattle.std.proofs.lemmas.Bool.{both_ways, cases_Bool, eqb-true, le-leb, lt-leb, or_cases, or_left, or_right}
+use Rattle.std.proofs.lemmas.Bool.{both_ways, cases_Bool, eqb-true, le-leb, lt-leb, or_cases, or_from, or_left, or_right}
 use Rattle.std.proofs.lemmas.Option.{none-some, same_Some}
 use Rattle.std.proofs.lemmas.List.{map-append}
 use Rattle.std.proofs.lemmas.List.Elements.{filter-append}
+use Rattle.std.proofs.lemmas.List.Folds.{list_any-append}
 use Rattle.ledger_terms.specs.declared.topology.Topology.{Topology}
 use Rattle.lang_eval.specs.Found.{Packages}
 use Rattle.ledger_model.specs.Terms.{ParticipantId}
@@ -15,7 +16,7 @@ use Rattle.canton_model.specs.Log.{Params}
 use Rattle.canton_model.specs.Reading.{Reading}
 use Rattle.canton_model.specs.declared.response.Response.{Response}
 use Rattle.world_model.specs.Machine.{confirms_some_view}
-use Rattle.world_model.specs.Node.{owes_at, waits_at, with_items}
+use Rattle.world_model.specs.Node.{NodeState, is_to, owes_at, waits_at, with_items}
 use Rattle.world_model.specs.Places.{has_place}
 use Rattle.world_model.proofs.Steps.{take_next}
 use Rattle.pruned_inbox.specs.Forgotten.{silent_front}
@@ -24,10 +25,11 @@ use Rattle.node_state.specs.declared.item.Item.{Item as StateItem}
 use Rattle.node_state.specs.declared.node_state.NodeState.{NodeState as State}
 use Rattle.node_inbox.specs.InboxState.{InboxState, begun_at, with_item}
 use Rattle.node_inbox.specs.Raw.{item_by}
-use Rattle.node_core.specs.Duties.{Kept, nothing_kept, state_of, with_room}
+use Rattle.node_core.specs.Duties.{AreToDistinct, Kept, nothing_kept, state_of, with_room}
 use Rattle.node_core.specs.Kept.{IsKept}
 use Rattle.node_core.specs.Participant.{Participant, items_of, owes_there, places_where, with_state}
-use Rattle.node_core.specs.States.{AreToCome, MayBegin, begun_again, begun_with, items_in, read_nothing, responses_from, start_in, with_claimed, with_outbox}
+use Rattle.node_core.specs.States.{AreToCome, MayBegin, MayWait, begun_again, begun_with, items_in, read_nothing, responses_from, start_in, with_claimed, with_outbox}
+use Rattle.node_core.proofs.Once.{none_before, none_filtered, once_none}
 use Rattle.node_core.proofs.ReadSteps.{participant_of}
 
 -- ---- nothing is owed below the base
@@ -52,6 +54,8 @@ begun_keeps reading params p b t kept owed passed claimed unfinished outbox =
       claimed = λ k h. absurd (both_ways false refl (rw claimed at h));
       unfinished = λ k h. absurd (both_ways false refl (rw unfinished at h));
       outbox = λ k h. absurd (both_ways false refl (rw outbox at h));
+      finished = λ k h. absurd (both_ways false refl (rw outbox at h));
+      once = subst AreToDistinct (sym outbox) once_none;
     }
 
 -- ---- items
@@ -73,6 +77,20 @@ wait_next base k before responses response there =
     ∙ ap (λ (xs : List Response). before ++ xs)
     (sym (filter-append (λ (r : Response). nat_le base r.request) (take k responses) (response ∷ []))
     ∙ ap (responses_from base) (sym (take_next k responses response there) ∙ ap (λ (n : ℕ). take n responses) (sym (add-one k))))
+
+-- it may wait behind those that came before
+pub may_wait_next : (node : NodeState) (base k : ℕ) (responses : List Response) (response : Response) → AreToDistinct responses
+    → slice_get responses k ≡ Some response → MayWait node response.request
+    → MayWait (with_outbox node (node.outbox ++ responses_from base (take k responses))) response.request
+may_wait_next node base k responses response once there may =
+    record {
+      claimed = may.claimed;
+      finished = may.finished;
+      first =
+          list_any-append (is_to response.request) node.outbox (responses_from base (take k responses))
+          ∙ or_from _ _ may.first
+          (none_filtered (is_to response.request) (λ (r : Response). nat_le base r.request) (take k responses) (none_before responses k response once there));
+    }
 
 pub response_waits : (base : ℕ) (response : Response) → base ≤ response.request → responses_from base (response ∷ []) ≡ response ∷ []
 response_waits base response le = ap (λ (b : Bool). if b then response ∷ [] else []) (le-leb base response.request le)
@@ -197,10 +215,10 @@ module _ (topology : Topology) (packages : Packages) (state : State) (may : MayB
           ∙ (ap (λ (r : Participant). with_state r (with_claimed r.state claims)) has_come
           ∙ ap (λ (ks : List ℕ). having ks []) done)
 
-      pub may_wait : (waiting : List Response) → waiting ≡ state.outbox → (k : ℕ) → state.base ≤ k → waits_at waiting k ≡ true → owes_there c k ≡ true
+      pub may_wait : (waiting : List Response) → waiting ≡ state.outbox → (k : ℕ) → state.base ≤ k → waits_at waiting k ≡ true → MayWait c.state k
       may_wait waiting same k le h =
-          subst (λ (r : Participant). owes_there r k ≡ true) (sym has_claimed)
-          (may.waiting k le (subst (λ (rs : List Response). waits_at rs k ≡ true) same h))
+          subst (λ (r : Participant). MayWait r.state k) (sym has_claimed)
+          (record { claimed = may.waiting k le (subst (λ (rs : List Response). waits_at rs k ≡ true) same h); finished = refl; first = refl })
 
       pub taken_up : (waiting : List Response) → waiting ≡ state.outbox → (end : Participant)
           → end ≡ with_state c (with_outbox c.state (c.state.outbox ++ responses_from state.base waiting)) → end ≡ begun_again topology packages state

@@ -59,6 +59,12 @@ fewer_without k (x ∷ xs) h =
       | inr other ↦ rw other at h
     ]
 
+-- it is there no longer
+pub gone_place : (k : ℕ) (places : List ℕ) → has_place (without_place k places) k ≡ false
+gone_place k places =
+    any-filter_same (nat_eq k) (λ (n : ℕ). not (nat_eq n k)) false
+    (λ n same. ap (λ (i : ℕ). not (nat_eq i k)) (sym (eqb-true k n same)) ∙ ap not (eq-eqb k k refl)) places
+
 -- other places stay
 pub other_place_stays : (k j : ℕ) (xs : List ℕ) → nat_eq j k ≡ false → has_place (without_place k xs) j ≡ has_place xs j
 other_place_stays k j xs n =

@@ -5,19 +5,22 @@ use Rattle.std.specs.List.{list_any}
 use Rattle.std.proofs.lemmas.Bool.{cases_Bool, both_ways, and_cases, and_left, and_right, or_cases, or_parts, or_from, or_left, or_right, eqb-true, not_from_true}
 use Rattle.std.proofs.lemmas.List.{length-append}
 use Rattle.std.proofs.lemmas.List.Folds.{list_any-append}
+use Rattle.std.proofs.lemmas.Map.Views.{any-filter_same}
 use Rattle.ledger_model.specs.Terms.{ParticipantId}
 use Rattle.canton_model.specs.Log.{Params}
 use Rattle.canton_model.specs.Reading.{Reading}
 use Rattle.canton_model.specs.Inbox.{Item}
 use Rattle.world_model.specs.Messages.{Response}
-use Rattle.world_model.specs.Places.{has_place}
-use Rattle.world_model.specs.Node.{is_decided_now, is_to, outbox_head, owes_at}
-use Rattle.node_core.specs.Duties.{Kept, IsPassed, first_waiting, is_free, state_of, with_claim, with_done, with_passed, with_response, with_waiting, without_claim, without_response}
+use Rattle.world_model.specs.Places.{has_place, without_place}
+use Rattle.world_model.specs.Node.{is_decided_now, is_to, outbox_head, owes_at, waits_at, without}
+use Rattle.node_core.specs.Duties.{AreToDistinct, Kept, IsPassed, first_waiting, is_free, state_of, with_claim, with_done, with_passed, with_response, with_waiting, without_claim, without_response}
 use Rattle.node_core.specs.Kept.{IsKept}
 use Rattle.node_core.specs.Participant.{is_received_decided, places_where}
 use Rattle.node_core.proofs.Claims.{decided_is}
+use Rattle.node_core.proofs.DutyFacts.{gone_place, other_place_stays}
 use Rattle.node_core.proofs.Growth.{owes_within, owes_stays, passed_stays, received_decided_stays, where_more, where_same}
 use Rattle.node_core.proofs.Heads.{head_facts, head_first, same_first}
+use Rattle.node_core.proofs.Once.{none_filtered, once_filtered, once_pushed}
 
 pub any_filtered : {X : Type 0} (p q : X → Bool) (xs : List X) → list_any p (filter q xs) ≡ true → list_any p xs ≡ true
 any_filtered p q [] h = h
@@ -91,16 +94,30 @@ item_keeps reading params p items item kept after is owed same claimed unfinishe
             (received_decided_stays params items item) (is.passed).1),
       );
       claimed = λ k h. owes_on k (is.claimed k (rw claimed at h));
-      unfinished = λ k h. owes_on k (is.unfinished k (rw unfinished at h));
-      outbox = λ k h. owes_on k (is.outbox k (rw outbox at h));
+      unfinished = λ k h. ap (λ (ks : List ℕ). has_place ks k) claimed ∙ is.unfinished k (rw unfinished at h);
+      outbox = λ k h. ap (λ (ks : List ℕ). has_place ks k) claimed ∙ is.outbox k (rw outbox at h);
+      finished = λ k h. ap (λ (ks : List ℕ). has_place ks k) unfinished ∙ is.finished k (rw outbox at h);
+      once = subst AreToDistinct (sym outbox) is.once;
     }
 
 module _ (reading : Reading) (params : Params) (p : ParticipantId) (items : List Item) (kept : Kept) (is : IsKept reading params p items kept) where
   pub passed_keeps : (n : ℕ) → IsPassed (is_received_decided params items) (with_passed kept n) → IsKept reading params p items (with_passed kept n)
-  passed_keeps n passed = record { owed = is.owed; passed = passed; claimed = is.claimed; unfinished = is.unfinished; outbox = is.outbox }
+  passed_keeps n passed =
+      record {
+        owed = is.owed;
+        passed = passed;
+        claimed = is.claimed;
+        unfinished = is.unfinished;
+        outbox = is.outbox;
+        finished = is.finished;
+        once = is.once;
+      }
 
-  pub claim_keeps : (k : ℕ) → owes_at reading p items k ≡ true → IsKept reading params p items (with_claim kept k)
-  claim_keeps k owes =
+  claimed_still : (k j : ℕ) → has_place kept.claimed j ≡ true → has_place (kept.claimed ++ k ∷ []) j ≡ true
+  claimed_still k j h = list_any-append (nat_eq j) kept.claimed (k ∷ []) ∙ or_left _ _ h
+
+  pub claim_keeps : (k : ℕ) → owes_at reading p items k ≡ true → has_place kept.claimed k ≡ false → IsKept reading params p items (with_claim kept k)
+  claim_keeps k owes new =
       record {
         owed = is.owed;
         passed = (
@@ -113,14 +130,23 @@ module _ (reading : Reading) (params : Params) (p : ParticipantId) (items : List
           | inr here ↦ ap (owes_at reading p items) (eqb-true j k here) ∙ owes
         ];
         unfinished = λ j h. elim (any_pushed (nat_eq j) kept.unfinished k h) [
-          | inl before ↦ is.unfinished j before
-          | inr here ↦ ap (owes_at reading p items) (eqb-true j k here) ∙ owes
+          | inl before ↦ claimed_still k j (is.unfinished j before)
+          | inr here ↦ list_any-append (nat_eq j) kept.claimed (k ∷ []) ∙ or_right (has_place kept.claimed j) _ (or_left _ _ here)
         ];
-        outbox = is.outbox;
+        outbox = λ j h. claimed_still k j (is.outbox j h);
+        finished = λ j h. list_any-append (nat_eq j) kept.unfinished (k ∷ []) ∙ or_from _ _ (is.finished j h) (or_from _ _ (other j h) refl);
+        once = is.once;
       }
+    where
+      other : (j : ℕ) → waits_at kept.outbox j ≡ true → nat_eq j k ≡ false
+      other j h =
+          elim (cases_Bool (nat_eq j k)) [
+            | inl same ↦ absurd (both_ways (has_place kept.claimed k) new (ap (λ (i : ℕ). has_place kept.claimed i) (sym (eqb-true j k same)) ∙ is.outbox j h))
+            | inr apart ↦ apart
+          ]
 
-  pub response_keeps : (response : Response) → owes_at reading p items response.request ≡ true → IsKept reading params p items (with_response kept response)
-  response_keeps response owes =
+  pub response_keeps : (response : Response) → has_place kept.unfinished response.request ≡ true → IsKept reading params p items (with_response kept response)
+  response_keeps response unfinished =
       record {
         owed = is.owed;
         passed = is.passed;
@@ -128,23 +154,54 @@ module _ (reading : Reading) (params : Params) (p : ParticipantId) (items : List
         unfinished = λ j h. is.unfinished j (any_filtered (nat_eq j) (λ (n : ℕ). not (nat_eq n response.request)) kept.unfinished h);
         outbox = λ j h. elim (any_pushed (is_to j) kept.outbox response h) [
           | inl before ↦ is.outbox j before
-          | inr here ↦ ap (owes_at reading p items) (sym (eqb-true response.request j here)) ∙ owes
+          | inr here ↦ subst (λ (i : ℕ). has_place kept.claimed i ≡ true) (eqb-true response.request j here) (is.unfinished response.request unfinished)
         ];
+        finished = λ j h. elim (any_pushed (is_to j) kept.outbox response h) [
+          | inl before ↦ none_filtered (nat_eq j) (λ (n : ℕ). not (nat_eq n response.request)) kept.unfinished (is.finished j before)
+          | inr here ↦
+              subst (λ (i : ℕ). has_place (without_place response.request kept.unfinished) i ≡ false) (eqb-true response.request j here)
+              (gone_place response.request kept.unfinished)
+        ];
+        once = once_pushed kept.outbox response is.once none;
+      }
+    where
+      none : waits_at kept.outbox response.request ≡ false
+      none =
+          elim (cases_Bool (waits_at kept.outbox response.request)) [
+            | inl waits ↦ absurd (both_ways (has_place kept.unfinished response.request) (is.finished response.request waits) unfinished)
+            | inr nothing ↦ nothing
+          ]
+
+  pub done_keeps : (k : ℕ) → owes_at reading p items k ≡ true → has_place kept.claimed k ≡ false → IsKept reading params p items (with_done kept k)
+  done_keeps k owes new =
+      let claimed = claim_keeps k owes new in
+      record {
+        owed = is.owed;
+        passed = claimed.passed;
+        claimed = claimed.claimed;
+        unfinished = λ j h. claimed_still k j (is.unfinished j h);
+        outbox = claimed.outbox;
+        finished = is.finished;
+        once = is.once;
       }
 
-  pub done_keeps : (k : ℕ) → owes_at reading p items k ≡ true → IsKept reading params p items (with_done kept k)
-  done_keeps k owes =
-      let claimed = claim_keeps k owes in
-      record { owed = is.owed; passed = claimed.passed; claimed = claimed.claimed; unfinished = is.unfinished; outbox = is.outbox }
-
-  pub waiting_keeps : (response : Response) → owes_at reading p items response.request ≡ true → IsKept reading params p items (with_waiting kept response)
-  waiting_keeps response owes =
+  pub waiting_keeps : (response : Response) → has_place kept.claimed response.request ≡ true → has_place kept.unfinished response.request ≡ false
+      → waits_at kept.outbox response.request ≡ false → IsKept reading params p items (with_waiting kept response)
+  waiting_keeps response claimed finished none =
       record {
         owed = is.owed;
         passed = is.passed;
         claimed = is.claimed;
         unfinished = is.unfinished;
-        outbox = (response_keeps response owes).outbox;
+        outbox = λ j h. elim (any_pushed (is_to j) kept.outbox response h) [
+          | inl before ↦ is.outbox j before
+          | inr here ↦ subst (λ (i : ℕ). has_place kept.claimed i ≡ true) (eqb-true response.request j here) claimed
+        ];
+        finished = λ j h. elim (any_pushed (is_to j) kept.outbox response h) [
+          | inl before ↦ is.finished j before
+          | inr here ↦ subst (λ (i : ℕ). has_place kept.unfinished i ≡ false) (eqb-true response.request j here) finished
+        ];
+        once = once_pushed kept.outbox response is.once none;
       }
 
   pub sent_keeps : (k : ℕ) → IsKept reading params p items (without_response kept k)
@@ -155,6 +212,8 @@ module _ (reading : Reading) (params : Params) (p : ParticipantId) (items : List
         claimed = is.claimed;
         unfinished = is.unfinished;
         outbox = λ j h. is.outbox j (any_filtered (is_to j) (λ (r : Response). not (is_to k r)) kept.outbox h);
+        finished = λ j h. is.finished j (any_filtered (is_to j) (λ (r : Response). not (is_to k r)) kept.outbox h);
+        once = once_filtered (λ (r : Response). not (is_to k r)) kept.outbox is.once;
       }
 
   pub put_back_keeps : (k passed : ℕ) → IsPassed (is_received_decided params items) (without_claim kept k passed)
@@ -164,12 +223,26 @@ module _ (reading : Reading) (params : Params) (p : ParticipantId) (items : List
         owed = is.owed;
         passed = passed;
         claimed = λ j h. is.claimed j (any_filtered (nat_eq j) (λ (n : ℕ). not (nat_eq n k)) kept.claimed h);
-        unfinished = λ j h. is.unfinished j (any_filtered (nat_eq j) (λ (n : ℕ). not (nat_eq n k)) kept.unfinished h);
-        outbox = λ j h. is.outbox j (any_filtered (is_to j) (λ (r : Response). not (is_to k r)) kept.outbox h);
+        unfinished = λ j h. elim (cases_Bool (nat_eq j k)) [
+          | inl same ↦ absurd (both_ways _ (gone_place k kept.unfinished) (subst (λ (i : ℕ). has_place (without_place k kept.unfinished) i ≡ true) (eqb-true j k same) h))
+          | inr other ↦ other_place_stays k j kept.claimed other ∙ is.unfinished j (any_filtered (nat_eq j) (λ (n : ℕ). not (nat_eq n k)) kept.unfinished h)
+        ];
+        outbox = λ j h. elim (cases_Bool (nat_eq j k)) [
+          | inl same ↦ absurd (both_ways _ gone (subst (λ (i : ℕ). waits_at (without k kept.outbox) i ≡ true) (eqb-true j k same) h))
+          | inr other ↦ other_place_stays k j kept.claimed other ∙ is.outbox j (waited j h)
+        ];
+        finished = λ j h. none_filtered (nat_eq j) (λ (n : ℕ). not (nat_eq n k)) kept.unfinished (is.finished j (waited j h));
+        once = once_filtered (λ (r : Response). not (is_to k r)) kept.outbox is.once;
       }
+    where
+      waited : (j : ℕ) → waits_at (without k kept.outbox) j ≡ true → waits_at kept.outbox j ≡ true
+      waited j h = any_filtered (is_to j) (λ (r : Response). not (is_to k r)) kept.outbox h
+
+      gone : waits_at (without k kept.outbox) k ≡ false
+      gone = any-filter_same (is_to k) (λ (r : Response). not (is_to k r)) false (λ r same. ap not same) kept.outbox
 
   pub waiting_is_next : (is_paused : Bool) → first_waiting (is_received_decided params items) kept.outbox ≡ outbox_head params (state_of items is_paused kept)
   waiting_is_next is_paused =
-      same_first (is_received_decided params items) (is_decided_now params items) kept.outbox (λ k w. decided_is reading params p items k (is.outbox k w))
+      same_first (is_received_decided params items) (is_decided_now params items) kept.outbox (λ k w. decided_is reading params p items k (is.claimed k (is.outbox k w)))
       ∙ head_first (is_decided_now params items) kept.outbox (length items) (first_waiting (is_decided_now params items) kept.outbox)
-      (head_facts (is_decided_now params items) kept.outbox) (λ k w. owes_within items reading p k (is.outbox k w))
+      (head_facts (is_decided_now params items) kept.outbox) (λ k w. owes_within items reading p k (is.claimed k (is.outbox k w)))

@@ -205,7 +205,7 @@ module _ (topology : Topology) (packages : Packages) (state : State) (is : IsLaw
       }
 
   pub may_begin : MayBegin topology packages state
-  may_begin = record { begins = begins; items = to_come; done = is.done; ascend = is.ascend; waiting = is.waiting }
+  may_begin = record { begins = begins; items = to_come; done = is.done; ascend = is.ascend; waiting = is.waiting; once = is.once }
 
 -- ---- with other responses it is pruned as well
 
@@ -249,5 +249,6 @@ module _ (p : Participant) (log : List Entry) (few : length log < 2 ^ 63) (genui
             (subst (λ (items : List Item). AreCame p.topology p.packages p.me p.base items state.items) (sym same) of.came));
         done = λ k h. owes_too k (of.owes_done k h);
         ascend = of.ascend;
-        waiting = λ k le h. owes_too k (of.owes_waiting k (subst (λ (n : ℕ). n ≤ k) of.base le) h);
+        waiting = λ k le h. of.waiting k (subst (λ (n : ℕ). n ≤ k) of.base le) h;
+        once = of.once;
       }

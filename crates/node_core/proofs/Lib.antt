@@ -4,6 +4,7 @@ pub mod Claims
 pub mod Heads
 pub mod Growth
 pub mod LogEnds
+pub mod Once
 pub mod KeptSteps
 pub mod Fronts
 pub mod Pruned

@@ -1,7 +1,7 @@
 -- The state of a participant by its inbox and by what it keeps of claims and responses.
-use Rattle.std.proofs.Common.{◌≡◌, ◌≤◌, ℕ, Bool, true, List, drop, filter, map, take, sym, ap, ◌∙◌, subst}
+use Rattle.std.proofs.Common.{◌≡◌, ◌≤◌, ℕ, Bool, true, ◌&&◌, not, List, drop, filter, map, take, sym, ap, ◌∙◌, subst}
 use Rattle.std.specs.List.Sorted.{IsStrictlyIncreasing}
-use Rattle.std.proofs.lemmas.Bool.{and_parts, leb-true}
+use Rattle.std.proofs.lemmas.Bool.{and_parts, le-leb, leb-true}
 use Rattle.canton_model.specs.Inbox.{Item, last_time}
 use Rattle.canton_model.specs.declared.response.Response.{Response}
 use Rattle.world_model.specs.Node.{waits_at}
@@ -11,7 +11,7 @@ use Rattle.pruned_inbox.specs.Start.{Start}
 use Rattle.node_state.specs.declared.node_state.NodeState.{NodeState as State}
 use Rattle.node_inbox.specs.InboxState.{InboxState, params_of, reading_of}
 use Rattle.node_inbox.specs.Raw.{AreCame, item_by}
-use Rattle.node_core.specs.Duties.{Kept, is_done}
+use Rattle.node_core.specs.Duties.{AreToDistinct, Kept, is_done}
 use Rattle.node_core.specs.Kept.{IsKept}
 use Rattle.node_core.specs.Participant.{IsPrunedTo, Participant, owes_there, pruned_at}
 use Rattle.node_core.specs.States.{IsStateOf, start_in}
@@ -40,8 +40,15 @@ module _ (i : InboxState) (is_paused : Bool) (kept : Kept) (is : IsKept (reading
   not_below : (k : ℕ) → has_place state.done k ≡ true → from ≤ k
   not_below k h = leb-true from k (and_parts _ _ (and_parts _ _ (parts k h)).0).0
 
-  waiting_owed : (k : ℕ) → waits_at state.outbox k ≡ true → owes_there mine k ≡ true
-  waiting_owed k h = is.outbox k (subst (λ (rs : List Response). waits_at rs k ≡ true) outbox h)
+  waiting_done : (k : ℕ) → from ≤ k → waits_at state.outbox k ≡ true → has_place state.done k ≡ true
+  waiting_done k le h =
+      let waits = subst (λ (rs : List Response). waits_at rs k ≡ true) outbox h in
+      done_there k
+      ∙ (ap (λ (x : Bool). (x && has_place kept.claimed k) && not (has_place kept.unfinished k)) (le-leb from k le)
+      ∙ (ap (λ (x : Bool). x && not (has_place kept.unfinished k)) (is.outbox k waits) ∙ ap not (is.finished k waits)))
+
+  waiting_once : AreToDistinct state.outbox
+  waiting_once = subst AreToDistinct (sym outbox) is.once
 
   -- at its base
   pub state_is : from ≡ i.base → state.base ≡ i.base → state.base_time ≡ i.base_time → start_in state ≡ i.start
@@ -59,7 +66,8 @@ module _ (i : InboxState) (is_paused : Bool) (kept : Kept) (is : IsKept (reading
         done = λ k. done_there k ∙ ap (λ (n : ℕ). is_done n kept k) here;
         ascend = ascends;
         owes_done = claimed_owed;
-        owes_waiting = λ k le h. waiting_owed k h;
+        waiting = λ k le h. waiting_done k (subst (λ (n : ℕ). n ≤ k) (sym here) le) h;
+        once = waiting_once;
       }
 
   -- at a later one
@@ -80,5 +88,6 @@ module _ (i : InboxState) (is_paused : Bool) (kept : Kept) (is : IsKept (reading
           done = done_there;
           ascend = ascends;
           owes_done = λ k h. owes_later whole mine pruned from le based k (not_below k h) (claimed_owed k h);
-          owes_waiting = λ k far h. owes_later whole mine pruned from le based k far (waiting_owed k h);
+          waiting = waiting_done;
+          once = waiting_once;
         }

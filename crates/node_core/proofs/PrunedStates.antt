@@ -1,12 +1,14 @@
 -- The state of a participant, pruned to a later base.
-use Rattle.std.proofs.Common.{◌≡◌, ◌+◌, ◌<◌, ◌≤◌, ℕ, zero, suc, true, false, List, [], ◌∷◌, ◌++◌, drop, map, take, Option, None, Some, refl, sym, ap, ◌∙◌, subst, arith}
+use Rattle.std.proofs.Common.{◌≡◌, ◌+◌, ◌<◌, ◌≤◌, ℕ, zero, suc, Bool, true, false, ◌&&◌, List, [], ◌∷◌, ◌++◌, drop, map, take, Option, None, Some, refl, sym, ap, ◌∙◌, subst, arith}
 use Rattle.std.specs.Prelude.{is_some, slice_get}
+use Rattle.std.proofs.lemmas.Bool.{le-leb}
 use Rattle.std.proofs.lemmas.Option.{none-some, same_Some}
 use Rattle.ledger_terms.specs.declared.topology.Topology.{Topology}
 use Rattle.lang_eval.specs.Found.{Packages}
 use Rattle.canton_model.specs.Inbox.{Item, inbox, last_time, notice_at, notice_in}
 use Rattle.world_model.specs.Machine.{confirms_some_view}
 use Rattle.world_model.specs.Node.{owes_at}
+use Rattle.world_model.specs.Places.{has_place}
 use Rattle.pruned_inbox.specs.Base as base_specs
 use Rattle.pruned_inbox.specs.Base.{IsBase}
 use Rattle.pruned_inbox.specs.Forgotten.{silent_front}
@@ -163,5 +165,9 @@ module _ (topology : Topology) (packages : Packages) (state : State) (is : IsLaw
         done = of.done;
         ascend = of.ascend;
         owes_done = of.owes_done;
-        owes_waiting = λ k far waits. owes_later all owner is.pruned pruned.base le based k far (is.waiting k (omega (arith, le, far)) waits);
+        waiting = λ k far waits.
+            of.done k
+            ∙ (ap (λ (x : Bool). (x && has_place state.done k) && true) (le-leb pruned.base k far)
+            ∙ ap (λ (x : Bool). x && true) (is.waiting k (omega (arith, le, far)) waits));
+        once = is.once;
       }

@@ -1,7 +1,7 @@
 -- A participant that begins again from a state, beside the one of which that is the state.
 use Rattle.std.proofs.Common.{◌≡◌, ◌<◌, ◌≤◌, ℕ, Bool, true, false, not, ◌&&◌, if◌then◌else◌, List, [], ◌∷◌, ◌++◌, drop, length, map, take, Some, nat_eq, refl, sym, ap, ◌∙◌, subst, inl, inr, le_refl}
 use Rattle.std.specs.Prelude.{nat_le, Contains}
-use Rattle.std.proofs.lemmas.Bool.{and_parts, cases_Bool, cases_lt, eq-eqb, eqb-true, le-leb, lt-leb, or_parts}
+use Rattle.std.proofs.lemmas.Bool.{and_parts, cases_Bool, cases_lt, eqb-true, le-leb, lt-leb, or_parts}
 use Rattle.std.proofs.lemmas.Map.Views.{any-filter_same}
 use Rattle.ledger_model.specs.Terms.{ParticipantId}
 use Rattle.ledger_model.proofs.Lists.{In, contains_from_In, from_filter, in_from_Contains}
@@ -24,7 +24,7 @@ use Rattle.node_core.specs.OverLog.{HasInbox}
 use Rattle.node_core.specs.Participant.{HasRead, IsPrunedTo, Participant, items_of, next_place, next_response, owes_there, params_of, reading_of, whole_state, with_state}
 use Rattle.node_core.specs.States.{IsStateOf, begun_again, is_done_from, items_in, responses_from, start_in}
 use Rattle.node_core.proofs.Again.{drop_kept}
-use Rattle.node_core.proofs.DutyFacts.{other_place_stays}
+use Rattle.node_core.proofs.DutyFacts.{gone_place, other_place_stays}
 use Rattle.node_core.proofs.Pruned.{pruned_alike}
 
 -- ---- of the responses those from the base on
@@ -105,7 +105,7 @@ module _ (whole : List Item) (p : Participant) (is : IsPrunedTo whole p) (state 
         | inl below ↦ let wrong : true ≡ false = sym waits ∙ waits_not_below state.base state.outbox k below in absurd (cc)
         | inr far ↦
             same_owes k
-            ∙ of.owes_waiting k (subst (λ (b : ℕ). b ≤ k) of.base far) (sym (waits_from state.base state.outbox k far) ∙ waits)
+            ∙ of.owes_done k (of.waiting k (subst (λ (b : ℕ). b ≤ k) of.base far) (sym (waits_from state.base state.outbox k far) ∙ waits))
       ]
 
   pub has_inbox : HasInbox whole again
@@ -206,11 +206,6 @@ none_without k (response ∷ rest) none =
     let parts = or_parts (is_to k response) (waits_at rest k) none in
     rw parts.0 (ap (λ (xs : List Response). response ∷ xs) (none_without k rest parts.1))
 
-gone_place : (k : ℕ) (places : List ℕ) → has_place (without_place k places) k ≡ false
-gone_place k places =
-    any-filter_same (nat_eq k) (λ (n : ℕ). not (nat_eq n k)) false
-    (λ n same. ap (λ (i : ℕ). not (nat_eq i k)) (sym (eqb-true k n same)) ∙ ap not (eq-eqb k k refl)) places
-
 done_anyway : (base : ℕ) (node : NodeState) (k j : ℕ) → has_place node.unfinished k ≡ true → is_done_from base node j ≡ is_done_from base (put_back node k) j
 done_anyway base node k j unfinished =
     elim (cases_Bool (nat_eq j k)) [
@@ -246,5 +241,6 @@ put_back_same p state k of unfinished none =
       done = λ j. of.done j ∙ done_anyway p.base p.state k j unfinished;
       ascend = of.ascend;
       owes_done = of.owes_done;
-      owes_waiting = of.owes_waiting;
+      waiting = of.waiting;
+      once = of.once;
     }

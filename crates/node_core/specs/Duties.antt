@@ -1,6 +1,6 @@
 -- What a participant keeps of claims and responses.
-use Rattle.std.specs.Prelude.{◌≡◌, ◌≤◌, ℕ, Bool, false, List, [], ◌∷◌, ◌++◌, Option, Some, None, length, take, not, nat_le, ◌&&◌, if◌then◌else◌}
-use Rattle.std.specs.List.{list_any}
+use Rattle.std.specs.Prelude.{◌≡◌, ◌≤◌, ℕ, Bool, false, List, [], ◌∷◌, ◌++◌, Option, Some, None, length, take, not, nat_le, ◌&&◌, if◌then◌else◌, map, nat_eq}
+use Rattle.std.specs.List.{IsDistinct, list_any}
 use Rattle.canton_model.specs.declared.response.Response.{Response}
 use Rattle.canton_model.specs.Inbox.{Item}
 use Rattle.world_model.specs.Places.{has_place, without_place}
@@ -105,6 +105,10 @@ is_free decided claimed k = not (decided k) && not (has_place claimed k)
 abbrev pub IsPassed : (decided : ℕ → Bool) → Kept → Type 0
 IsPassed decided kept =
     (kept.passed ≤ length kept.owed) × (list_any (is_free decided kept.claimed) (take kept.passed kept.owed) ≡ false)
+
+-- no two responses are to one request
+abbrev pub AreToDistinct : List Response → Type 0
+AreToDistinct responses = IsDistinct nat_eq (map (λ (response : Response). response.request) responses)
 
 -- of two responses, the one to the earlier place, and the first at one place
 abbrev pub earlier : Option Response → Option Response → Option Response

@@ -1,19 +1,21 @@
 -- What a participant's duties are to its inbox.
-use Rattle.std.specs.Prelude.{◌≡◌, ℕ, true, List, length}
+use Rattle.std.specs.Prelude.{◌≡◌, ℕ, true, false, List, length}
 use Rattle.ledger_model.specs.Terms.{ParticipantId}
 use Rattle.canton_model.specs.Log.{Params}
 use Rattle.canton_model.specs.Reading.{Reading}
 use Rattle.canton_model.specs.Inbox.{Item}
 use Rattle.world_model.specs.Places.{has_place}
 use Rattle.world_model.specs.Node.{owes_at, waits_at}
-use Rattle.node_core.specs.Duties.{Kept, IsPassed}
+use Rattle.node_core.specs.Duties.{AreToDistinct, Kept, IsPassed}
 use Rattle.node_core.specs.Participant.{is_received_decided, places_where}
 
--- The owed places are those of the requests that it owes verdicts to, and those that are passed are decided or claimed. It
--- owes verdicts to what it has claimed, and to what it answers.
+-- The owed places are those of the requests that it owes verdicts to, and those that are passed are decided or claimed. It owes verdicts to
+-- what it has claimed, to which belong what is unfinished and what it answers: no place is both, and it answers none twice.
 pub record IsKept (reading : Reading) (params : Params) (p : ParticipantId) (items : List Item) (kept : Kept) : Type 0 where
   pub owed : kept.owed ≡ places_where (owes_at reading p items) 0 (length items)
   pub passed : IsPassed (is_received_decided params items) kept
   pub claimed : (k : ℕ) → has_place kept.claimed k ≡ true → owes_at reading p items k ≡ true
-  pub unfinished : (k : ℕ) → has_place kept.unfinished k ≡ true → owes_at reading p items k ≡ true
-  pub outbox : (k : ℕ) → waits_at kept.outbox k ≡ true → owes_at reading p items k ≡ true
+  pub unfinished : (k : ℕ) → has_place kept.unfinished k ≡ true → has_place kept.claimed k ≡ true
+  pub outbox : (k : ℕ) → waits_at kept.outbox k ≡ true → has_place kept.claimed k ≡ true
+  pub finished : (k : ℕ) → waits_at kept.outbox k ≡ true → has_place kept.unfinished k ≡ false
+  pub once : AreToDistinct kept.outbox

@@ -1,5 +1,5 @@
 -- What a participant keeps, as a state apart from it.
-use Rattle.std.specs.Prelude.{◌≡◌, ◌+◌, ◌<◌, ◌≤◌, ◌^◌, ℕ, Bool, true, ◌&&◌, ◌++◌, List, [], Some, drop, filter, length, map, nat_le, not, slice_get, take}
+use Rattle.std.specs.Prelude.{◌≡◌, ◌+◌, ◌<◌, ◌≤◌, ◌^◌, ℕ, Bool, true, false, ◌&&◌, ◌++◌, List, [], Some, drop, filter, length, map, nat_le, not, slice_get, take}
 use Rattle.std.specs.List.Sorted.{IsStrictlyIncreasing}
 use Rattle.ledger_terms.specs.declared.topology.Topology.{Topology}
 use Rattle.lang_eval.specs.Found.{Packages}
@@ -17,6 +17,7 @@ use Rattle.node_state.specs.declared.item.Item.{Item as StateItem}
 use Rattle.node_state.specs.declared.node_state.NodeState.{NodeState as State}
 use Rattle.node_inbox.specs.Beginnings.{IsBeginning}
 use Rattle.node_inbox.specs.Raw.{AreCame, IsCame, item_by}
+use Rattle.node_core.specs.Duties.{AreToDistinct}
 use Rattle.node_core.specs.Participant.{IsPrunedTo, Participant, items_of, owes_there}
 
 -- what its inbox left at its base
@@ -88,7 +89,7 @@ abbrev pub is_done_from : (base : ℕ) → NodeState → ℕ → Bool
 is_done_from base node k = (nat_le base k && has_place node.claimed k) && not (has_place node.unfinished k)
 
 -- The state of a participant: what its inbox left at its base, the inbox from there on, its outbox, and by rising places the requests from
--- there on whose job is done. To these it owes verdicts, and from the base on to those to which responses wait.
+-- there on whose job is done. To these it owes verdicts, and from the base on responses wait to these alone. No two wait to one request.
 pub record IsStateOf (p : Participant) (state : State) : Type 0 where
   pub me : state.me ≡ p.me
   pub base : state.base ≡ p.base
@@ -101,7 +102,8 @@ pub record IsStateOf (p : Participant) (state : State) : Type 0 where
   pub done : (k : ℕ) → has_place state.done k ≡ is_done_from p.base p.state k
   pub ascend : IsStrictlyIncreasing state.done
   pub owes_done : (k : ℕ) → has_place state.done k ≡ true → owes_there p k ≡ true
-  pub owes_waiting : (k : ℕ) → p.base ≤ k → waits_at state.outbox k ≡ true → owes_there p k ≡ true
+  pub waiting : (k : ℕ) → p.base ≤ k → waits_at state.outbox k ≡ true → has_place state.done k ≡ true
+  pub once : AreToDistinct state.outbox
 
 -- These may come behind what stands before, one behind the other: they aren't too many, and each is later than those before it.
 pub record AreToCome (topology : Topology) (packages : Packages) (me : ParticipantId) (before : List Item) (items : List StateItem) : Type 0 where
@@ -110,15 +112,21 @@ pub record AreToCome (topology : Topology) (packages : Packages) (me : Participa
   pub came : (k : ℕ) (item : StateItem) → slice_get items k ≡ Some item
       → IsCame topology packages me (before ++ map (item_by topology) (take k items)) item.what
 
+-- A response to the request at a place may come to wait: that is claimed and not unfinished, and none waits to it.
+pub record MayWait (node : NodeState) (k : ℕ) : Type 0 where
+  pub claimed : has_place node.claimed k ≡ true
+  pub finished : has_place node.unfinished k ≡ false
+  pub first : waits_at node.outbox k ≡ false
+
 -- A participant may begin again from a state: its inbox may begin at the base, the items may come behind one another there, and verdicts
--- are owed to the requests whose job is done and to those from the base on to which responses wait.
+-- are owed to the requests whose job is done. From the base on responses wait to these alone, and no two to one request.
 pub record MayBegin (topology : Topology) (packages : Packages) (state : State) : Type 0 where
   pub begins : IsBeginning state.base state.base_time (start_in state)
   pub items : AreToCome topology packages state.me (silent_front state.base state.base_time) state.items
   pub done : (k : ℕ) → has_place state.done k ≡ true → owes_at (framed_reading topology packages) state.me (items_in topology state) k ≡ true
   pub ascend : IsStrictlyIncreasing state.done
-  pub waiting : (k : ℕ) → state.base ≤ k → waits_at state.outbox k ≡ true
-      → owes_at (framed_reading topology packages) state.me (items_in topology state) k ≡ true
+  pub waiting : (k : ℕ) → state.base ≤ k → waits_at state.outbox k ≡ true → has_place state.done k ≡ true
+  pub once : AreToDistinct state.outbox
 
 -- A state of a participant over this setup that never restarted, or such a state pruned to a place at which every request below it is
 -- decided: it is that of a participant that has read a genuine log, and is pruned to its base.
@@ -130,5 +138,5 @@ pub record IsLawful (topology : Topology) (packages : Packages) (state : State) 
   pub came : AreCame topology packages state.me state.base (items_in topology state) state.items
   pub done : (k : ℕ) → has_place state.done k ≡ true → owes_at (framed_reading topology packages) state.me (items_in topology state) k ≡ true
   pub ascend : IsStrictlyIncreasing state.done
-  pub waiting : (k : ℕ) → state.base ≤ k → waits_at state.outbox k ≡ true
-      → owes_at (framed_reading topology packages) state.me (items_in topology state) k ≡ true
+  pub waiting : (k : ℕ) → state.base ≤ k → waits_at state.outbox k ≡ true → has_place state.done k ≡ true
+  pub once : AreToDistinct state.outbox

@@ -7,8 +7,10 @@ ghost use Rattle.world_model.specs.Places.{has_place};
 ghost use Rattle.node_inbox.specs.Raw.{IsCame, item_by};
 ghost use Rattle.pruned_inbox.specs.Base;
 ghost use Rattle.pruned_inbox.specs.Start.{GoesOn};
+ghost use Rattle.node_core.specs.Duties.{AreToDistinct};
 ghost use Rattle.node_core.specs.Participant.{IsPrunedTo, items_of, owes_there, params_of, pruned_at, reading_of, with_state};
-ghost use Rattle.node_core.specs.States.{AreToCome, IsStateOf, MayBegin, begun_again, read_nothing, responses_from, start_in, with_claimed, with_outbox};
+ghost use Rattle.node_core.specs.States.{AreToCome, IsStateOf, MayBegin, MayWait, begun_again, read_nothing, responses_from, start_in};
+ghost use Rattle.node_core.specs.States.{with_claimed, with_outbox};
 
 use crate::copies::{copy_item, copy_response};
 use crate::duties::Duties;
@@ -154,7 +156,7 @@ impl<'s> Node<'s> {
 
     // A response waited before.
     fn wait(&mut self, response: Response) -> Result<(), AllocError>
-        requires { owes_there self.old response.request ≡ true }
+        requires { MayWait self.old.state response.request }
         ensures { OnOk result (self.new ≡ with_state self.old (with_outbox self.old.state (self.old.state.outbox ++ response ∷ []))) }
     {
         self.duties.wait(response)?;
@@ -163,7 +165,7 @@ impl<'s> Node<'s> {
 
     // A response waited before, and waits on where its request isn't below a place.
     fn wait_from(&mut self, alloc: Global, base: u64, response: &Response) -> Result<(), AllocError>
-        requires { base ≤ response.now.request → owes_there self.old response.now.request ≡ true }
+        requires { base ≤ response.now.request → MayWait self.old.state response.now.request }
         ensures { OnOk result (self.new ≡ with_state self.old (with_outbox self.old.state
             (self.old.state.outbox ++ responses_from base (response.now ∷ [])))) }
     {
@@ -182,7 +184,8 @@ impl<'s> Node<'s> {
         base: u64,
         responses: &[Response],
     ) -> Result<(), AllocError>
-        requires { (k : ℕ) → base ≤ k → waits_at responses.now k ≡ true → owes_there self.old k ≡ true }
+        requires may { (k : ℕ) → base ≤ k → waits_at responses.now k ≡ true → MayWait self.old.state k }
+        requires once { AreToDistinct responses.now }
         ensures { OnOk result (self.new ≡ with_state self.old (with_outbox self.old.state
             (self.old.state.outbox ++ responses_from base responses.now))) }
     {

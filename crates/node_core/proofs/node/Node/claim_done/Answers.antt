@@ -14,10 +14,11 @@ pub invariant_of-self-2 : goal.invariant_of-self-2
 invariant_of-self-2 c =
     let inbox = c.self.inside.inbox in
     let inv = c.self.invariant in
-    let owes = subst (λ (p : Participant). owes_there p c.args.place ≡ true) (sym c.self.view_is) c.requires.owes in (
+    let owes = subst (λ (p : Participant). owes_there p c.args.place ≡ true) (sym c.self.view_is) c.requires.owes in
+    let new = subst (λ (p : Participant). has_place (p.state).claimed c.args.place ≡ false) (sym c.self.view_is) c.requires.new in (
       inv.0,
       subst (λ (kept : Kept). IsKept (reading_of inbox) (params_of inbox) inbox.me inbox.items kept) (sym c.in_ok-claim_done.ensures.ok)
-          (done_keeps (reading_of inbox) (params_of inbox) inbox.me inbox.items c.self.inside.duties inv.1 c.args.place owes),
+          (done_keeps (reading_of inbox) (params_of inbox) inbox.me inbox.items c.self.inside.duties inv.1 c.args.place owes new),
       inv.2,
       inv.3,
     )

@@ -47,6 +47,10 @@ invariant_of-self-2 c =
     let owes =
     next_is_owed (reading_of inbox) (params_of inbox) inbox.me inbox.items kept paused inv.1 place
     (sym (c.in-Some.ensures.place ∙ free_is_next (reading_of inbox) (params_of inbox) inbox.me inbox.items kept paused inv.1)) in
+    let new =
+    subst (λ (k : Kept). has_place k.claimed place ≡ false) (sym c.next_place.ensures.same)
+    (next_is_unclaimed (reading_of inbox) (params_of inbox) inbox.me inbox.items kept paused inv.1 place
+    (sym (c.in-Some.ensures.place ∙ free_is_next (reading_of inbox) (params_of inbox) inbox.me inbox.items kept paused inv.1))) in
     let passed =
     subst (λ (k : Kept). IsPassed (is_received_decided (params_of inbox) inbox.items) k) c.next_place.ensures.same c.next_place.ensures.passed in
     let moved =
@@ -54,7 +58,7 @@ invariant_of-self-2 c =
     (passed_keeps (reading_of inbox) (params_of inbox) inbox.me inbox.items kept inv.1 after.passed passed) in (
       inv.0,
       subst (λ (k : Kept). IsKept (reading_of inbox) (params_of inbox) inbox.me inbox.items k) (sym c.in_ok-claim.ensures.ok)
-          (claim_keeps (reading_of inbox) (params_of inbox) inbox.me inbox.items after moved place owes),
+          (claim_keeps (reading_of inbox) (params_of inbox) inbox.me inbox.items after moved place owes new),
       inv.2,
       inv.3,
     )

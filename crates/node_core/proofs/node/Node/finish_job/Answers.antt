@@ -14,7 +14,7 @@ invariant_of-self c =
     let there = subst (λ (p : Participant). has_place (p.state).unfinished c.args.done.place ≡ true) (sym c.self.view_is) c.requires.unfinished in (
       inv.0,
       subst (λ (kept : Kept). IsKept (reading_of inbox) (params_of inbox) inbox.me inbox.items kept) (sym c.finish.ensures)
-          (response_keeps (reading_of inbox) (params_of inbox) inbox.me inbox.items c.self.inside.duties inv.1 _ ((inv.1).unfinished c.args.done.place there)),
+          (response_keeps (reading_of inbox) (params_of inbox) inbox.me inbox.items c.self.inside.duties inv.1 _ there),
       inv.2,
       inv.3,
     )

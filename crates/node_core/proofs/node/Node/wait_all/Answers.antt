@@ -1,12 +1,12 @@
-use Rattle.std.proofs.Common.{◌≡◌, ◌∷◌, ◌++◌, [], List, true, length, append-nil, refl, sym, ap, ◌∙◌, subst}
+use Rattle.std.proofs.Common.{◌∷◌, ◌++◌, [], List, length, append-nil, refl, sym, ap, ◌∙◌, subst}
 use Rattle.std.proofs.lemmas.Bool.{eq-eqb}
 use Rattle.std.proofs.lemmas.List.{take_all}
 use Rattle.std.proofs.lemmas.Option.{slice_get_read}
 use Rattle.canton_model.specs.declared.response.Response.{Response}
 use Rattle.world_model.specs.Node.{is_to}
-use Rattle.node_core.specs.Participant.{Participant, owes_there, with_state}
-use Rattle.node_core.specs.States.{responses_from, with_outbox}
-use Rattle.node_core.proofs.Beginnings.{any_at, wait_next}
+use Rattle.node_core.specs.Participant.{Participant, with_state}
+use Rattle.node_core.specs.States.{MayWait, responses_from, with_outbox}
+use Rattle.node_core.proofs.Beginnings.{any_at, may_wait_next, wait_next}
 use Rattle.node_core.proofs.node.Node.wait_all.Goals as goal
 
 pub loop-response-init : goal.loop-response-init
@@ -20,8 +20,9 @@ wait_from-requires c = λ le.
     let k = c.loop-response.response-index in
     let r = c.response-item.result in
     let there = slice_get_read responses (length responses) k r refl c.loop-response-test.true c.response-item.is in
-    subst (λ (q : Participant). owes_there q r.request ≡ true) (sym c.loop-response.invariant)
-    (c.requires r.request le (any_at (is_to r.request) responses k r there (eq-eqb r.request r.request refl)))
+    subst (λ (q : Participant). MayWait q.state r.request) (sym c.loop-response.invariant)
+    (may_wait_next (c.args.self.now).state c.args.base k responses r c.requires.once there
+    (c.requires.may r.request le (any_at (is_to r.request) responses k r there (eq-eqb r.request r.request refl))))
 
 pub loop-response-preserved : goal.loop-response-preserved
 loop-response-preserved c =

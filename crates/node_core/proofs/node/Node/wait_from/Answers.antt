@@ -1,7 +1,7 @@
-use Rattle.std.proofs.Common.{◌≡◌, ◌∷◌, ◌++◌, [], List, true, append-nil, sym, ap, ◌∙◌, subst}
+use Rattle.std.proofs.Common.{◌∷◌, ◌++◌, [], List, append-nil, sym, ap, ◌∙◌, subst}
 use Rattle.canton_model.specs.declared.response.Response.{Response}
-use Rattle.node_core.specs.Participant.{owes_there, with_state}
-use Rattle.node_core.specs.States.{with_outbox}
+use Rattle.node_core.specs.Participant.{with_state}
+use Rattle.node_core.specs.States.{MayWait, with_outbox}
 use Rattle.node_core.proofs.Beginnings.{response_forgotten, response_waits}
 use Rattle.node_core.proofs.node.Node.wait_from.Goals as goal
 
@@ -15,7 +15,7 @@ returns-then-response-base c =
 pub wait-requires : goal.wait-requires
 wait-requires c =
     let p = c.args.self.now in
-    subst (λ (r : Response). owes_there p r.request ≡ true) (sym c.in_ok-copy.ensures) (c.requires c.if-response-base.false)
+    subst (λ (r : Response). MayWait p.state r.request) (sym c.in_ok-copy.ensures) (c.requires c.if-response-base.false)
 
 pub returns : goal.returns
 returns c =
