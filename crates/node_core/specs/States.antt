@@ -1,5 +1,6 @@
 -- What a participant keeps, as a state apart from it.
-use Rattle.std.specs.Prelude.{◌≡◌, ◌+◌, ◌<◌, ◌≤◌, ◌^◌, ℕ, Bool, true, false, ◌&&◌, ◌++◌, List, [], Some, drop, filter, length, map, nat_le, not, slice_get, take}
+use Rattle.std.specs.Prelude.{◌≡◌, ◌+◌, ◌<◌, ◌≤◌, ◌^◌, ℕ, Bool, true, false, ◌&&◌, ◌++◌, List, [], Some, drop, filter, length, map, nat_le, not}
+use Rattle.std.specs.Prelude.{slice_get, take}
 use Rattle.std.specs.List.Sorted.{IsStrictlyIncreasing}
 use Rattle.ledger_terms.specs.declared.topology.Topology.{Topology}
 use Rattle.lang_eval.specs.Found.{Packages}

@@ -69,7 +69,7 @@ module _ (p : Participant) (state : State) (at : state.base ≡ base_specs.base 
     base_is : state.base ≡ base_specs.base (params_of p) whole
     base_is = at ∙ (ap (base_specs.base (params_of p)) (kept_is whole p pruned) ∙ front_base (params_of p) p.base whole pruned.orderly pruned.is_base)
 
-    -- ---- it has a spelling, where no more responses wait than four bytes count
+    -- ---- it has a spelling
 
     owed_to : (response : Response) → Contains (p.state).outbox response → response.verdicts ≡ owed_at (reading_of p) (params_of p) p.me whole response.request
     owed_to response waits =
@@ -78,8 +78,8 @@ module _ (p : Participant) (state : State) (at : state.base ≡ base_specs.base 
         ∙ (ap (λ (r : Reading). owed_at r m.params p.me whole response.request) (can.is_of).reading
         ∙ ap (λ (ps : Params). owed_at (reading_of p) ps p.me whole response.request) (can.is_of).params)
 
-    pub spelled_later : length state.outbox < 2 ^ 32 → IsSpellableState state
-    spelled_later few =
+    pub spelled_later : IsSpellableState state
+    spelled_later =
         state_spelled later log state
         (record {
           hosts = can.hosts;
@@ -87,7 +87,7 @@ module _ (p : Participant) (state : State) (at : state.base ≡ base_specs.base 
           short = can.short;
           pruned = pruned_later;
           claims = λ k claimed. (let lt = ((can.read).node).claims k claimed in omega (arith, lt, long));
-          few = subst (λ (outbox : List Response). length outbox < 2 ^ 32) of.outbox few;
+          answers = λ response waits. (let lt = (((can.read).node).outbox response waits).is_read in omega (arith, lt, long));
           owed = owed_to;
           state_is = of;
         })

@@ -8,10 +8,11 @@ use Rattle.std.specs.Cmp.Lexicographic.{nat_list_eq_equiv, slice_cmp, texts_ties
 use Rattle.std.specs.Ordering.{is_lt, is_eq, nat_cmp}
 use Rattle.std.specs.declared.cmp.Ordering.{Ordering}
 use Rattle.std.specs.declared.cmp.Ordering.TheVariants.{Less, Equal, Greater}
-use Rattle.std.proofs.lemmas.Bool.{and_parts, cases_Bool, eq-eqb, or_cases}
+use Rattle.std.proofs.lemmas.Bool.{and_parts, both_ways, cases_Bool, eq-eqb, eqb-true, or_cases}
 use Rattle.std.proofs.lemmas.List.{length-drop, length-map}
 use Rattle.std.proofs.lemmas.List.Elements.{All-contains}
 use Rattle.std.proofs.lemmas.Map.Made.{length-le_from_is_member}
+use Rattle.std.proofs.lemmas.Map.Steps.{length-le_from_distinct_below}
 use Rattle.std.proofs.lemmas.Slice.Eq.{bytes_eq-Decides}
 use Rattle.ledger_terms.specs.Parties.{AllAbove, IsRising}
 use Rattle.ledger_terms.specs.declared.act.Act.{Act}
@@ -25,6 +26,7 @@ use Rattle.canton_model.specs.Log.{request_at}
 use Rattle.canton_model.specs.Reading.{Reading, is_recipient}
 use Rattle.canton_model.specs.declared.envelope.Envelope.{Envelope}
 use Rattle.canton_model.specs.declared.request.Request.{Request}
+use Rattle.canton_model.specs.declared.response.Response.{Response}
 use Rattle.canton_model.specs.declared.verdict.Verdict.{Verdict}
 use Rattle.canton_model.proofs.LongerLogs.{genuine_take}
 use Rattle.message_bytes.specs.Spellable.{AreSpellable, IsSpellableResponse, IsSpellableVerdict}
@@ -51,6 +53,7 @@ use Rattle.log_bounds.proofs.Room.{can_be_dumped}
 use Rattle.snapshot_store.specs.InRange.{AreCounted}
 use Rattle.snapshot_store.specs.Spellable.{AreSpellableIds, AreSpellablePaths, AreSpellablePlaces, IsSpellableEnvelope, IsSpellableItem, IsSpellableRow, IsSpellableState, IsSpellableWhat}
 use Rattle.node_inbox.specs.Raw.{IsCame, content_by, item_by}
+use Rattle.node_core.specs.Duties.{AreToDistinct}
 use Rattle.node_core.specs.Participant.{Participant, items_of, params_of, reading_of}
 use Rattle.node_restart.specs.Short.{HasReadShort}
 
@@ -82,6 +85,17 @@ few_among ids others rising within =
     (λ q has.
     let found = from_any (bytes_eq q) ids has in
     in_any (bytes_eq q) others found.0 (within found.0 found.1) found.2)
+
+-- ---- the requests of responses
+
+requests_in : (n : ℕ) (responses : List Response) → ((response : Response) → In response responses → response.request < n) → (k : ℕ)
+    → has_place (map (λ (response : Response). response.request) responses) k ≡ true → k < n
+requests_in n [] below k h = absurd (both_ways false refl h)
+requests_in n (response ∷ rest) below k h =
+    elim (or_cases (nat_eq k response.request) (has_place (map (λ (r : Response). r.request) rest) k) h) [
+      | inl here ↦ let same = eqb-true k response.request here in let lt = below response (inl refl) in omega (arith, same, lt)
+      | inr there ↦ requests_in n rest (λ r i. below r (inr i)) k there
+    ]
 
 -- ---- rows, one of each
 
@@ -321,12 +335,22 @@ module _ (p : Participant) (log : List Entry) (state : State) (has : HasReadShor
       subst (λ (items : List Item). AreSpellable (verdicts_owed reading (params_of p) p.me items k)) (items_front reading p.me [] log (suc k))
       (owed_fit p.topology p.packages (params_of p) (take (suc k) log) p.me k (are_framed p.topology p.packages (take (suc k) log) (genuine_take reading (params_of p) log (suc k) has.genuine)))
 
+  outbox_few : length (p.state).outbox < 2 ^ 32
+  outbox_few =
+      let outbox = (p.state).outbox in
+      let requests = map (λ (response : Response). response.request) outbox in
+      let few = length-le_from_distinct_below requests (length log) (subst AreToDistinct (has.state_is).outbox (has.state_is).once)
+      (requests_in (length log) outbox (λ response i. has.answers response (contains_from_In outbox response i))) in
+      let many = length-map outbox (λ (response : Response). response.request) in
+      let short = has.short in
+      let most : 2 ^ 15 < 2 ^ 32 = lit< tt in omega (arith, few, many, short, most)
+
   outbox_spelled : AreCounted IsSpellableResponse state.outbox
   outbox_spelled =
       let outbox = (p.state).outbox in
       subst (AreCounted IsSpellableResponse) (sym (has.state_is).outbox)
       (record {
-        few = has.few;
+        few = outbox_few;
         each = all_in IsSpellableResponse outbox
             (λ response i. subst AreSpellable (sym (has.owed response (contains_from_In outbox response i))) (owed_spelled response.request));
       })

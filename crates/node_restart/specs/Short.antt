@@ -11,14 +11,14 @@ use Rattle.node_core.specs.Participant.{IsPrunedTo, Participant, params_of, read
 use Rattle.node_core.specs.States.{IsStateOf}
 
 -- Few participants have written a short genuine log, of which this one has what stands from its base on. It has claimed requests of the log
--- alone, and no more responses wait than four bytes count, each with what is owed. That is its state.
+-- alone, and to such a request is each response that waits, with what is owed. That is its state.
 pub record HasReadShort (p : Participant) (log : List Entry) (state : State) : Type 0 where
   pub hosts : length (p.topology).hosts ≤ 255
   pub genuine : Genuine (reading_of p) (params_of p) log
   pub short : length log < 2 ^ 15
   pub pruned : IsPrunedTo (inbox (reading_of p) p.me log) p
   pub claims : (k : ℕ) → has_place (p.state).claimed k ≡ true → k < length log
-  pub few : length (p.state).outbox < 2 ^ 32
+  pub answers : (response : Response) → Contains (p.state).outbox response → response.request < length log
   pub owed : (response : Response) → Contains (p.state).outbox response
       → response.verdicts ≡ owed_at (reading_of p) (params_of p) p.me (inbox (reading_of p) p.me log) response.request
   pub state_is : IsStateOf p state

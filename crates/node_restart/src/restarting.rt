@@ -1,5 +1,5 @@
 //! A participant that restarts.
-ghost use Rattle.std.specs.Prelude.{◌≡◌, ◌<◌, ◌^◌, List, IfOk, length};
+ghost use Rattle.std.specs.Prelude.{◌≡◌, List, IfOk};
 ghost use Rattle.node_restart.specs.Restarted.{CanRestart, HasRestarted};
 ghost use Rattle.node_state.specs.declared.node_state.NodeState.{NodeState as State};
 ghost use Rattle.snapshot_store.specs.InRange.{IsState};
@@ -12,17 +12,6 @@ use node_core::Node;
 use node_state::NodeState;
 use snapshot_store::{SnapFault, decode, encode};
 use std::alloc::{AllocError, Global};
-
-// The state, if four bytes can count the responses that wait: more of them would be want of memory.
-fn counted(state: NodeState) -> Result<NodeState, AllocError>
-    ensures same { IfOk result (λ counted. counted ≡ state) }
-    ensures few { IfOk result (λ counted. length counted.outbox < 2 ^ 32) }
-{
-    if state.outbox.len() > u32::MAX as usize {
-        return Err(AllocError);
-    }
-    Ok(state)
-}
 
 // The state that the bytes spell.
 fn read_back(alloc: Global, bytes: &[u8]) -> Result<NodeState, AllocError>
@@ -47,8 +36,7 @@ pub fn restarted<'s>(
     requires read { (m : Machine) × (log : List Entry) × CanRestart m log node.now }
     ensures { IfOk result (λ after. (m : Machine) (log : List Entry) → CanRestart m log node.now → HasRestarted m log node.now after) }
 {
-    let pruned = node.pruned_state(alloc)?;
-    let state = counted(pruned)?;
+    let state = node.pruned_state(alloc)?;
     let bytes = encode(alloc, &state)?;
     let kept = read_back(alloc, bytes.as_slice())?;
     Node::from_state(alloc, setup, &kept)
