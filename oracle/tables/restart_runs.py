@@ -97,6 +97,20 @@ active 0 Note.Note(Alice,Bob,"go")
 end
 '''
 
+# a request whose time is past behind the round's Tick, and not where the round begins
+HELD = NOTE % ','.join(json.dumps(round_, separators=(',', ':')) for round_ in (
+    {"submits": [submission('hi')], "hold_verdicts": True}, {"advance": 60000002, "hold_verdicts": True, "restart": ["P1"]}))
+HELD_TOLD = '''entries 3
+0 1 request P1 c1 to P1
+1 2 response P1 for 0 0=approve
+2 60000002 tick
+result 0 P1 c1 sent 0
+outcome 0 expired
+participant P1 clean 3 time 60000002
+pruned 0
+end
+'''
+
 # Bob spends a contract that P2 has forgotten to have been created, and can't spend it again once that is forgotten too
 SPENDS = with_rounds(TRANSFER, lambda rounds: rounds + [{"submits": [asked('P2', 't2', ['Alice'], transfer(of='c1'))], "restart": ["P2"]}])
 SPENT_TWICE = parts(CREATED + SPENT + LEFT, 'pruned 7\n', GOT + LEFT).replace('outcome 0', 'result 2 P2 t2 refused ContractUnknown\noutcome 0')
@@ -107,6 +121,7 @@ RUNS = [
     ('restarts-of-all', 'run', restarting(TRANSFER, [], ['P3', 'P1', 'P2', 'P1']), OF_ALL),
     ('restarts-again', 'run', restarting(TRANSFER, [], ['P1', 'P2'], ['P1', 'P2', 'P3'], []), OF_LATE),
     ('a-restart-in-front-of-a-tick', 'run', restarting(TIMEOUT, [], [], ['P2']), HALTED),
+    ('a-restart-before-a-request-expires', 'run', HELD, HELD_TOLD),
     ('a-restart-at-first', 'run', NOTE % json.dumps({"submits": [submission('hi')], "restart": ["P1", "P1"]}, separators=(',', ':')), AT_FIRST),
     ('restarts-in-each-round', 'run', NOTES, NOTES_TOLD),
     ('restarts-in-each-round-with-workers', 'run,--workers,4', NOTES, NOTES_TOLD),
