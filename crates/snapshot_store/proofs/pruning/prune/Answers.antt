@@ -1,4 +1,4 @@
-use Rattle.std.proofs.Common.{List, sym, subst}
+use Rattle.std.proofs.Common.{List, sym, ◌∙◌, subst}
 use Rattle.canton_model.specs.Inbox.{inbox}
 use Rattle.canton_model.specs.declared.response.Response.{Response}
 use Rattle.node_core.specs.Participant.{pruned_at, reading_of}
@@ -24,7 +24,7 @@ returns-clause-state c =
     let whole = inbox (reading_of (owner_of topology packages state)) state.me is.log in
     let mine = c.lawful_states_may_begin.ensures.same topology packages state whole is.pruned in
     subst (λ (outbox : List Response). IsStateOf (pruned_at pruned.base (start_in pruned) (owner_of topology packages state)) (record pruned { outbox = outbox }))
-    (sym c.in_ok-outbox.ensures)
+    (sym (c.in_ok-outbox.ensures ∙ c.as_slice.ensures))
     (c.lawful_states_may_begin.ensures.responses topology packages state pruned is c.in_ok-pruned.ensures.base (c.in_ok-pruned.ensures.state whole mine))
 
 pub returns-clause-lawful : goal.returns-clause-lawful
