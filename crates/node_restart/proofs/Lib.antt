@@ -1,4 +1,5 @@
 pub mod Spelled
 mod Restarts
+mod PrunedStates
 mod ReadBack
 mod GoingOn

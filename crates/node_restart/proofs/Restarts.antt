@@ -34,89 +34,93 @@ module _ (p : Participant) (state : State) (at : state.base ≡ base_specs.base 
   abbrev later : Participant
   later = pruned_at state.base (start_in state) p
 
-  module _ (m : Machine) (log : List Entry) (can : CanRestart m log p) where
+  module _ (m : Machine) (log : List Entry) where
     abbrev whole : List Item
     whole = inbox (reading_of p) p.me log
 
-    abbrev pruned : IsPrunedTo whole p
-    pruned = (can.read).pruned
+    -- ---- it begins from that, and has restarted
 
-    abbrev of : IsStateOf later state
-    of = states whole pruned
+    module _ (had : HasRead m log p) where
+      abbrev pruned : IsPrunedTo whole p
+      pruned = had.pruned
 
-    long : length whole ≡ length log
-    long = inbox_length (reading_of p) p.me [] log
+      abbrev of : IsStateOf later state
+      of = states whole pruned
 
-    genuine : Genuine (reading_of p) (params_of p) log
-    genuine =
-        subst (λ (ps : Params). Genuine (reading_of p) ps log) (can.is_of).params
-        (subst (λ (r : Reading). Genuine r m.params log) (can.is_of).reading can.genuine)
+      -- it is pruned to there
+      based : IsBase (params_of p) (items_of p) state.base
+      based = subst (IsBase (params_of p) (items_of p)) (sym at) (next_is_base whole p pruned)
 
-    -- it is pruned to there
-    based : IsBase (params_of p) (items_of p) state.base
-    based = subst (IsBase (params_of p) (items_of p)) (sym at) (next_is_base whole p pruned)
+      pub onward : p.base ≤ state.base
+      onward = subst (λ (n : ℕ). p.base ≤ n) (sym at) (next_is_later whole p pruned)
 
-    onward : p.base ≤ state.base
-    onward = subst (λ (n : ℕ). p.base ≤ n) (sym at) (next_is_later whole p pruned)
+      pruned_later : IsPrunedTo whole later
+      pruned_later = pruned_again whole p pruned state.base onward based (start_in state) on
 
-    pruned_later : IsPrunedTo whole later
-    pruned_later = pruned_again whole p pruned state.base onward based (start_in state) on
+      read_later : HasRead m log later
+      read_later = record { node = had.node; pruned = pruned_later }
 
-    read_later : HasRead m log later
-    read_later = record { node = (can.read).node; pruned = pruned_later }
+      -- the base of what it kept is that of all that it has received
+      base_is : state.base ≡ base_specs.base (params_of p) whole
+      base_is = at ∙ (ap (base_specs.base (params_of p)) (kept_is whole p pruned) ∙ front_base (params_of p) p.base whole pruned.orderly pruned.is_base)
 
-    -- the base of what it kept is that of all that it has received
-    base_is : state.base ≡ base_specs.base (params_of p) whole
-    base_is = at ∙ (ap (base_specs.base (params_of p)) (kept_is whole p pruned) ∙ front_base (params_of p) p.base whole pruned.orderly pruned.is_base)
+      pub has_restarted : HasRestarted m log p (begun_again p.topology p.packages state)
+      has_restarted =
+          record {
+            topology = refl;
+            packages = refl;
+            me = of.me;
+            base = base_is;
+            paused = of.paused;
+            claimed = of.done;
+            unfinished = refl;
+            outbox = ap (responses_from state.base) of.outbox;
+            read = read_again m log later read_later state of;
+            inbox = has_inbox whole later pruned_later state of;
+          }
 
-    -- ---- it has a spelling
+    -- ---- over a short log
 
-    owed_to : (response : Response) → Contains (p.state).outbox response → response.verdicts ≡ owed_at (reading_of p) (params_of p) p.me whole response.request
-    owed_to response waits =
-        let own = ((can.read).node).outbox response waits in
-        ap (λ (r : Response). r.verdicts) own.is
-        ∙ (ap (λ (r : Reading). owed_at r m.params p.me whole response.request) (can.is_of).reading
-        ∙ ap (λ (ps : Params). owed_at (reading_of p) ps p.me whole response.request) (can.is_of).params)
+    module _ (can : CanRestart m log p) where
+      genuine : Genuine (reading_of p) (params_of p) log
+      genuine =
+          subst (λ (ps : Params). Genuine (reading_of p) ps log) (can.is_of).params
+          (subst (λ (r : Reading). Genuine r m.params log) (can.is_of).reading can.genuine)
 
-    pub spelled_later : IsSpellableState state
-    spelled_later =
-        state_spelled later log state
-        (record {
-          hosts = can.hosts;
-          genuine = genuine;
-          short = can.short;
-          pruned = pruned_later;
-          claims = λ k claimed. (let lt = ((can.read).node).claims k claimed in omega (arith, lt, long));
-          answers = λ response waits. (let lt = (((can.read).node).outbox response waits).is_read in omega (arith, lt, long));
-          owed = owed_to;
-          state_is = of;
-        })
+      long : length whole ≡ length log
+      long = inbox_length (reading_of p) p.me [] log
 
-    -- ---- a participant may begin from it, and then this one has restarted
+      owed_to : (response : Response) → Contains (p.state).outbox response → response.verdicts ≡ owed_at (reading_of p) (params_of p) p.me whole response.request
+      owed_to response waits =
+          let own = ((can.read).node).outbox response waits in
+          ap (λ (r : Response). r.verdicts) own.is
+          ∙ (ap (λ (r : Reading). owed_at r m.params p.me whole response.request) (can.is_of).reading
+          ∙ ap (λ (ps : Params). owed_at (reading_of p) ps p.me whole response.request) (can.is_of).params)
 
-    pub lawful_later : IsLawful p.topology p.packages state
-    lawful_later =
-        let short = can.short in
-        let most : 2 ^ 15 < 2 ^ 63 = lit< tt in
-        lawful later log (omega (arith, short, most)) genuine pruned_later state of
+      -- it has a spelling
+      pub spelled_later : IsSpellableState state
+      spelled_later =
+          state_spelled later log state
+          (record {
+            hosts = can.hosts;
+            genuine = genuine;
+            short = can.short;
+            pruned = pruned_later can.read;
+            claims = λ k claimed. (let lt = ((can.read).node).claims k claimed in omega (arith, lt, long));
+            answers = λ response waits. (let lt = (((can.read).node).outbox response waits).is_read in omega (arith, lt, long));
+            owed = owed_to;
+            state_is = states whole (can.read).pruned;
+          })
 
-    pub begins_later : MayBegin p.topology p.packages state
-    begins_later = may_begin p.topology p.packages state lawful_later
+      pub lawful_later : IsLawful p.topology p.packages state
+      lawful_later =
+          let short = can.short in
+          let most : 2 ^ 15 < 2 ^ 63 = lit< tt in
+          lawful later log (omega (arith, short, most)) genuine (pruned_later can.read) state (states whole (can.read).pruned)
 
-    pub has_restarted : HasRestarted m log p (begun_again p.topology p.packages state)
-    has_restarted =
-        record {
-          topology = refl;
-          packages = refl;
-          me = of.me;
-          base = base_is;
-          paused = of.paused;
-          claimed = of.done;
-          unfinished = refl;
-          outbox = ap (responses_from state.base) of.outbox;
-          read = read_again m log later read_later state of;
-          inbox = has_inbox whole later pruned_later state of;
-        }
+      -- a participant may begin from it
+      pub begins_later : MayBegin p.topology p.packages state
+      begins_later = may_begin p.topology p.packages state lawful_later
 
   -- ---- over a setup with the same participants and packages
 
@@ -136,5 +140,5 @@ module _ (p : Participant) (state : State) (at : state.base ≡ base_specs.base 
 
     pub restarts : {E : Type 0} (result : Result Participant E) → IfOk result (λ node. node ≡ begun_again topology packages kept)
         → IfOk result (λ after. (m : Machine) (log : List Entry) → CanRestart m log p → HasRestarted m log p after)
-    restarts (Ok after) is = λ m log can. subst (HasRestarted m log p) (sym (is ∙ begun_over)) (has_restarted m log can)
+    restarts (Ok after) is = λ m log can. subst (HasRestarted m log p) (sym (is ∙ begun_over)) (has_restarted m log can.read)
     restarts (Err e) is = is

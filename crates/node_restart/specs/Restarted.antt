@@ -4,11 +4,16 @@ use Rattle.canton_model.specs.Inbox.{inbox}
 use Rattle.world_model.specs.Machine.{GenuineLog, Machine}
 use Rattle.world_model.specs.Messages.{Entry}
 use Rattle.world_model.specs.Places.{has_place}
+use Rattle.ledger_terms.specs.declared.topology.Topology.{Topology}
+use Rattle.lang_eval.specs.Found.{Packages}
+use Rattle.framed_form.specs.FramedReading.{framed_reading}
 use Rattle.pruned_inbox.specs.Base
+use Rattle.pruned_inbox.specs.Start.{GoesOn}
+use Rattle.node_state.specs.declared.node_state.NodeState.{NodeState as State}
 use Rattle.node_core.specs.Answers.{IsOf}
 use Rattle.node_core.specs.OverLog.{HasInbox}
-use Rattle.node_core.specs.Participant.{HasRead, Participant, params_of, reading_of}
-use Rattle.node_core.specs.States.{is_done_from, responses_from}
+use Rattle.node_core.specs.Participant.{HasRead, Participant, params_of, pruned_at, reading_of}
+use Rattle.node_core.specs.States.{IsStateOf, is_done_from, items_in, owner_of, responses_from, start_in}
 
 -- It has read all of a short genuine log of few participants.
 pub record CanRestart (m : Machine) (log : List Entry) (p : Participant) : Type 0 where
@@ -17,6 +22,12 @@ pub record CanRestart (m : Machine) (log : List Entry) (p : Participant) : Type 
   pub genuine : GenuineLog m log
   pub short : length log < 2 ^ 15
   pub read : HasRead m log p
+
+-- What a state is, pruned to the base of its inbox: that of its participant, had it been pruned there.
+pub record IsPrunedFrom (topology : Topology) (packages : Packages) (state pruned : State) : Type 0 where
+  pub base : pruned.base ≡ Base.base topology.params (items_in topology state)
+  pub start : GoesOn (framed_reading topology packages) (items_in topology state) pruned.base (start_in state) (start_in pruned)
+  pub is : IsStateOf (pruned_at pruned.base (start_in pruned) (owner_of topology packages state)) pruned
 
 -- It has read the same log, and forgotten what is below the base of its inbox, with the jobs and responses to requests there. Nothing is
 -- unfinished: what wasn't finished is claimed again.

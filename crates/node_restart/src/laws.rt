@@ -6,7 +6,9 @@ ghost use Rattle.pruned_inbox.specs.Alike.{AnswersAlike};
 ghost use Rattle.world_model.specs.Machine.{Machine};
 ghost use Rattle.world_model.specs.Node.{next_claim, outbox_head};
 ghost use Rattle.node_core.specs.Participant.{HasRead, Participant, items_of, next_place, next_response, params_of, reading_of};
+ghost use Rattle.node_core.specs.States.{IsStateOf, begun_again};
 ghost use Rattle.node_restart.specs.GoingOn.{CanGoOn, having_read, never_stopped};
+ghost use Rattle.node_restart.specs.Restarted.{CanRestart, HasRestarted, IsPrunedFrom};
 ghost use Rattle.node_restart.specs.Short.{HasReadShort};
 ghost use Rattle.node_state.specs.declared.node_state.NodeState.{NodeState as State};
 ghost use Rattle.snapshot_store.specs.Spellable.{IsSpellableState};
@@ -15,6 +17,19 @@ ghost use Rattle.snapshot_store.specs.Spellable.{IsSpellableState};
 /// requests tell, show and open little.
 pub fn states_are_spellable()
     ensures { (p : Participant) (log : List Entry) (state : State) → HasReadShort p log state → IsSpellableState state }
+{}
+
+/// What begins from a participant's state, once that is pruned, is that participant restarted, however long the log that it had read. Over a
+/// short log the pruned state has a spelling, so that its bytes may stand between them.
+pub fn pruned_states_restart()
+    ensures spelled { (m : Machine) (log : List Entry) (p : Participant) (state pruned : State) → CanRestart m log p
+        → IsStateOf p state
+        → IsPrunedFrom p.topology p.packages state pruned
+        → IsSpellableState pruned }
+    ensures begun { (m : Machine) (log : List Entry) (p : Participant) (state pruned : State) → HasRead m log p
+        → IsStateOf p state
+        → IsPrunedFrom p.topology p.packages state pruned
+        → HasRestarted m log p (begun_again p.topology p.packages pruned) }
 {}
 
 /// Whatever it reads then, a participant that has restarted answers all that is asked of places from its base on as one that never stopped
