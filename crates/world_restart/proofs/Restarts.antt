@@ -15,6 +15,7 @@ use Rattle.seq_log.specs.Sequenced.{Sequenced}
 use Rattle.node_core.specs.Machines.{IsNodeOf, wanted_request}
 use Rattle.node_core.specs.OverLog.{HasInbox, inbox_over, state_over}
 use Rattle.node_core.specs.Participant.{Participant as NodeValue, items_of, params_of, reading_of, whole_state}
+use Rattle.node_core.specs.States.{is_done_from, responses_from}
 use Rattle.node_core.proofs.OverLog.{cursor_is}
 use Rattle.node_restart.specs.Restarted.{CanRestart, HasRestarted}
 use Rattle.world_play.specs.Reading.{IsReader, has_read}
@@ -125,7 +126,9 @@ module _ (m : Machine) (p : ParticipantId) (first : NodeValue) (s : Sequenced) (
           base = r.base ∙ ap (λ (x : NodeValue). Base.base (params_of x) (inbox (reading_of x) x.me s.list)) is;
           inbox = subst (λ (items : List Item). HasInbox items after) (ap (λ (x : NodeValue). inbox (reading_of x) x.me s.list) is) r.inbox;
           paused = r.paused ∙ ap (λ (x : NodeValue). (x.state).is_paused) is;
+          claimed = λ k. r.claimed k ∙ ap (λ (x : NodeValue). is_done_from after.base x.state k) is;
           unfinished = r.unfinished;
+          outbox = r.outbox ∙ ap (λ (x : NodeValue). responses_from after.base (x.state).outbox) is;
         }
 
 -- it is still the participant of each machine

@@ -1,5 +1,5 @@
 -- Participants of a synchroniser that restart.
-use Rattle.std.specs.Prelude.{◌≡◌, true, false, List, [], Some, length, slice_get, if◌then◌else◌}
+use Rattle.std.specs.Prelude.{◌≡◌, ℕ, true, false, List, [], Some, length, slice_get, if◌then◌else◌}
 use Rattle.canton_model.specs.Inbox.{inbox}
 use Rattle.canton_model.specs.Log.{Params}
 use Rattle.canton_model.specs.Reading.{Reading}
@@ -12,10 +12,11 @@ use Rattle.seq_log.specs.Sequenced.{Sequenced}
 use Rattle.node_core.specs.Bases.{Bases}
 use Rattle.node_core.specs.OverLog.{HasInbox}
 use Rattle.node_core.specs.Participant.{Participant as NodeValue, items_of, params_of, reading_of}
+use Rattle.node_core.specs.States.{is_done_from, responses_from}
 use Rattle.world_play.specs.Standing.{IsParticipant}
 
 -- It is the participant that it was, it has read to the end of the log, and it has forgotten what is below the base of its inbox there. It is
--- paused as it was, and no job of it is unfinished.
+-- paused as it was. From its base on it knows which jobs it did and keeps the responses that wait, and no job is unfinished.
 pub record IsRestarted (log : List Entry) (before after : NodeValue) : Type 0 where
   pub topology : after.topology ≡ before.topology
   pub packages : after.packages ≡ before.packages
@@ -24,7 +25,9 @@ pub record IsRestarted (log : List Entry) (before after : NodeValue) : Type 0 wh
   pub base : after.base ≡ Base.base (params_of before) (inbox (reading_of before) before.me log)
   pub inbox : HasInbox (inbox (reading_of before) before.me log) after
   pub paused : (after.state).is_paused ≡ (before.state).is_paused
+  pub claimed : (k : ℕ) → has_place (after.state).claimed k ≡ is_done_from after.base before.state k
   pub unfinished : (after.state).unfinished ≡ []
+  pub outbox : (after.state).outbox ≡ responses_from after.base (before.state).outbox
 
 -- each of these participants has restarted, and each other is as it was
 pub record AreRestarted (participants : List ParticipantId) (log : List Entry) (before after : List NodeValue) : Type 0 where
