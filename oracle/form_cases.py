@@ -1,6 +1,7 @@
-"""What the layer form of crates/layer_cases has to write of the bytes of actions, of trees and of envelopes."""
+"""What the layer form of crates/layer_cases has to write of the bytes of actions, of trees, of envelopes and of states."""
 import commitments
 import framed
+import states
 import terms
 import trees
 from tree_cases import parties_line
@@ -9,6 +10,8 @@ from tree_cases import parties_line
 def bytes_line(word, data):
     reader = trees.TreeReader(data)
     try:
+        if word == 'state':
+            return state_line(states.read_state(data))
         return tree_line(reader.tree(), data) if word == 'tree' else action_line(reader)
     except terms.Bad as bad:
         return 'bad at %d' % bad.at
@@ -18,6 +21,12 @@ def action_line(reader):
     action = reader.action()
     data = terms.action_bytes(action)
     return '%s next %d length %d spelled %s' % (terms.action_text(action), reader.at, len(data), data.hex())
+
+
+def state_line(state):
+    many = tuple(len(state[part]) for part in ('active', 'gone', 'items', 'outbox', 'done'))
+    told = 'active %d gone %d items %d responses %d done %d' % many
+    return 'base %d time %d %s spelled %s' % (state['base'], state['base_time'], told, states.state_bytes(state).hex())
 
 
 def calls_line(calls):

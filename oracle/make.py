@@ -16,10 +16,12 @@ import load_cases
 import plain_run
 import raws
 import sharing_cases
+import states
 import tree_cases
 import trees
 import world_cases
 from tables import bytes as byte_tables
+from tables import states as state_tables
 from tables import (
     benches, checks, commit_runs, commits, dump_runs, edges, expressions, frames, openings, package_faults, raw_runs, requests, restart_runs, runs, script_faults, transactions, trigger_runs, words, worlds)
 
@@ -107,6 +109,18 @@ def byte_rows():
         if worked is not None and ' %s spelled' % worked not in computed:
             raise SystemExit('%s %s\n  computed   %s\n  worked out %s' % (word, digits, computed, worked))
         yield '%s %s' % (word, digits), [computed]
+
+
+def state_rows():
+    """Bytes of states, and those of the state of a participant that restarts while a request is undecided."""
+    script = json.loads(runs.TIMEOUT)
+    last = dict(script['rounds'].pop(), advance=0, restart=['P2'])
+    run = plain_run.Run(dict(script, rounds=script['rounds'] + [last]), 20480)
+    kept = states.state_bytes(states.kept(run, 'P2')).hex()
+    for digits, fault, worked in state_tables.CASES + [(kept, None, state_tables.KEPT)]:
+        computed = form_cases.bytes_line('state', bytes.fromhex(digits))
+        agreed(digits, computed, 'bad at %d' % fault if worked is None else '%s spelled %s' % (worked, digits))
+        yield ('state ' + digits).rstrip(), [computed]
 
 
 def opening_row(root, paths, with_requesters, data, worked):
@@ -378,7 +392,7 @@ def below(line, cases):
 def layer_rows():
     """The cases of each layer, below the line that says which it is."""
     tables = {
-        'form': {'Actions and trees as bytes': byte_rows(), 'What envelopes open': opening_rows(), 'Commitments': commitment_rows()},
+        'form': {'Actions and trees as bytes': byte_rows(), 'States as bytes': state_rows(), 'What envelopes open': opening_rows(), 'Commitments': commitment_rows()},
         'tree': {
             'Transactions, and scripts with their first fault': tree_rows(), 'Raw requests': frame_rows(), 'Expressions': expression_rows(), 'Packages': package_rows()},
         'load': {'Words': word_rows(), 'Generated scripts': generated_rows()},

@@ -98,3 +98,30 @@ def read_state(data):
     if reader.at < len(data):
         raise terms.Bad(reader.at)
     return state
+
+
+# --- what a participant of a run keeps
+
+def kept(world, name):
+    """The state of a participant of whom no response waits, pruned to its base, over what it has read. Nothing there is rejected or timed out."""
+    base, end = world.base(name), world.read[name]
+    created, consumed = world.status(name, base, end)
+    rows = [(place, node['seed'], node['action']['instance']) for cid, (place, node) in created.items() if cid not in consumed]
+    done = [place for place, _ in world.requests(end) if place >= base and world.response(name, place) is not None]
+    return {
+        'me': [host['name'] for host in world.hosts].index(name), 'base': base, 'base_time': world.log[base - 1]['time'] if base else 0,
+        'paused': name in world.paused, 'active': rows, 'gone': sorted(consumed), 'items': [item_of(world, name, at) for at in range(base, end)],
+        'outbox': [], 'done': done}
+
+
+def item_of(world, name, at):
+    """What the entry at a place is to a participant."""
+    entry = world.log[at]
+    request = world.log[entry.get('of', at)].get('request')
+    if entry['kind'] not in ('request', 'verdict') or name not in request.recipients():
+        return entry['time'], None
+    if entry['kind'] == 'verdict':
+        return entry['time'], ('verdict', (entry['of'], (entry['decision'],)))
+    return entry['time'], ('request', {
+        'sender': [host['name'] for host in world.hosts].index(request.sender), 'command': request.command, 'root': request.root,
+        'seen': request.listed(name), 'confirmed': request.asked_of(name), 'envelope': request.envelopes.get(name)})

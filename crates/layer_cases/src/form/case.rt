@@ -3,6 +3,7 @@ use crate::answer::Answer;
 use crate::form::actions::put_action;
 use crate::form::commitments::{put_calls, put_difference};
 use crate::form::openings::put_opening;
+use crate::form::states::put_state;
 use crate::form::trees::put_tree;
 use crate::words::Words;
 use std::alloc::Global;
@@ -31,6 +32,7 @@ fn put_read(alloc: Global, word: &str, bytes: &[u8], out: &mut Answer) {
     match word {
         "action" => put_action(alloc, bytes, out),
         "tree" => put_tree(alloc, bytes, out),
+        "state" => put_state(alloc, bytes, out),
         _ => out.line(&["no such word"]),
     }
 }
