@@ -7,7 +7,7 @@ here=$(dirname "$(readlink -f "$0")")
 root=$(readlink -f "$here/../..")
 into=${1:-$here}
 
-for name in one-note transfer two-spends clock-skew timeout expired wrong-child lease left-out wrong-informees two-versions standing-order; do
+for name in one-note transfer two-spends clock-skew timeout expired wrong-child lease left-out wrong-informees two-versions standing-order restarted; do
     "$root/canton" chart <"$root/examples/$name.report" >"$into/$name.chart.svg"
     "$root/canton" views <"$root/examples/$name.json" >"$into/$name.views.svg"
     "$root/canton" page <"$root/examples/$name.json" >"$into/$name.page.html"
