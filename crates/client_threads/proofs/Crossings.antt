@@ -62,7 +62,7 @@ use Rattle.sync_shared.specs.contracts.shared.Shared as Shared
 use Rattle.sync_shared.specs.declared.session.Session as Session
 use Rattle.client_threads.specs.contracts.lane_work.LaneWork as LaneWork
 use Rattle.client_threads.proofs.Captures.{ref_sync, slice_sync, ref_send}
-use Rattle.client_threads.proofs.KeptCrossings.{kept_item_send, kept_item_sync}
+use Rattle.client_threads.proofs.KeptCrossings.{kept_items_send, kept_items_sync}
 
 ruleset of_terms = (sendable, crosses, list.the_sync, name.the_sync, kind.the_sync, kind.the_field_sync, field_decl.the_sync, field_decl.the_field_sync, text.the_sync, value.the_sync, value.the_field_sync, hash.the_sync, party_set.the_sync, template_name.the_sync, template_name.the_field_sync)
 
@@ -83,11 +83,11 @@ setup_sync = search (of_terms, topology.the_field_sync, checked_sync) depth 40 f
 
 pub inbox_send : (κ : NamedLft) → IsSend (Inbox.the_row κ)
 inbox_send κ =
-    search (sendable, crosses, setup_sync, participant_id.the_send, kept_item_send, standing.the_send, hosted_ids.the_send, approved_places.the_field_send, kept_active.the_field_send) depth 40 fits 10000
+    search (sendable, crosses, setup_sync, participant_id.the_send, kept_items_send, standing.the_send, hosted_ids.the_send, approved_places.the_field_send, kept_active.the_field_send) depth 40 fits 10000
 
 pub inbox_sync : (κ : NamedLft) → IsSync (Inbox.the_row κ)
 inbox_sync κ =
-    search (sendable, crosses, setup_sync, participant_id.the_sync, kept_item_sync, standing.the_sync, hosted_ids.the_sync, approved_places.the_field_sync, kept_active.the_field_sync) depth 40 fits 10000
+    search (sendable, crosses, setup_sync, participant_id.the_sync, kept_items_sync, standing.the_sync, hosted_ids.the_sync, approved_places.the_field_sync, kept_active.the_field_sync) depth 40 fits 10000
 
 pub node_send : (κ : NamedLft) → IsSend (Node.the_row κ)
 node_send κ = search (sendable, crosses, setup_sync, participant_id.the_send, inbox_send, duties.the_send) depth 40 fits 10000

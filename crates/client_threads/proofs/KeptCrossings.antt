@@ -27,6 +27,8 @@ use Rattle.node_inbox.specs.contracts.kept_offer.KeptOffer as KeptOffer
 use Rattle.node_inbox.specs.contracts.kept_item.KeptRequest as KeptRequest
 use Rattle.node_inbox.specs.contracts.kept_item.KeptContent as KeptContent
 use Rattle.node_inbox.specs.contracts.kept_item.KeptItem as KeptItem
+use Rattle.node_inbox.specs.contracts.kept_items.KeptItems as KeptItems
+use Rattle.node_inbox.specs.contracts.kept_items.KeptItems.TheInside as Inside
 
 ruleset of_actions = (sendable, crosses, hash.the_send, hash.the_sync, action.the_send, action.the_sync, action.the_field_send, action.the_field_sync, as_row_send, as_row_sync)
 
@@ -161,3 +163,29 @@ kept_item_send = declared_send KeptItem.the_type (search (sendable, as_row_send)
 
 pub kept_item_sync : IsSync KeptItem.the_row
 kept_item_sync = declared_sync KeptItem.the_type (search (sendable, as_row_sync) depth 20, (kept_content_sync, tt))
+
+kept_inside_send : IsSend Inside.the_row
+kept_inside_send =
+    declared_send Inside.the_type (
+      search (sendable, as_row_send) depth 20,
+      (
+        search (sendable, as_row_send) depth 20,
+        (kept_content_send, (search (sendable, crosses, kept_item_send, as_row_send) depth 20, tt)),
+      ),
+    )
+
+kept_inside_sync : IsSync Inside.the_row
+kept_inside_sync =
+    declared_sync Inside.the_type (
+      search (sendable, as_row_sync) depth 20,
+      (
+        search (sendable, as_row_sync) depth 20,
+        (kept_content_sync, (search (sendable, crosses, kept_item_sync, as_row_sync) depth 20, tt)),
+      ),
+    )
+
+pub kept_items_send : IsSend KeptItems.the_row
+kept_items_send = search (sendable, kept_inside_send) depth 12
+
+pub kept_items_sync : IsSync KeptItems.the_row
+kept_items_sync = search (sendable, kept_inside_sync) depth 12

@@ -1,5 +1,5 @@
 -- The active contracts at a place, from those at an earlier one and what approved requests write from there on.
-use Rattle.std.proofs.Common.{◌≡◌, ℕ, zero, suc, ◌≤◌, Bool, true, false, cond, List, [], ◌∷◌, ◌++◌, map, filter, refl, sym, ap, ◌∙◌, subst, inl, inr, arith, append_assoc, append-nil}
+use Rattle.std.proofs.Common.{◌≡◌, ℕ, zero, suc, ◌<◌, ◌≤◌, Bool, true, false, cond, List, [], ◌∷◌, ◌++◌, map, filter, refl, sym, ap, ◌∙◌, subst, inl, inr, arith, append_assoc, append-nil}
 use Rattle.std.specs.Prelude.{if◌then◌else◌, ◌||◌, ◌&&◌, not}
 use Rattle.std.specs.List.{list_any}
 use Rattle.std.specs.Str.{bytes_eq}
@@ -21,6 +21,7 @@ use Rattle.contract_store.specs.Written.{Placed, acts_of, written}
 use Rattle.contract_store.proofs.Following.{status_follows}
 use Rattle.contract_store.proofs.Maps.{equal_bytes, same_bytes}
 use Rattle.contract_store.specs.declared.row.StoreRow.{StoreRow}
+use Rattle.pruned_inbox.specs.Received.{is_received_at}
 use Rattle.pruned_inbox.specs.Start.{Start, active_kept, is_active_since, is_gone}
 use Rattle.inbox_standing.specs.Changes.{creation_of}
 use Rattle.inbox_standing.proofs.Told.{left_unused}
@@ -30,7 +31,7 @@ use Rattle.node_inbox.specs.KeptActive.{AreFresh, CreateOnly, begun_below, is_co
 use Rattle.node_inbox.specs.Kept.{BeginsIn}
 use Rattle.node_inbox.specs.Listed.{is_offered, listed}
 use Rattle.node_inbox.proofs.Later.{acts_begun, unknown_parts}
-use Rattle.node_inbox.proofs.PlacedInOrder.{begun_in_order, listed_placed}
+use Rattle.node_inbox.proofs.PlacedInOrder.{begun_in_order, listed_placed, none_written}
 
 -- ---- rows of which a test says no
 
@@ -163,6 +164,34 @@ module _ (reading : Reading) (items : List Item) where
       → placed_between reading items start (suc k) ≡ placed_between reading items start k ++ map (at_place k) (writes_of reading items k)
   next_between start k le = rw (le-leb start k le) refl
 
+module _ (reading : Reading) (items : List Item) (from : ℕ) where
+  pub in_parts : (end : ℕ) → from ≤ end → placed_below reading items end ≡ placed_below reading items from ++ placed_between reading items from end
+  in_parts zero le = let first : from ≡ 0 = omega (arith, le) in rw first refl
+  in_parts (suc k) le = elim (cases_lt from (suc k)) [
+    | inl lt ↦ ap (λ (ps : List Placed). ps ++ map (at_place k) (writes_of reading items k)) (in_parts k (omega (arith, lt)))
+        ∙ (append_assoc (placed_below reading items from) (placed_between reading items from k) (map (at_place k) (writes_of reading items k))
+        ∙ ap (λ (ps : List Placed). placed_below reading items from ++ ps) (sym (next_between reading items from k (omega (arith, lt)))))
+    | inr ge ↦
+        let same : from ≡ suc k = omega (arith, le, ge) in
+        subst (λ (n : ℕ). placed_below reading items (suc k) ≡ placed_below reading items n ++ placed_between reading items n (suc k)) (sym same)
+        (sym (append-nil (placed_below reading items (suc k)))
+        ∙ ap (λ (ps : List Placed). placed_below reading items (suc k) ++ ps) (sym (none_between reading items (suc k))))
+  ]
+
+-- where nothing was received nothing is written
+module _ (reading : Reading) (items : List Item) (from : ℕ) (silent : (m : ℕ) → m < from → is_received_at items m ≡ false) where
+  none_below : (n : ℕ) → n ≤ from → placed_below reading items n ≡ []
+  none_below zero le = refl
+  none_below (suc k) le =
+      let below : k < from = omega (arith, le) in
+      ap (λ (as' : List Act). placed_below reading items k ++ map (at_place k) as') (none_written reading items k (silent k below))
+      ∙ (append-nil (placed_below reading items k) ∙ none_below k (omega (arith, le)))
+
+  pub from_silent : (end : ℕ) → from ≤ end → placed_between reading items from end ≡ placed_between reading items 0 end
+  from_silent end le =
+      ap (λ (ps : List Placed). ps ++ placed_between reading items from end) (sym (none_below from (omega arith)))
+      ∙ (sym (in_parts reading items from end le) ∙ in_parts reading items 0 end (omega arith))
+
 module _ (reading : Reading) (p : ParticipantId) where
   abbrev active_in : List Placed → List ActiveRow
   active_in ps = filter (is_active_row reading p (acts_of ps)) (first_of_each (created_rows ps))
@@ -268,22 +297,9 @@ module _ (reading : Reading) (p : ParticipantId) (start : Start) (items : List I
       sym (filter_both is_kept (is_offered reading p) (listed (written ps []))) ∙ ap (filter is_kept) (listed_placed reading p ps o)
 
   module _ (from : ℕ) where
-    pub in_parts : (end : ℕ) → from ≤ end → placed_below reading items end ≡ placed_below reading items from ++ placed_between reading items from end
-    in_parts zero le = let first : from ≡ 0 = omega (arith, le) in rw first refl
-    in_parts (suc k) le = elim (cases_lt from (suc k)) [
-      | inl lt ↦ ap (λ (ps : List Placed). ps ++ map (at_place k) (writes_of reading items k)) (in_parts k (omega (arith, lt)))
-          ∙ (append_assoc (placed_below reading items from) (placed_between reading items from k) (map (at_place k) (writes_of reading items k))
-          ∙ ap (λ (ps : List Placed). placed_below reading items from ++ ps) (sym (next_between reading items from k (omega (arith, lt)))))
-      | inr ge ↦
-          let same : from ≡ suc k = omega (arith, le, ge) in
-          subst (λ (n : ℕ). placed_below reading items (suc k) ≡ placed_below reading items n ++ placed_between reading items n (suc k)) (sym same)
-          (sym (append-nil (placed_below reading items (suc k)))
-          ∙ ap (λ (ps : List Placed). placed_below reading items (suc k) ++ ps) (sym (none_between reading items (suc k))))
-    ]
-
     begun_parts : (end : ℕ) → from ≤ end → begun end ≡ begun from ++ placed_between reading items from end
     begun_parts end le =
-        ap (λ (ps : List Placed). map creation_of start.active ++ ps) (in_parts end le)
+        ap (λ (ps : List Placed). map creation_of start.active ++ ps) (in_parts reading items from end le)
         ∙ sym (append_assoc (map creation_of start.active) (placed_below reading items from) (placed_between reading items from end))
 
     only_append : (test : Hash → Bool) (xs ys : List Act) → CreateOnly test xs → CreateOnly test ys → CreateOnly test (xs ++ ys)
@@ -346,7 +362,7 @@ module _ (reading : Reading) (p : ParticipantId) (start : Start) (items : List I
       → filter offered (listed (written (placed_between reading items 0 end) (written (map creation_of start.active) []))) ≡ active_kept reading p start items end
   active_from_start end begins =
       let parts : begun end ≡ map creation_of start.active ++ placed_between reading items 0 end =
-      ap (λ (ps : List Placed). map creation_of start.active ++ ps) (in_parts 0 end (omega arith)) in
+      ap (λ (ps : List Placed). map creation_of start.active ++ ps) (in_parts reading items 0 end (omega arith)) in
       ap (λ (rows : List StoreRow). filter offered (listed rows)) (sym (written_append (map creation_of start.active) (placed_between reading items 0 end) []))
       ∙ (ap (λ (ps : List Placed). filter offered (listed (written ps []))) (sym parts)
       ∙ (offered_placed (begun end) (begun_in_order reading start items begins end) ∙ active_is end))

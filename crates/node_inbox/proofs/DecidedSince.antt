@@ -197,7 +197,11 @@ at_heard : (time m k : ℕ) (x : Item) (rest : List Item) → nat_lt time x.time
     → decided_from time m k (x ∷ rest) ≡ suc k
 at_heard time m k x rest early heard = rw (early, heard) refl
 
-item_next : (items : List KeptItem) (i : ℕ) (item : KeptItem) → i < length items → item ≡ get_or items i item
+at_quiet : (time m k : ℕ) (x : Item) (rest : List Item) → nat_lt time x.time ≡ false → is_some (decision_on m (verdict_in x.content)) ≡ false
+    → decided_from time m k (x ∷ rest) ≡ decided_from time m (suc k) rest
+at_quiet time m k x rest early silent = rw (early, silent) refl
+
+pub item_next : (items : List KeptItem) (i : ℕ) (item : KeptItem) → i < length items → item ≡ get_or items i item
     → model_items (drop i items) ≡ model_item item ∷ model_items (drop (i + 1) items)
 item_next items i item h at = ap model_items (drop_more items i item h ∙ ap (λ (x : KeptItem). x ∷ drop (i + 1) items) (sym at))
 
@@ -219,3 +223,11 @@ module _ (decision m : ℕ) (items : List KeptItem) (k i total : ℕ) (walked : 
 
   pub never : length items ≤ i → k ≡ total
   never past = sym (ap (λ (xs : List KeptItem). decided_from decision m k (model_items xs)) (drop_of_length-le items past)) ∙ walked
+
+  pub next_here : (item : KeptItem) → i < length items → item ≡ get_or items i item → false ≡ nat_lt decision item.time
+      → false ≡ is_some (decision_on m (verdict_in (model_content item.content))) → decided_from decision m (k + 1) (model_items (drop (i + 1) items)) ≡ total
+  next_here item h at early silent =
+      let one : k + 1 ≡ suc k = omega arith in
+      ap (λ (n : ℕ). decided_from decision m n (model_items (drop (i + 1) items))) one
+      ∙ (sym (at_quiet decision m k (model_item item) (model_items (drop (i + 1) items)) (sym early) (sym silent))
+      ∙ (sym (ap (decided_from decision m k) (item_next items i item h at)) ∙ walked))

@@ -25,7 +25,7 @@ use Rattle.inbox_standing.proofs.Grown.{one_longer}
 use Rattle.node_inbox.specs.AddedIds.{AreNew, is_unknown}
 use Rattle.node_inbox.specs.Coming.{IsTelling}
 use Rattle.node_inbox.specs.Items.{model_items}
-use Rattle.node_inbox.specs.Kept.{IsInbox}
+use Rattle.node_inbox.specs.Kept.{BeginsAt, IsInbox}
 use Rattle.node_inbox.specs.KeptActive.{AreActive, AreActiveIf, AreFresh, CreateOnly, IsKeptIf, are_at_most, begun_below, not_behind}
 use Rattle.node_inbox.specs.Places.{AreApproved, AreKeptIf, approved_below, parts_at}
 use Rattle.node_inbox.specs.Reads.{HasRead, IsUnread, item_with}
@@ -35,7 +35,7 @@ use Rattle.node_inbox.specs.declared.kept_item.KeptItem.{KeptItem}
 use Rattle.node_inbox.specs.declared.telling.ComingVerdict.{ComingVerdict}
 use Rattle.node_inbox.proofs.Later.{active_stays, create_below, fresh_stays, nothing_behind}
 use Rattle.node_inbox.proofs.NewContracts.{all_unknown}
-use Rattle.node_inbox.proofs.Places.{approved_same, approved_told, none_approved, parts_are}
+use Rattle.node_inbox.proofs.Places.{approved_same, approved_told, none_approved, parts_are, unreceived_approved}
 
 -- ---- the active contracts
 
@@ -103,16 +103,17 @@ module _ (topology : Topology) (packages : Packages) (me : ParticipantId) (old n
 
   -- a verdict
   pub approved_verdict : (coming : ComingVerdict) (time : ℕ) → HasRead topology packages me old new stands.start stands' (item_with time (Told coming.verdict))
-      → (after : ApprovedPlaces) → AreKeptIf (nat_le approved.below (coming.verdict).request) approved after
+      → (base : ℕ) → BeginsAt base stands'.start (model_items new)
+      → (after : ApprovedPlaces) → AreKeptIf (nat_le approved.below (coming.verdict).request) base approved after
       → AreApproved topology.params (model_items old) approved → AreApproved topology.params (model_items new) after
-  approved_verdict coming time h after kept are = by (nat_le approved.below (coming.verdict).request) refl kept
+  approved_verdict coming time h base begins after kept are = by (nat_le approved.below (coming.verdict).request) refl kept
     where
-      by : (b : Bool) → nat_le approved.below (coming.verdict).request ≡ b → AreKeptIf b approved after → AreApproved topology.params (model_items new) after
+      by : (b : Bool) → nat_le approved.below (coming.verdict).request ≡ b → AreKeptIf b base approved after → AreApproved topology.params (model_items new) after
       by true le same =
           subst (AreApproved topology.params (model_items new)) (sym same)
           (subst (λ (items : List Item). AreApproved topology.params items approved) (sym h.items)
           (approved_told topology.params (model_items old) (item_with time (Told coming.verdict)) approved coming.verdict refl (leb-true approved.below (coming.verdict).request le) are))
-      by false le none = none_approved topology.params (model_items new) after none.0 none.1
+      by false le none = unreceived_approved topology.params (model_items new) base after begins.within begins.stands.silent none.0 none.1
 
   told_if : (coming : ComingVerdict) (time : ℕ) (o' : IsInOrder (model_items old ++ item_with time (Told coming.verdict) ∷ [])) (o : Option KeptActive)
       → IsTelling reading (model_items old) coming.verdict coming → AreNew stands.start (stands.store).rows coming.changes.items

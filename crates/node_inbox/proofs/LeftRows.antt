@@ -140,7 +140,7 @@ module _ (reading : Reading) (start : Start) (items : List Item) (n : ℕ) (begi
   live_is : live ≡ written placed []
   live_is =
       sym (written_append (map creation_of start.active) (placed_between reading items 0 n) [])
-      ∙ ap (λ (ps : List Placed). written (map creation_of start.active ++ ps) []) (sym (in_parts reading 0 start items 0 n (omega arith)))
+      ∙ ap (λ (ps : List Placed). written (map creation_of start.active ++ ps) []) (sym (in_parts reading items 0 n (omega arith)))
 
   consumed_since : (c : Hash) → list_any (consumes c) (acts_of placed) ≡ list_any (consumes c) since
   consumed_since c =

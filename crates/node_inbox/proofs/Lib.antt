@@ -26,6 +26,7 @@ pub mod Taken
 pub mod Later
 pub mod Between
 pub mod KeptAnswers
+pub mod KeptItems
 mod FirstVerdict
 pub mod Silent
 pub mod Begins

@@ -66,7 +66,7 @@ low b (row ∷ rows) r =
     let here : row.created_at < b = All-head (λ (a : ActiveRow). a.created_at < b) row rows r in
     (omega (arith, here), low b rows (All-tail (λ (a : ActiveRow). a.created_at < b) row rows r))
 
-none_written : (reading : Reading) (items : List Item) (k : ℕ) → is_received_at items k ≡ false → writes_of reading items k ≡ []
+pub none_written : (reading : Reading) (items : List Item) (k : ℕ) → is_received_at items k ≡ false → writes_of reading items k ≡ []
 none_written reading items k e =
     ap (λ (as' : List Act). if is_approved_in k (moments items) then as' else []) (nothing_there reading items k e) ∙ either (is_approved_in k (moments items))
   where

@@ -1,16 +1,18 @@
 -- The places of approved requests, and what these requests open.
 use Rattle.std.proofs.Common.{◌≡◌, ℕ, zero, suc, ◌+◌, ◌<◌, ◌≤◌, Bool, true, false, List, [], ◌∷◌, ◌++◌, length, Option, Some, None, is_some, refl, sym, ap, ◌∙◌, arith, append_assoc, append-nil}
-use Rattle.std.specs.Prelude.{◌&&◌, option_map}
+use Rattle.std.specs.Prelude.{◌&&◌, option_map, slice_get}
 use Rattle.std.proofs.lemmas.Bool.{ne_eqb}
 use Rattle.ledger_model.specs.Forest.{NoRoots}
 use Rattle.ledger_model.specs.Opening.{roots_in}
 use Rattle.ledger_model.specs.declared.commit.Commit.{Commit}
 use Rattle.canton_model.specs.declared.decision.Decision.{Decision}
 use Rattle.canton_model.specs.declared.verdict.Verdict.{Verdict}
-use Rattle.canton_model.specs.Inbox.{Item, decision_time_in, moments, opened_at, Notice, notice_at, notice_in, part_if, parts_below, shown_in_notice, verdict_in}
+use Rattle.canton_model.specs.Inbox.{Item, decision_time_in, moments, outcome_in, opened_at, Notice, notice_at, notice_in, part_if, parts_below, shown_in_notice, verdict_in}
 use Rattle.canton_model.specs.Log.{Params}
 use Rattle.canton_model.specs.Timeline.{decision_on, is_approval, is_approved_in, is_past, kind_of, outcome_from, verdict_on}
 use Rattle.request_track.specs.Pairs.{Pair, outcome_at}
+use Rattle.pruned_inbox.specs.Forgotten.{silent_front}
+use Rattle.pruned_inbox.specs.Received.{is_received_at}
 use Rattle.inbox_standing.specs.Requests.{outcome_received}
 use Rattle.inbox_standing.proofs.Grown.{get_before, moments_push, one_longer}
 use Rattle.inbox_standing.proofs.Outcomes.{verdict_same}
@@ -18,6 +20,8 @@ use Rattle.node_inbox.specs.Approved.{is_approved}
 use Rattle.node_inbox.specs.Places.{AreApproved, approved_below, parts_at, place_if, places_below, tracked_below}
 use Rattle.node_inbox.specs.declared.approved_places.ApprovedPlaces.{ApprovedPlaces}
 use Rattle.node_inbox.proofs.Approved.{by_verdict}
+use Rattle.node_inbox.proofs.Seen.{none_learnt}
+use Rattle.node_inbox.proofs.Silent.{silent_length, silent_unreceived}
 
 -- the same test below a place
 pub places_same : (test test' : ℕ → Bool) (n : ℕ) → ((k : ℕ) → k < n → test k ≡ test' k) → places_below test n ≡ places_below test' n
@@ -35,6 +39,27 @@ parts_append items (k ∷ ks) ls =
 no_part : (b : Bool) (k : ℕ) → part_if b k NoRoots ≡ []
 no_part true k = refl
 no_part false k = refl
+
+-- none below a place below which nothing was received
+none_unreceived : (params : Params) (items : List Item) (n : ℕ) → ((k : ℕ) → k < n → is_received_at items k ≡ false) → [] ≡ approved_below params items n
+none_unreceived params items zero silent = refl
+none_unreceived params items (suc k) silent =
+    none_unreceived params items k (λ m lt. silent m (omega (arith, lt)))
+    ∙ (sym (append-nil (approved_below params items k))
+    ∙ ap (λ (o : Option Notice). approved_below params items k ++ place_if (is_approved (option_map (λ (n : Notice). kind_of (outcome_in params items k)) o)) k)
+    (sym (none_learnt (slice_get items k) (silent k (omega arith)))))
+
+pub unreceived_approved : (params : Params) (items : List Item) (base : ℕ) (approved : ApprovedPlaces) → base ≤ length items
+    → ((k : ℕ) → k < base → is_received_at items k ≡ false) → approved.below ≡ base → approved.places ≡ [] → AreApproved params items approved
+unreceived_approved params items base approved within silent below places = record {
+  within = omega (arith, within, below);
+  places = places ∙ (none_unreceived params items base silent ∙ ap (approved_below params items) (sym below));
+}
+
+pub silent_approved : (params : Params) (b t : ℕ) (approved : ApprovedPlaces) → approved.below ≡ b → approved.places ≡ []
+    → AreApproved params (silent_front b t) approved
+silent_approved params b t approved =
+    unreceived_approved params (silent_front b t) b approved (let many = silent_length b t in omega (arith, many)) (λ k lt. silent_unreceived b t k)
 
 -- the part of the request at a place, where it is told to be approved
 told_part : (params : Params) (items : List Item) (k : ℕ)

@@ -1,7 +1,10 @@
 -- The items of an inbox, apart from it.
-use Rattle.std.proofs.Common.{◌≡◌, ℕ, zero, suc, ◌+◌, List, [], ◌∷◌, drop, map, take, Option, Some, None, refl, sym, ap, ◌∙◌, subst, arith}
+use Rattle.std.proofs.Common.{◌≡◌, ℕ, zero, suc, ◌+◌, ◌<◌, ◌≤◌, List, [], ◌∷◌, ◌++◌, drop, get_or, length, map, take, Some}
+use Rattle.std.proofs.Common.{refl, sym, ap, ◌∙◌, subst, arith, append-nil, append_assoc}
 use Rattle.std.specs.Prelude.{slice_get}
+use Rattle.std.proofs.lemmas.List.{drop_more}
 use Rattle.std.proofs.lemmas.Option.{none-some, same_Some}
+use Rattle.std.proofs.Math.ListN.{drop_of_length-le}
 use Rattle.ledger_terms.specs.declared.topology.Topology.{Topology}
 use Rattle.ledger_model.specs.Terms.{ParticipantId}
 use Rattle.canton_model.specs.Inbox.{Item}
@@ -29,6 +32,20 @@ take_front zero [] = refl
 take_front zero (x ∷ xs) = refl
 take_front (suc k) [] = refl
 take_front (suc k) (x ∷ xs) = ap (λ (ys : List _). x ∷ ys) (take_front k xs)
+
+-- one more behind those that were there
+pub raw_next : (items : List KeptItem) (place : ℕ) (item : KeptItem) (raw new : List RawItem) → place < length items → item ≡ get_or items place item
+    → new ≡ raw ++ raw_item item ∷ [] → new ++ raw_items (drop (place + 1) items) ≡ raw ++ raw_items (drop place items)
+raw_next items place item raw new within at is =
+    let rest = raw_items (drop (place + 1) items) in
+    let front : drop place items ≡ item ∷ drop (place + 1) items =
+    drop_more items place item within ∙ ap (λ (x : KeptItem). x ∷ drop (place + 1) items) (sym at) in
+    ap (λ (xs : List RawItem). xs ++ rest) is
+    ∙ (append_assoc raw (raw_item item ∷ []) rest ∙ ap (λ (xs : List KeptItem). raw ++ raw_items xs) (sym front))
+
+pub raw_end : (items : List KeptItem) (place : ℕ) (raw : List RawItem) → length items ≤ place → raw ≡ raw ++ raw_items (drop place items)
+raw_end items place raw past =
+    sym (append-nil raw) ∙ ap (λ (xs : List KeptItem). raw ++ raw_items xs) (sym (drop_of_length-le items past))
 
 -- an item there is that of a kept one
 kept_there : (items : List KeptItem) (n : ℕ) (item : RawItem) → slice_get (raw_items items) n ≡ Some item

@@ -13,8 +13,10 @@ use Rattle.canton_model.specs.declared.decision.Decision.{Decision}
 use Rattle.canton_model.specs.declared.decision.Decision.TheVariants.{Approved, Rejected, TimedOut}
 use Rattle.canton_model.specs.declared.verdict.Verdict.{Verdict}
 use Rattle.canton_model.specs.Timeline.{Decided, is_approval, kind_of, outcome_from, outcome_of, verdict_on, is_past}
-use Rattle.canton_model.specs.Inbox.{Item, clean, clean_time, decision_time_in, is_decided_in, item_time, last_time, moments, Notice, notice_at, notice_by, notice_in, opened_at, shown_in_notice}
+use Rattle.canton_model.specs.Inbox as model
+use Rattle.canton_model.specs.Inbox.{Content, Item, clean, clean_time, decision_time_in, is_decided_in, is_received, item_time, last_time, moments, Notice, notice_at, notice_by, notice_in, opened_at, shown_in_notice}
 use Rattle.lang_eval.specs.Found.{Packages}
+use Rattle.pruned_inbox.specs.Received.{is_received_in}
 use Rattle.pruned_inbox.specs.Start.{Start}
 use Rattle.interpret.specs.Ids.{is_authentic}
 use Rattle.request_track.specs.Pairs.{Pair, clean_of, outcome_at}
@@ -62,6 +64,16 @@ kept_notice items k = ap notice_in (model_get items k) ∙ by (slice_get items k
     by : (o : Option KeptItem) → notice_in (option_map model_item o) ≡ option_map notice_of (request_in_item o)
     by None = refl
     by (Some item) = of_content item.content
+
+-- nothing is learnt where nothing was received
+pub none_learnt : (o : Option Item) → is_received_in o ≡ false → notice_in o ≡ None
+none_learnt None e = refl
+none_learnt (Some item) e = of_content item.content e
+  where
+    of_content : (content : Content) → is_received content ≡ false → notice_by content ≡ None
+    of_content (model.Received notice) e = absurd (cc)
+    of_content (model.Told v) e = refl
+    of_content model.Nothing e = refl
 
 -- what is opened of it
 pub opened_is : (items : List KeptItem) (k : ℕ) → roots_kept (kept_at items k) ≡ opened_at (model_items items) k

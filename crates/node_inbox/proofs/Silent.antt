@@ -1,5 +1,5 @@
 -- Silent items.
-use Rattle.std.proofs.Common.{◌≡◌, ℕ, zero, suc, ◌+◌, ◌-◌, ◌<◌, ◌≤◌, Bool, true, false, List, [], ◌∷◌, ◌++◌, length, map, Option, Some, refl, sym, ap, ◌∙◌, subst, arith, append-nil, append_assoc}
+use Rattle.std.proofs.Common.{◌≡◌, ℕ, zero, suc, ◌+◌, ◌-◌, ◌≤◌, Bool, true, false, List, [], ◌∷◌, ◌++◌, length, map, Option, Some, refl, sym, ap, ◌∙◌, subst, arith}
 use Rattle.std.specs.Prelude.{if◌then◌else◌, not, option_map, slice_get}
 use Rattle.std.proofs.lemmas.Option.{none-some, same_Some}
 use Rattle.ledger_terms.specs.declared.act.Act.{Act}
@@ -21,7 +21,6 @@ use Rattle.inbox_standing.specs.Requests.{pairs_from, pairs_in}
 use Rattle.inbox_standing.proofs.Told.{nothing_there}
 use Rattle.node_inbox.specs.Items.{model_content, model_item, model_items}
 use Rattle.node_inbox.specs.Kept.{AreKept, IsKeptContent}
-use Rattle.node_inbox.specs.Reads.{item_with}
 use Rattle.node_inbox.specs.declared.kept_item.KeptContent.{KeptContent}
 use Rattle.node_inbox.specs.declared.kept_item.KeptContent.TheVariants as kept
 use Rattle.node_inbox.specs.declared.kept_item.KeptItem.{KeptItem}
@@ -52,24 +51,6 @@ silent_behind k (suc b) t = (tt, silent_behind (suc k) b t)
 
 pub silent_in_order : (b t : ℕ) → b ≤ t + 1 → IsInOrder (silent_front b t)
 silent_in_order b t fits = record { rise = silent_rise b t fits; behind = silent_behind 0 b t }
-
--- ---- one behind another
-
-pub silent_more : (b t place : ℕ) (items new : List Item) → place < b → items ++ silent_front (b - place) t ≡ silent_front b t
-    → new ≡ items ++ item_with (t - (b - 1 - place)) Nothing ∷ [] → new ++ silent_front (b - (place + 1)) t ≡ silent_front b t
-silent_more b t place items new lt so_far is =
-    let n = b - (place + 1) in
-    let here : b - 1 - place ≡ n = omega (arith, lt) in
-    let more : suc n ≡ b - place = omega (arith, lt) in
-    ap (λ (xs : List Item). xs ++ silent_front n t) is
-    ∙ (append_assoc items (item_with (t - (b - 1 - place)) Nothing ∷ []) (silent_front n t)
-    ∙ (ap (λ (k : ℕ). items ++ item_with (t - k) Nothing ∷ silent_front n t) here
-    ∙ (ap (λ (k : ℕ). items ++ silent_front k t) more ∙ so_far)))
-
-pub silent_end : (b t place : ℕ) (items : List Item) → b ≤ place → items ++ silent_front (b - place) t ≡ silent_front b t → items ≡ silent_front b t
-silent_end b t place items le so_far =
-    let none : zero ≡ b - place = omega (arith, le) in
-    sym (append-nil items) ∙ (ap (λ (n : ℕ). items ++ silent_front n t) none ∙ so_far)
 
 -- ---- nothing comes of them
 

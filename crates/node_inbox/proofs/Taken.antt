@@ -10,11 +10,12 @@ use Rattle.ledger_terms.specs.Trees.{Actions}
 use Rattle.ledger_terms.proofs.Grow.{join-end}
 use Rattle.ledger_model.specs.Opening.{roots_in}
 use Rattle.ledger_model.specs.declared.commit.Commit.{Commit}
-use Rattle.canton_model.specs.Inbox.{Item, moments, opened_at, notice_by, part_if, parts_below, shown_in, shown_in_notice}
+use Rattle.canton_model.specs.Inbox.{Item, Notice, moments, opened_at, notice_by, part_if, parts_below, shown_in, shown_in_notice}
 use Rattle.canton_model.specs.Log.{Params}
 use Rattle.canton_model.specs.Timeline.{is_approved_in}
 use Rattle.canton_model.specs.declared.outcome.Outcome.{Outcome}
 use Rattle.request_track.specs.Pairs.{outcome_at}
+use Rattle.pruned_inbox.specs.Received.{is_received_at}
 use Rattle.inbox_standing.specs.Requests.{outcome_received}
 use Rattle.inbox_standing.specs.Standing.{Stands}
 use Rattle.view_split.specs.Placed.{placed_forest}
@@ -28,7 +29,7 @@ use Rattle.node_inbox.specs.declared.kept_item.KeptContent.TheVariants.{Received
 use Rattle.node_inbox.specs.declared.kept_item.KeptItem.{KeptItem}
 use Rattle.node_inbox.proofs.ActFacts.{placed_step}
 use Rattle.node_inbox.proofs.Approved.{approved_is_told, part_of_approved}
-use Rattle.node_inbox.proofs.Seen.{model_get}
+use Rattle.node_inbox.proofs.Seen.{model_get, none_learnt}
 
 -- ---- views
 
@@ -123,3 +124,16 @@ taken_all items left bound k commits none takes =
     let past : length ms ≤ k = omega (arith, as_many items, none_left items k (sym none ∙ takes.0)) in
     let same : (bound - k) + k ≡ bound = omega (arith, takes.1) in
     takes.2 ∙ (sym (nothing_past ms k (bound - k) past) ∙ ap (parts_below ms) same)
+
+-- ---- where nothing was received
+
+opens_nothing : (ms : List Item) (k : ℕ) → is_received_at ms k ≡ false → opened_at ms k ≡ NoRoots
+opens_nothing ms k e = ap (λ (o : Option Notice). roots_in (shown_in_notice o)) (none_learnt (slice_get ms k) e)
+
+pub parts_none : (ms : List Item) (n : ℕ) → ((k : ℕ) → k < n → is_received_at ms k ≡ false) → [] ≡ parts_below ms n
+parts_none ms zero silent = refl
+parts_none ms (suc k) silent =
+    let b = is_approved_in k (moments ms) in
+    parts_none ms k (λ m lt. silent m (omega (arith, lt)))
+    ∙ (sym (append-nil (parts_below ms k))
+    ∙ ap (λ (p : List Commit). parts_below ms k ++ p) (sym (ap (part_if b k) (opens_nothing ms k (silent k (omega arith))) ∙ no_part b k)))

@@ -16,7 +16,7 @@ is_authentic_change act = is_change act && is_authentic act
 abbrev pub blank_fact : Act → IdFacts
 blank_fact act = record { id = id_of act.action; status = Unknown; locked = false }
 
--- what is known of a contract
+-- the fact on the same contract, by a standing: its status, and whether a request holds it
 abbrev pub fact_in : Stands → IdFacts → IdFacts
 fact_in stands fact =
     record { id = fact.id; status = known_status stands.start (stands.store).rows fact.id; locked = is_held (stands.store).holds fact.id }

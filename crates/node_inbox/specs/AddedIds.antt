@@ -26,7 +26,7 @@ is_unheard rows changed id = is_unknown (status_in rows id) && not (is_among cha
 abbrev pub is_on : Hash → Change → Bool
 is_on id change = bytes_eq id change.known.id
 
--- it creates one of these
+-- the change creates a contract that the store doesn't know and no change before is on
 abbrev pub is_new : List StoreRow → (changed : List Hash) → Change → Bool
 is_new rows changed change = change.is_create && is_unheard rows changed change.known.id
 
@@ -34,11 +34,11 @@ is_new rows changed change = change.is_create && is_unheard rows changed change.
 abbrev pub added_if : Reading → ParticipantId → (is_new : Bool) → Change → List Hash
 added_if reading p is_new change = if is_new && is_stakeholder_hosted reading p change.known.instance then change.known.id ∷ [] else []
 
--- that of the contract that a change brings
+-- the id of the contract that a change creates, where it is new and has a hosted stakeholder
 abbrev pub added_by : Reading → ParticipantId → List StoreRow → (changed : List Hash) → Change → List Hash
 added_by reading p rows changed change = added_if reading p (is_new rows changed change) change
 
--- those of changes behind ones on these contracts
+-- The same of each of these changes, in order. `changed` are the contracts on which changes before these are.
 abbrev pub added_behind : Reading → ParticipantId → List StoreRow → (changed : List Hash) → List Change → List Hash
 added_behind reading p rows changed [] = []
 added_behind reading p rows changed (change ∷ rest) =

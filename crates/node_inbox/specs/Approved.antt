@@ -34,7 +34,7 @@ roots_kept (Some kept) = roots_offered kept.offer
 abbrev pub approved_at : List Item → ℕ → Forest Act
 approved_at items k = if is_approved_in k (moments items) then opened_at items k else NoRoots
 
--- the part of an item at a place, by whether the request there is approved
+-- The commit of the item at a place: what is opened of the request there, where it is approved and something is opened, and else none.
 abbrev pub part_of : Bool → ℕ → KeptContent → List Commit
 part_of approved place (Received kept) = part_if true place (if approved then roots_offered kept.offer else NoRoots)
 part_of approved place (Told verdict) = []

@@ -8,12 +8,12 @@ use Rattle.inbox_standing.specs.Changes.{NoneGone, creation_of}
 use Rattle.inbox_standing.specs.Offered.{CreatedOnce}
 use Rattle.node_inbox.specs.declared.beginning.Beginning.{Beginning}
 
--- what was left there
+-- what the inbox left at its base
 abbrev pub start_of : Beginning → Start
 start_of beginning = record { active = beginning.active; gone = beginning.gone }
 
 -- The base is no later than times allow, which rise with places. The contracts that were active there were created below it, in this order,
--- each once; none of them is gone; and the ids of those that are ascend.
+-- each once, and none of them is gone. The ids of the gone contracts ascend.
 pub record IsBeginning (base base_time : ℕ) (start : Start) : Type 0 where
   pub few : base < 2 ^ 63
   pub early : base ≤ base_time + 1

@@ -25,7 +25,7 @@ use Rattle.node_inbox.specs.declared.kept_item.KeptRequest.{KeptRequest}
 use Rattle.node_inbox.specs.declared.kept_offer.KeptOffer.{KeptOffer}
 use Rattle.node_inbox.specs.declared.telling.ComingVerdict.{ComingVerdict}
 
--- the contracts of what is opened, with nothing known of them, and its changes
+-- The facts are on the contracts of the opened actions, of which nothing is known yet, and the changes are those of these actions.
 pub record AreParts (offer : KeptOffer) (facts : List IdFacts) (changes : List Change) : Type 0 where
   pub facts_are : facts ≡ map blank_fact (acts (roots_offered offer))
   pub changes_are : changes ≡ opened_changes offer
@@ -40,7 +40,7 @@ pub record IsKeptOf (me : ParticipantId) (request : Request) (notice : Notice) (
   pub envelope : kept.envelope ≡ envelope_to me request.envelopes
   pub offer : as_offered kept.offer ≡ notice.offered
 
--- a request that comes
+-- What is kept of a request of which the participant is a recipient, before it is read. Nothing is known yet of its contracts.
 pub record IsComing (topology : Topology) (packages : Packages) (me : ParticipantId) (coming : ComingRequest) : Type 0 where
   pub came : Came topology packages me coming.kept
   pub parts : AreParts (coming.kept).offer (coming.kept).facts ((coming.kept).changes).items
@@ -59,7 +59,8 @@ is_told (Some kind.Rejected) = true
 is_told (Some kind.TimedOut) = true
 is_told (Some kind.Expired) = false
 
--- a verdict that comes on a request that was received
+-- A verdict on a request that was received, before it is read: the outcome that it gives, where it is the first on the request, and the
+-- changes that it makes.
 pub record IsTelling (reading : Reading) (items : List Item) (verdict : Verdict) (coming : ComingVerdict) : Type 0 where
   pub received : is_some (notice_at items verdict.request) ≡ true
   pub verdict_is : coming.verdict ≡ verdict

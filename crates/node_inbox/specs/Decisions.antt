@@ -12,6 +12,7 @@ decided_from time m k (item ∷ rest) =
     then k
     else if is_some (decision_on m (verdict_in item.content)) then suc k else decided_from time m (suc k) rest
 
--- No item in front of the request's place decides it, where there is one at that place.
+-- The place from which on so many items are looked at for what decides a request: the request's own, where an item stands there, and else 0.
+-- No item in front of the request's place decides it.
 abbrev pub start_of : (count place : ℕ) → ℕ
 start_of count place = if nat_lt place count then place else 0

@@ -11,7 +11,8 @@ use Rattle.lang_eval.specs.Found.{Packages}
 use Rattle.pruned_inbox.specs.Start.{Start, is_gone}
 use Rattle.framed_form.specs.FramedReading.{framed_reading}
 
--- The participants, the packages, which participant it is, and what its inbox left at its base.
+-- What contracts see of a `Hosting`, and no line of the topology: the participants, the packages, which participant it is, and what its inbox
+-- left at its base.
 pub record Host : Type 0 where
   pub topology : Topology
   pub packages : Packages

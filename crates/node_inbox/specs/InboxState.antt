@@ -41,7 +41,8 @@ begun topology packages me = begun_at topology packages me 0 0 no_start
 abbrev pub with_item : InboxState → Item → InboxState
 with_item state item = record state { items = state.items ++ item ∷ [] }
 
--- the first place at which the request was decided, and the cursor where it was at none
+-- The least place at which the request is decided, and the cursor where it is at none. Where a verdict decides it, that is the place behind
+-- the verdict.
 abbrev pub decided_since : Params → List Item → ℕ → ℕ
 decided_since params items place = unwrap_or (first_from (is_decided_in params items place) 0 (length items)) (length items)
 

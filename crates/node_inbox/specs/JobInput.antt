@@ -16,7 +16,7 @@ shown_for Mismatch = Fixed RootMismatch
 shown_for Missing = Fixed ViewMissing
 shown_for (Open tree) = ShownOpen tree
 
--- its sender, what it shows, and its facts
+-- what the check of a kept request is given: its sender, what it shows, and its facts, beside who checks it and at which time
 abbrev pub input_of : Bor Setup → (me time : ℕ) → KeptRequest → CheckInput
 input_of setup me time kept =
     record { setup = setup; me = me; sender = kept.sender; time = time; shown = shown_for kept.offer; facts = kept.facts }

@@ -53,18 +53,18 @@ IsKeptContent topology packages me start items k (Received kept) = IsKept topolo
 IsKeptContent topology packages me start items k (Told verdict) = is_some (notice_at (take k items) verdict.request) ≡ true
 IsKeptContent topology packages me start items k Nothing = Unit {0}
 
--- each as the inbox stood when it was read
+-- Each item is kept as is said above, by the inbox as it stood when the item had been read.
 abbrev pub AreKept : Topology → Packages → ParticipantId → Start → List KeptItem → Type 0
 AreKept topology packages me start items =
     (k : ℕ) (item : KeptItem) → slice_get items k ≡ Some item → IsKeptContent topology packages me start (take (suc k) (model_items items)) k item.content
 
--- An inbox in order, and what is kept beside it.
+-- The items are an inbox in order, the standing follows them, and what each keeps is right.
 pub record IsInbox (topology : Topology) (packages : Packages) (me : ParticipantId) (kept : List KeptItem) (stands : Stands) : Type 0 where
   pub follows : Follows (framed_reading topology packages) topology.params stands.start (model_items kept) stands
   pub order : IsInOrder (model_items kept)
   pub each : AreKept topology packages me stands.start kept
 
--- The request at a place, as it is kept.
+-- the request that an item keeps, where it is one of a request
 abbrev pub request_in : KeptContent → Option KeptRequest
 request_in (Received kept) = Some kept
 request_in (Told verdict) = None
@@ -74,6 +74,7 @@ abbrev pub request_in_item : Option KeptItem → Option KeptRequest
 request_in_item None = None
 request_in_item (Some item) = request_in item.content
 
+-- the request at a place, as it is kept
 abbrev pub kept_at : List KeptItem → ℕ → Option KeptRequest
 kept_at items k = request_in_item (slice_get items k)
 

@@ -46,28 +46,28 @@ abbrev pub AreFresh : Reading → Start → List Item → ℕ → Type 0
 AreFresh reading start items n =
     (k : ℕ) → n ≤ k → CreateOnly (λ c. is_unknown (status_after (acts_of (begun_below reading start items n)) c)) (writes_of reading items k)
 
--- they are the participant's active contracts at a place in the inbox
+-- The kept contracts are the participant's active ones at a place in the inbox, and approved requests from there on create only new ones.
 pub record AreActive (reading : Reading) (p : ParticipantId) (start : Start) (items : List Item) (kept : KeptActive) : Type 0 where
   pub within : kept.place ≤ length items
   pub rows : kept.rows ≡ active_kept reading p start items kept.place
   pub fresh : AreFresh reading start items kept.place
 
--- the same, where some are kept
+-- the same of what is kept, if anything is
 abbrev pub AreActiveIf : Reading → ParticipantId → Start → List Item → Option KeptActive → Type 0
 AreActiveIf reading p start items None = Unit {0}
 AreActiveIf reading p start items (Some kept) = AreActive reading p start items kept
 
--- they are as they were, or else none
+-- What is kept stays as it was where the flag is true, and else nothing is kept any more.
 abbrev pub IsKeptIf : Bool → (old new : Option KeptActive) → Type 0
 IsKeptIf true old new = new ≡ old
 IsKeptIf false old new = new ≡ None
 
--- their place is at most this one, where some are kept
+-- nothing is kept, or the active contracts of a place that is at most this one
 abbrev pub are_at_most : Option KeptActive → ℕ → Bool
 are_at_most None place = true
 are_at_most (Some kept) place = nat_le kept.place place
 
--- those at a place that isn't behind another
+-- the kept active contracts, unless their place is behind `end`
 abbrev pub not_behind : Option KeptActive → ℕ → Option KeptActive
 not_behind None end = None
 not_behind (Some kept) end = if nat_le kept.place end then Some kept else None

@@ -5,7 +5,7 @@ use Rattle.ledger_model.specs.Terms.{Hash}
 use Rattle.contract_store.specs.declared.row.StoreRow.{StoreRow}
 use Rattle.pruned_inbox.specs.Start.{Start, is_gone}
 
--- its contract isn't gone
+-- the row's contract isn't gone
 abbrev pub stays : Start → ActiveRow → Bool
 stays start row = not (is_gone start row.known.id)
 

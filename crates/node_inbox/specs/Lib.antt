@@ -4,6 +4,7 @@ pub mod Entries
 pub mod Items
 pub mod Raw
 pub mod Kept
+pub mod KeptItems
 pub mod Acts
 pub mod Coming
 pub mod Decided

@@ -6,15 +6,15 @@ use Rattle.contract_store.specs.Rows.{with_created, with_consumed}
 use Rattle.contract_store.specs.declared.row.StoreRow.{StoreRow}
 use Rattle.inbox_standing.specs.declared.change.Change.{Change}
 
--- of a contract that nothing created or consumed
+-- the row of a contract that nothing has created or consumed
 abbrev pub new_row : Known → StoreRow
 new_row known = record { known = known; created_at = None; consumed_at = None }
 
--- after the request at a place created its contract, or else consumed it
+-- a contract's row after the request at a place created the contract, or else consumed it
 abbrev pub changed_row : ℕ → (is_create : Bool) → StoreRow → StoreRow
 changed_row place is_create row = if is_create then with_created place row else with_consumed place row
 
--- after a change by the request at a place, where there was a row or not
+-- a contract's row after a change by the request at a place, whether there was a row before or not
 abbrev pub row_after : ℕ → Change → Option StoreRow → StoreRow
 row_after place change before = changed_row place change.is_create (unwrap_or before (new_row change.known))
 
@@ -23,7 +23,7 @@ abbrev pub AreById : List (Hash × StoreRow) → Type 0
 AreById [] = Unit {0}
 AreById (entry ∷ entries) = (entry.0 ≡ entry.1.known.id) × AreById entries
 
--- of a consumed contract
+-- there is a row, and its contract was consumed
 abbrev pub has_consumed_row : Option StoreRow → Bool
 has_consumed_row None = false
 has_consumed_row (Some row) = is_some row.consumed_at

@@ -20,6 +20,6 @@ pub record AreOnce (reading : Reading) (start : Start) (items : List Item) : Typ
   pub once : CreatedOnce (changes_since reading start items)
   pub none_gone : NoneGone start (changes_since reading start items)
 
--- the same, where this holds
+-- where the flag `once` is true, no contract is created twice, as is said above
 abbrev pub AreOnceIf : Bool → Reading → Start → List Item → Type 0
 AreOnceIf once reading start items = once ≡ true → AreOnce reading start items

@@ -15,13 +15,13 @@ use Rattle.inbox_standing.specs.declared.change.Change.{Change}
 use Rattle.node_inbox.specs.declared.kept_offer.KeptOffer.{KeptOffer}
 use Rattle.node_inbox.specs.declared.kept_offer.KeptOffer.TheVariants.{Mismatch, Missing, Open}
 
--- what bytes offered of which this is kept
+-- what an envelope's bytes offered, read back from what is kept of it
 abbrev pub as_offered : KeptOffer → OpenedFor
 as_offered Mismatch = opened.Mismatch
 as_offered Missing = opened.Missing
 as_offered (Open tree) = opened.Open tree
 
--- as the definitions of the protocol see it
+-- a kept offer as the definitions of the protocol see it
 abbrev pub model_offer : KeptOffer → Offer
 model_offer offer = offer_of (as_offered offer)
 

@@ -16,11 +16,11 @@ abbrev pub places_below : (ℕ → Bool) → ℕ → List ℕ
 places_below test zero = []
 places_below test (suc k) = places_below test k ++ place_if (test k) k
 
--- those at which an approved request is tracked
+-- the places below n at which an approved request is tracked
 abbrev pub tracked_below : List Pair → ℕ → List ℕ
 tracked_below pairs n = places_below (λ k. is_approved (outcome_at pairs k)) n
 
--- those at which a request was received that is approved
+-- the places below n at which a request was received that is approved
 abbrev pub approved_below : Params → List Item → ℕ → List ℕ
 approved_below params items n = places_below (λ k. is_approved (outcome_received params items k)) n
 
@@ -33,12 +33,12 @@ parts_at items (k ∷ ks) = part_if true k (opened_at items k) ++ parts_at items
 abbrev pub is_kept_from_at : List Item → ℕ → Bool
 is_kept_from_at items k = is_kept_from (notice_at items k)
 
--- they are those of the approved requests of the inbox below a place in it
+-- The kept places are those of all approved requests of the inbox below a place in it.
 pub record AreApproved (params : Params) (items : List Item) (approved : ApprovedPlaces) : Type 0 where
   pub within : approved.below ≤ length items
   pub places : approved.places ≡ approved_below params items approved.below
 
--- they are as they were, or else none
-abbrev pub AreKeptIf : Bool → (old new : ApprovedPlaces) → Type 0
-AreKeptIf true old new = new ≡ old
-AreKeptIf false old new = (new.below ≡ 0) × (new.places ≡ [])
+-- The kept places are as they were where the flag is true, and else there are none, below a base.
+abbrev pub AreKeptIf : Bool → ℕ → (old new : ApprovedPlaces) → Type 0
+AreKeptIf true base old new = new ≡ old
+AreKeptIf false base old new = (new.below ≡ base) × (new.places ≡ [])

@@ -71,7 +71,7 @@ IsCame topology packages me items (raw.Request sender command root seen confirme
 IsCame topology packages me items (raw.Verdict verdict) = is_some (notice_at items verdict.request) ≡ true
 IsCame topology packages me items raw.Nothing = Unit {0}
 
--- each of these may come behind those before it, in an inbox whose items from the base on they are
+-- Each of these raw items may come behind those before it. They are the items from the base on of an inbox, whose items are `all`.
 abbrev pub AreCame : Topology → Packages → ParticipantId → (base : ℕ) → List model.Item → List Item → Type 0
 AreCame topology packages me base all items =
     (k : ℕ) (item : Item) → slice_get items k ≡ Some item → IsCame topology packages me (take (base + k) all) item.what

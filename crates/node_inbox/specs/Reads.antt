@@ -20,20 +20,20 @@ use Rattle.node_inbox.specs.Kept.{IsInbox}
 abbrev pub item_with : (time : ℕ) → Content → Item
 item_with time content = record { time = time; content = content }
 
--- it is an inbox, with this item behind those that it had, and the start that it had
+-- The new items with the standing are an inbox, which has this item behind the old ones, and the start that it had.
 pub record HasRead (topology : Topology) (packages : Packages) (me : ParticipantId) (old new : List KeptItem) (start : Start) (stands : Stands)
     (item : Item) : Type 0 where
   pub inbox : IsInbox topology packages me new stands
   pub start_is : stands.start ≡ start
   pub items : model_items new ≡ model_items old ++ item ∷ []
 
--- it is an inbox, with the items and the start that it had
+-- The new items with the standing are an inbox, which has the items and the start that it had.
 pub record IsUnread (topology : Topology) (packages : Packages) (me : ParticipantId) (old new : List KeptItem) (start : Start) (stands : Stands) : Type 0 where
   pub inbox : IsInbox topology packages me new stands
   pub start_is : stands.start ≡ start
   pub items : new ≡ old
 
--- with what is known of the contracts
+-- a kept request with what the standing knows of its contracts
 abbrev pub kept_with : KeptRequest → Stands → KeptRequest
 kept_with kept stands = record kept { facts = map (fact_in stands) kept.facts }
 

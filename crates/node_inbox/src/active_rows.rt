@@ -1,9 +1,10 @@
 //! The active contracts at a place.
-ghost use Rattle.std.specs.Prelude.{◌≡◌, ◌++◌, ◌∷◌, ◌≤◌, [], IfOk, OnOk, filter, map, slice_get};
+ghost use Rattle.std.specs.Prelude.{◌≡◌, ◌++◌, ◌∷◌, ◌≤◌, ◌<◌, false, ℕ, [], IfOk, OnOk, filter, map, slice_get};
 ghost use Rattle.ledger_model.specs.Forest.{acts};
 ghost use Rattle.interpret.specs.Ids.{is_authentic};
 ghost use Rattle.contract_store.specs.Written.{written};
 ghost use Rattle.framed_form.specs.FramedReading.{framed_reading};
+ghost use Rattle.pruned_inbox.specs.Received.{is_received_at};
 ghost use Rattle.pruned_inbox.specs.Start.{active_kept};
 ghost use Rattle.inbox_standing.specs.ChangeLists.{changes_of, write_changes};
 ghost use Rattle.inbox_standing.specs.Changes.{creation_of};
@@ -17,7 +18,7 @@ ghost use Rattle.node_inbox.specs.Listed.{active_row_of, listed, listed_at};
 use crate::applied::approved_at;
 use crate::hosting::Hosting;
 use crate::kept_active::{KeptActive, not_behind};
-use crate::kept_item::KeptItem;
+use crate::kept_items::KeptItems;
 use crate::live_row::LiveRow;
 use crate::live_rows::LiveRows;
 use confirm_reply::Setup;
@@ -38,15 +39,15 @@ fn write<'k>(live: &mut LiveRows<'k>, place: u64, changes: &'k [Change]) -> Resu
 // Writes the changes by the request at a place, where it is approved.
 fn write_approved<'k>(
     setup: &Setup,
-    items: &'k [KeptItem],
+    items: &'k KeptItems,
     standing: &Standing,
     place: u64,
     live: &mut LiveRows<'k>,
 ) -> Result<(), AllocError>
-    requires told { TellsOutcomes setup.now.topology.params (model_items items.now) standing.now }
-    requires kept { KeepChanges items.now }
+    requires told { TellsOutcomes setup.now.topology.params (model_items items.now.items) standing.now }
+    requires kept { KeepChanges items.now.items }
     ensures { OnOk result (live.new
-        ≡ write_changes place (changes_of (filter is_authentic (acts (approved_at (model_items items.now) place)))) live.old) }
+        ≡ write_changes place (changes_of (filter is_authentic (acts (approved_at (model_items items.now.items) place)))) live.old) }
 {
     match approved_at(setup, items, standing, place) {
         Some(kept) => write(live, place, kept.changes.as_slice()),
@@ -57,17 +58,17 @@ fn write_approved<'k>(
 // Writes what the approved requests from one place on, below another, change.
 fn write_between<'k>(
     setup: &Setup,
-    items: &'k [KeptItem],
+    items: &'k KeptItems,
     standing: &Standing,
     start: u64,
     end: u64,
     live: &mut LiveRows<'k>,
 ) -> Result<(), AllocError>
     requires order { start ≤ end }
-    requires told { TellsOutcomes setup.now.topology.params (model_items items.now) standing.now }
-    requires kept { KeepChanges items.now }
+    requires told { TellsOutcomes setup.now.topology.params (model_items items.now.items) standing.now }
+    requires kept { KeepChanges items.now.items }
     ensures { OnOk result (live.new
-        ≡ written (placed_between (framed_reading setup.now.topology setup.now.checked) (model_items items.now) start end) live.old) }
+        ≡ written (placed_between (framed_reading setup.now.topology setup.now.checked) (model_items items.now.items) start end) live.old) }
 {
     'places: for place in start..end {
         write_approved(setup, items, standing, place, live)?;
@@ -181,23 +182,32 @@ fn left_of(
     Ok(left)
 }
 
+// From where on something may have been received, below an end.
+fn first_of(items: &KeptItems, end: u64) -> u64
+    ensures within { result ≤ end }
+    ensures silent { (k : ℕ) → k < result → is_received_at (model_items items.now.items) k ≡ false }
+{
+    let base = items.base();
+    if base < end { base } else { end }
+}
+
 /// The rows of the contracts that were left at the base, and of those that approved requests below a place changed since.
 pub fn rows_below<'k>(
     alloc: Global,
     setup: &Setup,
-    items: &'k [KeptItem],
+    items: &'k KeptItems,
     standing: &'k Standing,
     end: u64,
 ) -> Result<LiveRows<'k>, AllocError>
-    requires told { TellsOutcomes setup.now.topology.params (model_items items.now) standing.now }
-    requires kept { KeepChanges items.now }
+    requires told { TellsOutcomes setup.now.topology.params (model_items items.now.items) standing.now }
+    requires kept { KeepChanges items.now.items }
     ensures { IfOk result (λ live. live
-        ≡ written (placed_between (framed_reading setup.now.topology setup.now.checked) (model_items items.now) 0 end)
+        ≡ written (placed_between (framed_reading setup.now.topology setup.now.checked) (model_items items.now.items) 0 end)
         (written (map creation_of standing.now.start.active) [])) }
 {
     let mut live = LiveRows::new(alloc);
     write_start(&mut live, standing.start().active().as_slice())?;
-    write_between(setup, items, standing, 0, end, &mut live)?;
+    write_between(setup, items, standing, first_of(items, end), end, &mut live)?;
     Ok(live)
 }
 
@@ -205,17 +215,17 @@ pub fn rows_below<'k>(
 fn active_from(
     alloc: Global,
     hosting: &Hosting<'_>,
-    items: &[KeptItem],
+    items: &KeptItems,
     standing: &Standing,
     kept: &KeptActive,
     end: u64,
 ) -> Result<ActiveRowList, AllocError>
-    requires told { TellsOutcomes hosting.now.topology.params (model_items items.now) standing.now }
-    requires kept { KeepChanges items.now }
+    requires told { TellsOutcomes hosting.now.topology.params (model_items items.now.items) standing.now }
+    requires kept { KeepChanges items.now.items }
     requires order { kept.now.place ≤ end }
-    requires active { AreActive (reading_by hosting.now) hosting.now.me hosting.now.start (model_items items.now) kept.now }
-    requires begins { BeginsIn hosting.now.start (model_items items.now) }
-    ensures { IfOk result (λ rows. rows ≡ active_kept (reading_by hosting.now) hosting.now.me hosting.now.start (model_items items.now) end) }
+    requires active { AreActive (reading_by hosting.now) hosting.now.me hosting.now.start (model_items items.now.items) kept.now }
+    requires begins { BeginsIn hosting.now.start (model_items items.now.items) }
+    ensures { IfOk result (λ rows. rows ≡ active_kept (reading_by hosting.now) hosting.now.me hosting.now.start (model_items items.now.items) end) }
 {
     let mut live = LiveRows::new(alloc);
     write_between(hosting.setup(), items, standing, kept.place, end, &mut live)?;
@@ -228,18 +238,19 @@ fn active_from(
 fn active_from_start(
     alloc: Global,
     hosting: &Hosting<'_>,
-    items: &[KeptItem],
+    items: &KeptItems,
     standing: &Standing,
     end: u64,
 ) -> Result<ActiveRowList, AllocError>
-    requires told { TellsOutcomes hosting.now.topology.params (model_items items.now) standing.now }
-    requires kept { KeepChanges items.now }
-    requires begins { BeginsIn hosting.now.start (model_items items.now) }
-    ensures { IfOk result (λ rows. rows ≡ active_kept (reading_by hosting.now) hosting.now.me hosting.now.start (model_items items.now) end) }
+    requires told { TellsOutcomes hosting.now.topology.params (model_items items.now.items) standing.now }
+    requires kept { KeepChanges items.now.items }
+    requires begins { BeginsIn hosting.now.start (model_items items.now.items) }
+    ensures { IfOk result (λ rows. rows ≡ active_kept (reading_by hosting.now) hosting.now.me hosting.now.start (model_items items.now.items) end) }
 {
     let mut live = LiveRows::new(alloc);
     write_start(&mut live, hosting.start().active().as_slice())?;
-    write_between(hosting.setup(), items, standing, 0, end, &mut live)?;
+    let start = first_of(items, end);
+    write_between(hosting.setup(), items, standing, start, end, &mut live)?;
     let mut rows = ActiveRowList::new(alloc);
     push_offered(alloc, hosting, &live, &mut rows)?;
     Ok(rows)
@@ -250,16 +261,16 @@ fn active_from_start(
 pub fn active_rows(
     alloc: Global,
     hosting: &Hosting<'_>,
-    items: &[KeptItem],
+    items: &KeptItems,
     standing: &Standing,
     kept: &Option<KeptActive>,
     end: u64,
 ) -> Result<ActiveRowList, AllocError>
-    requires told { TellsOutcomes hosting.now.topology.params (model_items items.now) standing.now }
-    requires kept { KeepChanges items.now }
-    requires active { AreActiveIf (reading_by hosting.now) hosting.now.me hosting.now.start (model_items items.now) kept.now }
-    requires begins { BeginsIn hosting.now.start (model_items items.now) }
-    ensures { IfOk result (λ rows. rows ≡ active_kept (reading_by hosting.now) hosting.now.me hosting.now.start (model_items items.now) end) }
+    requires told { TellsOutcomes hosting.now.topology.params (model_items items.now.items) standing.now }
+    requires kept { KeepChanges items.now.items }
+    requires active { AreActiveIf (reading_by hosting.now) hosting.now.me hosting.now.start (model_items items.now.items) kept.now }
+    requires begins { BeginsIn hosting.now.start (model_items items.now.items) }
+    ensures { IfOk result (λ rows. rows ≡ active_kept (reading_by hosting.now) hosting.now.me hosting.now.start (model_items items.now.items) end) }
 {
     match not_behind(kept, end) {
         Some(known) => active_from(alloc, hosting, items, standing, known, end),

@@ -18,7 +18,7 @@ use ledger_terms::{Hash, HashList, ParticipantId};
 use prepare_request::HostedIds;
 use std::alloc::{AllocError, Global};
 
-// So many changes are compared one by one, which costs less than a map; the contracts of later ones stand in a map.
+// How many changes are compared one by one, which costs less than a map. The contracts of those behind them stand in a map.
 const FEW_CHANGES: usize = 8;
 
 fn is_unknown(status: Status) -> bool

@@ -11,7 +11,8 @@ ghost use Rattle.node_inbox.specs.Places.{AreApproved, parts_at};
 use crate::actions::roots_offered;
 use crate::approved_places::ApprovedPlaces;
 use crate::items::request_at;
-use crate::kept_item::{KeptItem, KeptRequest};
+use crate::kept_item::KeptRequest;
+use crate::kept_items::KeptItems;
 use canton_model::Outcome;
 use confirm_reply::Setup;
 use inbox_standing::Standing;
@@ -34,9 +35,9 @@ pub fn is_approved(standing: &Standing, place: u64) -> bool
 }
 
 // The request that was received at a place.
-fn opened_at(items: &[KeptItem], place: u64) -> Option<&KeptRequest>
-    requires { KeepChanges items.now }
-    ensures exact { roots_kept (option_copied result) ≡ opened_at (model_items items.now) place }
+fn opened_at(items: &KeptItems, place: u64) -> Option<&KeptRequest>
+    requires { KeepChanges items.now.items }
+    ensures exact { roots_kept (option_copied result) ≡ opened_at (model_items items.now.items) place }
     ensures changes { IfSome result (λ kept. kept.now.changes.items ≡ opened_changes kept.now.offer) }
 {
     request_at(items, place)
@@ -45,13 +46,13 @@ fn opened_at(items: &[KeptItem], place: u64) -> Option<&KeptRequest>
 /// The request at a place, where it is approved.
 pub fn approved_at<'i>(
     setup: &Setup,
-    items: &'i [KeptItem],
+    items: &'i KeptItems,
     standing: &Standing,
     place: u64,
 ) -> Option<&'i KeptRequest>
-    requires told { TellsOutcomes setup.now.topology.params (model_items items.now) standing.now }
-    requires kept { KeepChanges items.now }
-    ensures exact { roots_kept (option_copied result) ≡ approved_at (model_items items.now) place }
+    requires told { TellsOutcomes setup.now.topology.params (model_items items.now.items) standing.now }
+    requires kept { KeepChanges items.now.items }
+    ensures exact { roots_kept (option_copied result) ≡ approved_at (model_items items.now.items) place }
     ensures changes { IfSome result (λ kept. kept.now.changes.items ≡ opened_changes kept.now.offer) }
 {
     // most places have no request, and an item is found sooner than an outcome
@@ -80,15 +81,15 @@ pub fn push_commit(
 // The request at a place, where it is approved and something is opened of it.
 fn push_approved(
     setup: &Setup,
-    items: &[KeptItem],
+    items: &KeptItems,
     standing: &Standing,
     place: u64,
     commits: &mut CommitList,
 ) -> Result<(), AllocError>
-    requires told { TellsOutcomes setup.now.topology.params (model_items items.now) standing.now }
-    requires kept { KeepChanges items.now }
+    requires told { TellsOutcomes setup.now.topology.params (model_items items.now.items) standing.now }
+    requires kept { KeepChanges items.now.items }
     ensures { OnOk result (commits.new ≡ commits.old
-        ++ part_if (is_approved_in place (moments (model_items items.now))) place (opened_at (model_items items.now) place)) }
+        ++ part_if (is_approved_in place (moments (model_items items.now.items))) place (opened_at (model_items items.now.items) place)) }
 {
     match approved_at(setup, items, standing, place) {
         Some(kept) => {
@@ -100,9 +101,9 @@ fn push_approved(
 }
 
 // What is opened of the request at a place.
-fn push_opened(items: &[KeptItem], place: u64, commits: &mut CommitList) -> Result<(), AllocError>
-    requires { KeepChanges items.now }
-    ensures { OnOk result (commits.new ≡ commits.old ++ part_if true place (opened_at (model_items items.now) place)) }
+fn push_opened(items: &KeptItems, place: u64, commits: &mut CommitList) -> Result<(), AllocError>
+    requires { KeepChanges items.now.items }
+    ensures { OnOk result (commits.new ≡ commits.old ++ part_if true place (opened_at (model_items items.now.items) place)) }
 {
     match opened_at(items, place) {
         Some(kept) => {
@@ -114,9 +115,9 @@ fn push_opened(items: &[KeptItem], place: u64, commits: &mut CommitList) -> Resu
 }
 
 // What is opened of the requests at these places.
-fn opened_of(alloc: Global, items: &[KeptItem], places: &[u64]) -> Result<CommitList, AllocError>
-    requires { KeepChanges items.now }
-    ensures { IfOk result (λ commits. commits ≡ parts_at (model_items items.now) places.now) }
+fn opened_of(alloc: Global, items: &KeptItems, places: &[u64]) -> Result<CommitList, AllocError>
+    requires { KeepChanges items.now.items }
+    ensures { IfOk result (λ commits. commits ≡ parts_at (model_items items.now.items) places.now) }
 {
     let mut commits = CommitList::new(alloc);
     for place in places {
@@ -129,15 +130,15 @@ fn opened_of(alloc: Global, items: &[KeptItem], places: &[u64]) -> Result<Commit
 pub fn applied(
     alloc: Global,
     setup: &Setup,
-    items: &[KeptItem],
+    items: &KeptItems,
     standing: &Standing,
     approved: &ApprovedPlaces,
     end: u64,
 ) -> Result<CommitList, AllocError>
-    requires told { TellsOutcomes setup.now.topology.params (model_items items.now) standing.now }
-    requires kept { KeepChanges items.now }
-    requires approved { AreApproved setup.now.topology.params (model_items items.now) approved.now }
-    ensures { IfOk result (λ commits. commits ≡ parts_below (model_items items.now) end) }
+    requires told { TellsOutcomes setup.now.topology.params (model_items items.now.items) standing.now }
+    requires kept { KeepChanges items.now.items }
+    requires approved { AreApproved setup.now.topology.params (model_items items.now.items) approved.now }
+    ensures { IfOk result (λ commits. commits ≡ parts_below (model_items items.now.items) end) }
 {
     let none = ApprovedPlaces::new(alloc);
     let known = approved.not_behind(&none, end);

@@ -1,5 +1,5 @@
 //! The places of approved requests.
-ghost use Rattle.std.specs.Prelude.{◌≡◌, ◌++◌, ◌∷◌, ◌+◌, ◌<◌, ◌≤◌, ◌^◌, ℕ, [], if◌then◌else◌, nat_le, OnErr, OnOk};
+ghost use Rattle.std.specs.Prelude.{◌≡◌, ◌++◌, ◌+◌, ◌<◌, ◌≤◌, ◌^◌, ℕ, [], if◌then◌else◌, nat_le, OnErr, OnOk};
 ghost use Rattle.request_track.specs.Pairs.{outcome_at};
 ghost use Rattle.node_inbox.specs.Approved.{is_approved};
 ghost use Rattle.node_inbox.specs.Places.{AreKeptIf, place_if, tracked_below};
@@ -28,12 +28,23 @@ impl ApprovedPlaces {
         }
     }
 
-    /// Forgets them unless they are to be kept. Takes no memory.
-    pub fn keep_if(&mut self, kept: bool)
-        ensures { AreKeptIf kept self.old self.new }
+    /// Those below a place below which nothing was received.
+    pub fn at(alloc: Global, below: u64) -> ApprovedPlaces
+        ensures below { result.below ≡ below }
+        ensures places { result.places ≡ [] }
+    {
+        ApprovedPlaces {
+            below,
+            places: U64List::new(alloc),
+        }
+    }
+
+    /// Unless they are to be kept, leaves those below a base, of which there are none. Takes no memory.
+    pub fn keep_if(&mut self, kept: bool, base: u64)
+        ensures { AreKeptIf kept base self.old self.new }
     {
         if !kept {
-            *self = ApprovedPlaces::new(*self.places.allocator());
+            *self = ApprovedPlaces::at(*self.places.allocator(), base);
         }
     }
 

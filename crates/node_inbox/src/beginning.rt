@@ -1,17 +1,12 @@
 //! Where an inbox begins.
-ghost use Rattle.std.specs.Prelude.{◌≡◌, ◌+◌, ◌<◌, ◌≤◌, ◌++◌, ◌∷◌, [], true, List, IfOk, OnOk, get_or, length, map};
-ghost use Rattle.canton_model.specs.Inbox.{Nothing};
+ghost use Rattle.std.specs.Prelude.{◌≡◌, ◌<◌, ◌∷◌, [], true, List, IfOk, OnOk, get_or, length, map};
 ghost use Rattle.contract_store.specs.Rows.{created};
 ghost use Rattle.contract_store.specs.Written.{Placed, written};
 ghost use Rattle.framed_form.specs.FramedReading.{framed_reading};
-ghost use Rattle.pruned_inbox.specs.Forgotten.{silent_front};
 ghost use Rattle.inbox_standing.specs.Changes.{creation_of};
 ghost use Rattle.prepare_request.specs.Hosted.{AreTold};
-ghost use Rattle.node_inbox.specs.Items.{model_items};
-ghost use Rattle.node_inbox.specs.Reads.{item_with};
 
 use crate::added_ids::{added_ids, put_ids};
-use crate::kept_item::{KeptContent, KeptItem};
 use confirm_reply::Setup;
 use inbox_standing::{Change, Standing};
 use ledger_terms::{ActiveRow, ActiveRowList, Exact, Hash, HashList, Known, ParticipantId};
@@ -27,29 +22,6 @@ pub struct Beginning {
     pub base_time: u64,
     pub active: ActiveRowList,
     pub gone: HashList,
-}
-
-// One item more, of which nothing but the time is known.
-fn push_silent(items: &mut Vec<KeptItem>, time: u64) -> Result<(), AllocError>
-    ensures { OnOk result (model_items items.new.items ≡ model_items items.old.items ++ item_with time Nothing ∷ []) }
-{
-    items.push(KeptItem {
-        time,
-        content: KeptContent::Nothing,
-    })?;
-    Ok(())
-}
-
-/// Items of which nothing but the times is known, one microsecond after another, as many as stand below the base.
-pub fn silent_items(alloc: Global, base: u64, base_time: u64) -> Result<Vec<KeptItem>, AllocError>
-    requires { base ≤ base_time + 1 }
-    ensures { IfOk result (λ items. model_items items.items ≡ silent_front base base_time) }
-{
-    let mut items = Vec::new(alloc);
-    'places: for place in 0..base {
-        push_silent(&mut items, base_time - (base - 1 - place))?;
-    }
-    Ok(items)
 }
 
 // The creation of a contract, and nothing else.

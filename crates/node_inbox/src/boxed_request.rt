@@ -53,7 +53,7 @@ impl BoxedRequest {
         Box::into_inner(request)
     }
 
-    /// Puts the facts on its contracts as they stand. Takes no memory.
+    /// Fills its facts with what the standing knows of its contracts. Takes no memory.
     pub fn put_facts(&mut self, standing: &Standing)
         ensures { self.new ≡ kept_with self.old standing.now }
     {

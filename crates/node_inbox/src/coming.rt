@@ -31,7 +31,7 @@ pub struct ComingRequest {
     pub ids: HashList,
 }
 
-/// What is made of what is opened.
+/// A fact on the contract of each action that an offer opens, with nothing known yet, and the changes among these actions.
 pub fn parts_of(alloc: Global, offer: &KeptOffer) -> Result<(IdFactsList, Vec<Change>), AllocError>
     requires { All (λ (act : Act). IsSpellableInstance (instance_of act.action)) (acts (roots_offered offer.now)) }
     ensures { IfOk result (λ parts. AreParts offer.now parts.0 (parts.1).items) }

@@ -48,7 +48,7 @@ fn offer_by(
     }
 }
 
-/// What comes again of a request. The envelope is read once more, without the mediator's tree beside it.
+/// What an inbox keeps of a request that a state had. The envelope is read once more, without the mediator's tree beside it.
 pub fn coming_again(
     alloc: Global,
     setup: &Setup,

@@ -1,5 +1,5 @@
 //! When a request was decided.
-ghost use Rattle.std.specs.Prelude.{◌≡◌, ◌+◌, ◌<◌, ◌≤◌, ◌^◌, is_some, nat_lt, length};
+ghost use Rattle.std.specs.Prelude.{◌≡◌, ◌+◌, ◌<◌, ◌≤◌, drop, is_some, nat_lt, length};
 ghost use Rattle.canton_model.specs.Inbox.{verdict_in};
 ghost use Rattle.canton_model.specs.Timeline.{decision_on};
 ghost use Rattle.inbox_standing.specs.Order.{IsInOrder};
@@ -7,8 +7,9 @@ ghost use Rattle.node_inbox.specs.Decisions.{decided_from, start_of};
 ghost use Rattle.node_inbox.specs.InboxState.{decided_since};
 ghost use Rattle.node_inbox.specs.Items.{model_content, model_items};
 
-use crate::items::{items_from, time_at};
-use crate::kept_item::{KeptContent, KeptItem};
+use crate::items::time_at;
+use crate::kept_item::KeptContent;
+use crate::kept_items::KeptItems;
 use ledger_terms::Params;
 
 fn is_later(time: u64, wait: u64, more: u64, later: u64) -> bool
@@ -29,20 +30,21 @@ fn is_verdict_on(content: &KeptContent, place: u64) -> bool
 }
 
 // The place from which on items can decide the request at a place.
-fn start_of(items: &[KeptItem], place: u64) -> u64
-    ensures start { result ≡ start_of (length items.now) place }
-    ensures within { result ≤ length items.now }
+fn start_of(items: &KeptItems, place: u64) -> u64
+    ensures start { result ≡ start_of (length items.now.items) place }
+    ensures within { result ≤ length items.now.items }
 {
-    if place < items.len() as u64 { place } else { 0 }
+    if place < items.len() { place } else { 0 }
 }
 
-// Where the request at a place, which came at that time, is decided among items the first of which stands at `start`.
-fn decided_among(params: &Params, items: &[KeptItem], place: u64, time: u64, start: u64) -> u64
-    requires { start + length items.now < 2 ^ 64 }
-    ensures { result ≡ decided_from (time + params.now.response_timeout + params.now.reaction_timeout) place start (model_items items.now) }
+// Where the request at a place, which came at that time, is decided among the items from a place on.
+fn decided_among(params: &Params, items: &KeptItems, place: u64, time: u64, start: u64) -> u64
+    requires { start ≤ length items.now.items }
+    ensures { result ≡ decided_from (time + params.now.response_timeout + params.now.reaction_timeout) place start (model_items (drop start items.now.items)) }
 {
-    let mut k = start;
-    'items: for item in items {
+    let end = items.len();
+    'items: for k in start..end {
+        let item = items.item(k);
         if is_later(
             time,
             params.response_timeout,
@@ -51,21 +53,19 @@ fn decided_among(params: &Params, items: &[KeptItem], place: u64, time: u64, sta
         ) {
             return k;
         }
-        k += 1;
-        if is_verdict_on(&item.content, place) {
-            return k;
+        if is_verdict_on(item.content, place) {
+            return k + 1;
         }
     }
-    k
+    end
 }
 
 /// The first place at which the request at a place was decided, and the number of items where it was at none. Goes through the
 /// items from the request's place on.
-pub fn decided_since(params: &Params, items: &[KeptItem], place: u64) -> u64
-    requires { IsInOrder (model_items items.now) }
-    ensures { result ≡ decided_since params.now (model_items items.now) place }
+pub fn decided_since(params: &Params, items: &KeptItems, place: u64) -> u64
+    requires { IsInOrder (model_items items.now.items) }
+    ensures { result ≡ decided_since params.now (model_items items.now.items) place }
 {
     let start = start_of(items, place);
-    let rest = items_from(items, start);
-    decided_among(params, rest, place, time_at(items, place), start)
+    decided_among(params, items, place, time_at(items, place), start)
 }

@@ -1,4 +1,4 @@
-//! What is known of contracts when a request was read.
+//! What was known of contracts when a request was read.
 ghost use Rattle.std.specs.Prelude.{◌≡◌, ◌<◌, map, slice_get, slice_set, Some, vec_len};
 ghost use Rattle.node_inbox.specs.Acts.{fact_in};
 
@@ -23,7 +23,7 @@ fn fill(standing: &Standing, facts: &mut Vec<IdFacts>)
     }
 }
 
-/// The facts on the same contracts as they stand.
+/// The facts on the same contracts, with what the standing knows of them.
 pub fn filled(standing: &Standing, facts: IdFactsList) -> IdFactsList
     ensures { result ≡ map (fact_in standing.now) facts }
 {

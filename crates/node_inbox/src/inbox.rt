@@ -17,11 +17,11 @@ mod next_base;
 
 use crate::added_ids::{added_ids, create_gone, put_ids};
 use crate::approved_places::{ApprovedPlaces, bring_up};
-use crate::beginning::{Beginning, silent_items, write_start};
+use crate::beginning::{Beginning, write_start};
 use crate::coming::coming;
 use crate::coming_again::{RawRequest, coming_again};
 use crate::kept_active::{KeptActive, are_at_most, is_far, keep_active_if};
-use crate::kept_item::KeptItem;
+use crate::kept_items::KeptItems;
 use crate::putting::{put_nothing, put_request, put_verdict};
 use crate::telling::{ComingVerdict, telling};
 use canton_model::{Entry, Message, Request, Verdict};
@@ -42,7 +42,7 @@ pub struct Inbox<'s> {
     me: ParticipantId,
     base: u64,
     base_time: u64,
-    items: Vec<KeptItem>,
+    items: KeptItems,
     standing: Standing,
     hosted: HostedIds,
     // no contract was created twice, and none that is gone
@@ -94,7 +94,7 @@ impl<'s> Inbox<'s> {
     pub fn new(alloc: Global, setup: &'s Setup, me: ParticipantId) -> Inbox<'s>
         ensures { result ≡ begun setup.now.topology setup.now.checked me }
     {
-        let items = Vec::new(alloc);
+        let items = KeptItems::at(alloc, 0, 0);
         let standing = Standing::new(alloc);
         let hosted = HostedIds::new(alloc);
         let approved = ApprovedPlaces::new(alloc);
@@ -130,11 +130,11 @@ impl<'s> Inbox<'s> {
             active,
             gone,
         } = beginning;
-        let items = silent_items(alloc, base, base_time)?;
+        let items = KeptItems::at(alloc, base, base_time);
         let start = KeptStart::of(alloc, active, &gone)?;
         let mut standing = Standing::at(alloc, base, start);
         let mut hosted = HostedIds::new(alloc);
-        let approved = ApprovedPlaces::new(alloc);
+        let approved = ApprovedPlaces::at(alloc, base);
         ids_tell_after_each_change();
         write_start(setup, me, &mut hosted, &mut standing)?;
         Ok(Inbox {
@@ -162,7 +162,7 @@ impl<'s> Inbox<'s> {
     pub fn cursor(&self) -> u64
         ensures { result ≡ length self.now.items }
     {
-        self.items.len() as u64
+        self.items.len()
     }
 
     fn read_nothing(&mut self, time: u64) -> Result<(), AllocError>
@@ -218,7 +218,7 @@ impl<'s> Inbox<'s> {
             alloc,
             self.setup,
             self.me,
-            self.items.as_slice(),
+            &self.items,
             &self.standing,
             verdict,
         )? {
@@ -258,7 +258,7 @@ impl<'s> Inbox<'s> {
         self.is_once = both(self.is_once, are_new);
         // what is kept was true below a place, and a verdict on a request there may come late
         let is_approved_kept = self.approved.below <= place;
-        self.approved.keep_if(is_approved_kept);
+        self.approved.keep_if(is_approved_kept, self.base);
         let is_active_kept = both(are_new, are_at_most(&self.active, place));
         keep_active_if(&mut self.active, is_active_kept);
         Ok(())

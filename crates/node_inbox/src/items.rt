@@ -1,10 +1,11 @@
 //! Items by their places.
-ghost use Rattle.std.specs.Prelude.{◌≡◌, ◌≤◌, drop, length, option_copied, slice_get, take};
+ghost use Rattle.std.specs.Prelude.{◌≡◌, ◌≤◌, length, option_copied, slice_get, take};
 ghost use Rattle.canton_model.specs.Inbox.{item_time, last_time};
 ghost use Rattle.node_inbox.specs.Items.{model_items};
 ghost use Rattle.node_inbox.specs.Kept.{kept_at, request_in};
 
-use crate::kept_item::{KeptContent, KeptItem, KeptRequest};
+use crate::kept_item::{KeptContent, KeptRequest};
+use crate::kept_items::KeptItems;
 
 fn request_in(content: &KeptContent) -> Option<&KeptRequest>
     ensures { option_copied result ≡ request_in content.now }
@@ -17,40 +18,29 @@ fn request_in(content: &KeptContent) -> Option<&KeptRequest>
 }
 
 /// The request that was received at a place.
-pub fn request_at(items: &[KeptItem], place: u64) -> Option<&KeptRequest>
-    ensures { option_copied result ≡ kept_at items.now place }
+pub fn request_at(items: &KeptItems, place: u64) -> Option<&KeptRequest>
+    ensures { option_copied result ≡ kept_at items.now.items place }
 {
-    match items.get(place as usize) {
-        Some(item) => request_in(&item.content),
+    match items.content(place) {
+        Some(content) => request_in(content),
         None => None,
     }
 }
 
 /// The time of the item at a place, and 0 where there is none.
-pub fn time_at(items: &[KeptItem], place: u64) -> u64
-    ensures { result ≡ item_time (slice_get (model_items items.now) place) }
+pub fn time_at(items: &KeptItems, place: u64) -> u64
+    ensures { result ≡ item_time (slice_get (model_items items.now.items) place) }
 {
-    match items.get(place as usize) {
-        Some(item) => item.time,
-        None => 0,
-    }
+    items.time(place)
 }
 
 /// The time of the item before a place, and 0 where there is none.
-pub fn time_before(items: &[KeptItem], place: u64) -> u64
-    requires { place ≤ length items.now }
-    ensures { result ≡ last_time (take place (model_items items.now)) }
+pub fn time_before(items: &KeptItems, place: u64) -> u64
+    requires { place ≤ length items.now.items }
+    ensures { result ≡ last_time (take place (model_items items.now.items)) }
 {
     if place == 0 {
         return 0;
     }
     time_at(items, place - 1)
-}
-
-/// The items from a place on.
-pub fn items_from(items: &[KeptItem], start: u64) -> &[KeptItem]
-    requires { start ≤ length items.now }
-    ensures { result.now ≡ drop start items.now }
-{
-    &items[start as usize..]
 }

@@ -10,7 +10,8 @@ ghost use Rattle.node_inbox.specs.JobInput.{input_of};
 ghost use Rattle.node_inbox.specs.Kept.{AreKept};
 
 use crate::items::{request_at, time_at};
-use crate::kept_item::{KeptItem, KeptRequest};
+use crate::kept_item::KeptRequest;
+use crate::kept_items::KeptItems;
 use confirm_reply::{CheckInput, IdFactsList, Setup};
 use ledger_terms::{Exact, ParticipantId};
 use std::alloc::{AllocError, Global};
@@ -53,17 +54,17 @@ pub fn job<'s>(
     alloc: Global,
     setup: &'s Setup,
     me: ParticipantId,
-    items: &[KeptItem],
+    items: &KeptItems,
     place: u64,
 ) -> Result<ValidateJob<'s>, AllocError>
-    requires kept { (start : Start) × AreKept setup.now.topology setup.now.checked me start items.now }
-    requires owes { owes_at (framed_reading setup.now.topology setup.now.checked) me (model_items items.now) place ≡ true }
+    requires kept { (start : Start) × AreKept setup.now.topology setup.now.checked me start items.now.items }
+    requires owes { owes_at (framed_reading setup.now.topology setup.now.checked) me (model_items items.now.items) place ≡ true }
     ensures place { IfOk result (λ job. job.given.place ≡ place) }
     ensures left { IfOk result (λ job. job.left ≡ length job.given.views) }
     ensures some { IfOk result (λ job. 0 < job.left) }
-    ensures owed { IfOk result (λ job. (start : Start) → AreKept setup.now.topology setup.now.checked me start items.now
+    ensures owed { IfOk result (λ job. (start : Start) → AreKept setup.now.topology setup.now.checked me start items.now.items
         → owed_on_each job.given.input job.given.views
-        ≡ owed_kept (framed_reading setup.now.topology setup.now.checked) setup.now.topology.params me start (model_items items.now) place) }
+        ≡ owed_kept (framed_reading setup.now.topology setup.now.checked) setup.now.topology.params me start (model_items items.now.items) place) }
 {
     let Some(kept) = request_at(items, place) else {
         unreachable!()

@@ -4,7 +4,7 @@ ghost use Rattle.node_inbox.specs.KeptActive.{IsKeptIf, are_at_most, not_behind}
 
 use ledger_terms::ActiveRowList;
 
-// So many entries are gone through sooner than one contract is copied.
+// How many entries are gone through sooner than one contract is copied.
 const FAR: u64 = 4;
 
 /// The active contracts with a hosted stakeholder at a place, in order of creation.
@@ -15,18 +15,18 @@ pub struct KeptActive {
 }
 
 impl KeptActive {
-    /// Whether a place is far behind theirs, as many of them as there are.
+    /// Whether a place is far behind that of these contracts: to go through the entries between takes longer than to copy the contracts.
     pub fn is_far(&self, place: u64) -> bool {
         is_far(self.place, self.rows.len(), place)
     }
 }
 
-/// Whether a place is far behind an earlier one, for so many contracts.
+/// Whether a place is far behind an earlier one: to go through the entries between takes longer than to copy so many contracts.
 pub fn is_far(earlier: u64, count: usize, place: u64) -> bool {
     place.saturating_sub(earlier) / FAR > count as u64
 }
 
-/// Forgets them unless they are to be kept. Takes no memory.
+/// Forgets the active contracts unless they are to be kept. Takes no memory.
 pub fn keep_active_if(active: &mut Option<KeptActive>, kept: bool)
     ensures { IsKeptIf kept active.old active.new }
 {
@@ -35,7 +35,7 @@ pub fn keep_active_if(active: &mut Option<KeptActive>, kept: bool)
     }
 }
 
-/// Whether their place is at most this one, where some are kept.
+/// Whether no active contracts are kept, or those of a place that is at most this one.
 pub fn are_at_most(active: &Option<KeptActive>, place: u64) -> bool
     ensures { result ≡ are_at_most active.now place }
 {
@@ -45,7 +45,7 @@ pub fn are_at_most(active: &Option<KeptActive>, place: u64) -> bool
     }
 }
 
-/// Those at a place that isn't behind another.
+/// The kept active contracts, and none where their place is behind `end`.
 pub fn not_behind(active: &Option<KeptActive>, end: u64) -> Option<&KeptActive>
     ensures { option_copied result ≡ not_behind active.now end }
 {

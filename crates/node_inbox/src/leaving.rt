@@ -86,7 +86,7 @@ fn place_of(ids: &[Hash], id: Hash) -> (usize, bool)
     (at, at < ids.len() && ids[at] == id)
 }
 
-// An id comes among ids that ascend.
+// Puts an id among ids that ascend, unless it is there.
 fn put_id(ids: &mut Vec<Hash>, id: Hash) -> Result<(), AllocError>
     ensures { OnOk result (ids.new.items ≡ with_party id ids.old.items) }
 {
@@ -116,7 +116,7 @@ fn put_row(live: &LiveRows<'_>, at: usize, ids: &mut Vec<Hash>) -> Result<(), Al
     }
 }
 
-/// The ids of these and those of the rows of consumed contracts, ascending.
+/// The ids in `gone` and those of the consumed contracts among the rows, ascending.
 pub fn gone_in(alloc: Global, gone: &[Hash], live: &LiveRows<'_>) -> Result<HashList, AllocError>
     ensures { IfOk result (λ ids. ids ≡ with_parties (consumed_in live.now) gone.now) }
 {

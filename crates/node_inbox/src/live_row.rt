@@ -1,4 +1,4 @@
-//! The row of a contract that a change holds.
+//! The row of a contract, which it borrows from the change that keeps it.
 ghost use Rattle.std.specs.Prelude.{◌≡◌, is_some};
 ghost use Rattle.contract_store.specs.Rows.{smaller};
 ghost use Rattle.node_inbox.specs.Listed.{active_since};

@@ -1,5 +1,5 @@
 //! One item is put behind those that were read, and what is kept beside them follows.
-ghost use Rattle.std.specs.Prelude.{◌≡◌, ◌++◌, ◌∷◌, ◌<◌, ◌^◌, [], length, IfNone, IfSome, OnErr, OnOk, vec_len, vec_capacity};
+ghost use Rattle.std.specs.Prelude.{◌≡◌, ◌<◌, ◌^◌, length, IfNone, IfSome, OnErr, OnOk};
 ghost use Rattle.canton_model.specs.Inbox.{Told, Nothing, last_time};
 ghost use Rattle.inbox_standing.specs.Requests.{decision_after, told_time};
 ghost use Rattle.node_inbox.specs.Coming.{IsComing, IsTelling};
@@ -12,6 +12,7 @@ ghost use Rattle.framed_form.specs.FramedReading.{framed_reading};
 
 use crate::coming::ComingRequest;
 use crate::kept_item::{KeptContent, KeptItem};
+use crate::kept_items::KeptItems;
 use crate::telling::ComingVerdict;
 use canton_model::Outcome;
 use confirm_reply::Setup;
@@ -27,19 +28,11 @@ fn decision_of(params: &Params, time: u64) -> u64
         .saturating_add(params.reaction_timeout)
 }
 
-// Puts an item into the room that is there.
-fn put(items: &mut Vec<KeptItem>, item: KeptItem)
-    requires { vec_len items.old < vec_capacity items.old }
-    ensures { items.new.items ≡ items.old.items ++ item ∷ [] }
-{
-    items.push(item).unwrap();
-}
-
 /// Nothing for the participant.
 pub fn put_nothing(
     setup: &Setup,
     me: ParticipantId,
-    items: &mut Vec<KeptItem>,
+    items: &mut KeptItems,
     standing: &mut Standing,
     time: u64,
 ) -> Result<(), AllocError>
@@ -50,16 +43,13 @@ pub fn put_nothing(
         (item_with time Nothing)) }
     ensures err { OnErr result (IsUnread setup.now.topology setup.now.checked me items.old.items items.new.items standing.old.start standing.new) }
 {
-    items.reserve(1)?;
+    items.reserve()?;
     standing.pass(time);
     standing.advance();
-    put(
-        items,
-        KeptItem {
-            time,
-            content: KeptContent::Nothing,
-        },
-    );
+    items.push_within(KeptItem {
+        time,
+        content: KeptContent::Nothing,
+    });
     Ok(())
 }
 
@@ -67,7 +57,7 @@ pub fn put_nothing(
 pub fn put_request(
     setup: &Setup,
     me: ParticipantId,
-    items: &mut Vec<KeptItem>,
+    items: &mut KeptItems,
     standing: &mut Standing,
     time: u64,
     coming: ComingRequest,
@@ -81,20 +71,17 @@ pub fn put_request(
     ensures err { OnErr result (IsUnread setup.now.topology setup.now.checked me items.old.items items.new.items standing.old.start standing.new) }
 {
     let ComingRequest { mut kept, ids } = coming;
-    items.reserve(1)?;
+    items.reserve()?;
     standing.begin(decision_of(&setup.topology.params, time), &ids)?;
     let place = standing.cursor();
     standing.pass(time);
     kept.put_facts(standing);
     standing.hold(place, &ids);
     standing.advance();
-    put(
-        items,
-        KeptItem {
-            time,
-            content: KeptContent::Received(kept),
-        },
-    );
+    items.push_within(KeptItem {
+        time,
+        content: KeptContent::Received(kept),
+    });
     Ok(())
 }
 
@@ -102,7 +89,7 @@ pub fn put_request(
 pub fn put_verdict(
     setup: &Setup,
     me: ParticipantId,
-    items: &mut Vec<KeptItem>,
+    items: &mut KeptItems,
     standing: &mut Standing,
     time: u64,
     coming: ComingVerdict,
@@ -120,18 +107,15 @@ pub fn put_verdict(
         first,
         changes,
     } = coming;
-    items.reserve(1)?;
+    items.reserve()?;
     standing.make_room(&changes)?;
     standing.pass(time);
     settle_if(standing, verdict.request, first, changes);
     standing.advance();
-    put(
-        items,
-        KeptItem {
-            time,
-            content: KeptContent::Told(verdict),
-        },
-    );
+    items.push_within(KeptItem {
+        time,
+        content: KeptContent::Told(verdict),
+    });
     Ok(())
 }
 

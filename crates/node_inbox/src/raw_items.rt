@@ -4,8 +4,9 @@ ghost use Rattle.node_inbox.specs.Raw.{raw_item, raw_items, raw_what};
 ghost use Rattle.node_inbox.specs.declared.kept_item.KeptContent.TheVariants as Content;
 
 use crate::coming::shared;
-use crate::items::items_from;
-use crate::kept_item::{KeptContent, KeptItem, KeptRequest};
+use crate::item_ref::ItemRef;
+use crate::kept_item::{KeptContent, KeptRequest};
+use crate::kept_items::KeptItems;
 use ledger_terms::Exact;
 use node_state::{Item, ItemList, ItemWhat};
 use std::alloc::{AllocError, Global};
@@ -39,30 +40,25 @@ fn raw_what(content: &KeptContent) -> Result<ItemWhat, AllocError>
     }
 }
 
-fn push_raw(item: &KeptItem, raw: &mut ItemList) -> Result<(), AllocError>
-    ensures { OnOk result (raw.new ≡ raw.old ++ raw_item item.now ∷ []) }
+fn push_raw(item: ItemRef<'_>, raw: &mut ItemList) -> Result<(), AllocError>
+    ensures { OnOk result (raw.new ≡ raw.old ++ raw_item item.entry ∷ []) }
 {
-    let what = raw_what(&item.content)?;
+    let what = raw_what(item.content)?;
     raw.push(Item {
         time: item.time,
         what,
     })
 }
 
-fn raw_of(alloc: Global, items: &[KeptItem]) -> Result<ItemList, AllocError>
-    ensures { IfOk result (λ raw. raw ≡ raw_items items.now) }
+/// The items from a place on. Envelopes aren't copied.
+pub fn raw_items(alloc: Global, items: &KeptItems, from: u64) -> Result<ItemList, AllocError>
+    requires { from ≤ length items.now.items }
+    ensures { IfOk result (λ raw. raw ≡ drop from (raw_items items.now.items)) }
 {
     let mut raw = ItemList::new(alloc);
-    for item in items {
-        push_raw(item, &mut raw)?;
+    let end = items.len();
+    'places: for place in from..end {
+        push_raw(items.item(place), &mut raw)?;
     }
     Ok(raw)
-}
-
-/// The items from a place on. Envelopes aren't copied.
-pub fn raw_items(alloc: Global, items: &[KeptItem], from: u64) -> Result<ItemList, AllocError>
-    requires { from ≤ length items.now }
-    ensures { IfOk result (λ raw. raw ≡ drop from (raw_items items.now)) }
-{
-    raw_of(alloc, items_from(items, from))
 }

@@ -1,14 +1,14 @@
 //! What an inbox kept.
 use crate::approved_places::ApprovedPlaces;
 use crate::kept_active::KeptActive;
-use crate::kept_item::KeptItem;
+use crate::kept_items::KeptItems;
 use inbox_standing::Standing;
 use prepare_request::HostedIds;
 
 /// What an inbox kept, when nobody asks it any more. It borrows nothing, so it is dropped, or forgotten, when whoever has it says.
 #[derive(Drop)]
 pub struct InboxRemains {
-    items: Vec<KeptItem>,
+    items: KeptItems,
     standing: Standing,
     hosted: HostedIds,
     approved: ApprovedPlaces,
@@ -18,7 +18,7 @@ pub struct InboxRemains {
 impl InboxRemains {
     /// The parts of an inbox.
     pub(crate) fn new(
-        items: Vec<KeptItem>,
+        items: KeptItems,
         standing: Standing,
         hosted: HostedIds,
         approved: ApprovedPlaces,

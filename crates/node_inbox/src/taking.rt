@@ -10,7 +10,8 @@ ghost use Rattle.node_inbox.specs.Offers.{roots_offered};
 
 use crate::actions::roots_of;
 use crate::applied::{is_approved, push_commit};
-use crate::kept_item::{KeptContent, KeptItem, KeptRequest};
+use crate::kept_item::{KeptContent, KeptRequest};
+use crate::kept_items::KeptItems;
 use crate::kept_offer::KeptOffer;
 use blind_tree::PlacedViewList;
 use confirm_reply::{Setup, SharedTree};
@@ -78,7 +79,7 @@ fn push_taken(
 /// What `applied` answers, out of the items themselves.
 pub fn into_applied(
     setup: &Setup,
-    items: Vec<KeptItem>,
+    items: KeptItems,
     standing: &Standing,
     end: u64,
 ) -> Result<CommitList, AllocError>
@@ -86,8 +87,12 @@ pub fn into_applied(
     ensures { IfOk result (λ commits. commits ≡ parts_below (model_items items.items) end) }
 {
     let mut commits = CommitList::new(*items.allocator());
-    let mut place = 0;
-    'items: for item in items {
+    let (base, kept) = items.into_kept();
+    if end < base {
+        return Ok(commits);
+    }
+    let mut place = base;
+    'items: for item in kept {
         if place >= end {
             break;
         }

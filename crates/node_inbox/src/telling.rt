@@ -9,7 +9,7 @@ ghost use Rattle.node_inbox.specs.Kept.{IsInbox};
 
 use crate::change_lists::changes_copy;
 use crate::items::request_at;
-use crate::kept_item::KeptItem;
+use crate::kept_items::KeptItems;
 use canton_model::{Decision, Outcome, Verdict};
 use confirm_reply::Setup;
 use inbox_standing::{Change, Standing};
@@ -86,14 +86,14 @@ pub fn telling(
     alloc: Global,
     setup: &Setup,
     me: ParticipantId,
-    items: &[KeptItem],
+    items: &KeptItems,
     standing: &Standing,
     verdict: &Verdict,
 ) -> Result<Option<ComingVerdict>, AllocError>
-    requires { IsInbox setup.now.topology setup.now.checked me items.now standing.now }
-    ensures none { IfOk result (λ o. IfNone o (notice_at (model_items items.now) verdict.now.request ≡ None)) }
+    requires { IsInbox setup.now.topology setup.now.checked me items.now.items standing.now }
+    ensures none { IfOk result (λ o. IfNone o (notice_at (model_items items.now.items) verdict.now.request ≡ None)) }
     ensures some { IfOk result (λ o. IfSome o (λ coming.
-        IsTelling (framed_reading setup.now.topology setup.now.checked) (model_items items.now) verdict.now coming)) }
+        IsTelling (framed_reading setup.now.topology setup.now.checked) (model_items items.now.items) verdict.now coming)) }
 {
     let Some(kept) = request_at(items, verdict.request) else {
         return Ok(None);

@@ -9,7 +9,8 @@ ghost use Rattle.node_inbox.specs.Places.{AreApproved, is_kept_from_at, place_if
 use crate::applied::is_approved;
 use crate::approved_places::ApprovedPlaces;
 use crate::items::request_at;
-use crate::kept_item::{KeptItem, KeptRequest};
+use crate::kept_item::KeptRequest;
+use crate::kept_items::KeptItems;
 use crate::kept_offer::KeptOffer;
 use confirm_reply::Setup;
 use inbox_standing::Standing;
@@ -33,8 +34,8 @@ fn is_kept_from(kept: &KeptRequest) -> bool
     !kept.seen.is_empty() && !is_open(&kept.offer)
 }
 
-fn is_kept_from_at(items: &[KeptItem], place: u64) -> bool
-    ensures { result ≡ is_kept_from_at (model_items items.now) place }
+fn is_kept_from_at(items: &KeptItems, place: u64) -> bool
+    ensures { result ≡ is_kept_from_at (model_items items.now.items) place }
 {
     match request_at(items, place) {
         Some(kept) => is_kept_from(kept),
@@ -42,15 +43,15 @@ fn is_kept_from_at(items: &[KeptItem], place: u64) -> bool
     }
 }
 
-fn is_withheld(setup: &Setup, items: &[KeptItem], standing: &Standing, place: u64) -> bool
-    requires { TellsOutcomes setup.now.topology.params (model_items items.now) standing.now }
-    ensures { result ≡ is_withheld_in (model_items items.now) place }
+fn is_withheld(setup: &Setup, items: &KeptItems, standing: &Standing, place: u64) -> bool
+    requires { TellsOutcomes setup.now.topology.params (model_items items.now.items) standing.now }
+    ensures { result ≡ is_withheld_in (model_items items.now.items) place }
 {
     is_kept_from_at(items, place) && is_approved(standing, place)
 }
 
-fn push_if_kept_from(items: &[KeptItem], place: u64, places: &mut U64List) -> Result<(), AllocError>
-    ensures { OnOk result (places.new ≡ places.old ++ filter (is_kept_from_at (model_items items.now)) (place ∷ [])) }
+fn push_if_kept_from(items: &KeptItems, place: u64, places: &mut U64List) -> Result<(), AllocError>
+    ensures { OnOk result (places.new ≡ places.old ++ filter (is_kept_from_at (model_items items.now.items)) (place ∷ [])) }
 {
     if is_kept_from_at(items, place) {
         places.push(place)?;
@@ -59,8 +60,8 @@ fn push_if_kept_from(items: &[KeptItem], place: u64, places: &mut U64List) -> Re
 }
 
 // Those of these places at which there is a request that the participant is kept from.
-fn kept_from_among(alloc: Global, items: &[KeptItem], among: &[u64]) -> Result<U64List, AllocError>
-    ensures { IfOk result (λ places. places ≡ filter (is_kept_from_at (model_items items.now)) among.now) }
+fn kept_from_among(alloc: Global, items: &KeptItems, among: &[u64]) -> Result<U64List, AllocError>
+    ensures { IfOk result (λ places. places ≡ filter (is_kept_from_at (model_items items.now.items)) among.now) }
 {
     let mut places = U64List::new(alloc);
     for place in among {
@@ -71,13 +72,13 @@ fn kept_from_among(alloc: Global, items: &[KeptItem], among: &[u64]) -> Result<U
 
 fn push_if_withheld(
     setup: &Setup,
-    items: &[KeptItem],
+    items: &KeptItems,
     standing: &Standing,
     place: u64,
     places: &mut U64List,
 ) -> Result<(), AllocError>
-    requires { TellsOutcomes setup.now.topology.params (model_items items.now) standing.now }
-    ensures { OnOk result (places.new ≡ places.old ++ place_if (is_withheld_in (model_items items.now) place) place) }
+    requires { TellsOutcomes setup.now.topology.params (model_items items.now.items) standing.now }
+    ensures { OnOk result (places.new ≡ places.old ++ place_if (is_withheld_in (model_items items.now.items) place) place) }
 {
     if is_withheld(setup, items, standing, place) {
         places.push(place)?;
@@ -89,14 +90,14 @@ fn push_if_withheld(
 pub fn withheld(
     alloc: Global,
     setup: &Setup,
-    items: &[KeptItem],
+    items: &KeptItems,
     standing: &Standing,
     approved: &ApprovedPlaces,
     end: u64,
 ) -> Result<U64List, AllocError>
-    requires told { TellsOutcomes setup.now.topology.params (model_items items.now) standing.now }
-    requires approved { AreApproved setup.now.topology.params (model_items items.now) approved.now }
-    ensures { IfOk result (λ places. places ≡ withheld_below (model_items items.now) end) }
+    requires told { TellsOutcomes setup.now.topology.params (model_items items.now.items) standing.now }
+    requires approved { AreApproved setup.now.topology.params (model_items items.now.items) approved.now }
+    ensures { IfOk result (λ places. places ≡ withheld_below (model_items items.now.items) end) }
 {
     let none = ApprovedPlaces::new(alloc);
     let known = approved.not_behind(&none, end);

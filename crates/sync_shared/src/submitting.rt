@@ -161,6 +161,40 @@ fn refuse<'r, S: Session, const I: u8>(
     }
 }
 
+// Submits for a participant whose lock is held: it reads to the end of the log first.
+fn submit_locked<'r, S: Session, R: Wait, const I: u8>(
+    rt: &R,
+    log: &Mutex<LockedLog<'r, S>>,
+    node: &mut LockedNode<'r, S, I>,
+    client: &mut Client<'r, S>,
+    what: &Submission,
+    now: u64,
+) -> Result<Ticket<'r>, SubmitRefusal>
+    requires time { now ≤ 10 ^ 16 }
+    requires mine { (what.now.participant ≡ I) × (client.old.me ≡ I) }
+    requires named { AreKnown (is_hosted S.topology) (parties_in_what what.now.what) }
+    ensures step { IfSome (answer_of result) (λ r. (paused : List ℕ) → has_place paused what.now.participant ≡ false
+        → ClientStep S.machine S.why now paused client.old.list what.now r client.new.list) }
+    ensures genuine { IfSome (answer_of result) (λ r. SequencerBehind S.machine client.new.list) }
+    ensures ticket { IfOk result (λ t. (t.row ≡ S.history) × (t.list ≡ client.new.list) × (t.me ≡ client.old.me)) }
+    ensures base { IfOk result (λ t. S.bases client.old.me ≤ t.place) }
+    ensures tickets { client.new.tickets ≡ client.old.tickets + one_if (has_ticket result) }
+    ensures seen { IsPrefix client.old.list client.new.list }
+    ensures me { client.new.me ≡ client.old.me }
+    ensures plain { IfErr result (λ refusal. HoldsNoMemory refusal.fault) }
+{
+    if catch_up(rt, log, node, client).is_err() {
+        return Err(SubmitRefusal {
+            fault: SubmitFault::Memory,
+            read_to: client.seen(),
+        });
+    }
+    match node.prepare(what, now) {
+        Ok(request) => hand_in(&mut *log.lock(rt), node, client, what, request, now),
+        Err(fault) => Err(refuse(node, client, what, fault, now)),
+    }
+}
+
 // A submission of participant I, which isn't paused.
 fn submit_at<'r, S: Session, R: Wait, const I: u8>(
     rt: &R,
@@ -188,16 +222,7 @@ fn submit_at<'r, S: Session, R: Wait, const I: u8>(
         unreachable!();
     };
     let mut node = lock.lock(rt);
-    if catch_up(rt, log, &mut *node, client).is_err() {
-        return Err(SubmitRefusal {
-            fault: SubmitFault::Memory,
-            read_to: client.seen(),
-        });
-    }
-    match node.prepare(what, now) {
-        Ok(request) => hand_in(&mut *log.lock(rt), &mut *node, client, what, request, now),
-        Err(fault) => Err(refuse(&mut *node, client, what, fault, now)),
-    }
+    submit_locked(rt, log, &mut *node, client, what, now)
 }
 
 /// A submission of the client's participant, which isn't paused.

@@ -64,18 +64,12 @@ impl<'s> Inbox<'s> {
         ensures start { IfOk result (λ beginning. GoesOn (reading_of self.now) self.now.items place self.now.start (start_of beginning)) }
     {
         let start = self.standing.start();
-        let live = rows_below(
-            alloc,
-            self.setup,
-            self.items.as_slice(),
-            &self.standing,
-            place,
-        )?;
+        let live = rows_below(alloc, self.setup, &self.items, &self.standing, place)?;
         let active = left_in(alloc, start, &live)?;
         let gone = gone_in(alloc, start.gone(), &live)?;
         Ok(Beginning {
             base: place,
-            base_time: time_before(self.items.as_slice(), place),
+            base_time: time_before(&self.items, place),
             active,
             gone,
         })
@@ -86,7 +80,7 @@ impl<'s> Inbox<'s> {
         ensures items { IfOk result (λ items. map (item_by self.now.topology) items ≡ drop self.now.base self.now.items) }
         ensures came { IfOk result (λ items. AreCame self.now.topology self.now.packages self.now.me self.now.base self.now.items items) }
     {
-        let items = raw_items(alloc, self.items.as_slice(), self.base)?;
+        let items = raw_items(alloc, &self.items, self.base)?;
         Ok(items)
     }
 
@@ -96,7 +90,7 @@ impl<'s> Inbox<'s> {
         ensures items { IfOk result (λ items. map (item_by self.now.topology) items ≡ drop place self.now.items) }
         ensures came { IfOk result (λ items. AreCame self.now.topology self.now.packages self.now.me place self.now.items items) }
     {
-        let items = raw_items(alloc, self.items.as_slice(), place)?;
+        let items = raw_items(alloc, &self.items, place)?;
         Ok(items)
     }
 
@@ -115,7 +109,7 @@ impl<'s> Inbox<'s> {
         if clean == 0 {
             return 0;
         }
-        time_at(self.items.as_slice(), clean - 1)
+        time_at(&self.items, clean - 1)
     }
 
     /// What became of the request that was received at a place, and none exactly where none was.
@@ -133,7 +127,7 @@ impl<'s> Inbox<'s> {
         if is_without_verdict(self.outcome(place)) {
             return None;
         }
-        decision_at(self.items.as_slice(), place)
+        decision_at(&self.items, place)
     }
 
     /// Whether a request was received at a place and is decided at the cursor.
@@ -148,7 +142,7 @@ impl<'s> Inbox<'s> {
     pub fn owes(&self, place: u64) -> bool
         ensures { result ≡ owes_at (reading_of self.now) self.now.me self.now.items place }
     {
-        match request_at(self.items.as_slice(), place) {
+        match request_at(&self.items, place) {
             Some(kept) => !kept.confirmed.is_empty(),
             None => false,
         }
@@ -193,7 +187,7 @@ impl<'s> Inbox<'s> {
         active_rows(
             alloc,
             &hosting,
-            self.items.as_slice(),
+            &self.items,
             &self.standing,
             &self.active,
             place,
@@ -235,7 +229,7 @@ impl<'s> Inbox<'s> {
     pub fn decided_since(&self, place: u64) -> u64
         ensures { result ≡ decided_since (params_of self.now) self.now.items place }
     {
-        decided_since(&self.setup.topology.params, self.items.as_slice(), place)
+        decided_since(&self.setup.topology.params, &self.items, place)
     }
 
     /// The check that the participant owes to the request at a place, by what it had read when it had read that.
@@ -247,7 +241,7 @@ impl<'s> Inbox<'s> {
         ensures owed { IfOk result (λ job. owed_on_each job.given.input job.given.views
             ≡ owed_kept (reading_of self.now) (params_of self.now) self.now.me self.now.start self.now.items place) }
     {
-        job(alloc, self.setup, self.me, self.items.as_slice(), place)
+        job(alloc, self.setup, self.me, &self.items, place)
     }
 
     /// The approved requests before the clean place, as they are opened.
@@ -257,7 +251,7 @@ impl<'s> Inbox<'s> {
         applied(
             alloc,
             self.setup,
-            self.items.as_slice(),
+            &self.items,
             &self.standing,
             &self.approved,
             self.clean(),
@@ -285,7 +279,7 @@ impl<'s> Inbox<'s> {
         withheld(
             *self.items.allocator(),
             self.setup,
-            self.items.as_slice(),
+            &self.items,
             &self.standing,
             &self.approved,
             self.clean(),

@@ -7,7 +7,8 @@ ghost use Rattle.node_inbox.specs.InboxState.{params_of};
 
 use crate::inbox::Inbox;
 
-// The greatest place so far, where all requests below this one are decided since a place.
+// The greatest place found at which all requests below it are decided: `place`, where those below it are so from `since` on and that isn't
+// behind it, and else `best`.
 fn best_at(place: u64, since: u64, best: u64) -> u64
     ensures { result ≡ (if nat_le since place then place else best) }
 {
@@ -22,7 +23,8 @@ fn later_of(first: u64, second: u64) -> u64
 }
 
 impl<'s> Inbox<'s> {
-    // From where on the request at a place is decided, too, where others are since a place; and none where it is undecided at the cursor.
+    // From where on the request at a place is decided and others are, too, which are decided from `since` on; none where it is undecided at
+    // the cursor.
     fn since_decided(&self, place: u64, since: u64) -> Option<u64>
         requires within { since ≤ length self.now.items }
         requires received { is_some (notice_at self.now.items place) ≡ true }
@@ -37,7 +39,7 @@ impl<'s> Inbox<'s> {
         Some(later_of(since, later))
     }
 
-    // The same of what was read at a place.
+    // The same of any place. Where no request was received there, nothing has to be decided.
     fn since_with(&self, place: u64, since: u64) -> Option<u64>
         requires { since ≤ length self.now.items }
         ensures { MatchOption result (is_settled_at (params_of self.now) self.now.items (length self.now.items) place ≡ false)

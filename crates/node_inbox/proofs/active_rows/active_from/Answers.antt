@@ -17,7 +17,7 @@ pub returns : goal.returns
 returns c =
     let host = c.args.hosting.now in
     let reading = reading_by host in
-    let items = model_items c.args.items.now in
+    let items = model_items c.args.items.now.items in
     let kept = c.args.kept.now in
     let live : c.write_between.new.live ≡ written (placed_between reading items kept.place c.args.end) [] =
     c.in_ok-write_between.ensures

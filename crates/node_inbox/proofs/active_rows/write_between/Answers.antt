@@ -9,7 +9,7 @@ use Rattle.node_inbox.proofs.active_rows.write_between.Goals as goal
 pub places-init : goal.places-init
 places-init c = (
   omega arith,
-  ap (λ ps. written ps c.args.live.now) (sym (none_between (framed_reading c.args.setup.now.topology c.args.setup.now.checked) (model_items c.args.items.now) c.args.start)),
+  ap (λ ps. written ps c.args.live.now) (sym (none_between (framed_reading c.args.setup.now.topology c.args.setup.now.checked) (model_items c.args.items.now.items) c.args.start)),
 )
 
 pub places-preserved : goal.places-preserved
@@ -17,6 +17,6 @@ places-preserved c =
     let low : c.args.start ≤ c.places.place = c.places.invariant.0 in (
       omega (arith, low),
       c.in_ok-write_approved.ensures
-          ∙ next_written (framed_reading c.args.setup.now.topology c.args.setup.now.checked) (model_items c.args.items.now) c.args.start c.places.place
+          ∙ next_written (framed_reading c.args.setup.now.topology c.args.setup.now.checked) (model_items c.args.items.now.items) c.args.start c.places.place
           c.args.live.now c.places.live low c.places.invariant.1,
     )

@@ -8,4 +8,4 @@ use Rattle.node_inbox.proofs.active_rows.write_between.Given as goal
 abbrev pub invariant-places : goal.invariant-places
 invariant-places l =
     (l.start ≤ l.place)
-    × (l.live ≡ written (placed_between (framed_reading l.setup.topology l.setup.checked) (model_items l.items) l.start l.place) l.fn.live)
+    × (l.live ≡ written (placed_between (framed_reading l.setup.topology l.setup.checked) (model_items l.items.items) l.start l.place) l.fn.live)

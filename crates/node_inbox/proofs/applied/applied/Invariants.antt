@@ -4,4 +4,4 @@ use Rattle.node_inbox.specs.Items.{model_items}
 use Rattle.node_inbox.proofs.applied.applied.Given as goal
 
 abbrev pub invariant-places : goal.invariant-places
-invariant-places l = (l.place ≤ l.end) × (l.commits ≡ parts_below (model_items l.items) l.place)
+invariant-places l = (l.place ≤ l.end) × (l.commits ≡ parts_below (model_items l.items.items) l.place)

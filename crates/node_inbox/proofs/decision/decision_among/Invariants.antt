@@ -1,4 +1,4 @@
-use Rattle.std.proofs.Common.{◌≡◌, drop}
+use Rattle.std.proofs.Common.{◌≡◌, ◌≤◌, drop, length}
 use Rattle.canton_model.specs.Timeline.{verdict_on}
 use Rattle.canton_model.specs.Inbox.{moments}
 use Rattle.node_inbox.specs.Items.{model_items}
@@ -6,4 +6,5 @@ use Rattle.node_inbox.proofs.decision.decision_among.Given as goal
 
 abbrev pub invariant-items : goal.invariant-items
 invariant-items l =
-    verdict_on l.request (moments (model_items (drop l.item-index l.items))) ≡ verdict_on l.request (moments (model_items l.items))
+    (l.k ≤ length l.items.items)
+    × (verdict_on l.request (moments (model_items (drop l.k l.items.items))) ≡ verdict_on l.request (moments (model_items (drop l.start l.items.items))))

@@ -9,5 +9,5 @@ use Rattle.node_inbox.proofs.decision.decision_at.Goals as goal
 pub returns : goal.returns
 returns c =
     c.decision_among.ensures
-    ∙ (ap (λ (items : List KeptItem). verdict_on c.args.place (moments (model_items items))) c.items_from.ensures
-    ∙ told_from c.args.place c.args.items.now c.requires.behind)
+    ∙ (ap (λ (items : List KeptItem). verdict_on c.args.place (moments (model_items items))) c.start_of.ensures.rest
+    ∙ told_from c.args.place c.args.items.now.items c.requires.behind)

@@ -10,6 +10,6 @@ returns-clause-ok c =
     let fits : c.args.time ≤ 2 ^ 64 - 1 = omega (arith, c.ranges.time) in
     let e = c.pass.ensures in
     let a = c.advance.ensures in
-    read_nothing c.args.setup.now.topology c.args.setup.now.checked c.args.me c.args.items.now.items c.put.new.items.items c.args.time c.args.standing.now
+    read_nothing c.args.setup.now.topology c.args.setup.now.checked c.args.me c.args.items.now.items c.push_within.new.self.items c.args.time c.args.standing.now
     c.pass.new.self c.advance.new.self c.requires.inbox c.requires.rises fits e.rows e.pairs e.holds e.cursor a.store a.pairs a.cursor
-    (rw (c.reserve.ensures.items) at c.put.ensures) (a.start ∙ e.start)
+    (rw (c.reserve.ensures.items) at c.push_within.ensures) (a.start ∙ e.start)

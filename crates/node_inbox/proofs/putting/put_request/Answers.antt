@@ -27,8 +27,8 @@ returns-clause-ok c =
     let h = c.hold.ensures in
     let a = c.advance.ensures in
     read_request c.args.setup.now.topology c.args.setup.now.checked c.args.me c.args.items.now.items c.args.coming c.args.time c.requires.coming
-    c.put.new.items.items c.cursor-place.result c.args.standing.now c.begin.new.self c.pass.new.self c.advance.new.self c.requires.inbox c.requires.rises fits
+    c.push_within.new.self.items c.cursor-place.result c.args.standing.now c.begin.new.self c.pass.new.self c.advance.new.self c.requires.inbox c.requires.rises fits
     b.rows b.holds (rw (c.decision_of.ensures) at b.ok) b.cursor c.cursor-place.ensures e.rows e.pairs e.holds e.cursor
     (ap (λ s. s.rows) a.store ∙ h.rows) (ap (λ s. s.holds) a.store ∙ h.holds) (a.pairs ∙ ap (λ t. t.pairs) h.tracking)
     (a.cursor ∙ ap (λ t. t.cursor + 1) h.tracking)
-    (rw (c.reserve.ensures.items, c.put_facts.ensures) at c.put.ensures) (e.start ∙ b.start) (a.start ∙ (h.start ∙ (e.start ∙ b.start)))
+    (rw (c.reserve.ensures.items, c.put_facts.ensures) at c.push_within.ensures) (e.start ∙ b.start) (a.start ∙ (h.start ∙ (e.start ∙ b.start)))

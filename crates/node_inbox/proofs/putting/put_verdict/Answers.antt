@@ -27,8 +27,8 @@ returns-clause-ok c =
     let s = c.settle_if.ensures in
     let a = c.advance.ensures in
     read_verdict c.args.setup.now.topology c.args.setup.now.checked c.args.me c.args.items.now.items c.args.coming c.args.time c.requires.coming
-    c.put.new.items.items c.args.standing.now c.pass.new.self c.settle_if.new.standing c.advance.new.self c.requires.inbox c.requires.rises fits
+    c.push_within.new.self.items c.args.standing.now c.pass.new.self c.settle_if.new.standing c.advance.new.self c.requires.inbox c.requires.rises fits
     (e.rows ∙ m.rows) (e.pairs ∙ ap (λ t. expired c.args.time t.pairs) m.tracking)
     (λ f n h. e.holds f n (m.holds ∙ h ∙ ap (λ t. holding (placed_below (is_open_at t.pairs) f n)) (sym m.tracking)))
-    (e.cursor ∙ ap (λ t. t.cursor) m.tracking) a.store a.pairs a.cursor s.some s.none (rw (c.reserve.ensures.items) at c.put.ensures)
+    (e.cursor ∙ ap (λ t. t.cursor) m.tracking) a.store a.pairs a.cursor s.some s.none (rw (c.reserve.ensures.items) at c.push_within.ensures)
     (e.start ∙ m.start) a.start

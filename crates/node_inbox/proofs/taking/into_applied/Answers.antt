@@ -1,8 +1,23 @@
-use Rattle.std.proofs.Common.{◌≡◌, [], arith}
+use Rattle.std.proofs.Common.{◌≡◌, ◌∙◌, [], arith, rules}
 use Rattle.std.proofs.lemmas.List.{nil_from_length}
-use Rattle.node_inbox.proofs.Taken.{taken_all, taken_far, taken_step}
+use Rattle.node_inbox.specs.Items.{model_items}
+use Rattle.node_inbox.proofs.Taken.{parts_none, taken_all, taken_far, taken_step}
 use Rattle.node_inbox.proofs.taking.into_applied.Goals as goal
 use Rattle.node_inbox.proofs.taking.into_applied.Goals.{in-None, in-Some+then-place-end}
+
+pub returns-then-end-base : goal.returns-then-end-base
+returns-then-end-base c =
+    let low = c.if-end-base.true in
+    c.new-commits.ensures ∙ parts_none (model_items c.args.items.items) c.args.end (λ k lt. c.into_kept-base.ensures.silent k (omega (arith, lt, low)))
+
+pub items-init : goal.items-init
+items-init c =
+    let high = c.if-end-base.false in
+    let all : c.into_iter-item-iterator.result.rest.items ≡ c.into_kept-base.result.1.items = search rules in (
+      all ∙ c.into_kept-base.ensures.kept,
+      omega (arith, high),
+      c.new-commits.ensures ∙ parts_none (model_items c.args.items.items) c.into_kept-base.result.0 c.into_kept-base.ensures.silent,
+    )
 
 pub items-preserved : goal.items-preserved
 items-preserved c =

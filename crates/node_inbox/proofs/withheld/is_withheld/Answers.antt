@@ -11,11 +11,11 @@ returns-then-is_kept_from_at c =
     let approved = is_approved (outcome_at c.args.standing.now.tracking.pairs c.args.place) in
     c.is_approved.ensures
     ∙ (ap (λ (b : Bool). b && approved) (sym c.if-is_kept_from_at.true ∙ c.is_kept_from_at.ensures)
-    ∙ withheld_is c.args.setup.now.topology.params (model_items c.args.items.now) c.args.standing.now c.requires c.args.place)
+    ∙ withheld_is c.args.setup.now.topology.params (model_items c.args.items.now.items) c.args.standing.now c.requires c.args.place)
 
 pub returns-else-is_kept_from_at : goal.returns-else-is_kept_from_at
 returns-else-is_kept_from_at c =
     let approved = is_approved (outcome_at c.args.standing.now.tracking.pairs c.args.place) in
     c.if-is_kept_from_at.false
     ∙ (ap (λ (b : Bool). b && approved) (sym c.if-is_kept_from_at.false ∙ c.is_kept_from_at.ensures)
-    ∙ withheld_is c.args.setup.now.topology.params (model_items c.args.items.now) c.args.standing.now c.requires c.args.place)
+    ∙ withheld_is c.args.setup.now.topology.params (model_items c.args.items.now.items) c.args.standing.now c.requires c.args.place)

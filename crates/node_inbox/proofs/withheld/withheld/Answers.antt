@@ -8,7 +8,7 @@ use Rattle.node_inbox.proofs.withheld.withheld.Goals as goal
 pub places-init : goal.places-init
 places-init c =
     let params = c.args.setup.now.topology.params in
-    let items = model_items c.args.items.now in
+    let items = model_items c.args.items.now.items in
     let known = c.not_behind-known.result.now in
     let are =
     not_behind_places params items c.args.approved.now c.new-none.result c.args.end c.requires.approved

@@ -16,19 +16,18 @@ new-hosting-requires c =
 
 pub active_rows-requires-clause-told : goal.active_rows-requires-clause-told
 active_rows-requires-clause-told c =
-    rw (c.new-hosting.ensures, c.as_slice.ensures.value)
+    rw (c.new-hosting.ensures)
     (outcome_at_is c.self.inside.setup.now.topology c.self.inside.setup.now.checked c.self.inside.me c.self.inside.items.items c.self.inside.standing c.self.invariant.0)
 
 pub active_rows-requires-clause-kept : goal.active_rows-requires-clause-kept
 active_rows-requires-clause-kept c =
-    rw (c.as_slice.ensures.value)
-    (keep_changes c.self.inside.setup.now.topology c.self.inside.setup.now.checked c.self.inside.me c.self.inside.standing.start c.self.inside.items.items c.self.invariant.0.each)
+    keep_changes c.self.inside.setup.now.topology c.self.inside.setup.now.checked c.self.inside.me c.self.inside.standing.start c.self.inside.items.items c.self.invariant.0.each
 
 pub active_rows-requires-clause-active : goal.active_rows-requires-clause-active
-active_rows-requires-clause-active c = rw (c.new-hosting.ensures, c.as_slice.ensures.value, c.start.ensures) (c.self.invariant.4)
+active_rows-requires-clause-active c = rw (c.new-hosting.ensures, c.start.ensures) (c.self.invariant.4)
 
 pub active_rows-requires-clause-begins : goal.active_rows-requires-clause-begins
-active_rows-requires-clause-begins c = rw (c.new-hosting.ensures, c.as_slice.ensures.value, c.start.ensures) (c.self.inside.base, c.self.invariant.5)
+active_rows-requires-clause-begins c = rw (c.new-hosting.ensures, c.start.ensures) (c.self.inside.base, c.self.invariant.5)
 
 pub returns : goal.returns
-returns c = rw (← c.self.view_is) (rw (c.new-hosting.ensures, c.as_slice.ensures.value, c.start.ensures) at c.active_rows.ensures)
+returns c = rw (← c.self.view_is) (rw (c.new-hosting.ensures, c.start.ensures) at c.active_rows.ensures)

@@ -3,13 +3,11 @@ use Rattle.node_inbox.proofs.inbox.Inbox.applied.Goals as goal
 
 pub applied-requires-clause-told : goal.applied-requires-clause-told
 applied-requires-clause-told c =
-    rw (c.as_slice.ensures.value)
-    (outcome_at_is c.self.inside.setup.now.topology c.self.inside.setup.now.checked c.self.inside.me c.self.inside.items.items c.self.inside.standing c.self.invariant.0)
+    outcome_at_is c.self.inside.setup.now.topology c.self.inside.setup.now.checked c.self.inside.me c.self.inside.items.items c.self.inside.standing c.self.invariant.0
 
 pub applied-requires-clause-kept : goal.applied-requires-clause-kept
 applied-requires-clause-kept c =
-    rw (c.as_slice.ensures.value)
-    (keep_changes c.self.inside.setup.now.topology c.self.inside.setup.now.checked c.self.inside.me c.self.inside.standing.start c.self.inside.items.items c.self.invariant.0.each)
+    keep_changes c.self.inside.setup.now.topology c.self.inside.setup.now.checked c.self.inside.me c.self.inside.standing.start c.self.inside.items.items c.self.invariant.0.each
 
 pub applied-requires-clause-approved : goal.applied-requires-clause-approved
-applied-requires-clause-approved c = rw (c.as_slice.ensures.value) (c.self.invariant.3)
+applied-requires-clause-approved c = c.self.invariant.3

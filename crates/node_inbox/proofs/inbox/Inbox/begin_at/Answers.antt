@@ -1,4 +1,5 @@
-use Rattle.std.proofs.Common.{◌≡◌, [], map, subst, sym, ap, ◌∙◌}
+use Rattle.std.proofs.Common.{◌≡◌, List, [], map, subst, sym, ap, ◌∙◌}
+use Rattle.canton_model.specs.Inbox.{Item}
 use Rattle.contract_store.specs.Written.{written}
 use Rattle.framed_form.specs.FramedReading.{framed_reading}
 use Rattle.pruned_inbox.specs.Forgotten.{silent_front}
@@ -9,7 +10,9 @@ use Rattle.node_inbox.specs.Items.{model_items}
 use Rattle.node_inbox.specs.Kept.{BeginsAt}
 use Rattle.node_inbox.specs.Offered.{AreOnce}
 use Rattle.node_inbox.proofs.Begins.{begins_begun, is_begun, once_begun, start_same, state_begun}
-use Rattle.node_inbox.proofs.Places.{none_approved}
+use Rattle.node_inbox.specs.Places.{AreApproved}
+use Rattle.node_inbox.proofs.KeptItems.{silent_models}
+use Rattle.node_inbox.proofs.Places.{silent_approved}
 use Rattle.node_inbox.proofs.inbox.Inbox.begin_at.Goals as goal
 
 pub invariant_of-result : goal.invariant_of-result
@@ -20,8 +23,8 @@ invariant_of-result c =
     let b = c.args.beginning.base in
     let t = c.args.beginning.base_time in
     let start = start_of c.args.beginning in
-    let items = c.in_ok-items.items.items in
-    let same : model_items items ≡ silent_front b t = c.in_ok-items.ensures in
+    let items = c.at-items.result.items in
+    let same : model_items items ≡ silent_front b t = ap model_items c.at-items.ensures ∙ silent_models b t in
     let stands = c.write_start.new.standing in
     let wrote = c.in_ok-write_start.ensures in
     let at = c.at-standing.ensures in
@@ -34,7 +37,8 @@ invariant_of-result c =
       wrote.told,
       λ e. subst (λ (s : Start). AreOnce reading s (model_items items)) (sym from)
           (subst (AreOnce reading start) (sym same) (once_begun reading start b t c.requires)),
-      none_approved topology.params (model_items items) c.new-approved.result c.new-approved.ensures.below c.new-approved.ensures.places,
+      subst (λ (items : List Item). AreApproved topology.params items c.at-approved.result) (sym same)
+          (silent_approved topology.params b t c.at-approved.result c.at-approved.ensures.below c.at-approved.ensures.places),
       tt,
       subst (λ (s : Start). BeginsAt b s (model_items items)) (sym from)
           (subst (BeginsAt b start) (sym same) (begins_begun reading start b t c.requires)),
@@ -45,8 +49,9 @@ returns c =
     let start = start_of c.args.beginning in
     let started : c.in_ok-start.start ≡ start = start_same c.in_ok-start.start start c.in_ok-start.ensures.active c.in_ok-start.ensures.gone in
     state_begun c.args.setup.now.topology c.args.setup.now.checked c.args.me c.args.beginning.base c.args.beginning.base_time start
-    c.write_start.new.standing.start (model_items c.in_ok-items.items.items)
-    (c.in_ok-write_start.ensures.start ∙ (c.at-standing.ensures.start ∙ started)) c.in_ok-items.ensures
+    c.write_start.new.standing.start (model_items c.at-items.result.items)
+    (c.in_ok-write_start.ensures.start ∙ (c.at-standing.ensures.start ∙ started))
+    (ap model_items c.at-items.ensures ∙ silent_models c.args.beginning.base c.args.beginning.base_time)
 
 pub write_start-requires-clause-told : goal.write_start-requires-clause-told
 write_start-requires-clause-told c =

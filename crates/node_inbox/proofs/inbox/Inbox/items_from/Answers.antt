@@ -1,4 +1,4 @@
-use Rattle.std.proofs.Common.{◌≤◌, length, map, drop, ap, subst, sym, ◌∙◌, arith}
+use Rattle.std.proofs.Common.{◌≤◌, length, map, ap, subst, sym, ◌∙◌, arith}
 use Rattle.node_state.specs.declared.item.Item.{Item as RawItem}
 use Rattle.std.specs.Prelude.{List}
 use Rattle.node_inbox.specs.InboxState.{InboxState}
@@ -13,13 +13,13 @@ raw_items-requires c =
     let i = c.self.inside in
     let within = subst (λ (i : InboxState). c.args.place ≤ length i.items) (sym c.self.view_is) c.requires in
     let many = as_many i.items.items in
-    rw (c.as_slice.ensures.value) (omega (arith, within, many))
+    omega (arith, within, many)
 
 pub returns-clause-items : goal.returns-clause-items
 returns-clause-items c =
     let i = c.self.inside in
     let topology = i.setup.now.topology in
-    let is = rw (c.as_slice.ensures.value) at c.in_ok-items.ensures in
+    let is = c.in_ok-items.ensures in
     rw (← c.self.view_is)
     (ap (map (item_by topology)) is
     ∙ raw_are topology i.setup.now.checked i.me i.standing.start i.items.items c.self.invariant.0.each c.args.place)
@@ -29,7 +29,7 @@ returns-clause-came c =
     let i = c.self.inside in
     let topology = i.setup.now.topology in
     let packages = i.setup.now.checked in
-    let is = rw (c.as_slice.ensures.value) at c.in_ok-items.ensures in
+    let is = c.in_ok-items.ensures in
     rw (← c.self.view_is)
     (subst (λ (raw : List RawItem). AreCame topology packages i.me c.args.place (model_items i.items.items) raw) (sym is)
     (raw_came topology packages i.me i.standing.start i.items.items c.self.invariant.0.each c.args.place))

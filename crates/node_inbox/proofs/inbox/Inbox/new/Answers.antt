@@ -13,8 +13,8 @@ invariant_of-result c =
     let topology = c.args.setup.now.topology in
     let packages = c.args.setup.now.checked in
     let reading = framed_reading topology packages in
-    let items = c.new-items.result.items in
-    let same : model_items items ≡ [] = ap model_items c.new-items.ensures.items in
+    let items = c.at-items.result.items in
+    let same : model_items items ≡ [] = ap model_items c.at-items.ensures in
     let stands = c.new-standing.result in
     let s = c.new-standing.ensures in (
       is_begun topology packages c.args.me 0 0 no_start items stands begins_new same s.start s.rows s.holds s.pairs s.cursor,
@@ -30,4 +30,4 @@ invariant_of-result c =
 pub returns : goal.returns
 returns c =
     state_begun c.args.setup.now.topology c.args.setup.now.checked c.args.me 0 0 no_start c.new-standing.result.start
-    (model_items c.new-items.result.items) c.new-standing.ensures.start (ap model_items c.new-items.ensures.items)
+    (model_items c.at-items.result.items) c.new-standing.ensures.start (ap model_items c.at-items.ensures)

@@ -68,7 +68,9 @@ invariant_of-self-2 c =
     let new = rw (c.store.ensures, c.as_slice.ensures.value) at c.in_ok-ids.ensures.new in
     let gone = rw (c.start.ensures, c.as_slice-2.ensures.value) at c.create_gone-some_gone.ensures in
     let fresh = new_ones i.standing.start i.standing.store.rows c.args.coming.changes.items _ _ new gone in
-    let coming = rw (← c.self.view_is) at c.requires.coming in (
+    let coming = rw (← c.self.view_is) at c.requires.coming in
+    let begins =
+    begins_read topology packages i.me i.base i.items.items c.put_verdict.new.items.items i.standing.start c.put_verdict.new.standing _ read c.self.invariant.5 in (
       read.inbox,
       told_verdict topology packages i.me i.items.items c.put_verdict.new.items.items i.standing c.put_verdict.new.standing c.self.invariant.0
           i.hosted.ids on c.args.coming c.args.time c.put_ids.new.hosted.ids coming read c.self.invariant.1
@@ -78,9 +80,9 @@ invariant_of-self-2 c =
       rw c.both-self-inside.ensures (once_verdict topology packages i.me i.items.items c.put_verdict.new.items.items i.standing c.put_verdict.new.standing c.self.invariant.0
           i.hosted.ids c.args.coming c.args.time coming read i.is_once _ (λ e. fresh (sym c.both-are_new.ensures ∙ e)) c.self.invariant.2),
       approved_verdict topology packages i.me i.items.items c.put_verdict.new.items.items i.standing c.put_verdict.new.standing c.self.invariant.0
-          i.approved i.active c.args.coming c.args.time read _ c.keep_if.ensures c.self.invariant.3,
+          i.approved i.active c.args.coming c.args.time read i.base begins _ c.keep_if.ensures c.self.invariant.3,
       active_verdict topology packages i.me i.items.items c.put_verdict.new.items.items i.standing c.put_verdict.new.standing c.self.invariant.0
           i.approved i.active c.args.coming c.args.time coming read _ _ (λ e. fresh (sym c.both-are_new.ensures ∙ e)) c.are_at_most.ensures _
           (rw c.both-is_active_kept.ensures at c.keep_active_if.ensures) c.self.invariant.4,
-      begins_read topology packages i.me i.base i.items.items c.put_verdict.new.items.items i.standing.start c.put_verdict.new.standing _ read c.self.invariant.5,
+      begins,
     )
