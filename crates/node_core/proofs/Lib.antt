@@ -6,6 +6,7 @@ pub mod Growth
 pub mod LogEnds
 pub mod Once
 pub mod KeptSteps
+pub mod NextItem
 pub mod Fronts
 pub mod Pruned
 pub mod Again

@@ -49,7 +49,8 @@ answers_of p =
       prepare = prepare_answer p;
     }
 
--- Two participants are one, over one setup, with equal inboxes and flags, and with equal claims of what they owe.
+-- Two values are of one participant: the setup, the start, the items and the flag are the same, and of the places where verdicts are owed
+-- the same are claimed.
 pub record AreAlike (a b : Participant) : Type 0 where
   pub topology : a.topology ≡ b.topology
   pub packages : a.packages ≡ b.packages
@@ -59,7 +60,7 @@ pub record AreAlike (a b : Participant) : Type 0 where
   pub claimed : (k : ℕ) → owes_there a k ≡ true → has_place a.state.claimed k ≡ has_place b.state.claimed k
   pub is_paused : a.state.is_paused ≡ b.state.is_paused
 
--- it reads requests as the machine does, and has its times
+-- the participant reads requests as the machine does, and has the machine's times
 pub record IsOf (m : Machine) (p : Participant) : Type 0 where
   pub reading : m.reading ≡ reading_of p
   pub params : m.params ≡ params_of p

@@ -7,11 +7,11 @@ use Rattle.node_core.specs.Participant.{Participant}
 abbrev pub Bases : Type 0
 Bases = ParticipantId → ℕ
 
--- these are theirs, in order
+-- the base of the p-th node is that of participant p
 abbrev pub AreBases : Bases → List Participant → Type 0
 AreBases bases nodes = (p : ParticipantId) (node : Participant) → slice_get nodes p ≡ Some node → node.base ≡ bases p
 
--- its base, where there is one
+-- a participant's base, and 0 where there is no participant
 abbrev pub base_in : Option Participant → ℕ
 base_in None = 0
 base_in (Some node) = node.base

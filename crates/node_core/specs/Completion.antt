@@ -11,7 +11,7 @@ of_decision n Approved = completion.Approved n
 of_decision n (Rejected from view reason) = completion.Rejected n from view reason
 of_decision n (TimedOut missing) = completion.TimedOut n missing
 
--- an outcome over so many entries
+-- what a participant that has read so many entries says of a request with this outcome
 abbrev pub completion_of : (read_to : ℕ) → Outcome → Completion
 completion_of n (Decided decision) = of_decision n decision
 completion_of n Expired = completion.Expired n

@@ -33,6 +33,7 @@ abbrev pub with_owed : Kept → ℕ → Kept
 with_owed kept k =
     record { owed = kept.owed ++ k ∷ []; room = kept.room; passed = kept.passed; claimed = kept.claimed; unfinished = kept.unfinished; outbox = kept.outbox }
 
+-- with a place claimed, whose job isn't finished
 abbrev pub with_claim : Kept → ℕ → Kept
 with_claim kept k =
     record {
@@ -44,6 +45,7 @@ with_claim kept k =
       outbox = kept.outbox;
     }
 
+-- with the response of a finished job, which waits to be sent
 abbrev pub with_response : Kept → Response → Kept
 with_response kept response =
     record {
@@ -59,6 +61,7 @@ abbrev pub without_response : Kept → ℕ → Kept
 without_response kept k =
     record { owed = kept.owed; room = kept.room; passed = kept.passed; claimed = kept.claimed; unfinished = kept.unfinished; outbox = without k kept.outbox }
 
+-- with the job of a place put back: neither a claim of it is left nor a response
 abbrev pub without_claim : Kept → ℕ → (passed : ℕ) → Kept
 without_claim kept k passed =
     record {
@@ -70,7 +73,7 @@ without_claim kept k passed =
       outbox = without k kept.outbox;
     }
 
--- a claim of a place whose job is done
+-- with a place claimed whose job is finished
 abbrev pub with_done : Kept → ℕ → Kept
 with_done kept k =
     record {
@@ -82,6 +85,7 @@ with_done kept k =
       outbox = kept.outbox;
     }
 
+-- with one more response that waits, and no job changed
 abbrev pub with_waiting : Kept → Response → Kept
 with_waiting kept response =
     record {
@@ -110,7 +114,7 @@ IsPassed decided kept =
 abbrev pub AreToDistinct : List Response → Type 0
 AreToDistinct responses = IsDistinct nat_eq (map (λ (response : Response). response.request) responses)
 
--- of two responses, the one to the earlier place, and the first at one place
+-- of two responses the one to the earlier place, and of two to one place the first
 abbrev pub earlier : Option Response → Option Response → Option Response
 earlier None later = later
 earlier (Some a) None = Some a

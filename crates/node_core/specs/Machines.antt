@@ -22,7 +22,8 @@ offered_in topology packages p items = offered (framed_reading topology packages
 abbrev pub wanted_request : Topology → Packages → Submission → List Item → (now : ℕ) → Option Request
 wanted_request topology packages = prepare_over topology packages (offered_in topology packages)
 
--- framed requests are read, and submissions prepared, and there is a participant for each host
+-- The machine of a synchroniser with this topology, these packages and this capacity. It reads framed requests, prepares submissions over what
+-- participants offer, and has a participant for each host.
 abbrev pub machine_of : Topology → Packages → (capacity : ℕ) → Machine
 machine_of topology packages capacity = machine_over topology packages capacity (offered_in topology packages)
 
@@ -30,7 +31,7 @@ machine_of topology packages capacity = machine_over topology packages capacity 
 abbrev pub why_of : Topology → Packages → Why SubmitFault
 why_of topology packages = why_over topology packages (offered_in topology packages)
 
--- it is participant p of the machine
+-- the node is participant p of the machine
 pub record IsNodeOf (m : Machine) (p : ParticipantId) (node : NodeValue) : Type 0 where
   pub reading : reading_of node ≡ m.reading
   pub params : (node.topology).params ≡ m.params

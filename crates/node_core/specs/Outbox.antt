@@ -8,7 +8,7 @@ pub record Waiting : Type 0 where
   pub responses : List Response
   pub capacity : ℕ
 
--- each place at most once, by rising places, from `low` on and below `high`
+-- the responses stand in order of place, no two to one place, from `low` on and below `high`
 abbrev pub Rises : (low : ℕ) → List Response → (high : ℕ) → Type 0
 Rises low [] high = low ≤ high
 Rises low (response ∷ rest) high = (low ≤ response.request) × Rises (suc response.request) rest high

@@ -10,15 +10,15 @@ use Rattle.node_core.specs.Participant.{IsPrunedTo, Participant, items_of, owes_
 abbrev pub inbox_over : List Entry → Participant → List Item
 inbox_over log p = inbox (reading_of p) p.me (take (length (items_of p)) log)
 
--- its state, had it kept all of that
+-- the participant's state, had it kept all items of the entries that it has read
 abbrev pub state_over : List Entry → Participant → NodeState
 state_over log p = whole_state p (inbox_over log p)
 
--- what it keeps of a whole inbox
+-- the items that a participant keeps of a whole inbox: silent ones below its base, and those from there on
 abbrev pub kept_of : Participant → List Item → List Item
 kept_of p whole = silent_front p.base p.base_time ++ drop p.base whole
 
--- Its inbox is this one, pruned to its base, and each response that waits is to a request to which it owes one.
+-- The participant keeps this whole inbox, pruned to its base, and owes verdicts to each request to which a response waits.
 pub record HasInbox (whole : List Item) (p : Participant) : Type 0 where
   pub pruned : IsPrunedTo whole p
   pub waits : (k : ℕ) → waits_at p.state.outbox k ≡ true → owes_there p k ≡ true

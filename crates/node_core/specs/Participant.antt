@@ -51,8 +51,8 @@ with_state p state = record p { state = state }
 abbrev pub HasForgottenNothing : Participant → Type 0
 HasForgottenNothing p = (p.base ≡ 0) × (p.base_time ≡ 0) × (p.start ≡ no_start)
 
--- From its base on it has what stands in this inbox, behind as many silent items as stand below it there, and beside that what the inbox
--- leaves at its base.
+-- The participant keeps this whole inbox, pruned to its base: its items are those of the inbox from the base on, behind a silent one for each
+-- that stands below it, and its start is what the inbox leaves there.
 pub record IsPrunedTo (whole : List Item) (p : Participant) : Type 0 where
   pub orderly : IsOrderly (params_of p) whole
   pub is_base : IsBase (params_of p) whole p.base
@@ -74,7 +74,7 @@ pruned_at b next p =
       state = with_items p.state (silent_front b last ++ drop b (items_of p));
     }
 
--- its state, had it kept all of this inbox
+-- the participant's state, had it kept all of this inbox
 abbrev pub whole_state : Participant → List Item → NodeState
 whole_state p whole = with_items p.state whole
 
@@ -121,7 +121,7 @@ next_response p = outbox_head (params_of p) p.state
 abbrev pub is_received_decided : Params → List Item → ℕ → Bool
 is_received_decided params items k = is_some (notice_at items k) && is_decided_in params items k (length items)
 
--- the places of so many that pass a test, from one on
+-- those of the `count` places from `start` on that pass the test
 abbrev pub places_where : (ℕ → Bool) → (start count : ℕ) → List ℕ
 places_where test start zero = []
 places_where test start (suc count) = if test start then start ∷ places_where test (suc start) count else places_where test (suc start) count

@@ -129,8 +129,9 @@ pub record MayBegin (topology : Topology) (packages : Packages) (state : State) 
   pub waiting : (k : ℕ) → state.base ≤ k → waits_at state.outbox k ≡ true → has_place state.done k ≡ true
   pub once : AreToDistinct state.outbox
 
--- A state of a participant over this setup that never restarted, or such a state pruned to a place at which every request below it is
--- decided: it is that of a participant that has read a genuine log, and is pruned to its base.
+-- A participant may begin again with such a state, and prune it: its inbox is that of a genuine log from the base on, below which every
+-- request is decided, verdicts are owed to the requests whose job is done, and from the base on responses wait to these alone, no two to
+-- one request. What the responses say is left open.
 pub record IsLawful (topology : Topology) (packages : Packages) (state : State) : Type 0 where
   pub log : List Entry
   pub few : length log < 2 ^ 63

@@ -23,7 +23,7 @@ view_over reading params p items =
       active = node_active reading p items (clean params items);
     }
 
--- the same, but for what stands before a base
+-- the same without the withheld places and the commits below a base
 abbrev pub view_since : (base : ℕ) → NodeView → NodeView
 view_since base view =
     record {
@@ -35,12 +35,12 @@ view_since base view =
       active = view.active;
     }
 
--- the same of a participant that was pruned to its base, if it was
+-- the same, where there is a base, and else the view as it is
 abbrev pub view_from : (pruned : Option ℕ) → NodeView → NodeView
 view_from None view = view
 view_from (Some base) view = view_since base view
 
--- a base, which is told of whoever restarted
+-- the base as it is reported: only of a participant that restarted
 abbrev pub base_if : (restarted : Bool) → (base : ℕ) → Option ℕ
 base_if restarted base = if restarted then Some base else None
 

@@ -67,7 +67,7 @@ fn copy_what(what: &ItemWhat) -> Result<ItemWhat, AllocError>
     }
 }
 
-/// Envelopes aren't copied.
+/// A copy of an item, which shares the bytes of the envelope.
 pub fn copy_item(item: &Item) -> Result<Item, AllocError>
     ensures { IfOk result (λ copy. copy ≡ item.now) }
 {
@@ -78,7 +78,7 @@ pub fn copy_item(item: &Item) -> Result<Item, AllocError>
     })
 }
 
-/// Copies of responses come behind others.
+/// Puts copies of responses behind others.
 pub fn push_copies(
     alloc: Global,
     responses: &[Response],

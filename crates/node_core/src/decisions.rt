@@ -14,7 +14,7 @@ pub trait Decisions {
         ensures { result ≡ decided self.now place };
 }
 
-/// Over what an inbox has.
+/// An inbox tells it by the items that it has.
 impl Decisions for Inbox<'_> {
     ghost use Rattle.node_inbox.specs.InboxState.{params_of};
     ghost use Rattle.node_core.specs.Participant.{is_received_decided};

@@ -133,7 +133,7 @@ impl Duties {
         Ok(())
     }
 
-    /// A response, where a job of its request is unfinished.
+    /// Finishes the unfinished job of the response's request: the response waits from now on.
     pub fn finish(&mut self, response: Response)
         requires { has_place self.old.unfinished response.request ≡ true }
         ensures { self.new ≡ with_response self.old response }
@@ -143,7 +143,7 @@ impl Duties {
         self.outbox.push_within(response);
     }
 
-    /// A place that was claimed before, and whose job is done.
+    /// Takes up the claim of a place whose job was finished before the participant began again.
     pub fn claim_done(&mut self, place: u64) -> Result<(), AllocError>
         requires { has_place self.old.claimed place ≡ false }
         ensures ok { OnOk result (self.new ≡ with_done self.old place) }
@@ -154,7 +154,7 @@ impl Duties {
         Ok(())
     }
 
-    /// A response that waited before.
+    /// Takes up a response that waited before the participant began again.
     pub fn wait(&mut self, response: Response) -> Result<(), AllocError>
         ensures ok { OnOk result (self.new ≡ with_waiting self.old response) }
         ensures err { OnErr result (self.new ≡ self.old) }
@@ -214,7 +214,7 @@ impl Duties {
         self.outbox.first_waiting(decisions)
     }
 
-    /// The response to a request is sent.
+    /// Takes the response to a request out of those that wait, since it is sent.
     pub fn sent(&mut self, request: u64)
         ensures { self.new ≡ without_response self.old request }
     {

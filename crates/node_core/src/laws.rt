@@ -28,8 +28,8 @@ ghost use Rattle.node_core.specs.States.{IsLawful, IsStateOf, MayBegin, begun_ag
 ghost use Rattle.node_core.specs.Preparing.{offered, offered_by};
 ghost use Rattle.node_core.specs.Views.{base_if, view_from, view_of, view_over};
 
-/// Two nodes of one participant and setup with equal inboxes, claims and flags answer alike, whatever else the logs hold; with equal
-/// outboxes they send the same, too, and what is unfinished hangs on the unfinished jobs alone.
+/// Two values of one participant over one setup, with equal inboxes and flags and equal claims of what they owe, answer alike, whatever else
+/// their logs hold. With equal outboxes they send the same response next, too. Whether a job is unfinished hangs on the unfinished places alone.
 pub fn nodes_answer_alike()
     ensures answers { (a b : Participant) → AreAlike a b → answers_of a ≡ answers_of b }
     ensures sends { (a b : Participant) → AreAlike a b → a.state.outbox ≡ b.state.outbox → next_response a ≡ next_response b }
@@ -37,8 +37,8 @@ pub fn nodes_answer_alike()
         → has_place a.state.unfinished k ≡ has_place b.state.unfinished k }
 {}
 
-/// What a participant has over the entries that it has read is kept by each of its calls, and lets it read the next entry of a
-/// genuine log. What it owes to a request that it has read stays as it is.
+/// What `HasRead` says of a participant and the entries that it has read is so after each of its calls, too, and allows it to read the next
+/// entry of a genuine log. What it owes to a request that it has read stays the same when it reads on.
 pub fn node_keeps()
     ensures can_read { (m : Machine) (p : Participant) (before : List Entry) (entry : Entry)
         → IsOf m p
@@ -86,7 +86,7 @@ pub fn pruned_participants_answer_alike()
         → AnswersAlike (reading_of p) (params_of p) p.me whole (items_of p) p.base p.start }
 {}
 
-/// What a participant knows that restarted is what it would know with the whole inbox, but for what stands before its base.
+/// What is reported of a participant that restarted is what it would know with the whole inbox, without what stands before its base.
 pub fn restarted_participants_know_the_rest()
     ensures { (whole : List Item) (p : Participant) (restarted : Bool)
         → IsPrunedTo whole p
@@ -105,9 +105,10 @@ pub fn pruned_participants_are_pruned_again()
         → IsPrunedTo whole (pruned_at b next p) }
 {}
 
-/// A participant that begins again from a state is pruned to its base as the one of which that is the state, and has read what that has
-/// read; so it answers as that, and as one with the whole inbox whatever is asked of places from the base on. Where nothing was unfinished it
-/// claims and sends next what that would with the whole inbox; and it is the state, too, of one that puts back what it hasn't finished.
+/// A participant that begins again from another one's state is pruned to the same base as this other one, and has read what it has read. So it
+/// answers as the other one does, and whatever is asked of places from the base on as one with the whole inbox does. Where the other one had
+/// nothing unfinished, the new one claims and sends next what the other would with the whole inbox. A participant that puts back a job which it
+/// hasn't finished has the same state as before.
 pub fn restarted_participants_are_pruned()
     ensures pruned { (whole : List Item) (p : Participant) (state : State)
         → IsPrunedTo whole p
@@ -140,8 +141,8 @@ pub fn restarted_participants_are_pruned()
         → IsStateOf (with_state p (put_back p.state k)) state }
 {}
 
-/// A state of a participant that has read a genuine log, and is pruned to its base, is lawful; it stays so when it is pruned again; and from
-/// each that is a participant may begin again.
+/// The state of a participant that has read a genuine log, and is pruned to its base, is lawful. A lawful state that is pruned is lawful again,
+/// and a participant may begin again from each lawful state.
 pub fn lawful_states_may_begin()
     ensures lawful { (p : Participant) (log : List Entry) (state : State)
         → length log < 2 ^ 63
@@ -168,8 +169,7 @@ pub fn lawful_states_may_begin()
         → MayBegin topology packages state }
 {}
 
-/// Of a participant that has forgotten nothing it is said that it has the whole inbox, and it owes, offers and knows what the protocol
-/// says of that.
+/// A participant that has forgotten nothing has the whole inbox, and it owes, offers and knows what the protocol says of that inbox.
 pub fn participants_have_whole_inboxes()
     ensures kept { (whole : List Item) (p : Participant)
         → p.base ≡ 0
@@ -194,7 +194,7 @@ pub fn participants_have_whole_inboxes()
     ensures views { (p : Participant) → HasForgottenNothing p → view_of false p ≡ view_over (reading_of p) (params_of p) p.me (items_of p) }
 {}
 
-/// Where a request is decided at the cursor, the place since when it is decided is the least at which it is.
+/// Where a request is decided at the cursor, `decided_since` is the least place at which it is decided.
 pub fn decided_since_is_least()
     ensures { (p : Participant) (k : ℕ) → is_decided_there p k ≡ true → IsDecidedSince p k (decided_since (params_of p) (items_of p) k) }
 {}

@@ -204,8 +204,8 @@ impl<'s> Node<'s> {
         Ok(())
     }
 
-    /// The least place up to the cursor at which the request that it received at a place is decided. Goes through what was read from
-    /// there on.
+    /// The least place up to the cursor at which the request that it received at a place is decided: the place behind its verdict, or where
+    /// the first entry after its decision time stands. Goes through what was read from the request on.
     pub fn decided_at(&self, place: u64) -> Option<u64>
         requires { is_some (notice_at (items_of self.now) place) ≡ true }
         ensures undecided { IfNone result (is_decided_there self.now place ≡ false) }
@@ -243,7 +243,7 @@ impl<'s> Node<'s> {
         }
     }
 
-    /// The response to a request waits no longer.
+    /// Takes the response to a request out of the outbox.
     pub fn sent(&mut self, request: u64)
         ensures { self.new ≡ with_state self.old (sent self.old.state request) }
     {

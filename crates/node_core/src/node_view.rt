@@ -29,7 +29,7 @@ pub type NodeViewList = ListOf<NodeView>;
 /// The active contracts of each participant, in order of the topology.
 pub type ActiveRowLists = ListOf<ActiveRowList>;
 
-// A base, which is told of whoever restarted.
+// The base as it is reported: only of a participant that restarted.
 fn base_if(restarted: bool, base: u64) -> Option<u64>
     ensures { result ≡ base_if restarted base }
 {

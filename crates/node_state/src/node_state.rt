@@ -6,8 +6,8 @@ use ledger_terms::{ActiveRowList, HashList, ListOf, ParticipantId, U64List};
 /// Responses.
 pub type ResponseList = ListOf<Response>;
 
-/// What a participant keeps. Of the requests below its base these are only the contracts that authentic actions of approved ones, as
-/// they were opened to it, create or consume.
+/// What a participant keeps. Of the requests below its base it keeps only the contracts which authentic actions of approved ones, as they were
+/// opened to it, create or consume: `active` and `gone`.
 #[derive(Drop)]
 pub struct NodeState {
     pub me: ParticipantId,
@@ -18,7 +18,7 @@ pub struct NodeState {
     /// The contracts that are created below the base and not consumed there, with a hosted stakeholder or without one, in order of
     /// creation.
     pub active: ActiveRowList,
-    /// The ids of all others, ascending.
+    /// The ids of all other contracts that are created or consumed below the base, ascending.
     pub gone: HashList,
     /// The inbox from the base on.
     pub items: ItemList,

@@ -1,9 +1,10 @@
 //! A participant's state, apart from it.
-ghost use Rattle.std.specs.Prelude.{◌≡◌, ◌+◌, ◌<◌, ◌≤◌, ◌^◌, ◌++◌, ◌∷◌, [], ℕ, List, true, false, IfOk, OnOk, length, map};
+ghost use Rattle.std.specs.Prelude.{◌≡◌, ◌<◌, ◌≤◌, ◌^◌, ◌++◌, ◌∷◌, [], ℕ, List, true, false, IfOk, OnOk, length, map};
 ghost use Rattle.std.specs.List.Sorted.{IsStrictlyIncreasing};
 ghost use Rattle.canton_model.specs.Inbox.{Item as ItemValue, last_time};
 ghost use Rattle.world_model.specs.Node.{waits_at, with_items};
 ghost use Rattle.world_model.specs.Places.{has_place};
+ghost use Rattle.node_inbox.specs.Beginnings.{start_of};
 ghost use Rattle.node_inbox.specs.Raw.{IsCame, item_by};
 ghost use Rattle.pruned_inbox.specs.Base;
 ghost use Rattle.pruned_inbox.specs.Start.{GoesOn};
@@ -17,8 +18,9 @@ use crate::duties::Duties;
 use crate::node::Node;
 use canton_model::Response;
 use confirm_reply::Setup;
+use ledger_terms::U64List;
 use node_inbox::{Beginning, Inbox};
-use node_state::{Item, NodeState};
+use node_state::{Item, ItemList, NodeState, ResponseList};
 use std::alloc::{AllocError, Global};
 
 impl<'s> Node<'s> {
@@ -30,23 +32,7 @@ impl<'s> Node<'s> {
         let items = self.inbox.items(alloc)?;
         let outbox = self.duties.responses(alloc)?;
         let done = self.duties.done(alloc, beginning.base)?;
-        let Beginning {
-            base,
-            base_time,
-            active,
-            gone,
-        } = beginning;
-        Ok(NodeState {
-            me: self.me,
-            base,
-            base_time,
-            paused: self.is_paused,
-            active,
-            gone,
-            items,
-            outbox,
-            done,
-        })
+        Ok(self.state_with(beginning, items, outbox, done))
     }
 
     /// Its state, pruned to the base of its inbox: what it would be, had it forgotten all that it read below that but what that leaves there.
@@ -61,13 +47,33 @@ impl<'s> Node<'s> {
         let items = self.inbox.items_from(alloc, base)?;
         let outbox = self.duties.responses(alloc)?;
         let done = self.duties.done(alloc, base)?;
+        Ok(self.state_with(beginning, items, outbox, done))
+    }
+
+    // A state of these parts, and of which participant it is and whether it is paused.
+    fn state_with(
+        &self,
+        beginning: Beginning,
+        items: ItemList,
+        outbox: ResponseList,
+        done: U64List,
+    ) -> NodeState
+        ensures me { result.me ≡ self.now.me }
+        ensures base { result.base ≡ beginning.base }
+        ensures base_time { result.base_time ≡ beginning.base_time }
+        ensures paused { result.paused ≡ self.now.state.is_paused }
+        ensures start { start_in result ≡ start_of beginning }
+        ensures items { result.items ≡ items }
+        ensures outbox { result.outbox ≡ outbox }
+        ensures done { result.done ≡ done }
+    {
         let Beginning {
+            base,
             base_time,
             active,
             gone,
-            ..
         } = beginning;
-        Ok(NodeState {
+        NodeState {
             me: self.me,
             base,
             base_time,
@@ -77,7 +83,7 @@ impl<'s> Node<'s> {
             items,
             outbox,
             done,
-        })
+        }
     }
 
     // A participant that begins at the base of a state, and has read nothing there.
@@ -102,7 +108,7 @@ impl<'s> Node<'s> {
         })
     }
 
-    // An item comes that came before.
+    // Takes up an item that the state has.
     fn put(&mut self, item: Item) -> Result<(), AllocError>
         requires few { length (items_of self.old) < 2 ^ 63 }
         requires rises { last_time (items_of self.old) < item.time }
@@ -118,7 +124,7 @@ impl<'s> Node<'s> {
         Ok(())
     }
 
-    // Items come that came before.
+    // Takes up the items that the state has.
     fn put_all(&mut self, items: &[Item]) -> Result<(), AllocError>
         requires { AreToCome self.old.topology self.old.packages self.old.me (items_of self.old) items.now }
         ensures { OnOk result (self.new
@@ -131,7 +137,7 @@ impl<'s> Node<'s> {
         Ok(())
     }
 
-    // A job was done before.
+    // Takes up the claim of a place whose job was done before.
     fn claim_done(&mut self, place: u64) -> Result<(), AllocError>
         requires owes { owes_there self.old place ≡ true }
         requires new { has_place self.old.state.claimed place ≡ false }
@@ -141,7 +147,7 @@ impl<'s> Node<'s> {
         Ok(())
     }
 
-    // Jobs were done before.
+    // Takes up the claims of places whose jobs were done before.
     fn claim_all(&mut self, places: &[u64]) -> Result<(), AllocError>
         requires owes { (k : ℕ) → has_place places.now k ≡ true → owes_there self.old k ≡ true }
         requires none { self.old.state.claimed ≡ [] }
@@ -154,7 +160,7 @@ impl<'s> Node<'s> {
         Ok(())
     }
 
-    // A response waited before.
+    // Takes up a response that waited before.
     fn wait(&mut self, response: Response) -> Result<(), AllocError>
         requires { MayWait self.old.state response.request }
         ensures { OnOk result (self.new ≡ with_state self.old (with_outbox self.old.state (self.old.state.outbox ++ response ∷ []))) }
@@ -163,7 +169,7 @@ impl<'s> Node<'s> {
         Ok(())
     }
 
-    // A response waited before, and waits on where its request isn't below a place.
+    // Takes up a copy of a response that waited before, unless its request is below the base.
     fn wait_from(&mut self, alloc: Global, base: u64, response: &Response) -> Result<(), AllocError>
         requires { base ≤ response.now.request → MayWait self.old.state response.now.request }
         ensures { OnOk result (self.new ≡ with_state self.old (with_outbox self.old.state
@@ -177,7 +183,7 @@ impl<'s> Node<'s> {
         Ok(())
     }
 
-    // Responses waited before.
+    // Takes up the responses that waited before, but those to requests below the base.
     fn wait_all(
         &mut self,
         alloc: Global,
@@ -195,7 +201,7 @@ impl<'s> Node<'s> {
         Ok(())
     }
 
-    // All that the state keeps from its base on comes again.
+    // Takes up all that the state keeps from its base on.
     fn take_up(&mut self, alloc: Global, state: &NodeState) -> Result<(), AllocError>
         requires begun { self.old ≡ read_nothing self.old.topology self.old.packages state.now }
         requires may { MayBegin self.old.topology self.old.packages state.now }

@@ -1,16 +1,11 @@
-use Rattle.std.proofs.Common.{◌≡◌, ◌<◌, ◌^◌, ◌∷◌, ◌++◌, [], ℕ, Bool, List, append-nil, true, false, length, Some, get_or, sym, ap, ◌∙◌, subst, arith}
-use Rattle.std.specs.Prelude.{slice_get}
-use Rattle.std.proofs.lemmas.Option.{slice_get-get_or}
+use Rattle.std.proofs.Common.{◌≡◌, ◌<◌, ◌^◌, ◌∷◌, ◌++◌, [], true, false, length, sym, ap, ◌∙◌, subst}
 use Rattle.canton_model.specs.Inbox.{last_time}
-use Rattle.world_model.specs.Node.{owes_at, with_items}
-use Rattle.node_inbox.specs.InboxState.{InboxState, params_of, reading_of}
+use Rattle.world_model.specs.Node.{with_items}
 use Rattle.node_inbox.specs.Raw.{IsCame, item_by}
-use Rattle.node_core.specs.Duties.{Kept, state_of}
-use Rattle.node_core.specs.Kept.{IsKept}
+use Rattle.node_core.specs.Duties.{state_of}
 use Rattle.node_core.specs.Participant.{Participant, items_of, with_state}
 use Rattle.node_core.proofs.Beginnings.{put_is}
-use Rattle.node_core.proofs.Growth.{where_below}
-use Rattle.node_core.proofs.KeptSteps.{item_keeps, placed_if}
+use Rattle.node_core.proofs.NextItem.{belong_if_not, belong_if_owed, owed_before}
 use Rattle.node_core.proofs.ReadSteps.{participant_of}
 use Rattle.node_core.proofs.node.Node.put.Goals as goal
 
@@ -27,69 +22,22 @@ put-requires-clause-came c =
 pub owe-requires-clause-last : goal.owe-requires-clause-last
 owe-requires-clause-last c =
     let i = c.self.inside.inbox in
-    let inv = c.self.invariant in
-    let owed = ap (λ (k : Kept). k.owed) c.reserve.ensures.same ∙ (inv.1).owed in
-    λ k d lt.
-    let there =
-    subst (λ (xs : List ℕ). slice_get xs k ≡ Some (get_or c.reserve.new.self.owed k d)) owed (slice_get-get_or c.reserve.new.self.owed k d lt) in
-    let below = where_below (owes_at (reading_of i) i.me i.items) 0 (length i.items) k (get_or c.reserve.new.self.owed k d) there in
-    omega (arith, below, c.cursor-place.ensures)
+    let kept = c.self.inside.duties in
+    owed_before i kept c.self.invariant c.reserve.new.self c.reserve.ensures.same c.cursor-place.result c.cursor-place.ensures
 
 pub invariant_of-self-then-owes : goal.invariant_of-self-then-owes
 invariant_of-self-then-owes c =
     let i = c.self.inside.inbox in
     let kept = c.self.inside.duties in
-    let after = c.owe.new.self in
-    let inv = c.self.invariant in
-    let place = c.cursor-place.result in
-    let item = item_by i.topology c.args.item in
-    let here : place ≡ length i.items = c.cursor-place.ensures in
-    let put = c.in_ok-put.ensures.ok in
-    let owe = c.owe.ensures in
-    let reserve = c.reserve.ensures.same in
-    let owes =
-    subst (λ (n : ℕ). owes_at (reading_of i) i.me (i.items ++ item ∷ []) n ≡ true) here
-    (subst (λ (x : InboxState). owes_at (reading_of x) x.me x.items place ≡ true) put (sym c.owes.ensures ∙ c.if-owes.true)) in
-    let owed =
-    ap (λ (k : Kept). k.owed) owe
-    ∙ (ap (λ (k : Kept). k.owed ++ place ∷ []) reserve
-    ∙ (ap (λ (n : ℕ). kept.owed ++ n ∷ []) here ∙ sym (ap (λ (b : Bool). kept.owed ++ placed_if b (length i.items)) owes))) in (
-      inv.0 ∙ sym (ap (λ (x : InboxState). x.me) put),
-      subst (λ (x : InboxState). IsKept (reading_of x) (params_of x) x.me x.items after) (sym put)
-          (item_keeps (reading_of i) (params_of i) i.me i.items item kept after inv.1 owed
-          (ap (λ (k : Kept). k.passed) owe ∙ ap (λ (k : Kept). k.passed) reserve)
-          (ap (λ (k : Kept). k.claimed) owe ∙ ap (λ (k : Kept). k.claimed) reserve)
-          (ap (λ (k : Kept). k.unfinished) owe ∙ ap (λ (k : Kept). k.unfinished) reserve)
-          (ap (λ (k : Kept). k.outbox) owe ∙ ap (λ (k : Kept). k.outbox) reserve)),
-      inv.2 ∙ sym (ap (λ (x : InboxState). x.topology) put),
-      inv.3 ∙ sym (ap (λ (x : InboxState). x.packages) put),
-    )
+    belong_if_owed i kept c.self.invariant c.reserve.new.self c.reserve.ensures.same c.cursor-place.result c.cursor-place.ensures
+    (item_by i.topology c.args.item) c.put.new.self c.in_ok-put.ensures.ok (sym c.owes.ensures ∙ c.if-owes.true) c.owe.new.self c.owe.ensures
 
 pub invariant_of-self-else-owes : goal.invariant_of-self-else-owes
 invariant_of-self-else-owes c =
     let i = c.self.inside.inbox in
     let kept = c.self.inside.duties in
-    let after = c.reserve.new.self in
-    let inv = c.self.invariant in
-    let place = c.cursor-place.result in
-    let item = item_by i.topology c.args.item in
-    let here : place ≡ length i.items = c.cursor-place.ensures in
-    let put = c.in_ok-put.ensures.ok in
-    let reserve = c.reserve.ensures.same in
-    let owes =
-    subst (λ (n : ℕ). owes_at (reading_of i) i.me (i.items ++ item ∷ []) n ≡ false) here
-    (subst (λ (x : InboxState). owes_at (reading_of x) x.me x.items place ≡ false) put (sym c.owes.ensures ∙ c.if-owes.false)) in
-    let owed =
-    ap (λ (k : Kept). k.owed) reserve
-    ∙ (sym (append-nil kept.owed) ∙ sym (ap (λ (b : Bool). kept.owed ++ placed_if b (length i.items)) owes)) in (
-      inv.0 ∙ sym (ap (λ (x : InboxState). x.me) put),
-      subst (λ (x : InboxState). IsKept (reading_of x) (params_of x) x.me x.items after) (sym put)
-          (item_keeps (reading_of i) (params_of i) i.me i.items item kept after inv.1 owed
-          (ap (λ (k : Kept). k.passed) reserve) (ap (λ (k : Kept). k.claimed) reserve)
-          (ap (λ (k : Kept). k.unfinished) reserve) (ap (λ (k : Kept). k.outbox) reserve)),
-      inv.2 ∙ sym (ap (λ (x : InboxState). x.topology) put),
-      inv.3 ∙ sym (ap (λ (x : InboxState). x.packages) put),
-    )
+    belong_if_not i kept c.self.invariant c.reserve.new.self c.reserve.ensures.same c.cursor-place.result c.cursor-place.ensures
+    (item_by i.topology c.args.item) c.put.new.self c.in_ok-put.ensures.ok (sym c.owes.ensures ∙ c.if-owes.false)
 
 pub returns-then-owes : goal.returns-then-owes
 returns-then-owes c =
