@@ -1,7 +1,9 @@
 """What a page of a run has to show at each place, worked out of the script: of each participant its clean place, its contracts, the requests
-that it received and its verdicts on them, and for whom the mediator waits."""
+that it received and its verdicts on them, for whom the mediator waits, and why requests weren't approved."""
 import plain_run
-from terms import instance_text
+import trees
+from terms import action_text, instance_text
+from world_cases import Checked
 
 
 class Facts(plain_run.Run):
@@ -57,3 +59,21 @@ class Facts(plain_run.Run):
         by = {(e['by'], e['of']) for e in self.log[:end] if e['kind'] == 'response'}
         return {k: (self.deadline(k), [name for name in request.confirming() if (name, k) not in by])
                 for k, request in self.requests(end) if self.verdict(k, end) is None}
+
+    def refusals(self, end, reader=None):
+        """Of each request that wasn't approved what it became, as a report says it, and what shows the reason of its rejection. To a reader that of
+        the requests that it received, and what shows its own reasons alone."""
+        told = self.requests(end) if reader is None else self.received(reader, end)
+        became = {k: self.verdict(k, end) or self.outcome(k, end) for k, _ in told}
+        return {k: (said, self.shown_by(k, said, reader)) for k, said in became.items() if said not in ('approved', 'undecided')}
+
+    def shown_by(self, place, said, reader):
+        """The number of the action in its view's core, the view's path, and the action as whoever rejects is shown it."""
+        word, *rest = said.split(' ')
+        if word != 'rejected' or reader not in (None, rest[0]):
+            return None
+        name, path, _ = rest
+        steps, request = [int(step) for step in path.split('.')], self.log[place]['request']
+        number = int(Checked(self, name, place).verdict(steps).split(' ')[1])
+        cores = [view['nodes'] for view in trees.all_views(request.seen(name)) if view['path'] == steps]
+        return number, path, action_text(cores[0][number]['action']) if cores else None

@@ -1,6 +1,6 @@
 #!/usr/bin/env python3
 """facts.py FOLDER: reads the pages of a folder and compares what each shows at each place with what oracle/page_facts.py works out of its script.
-NAME.page.html is the page of examples/NAME.json, and NAME.P3.page.html that of what P3 knows."""
+NAME.page.html is the page of NAME.json in examples/ or beside this file, and NAME.P3.page.html that of what P3 knows."""
 import glob
 import json
 import os
@@ -8,12 +8,14 @@ import re
 import sys
 import xml.etree.ElementTree as ElementTree
 
-ROOT = os.path.dirname(os.path.dirname(os.path.dirname(os.path.abspath(__file__))))
+HERE = os.path.dirname(os.path.abspath(__file__))
+ROOT = os.path.dirname(os.path.dirname(HERE))
 sys.dont_write_bytecode = True
 sys.path.insert(0, os.path.join(ROOT, 'oracle'))
 from page_facts import Facts  # noqa: E402
 
 CAPACITY = 20480
+REFUSALS = 'Requests that weren\'t approved'
 
 
 def words(element):
@@ -87,14 +89,37 @@ def waiting(section, place):
     return shown
 
 
+def decision(said):
+    """What a request became, as a report says it."""
+    if said.startswith('rejected by '):
+        return re.sub(r'rejected by (\S+): view (\S+), (\S+)', r'rejected \1 \2 \3', said)
+    return said.replace('timed out without ', 'timeout ').replace(', ', ' ')
+
+
+def reason(said):
+    """What shows the reason of a rejection: the number of an action, a view's path, and the action, each as far as it is told."""
+    told = re.fullmatch(r'action (\d+) of view ([\d.]+)(?:: (.*))?', said, re.DOTALL)
+    return (int(told.group(1)), told.group(2), told.group(3)) if told else said or None
+
+
+def refusals(section, place):
+    return {request_place(cells[0]): (decision(words(cells[1])), reason(words(cells[2]))) for cells in rows(section, 'Request', place)}
+
+
+def script_of(name):
+    """The script of a page's name."""
+    paths = [os.path.join(folder, name + '.json') for folder in (os.path.join(ROOT, 'examples'), HERE)]
+    with open(next(path for path in paths if os.path.exists(path)), encoding='utf-8') as file:
+        return json.load(file)
+
+
 def faults(path):
     """What a page shows otherwise, place by place."""
     name, _, reader = os.path.basename(path)[:-len('.page.html')].partition('.')
-    with open(os.path.join(ROOT, 'examples', name + '.json'), encoding='utf-8') as file:
-        facts = Facts(json.load(file), CAPACITY)
+    facts = Facts(script_of(name), CAPACITY)
     sections = {words(next(iter(e))): e for e in ElementTree.parse(path).iter() if tag(e) == 'section' and e.get('class') == 'who'}
     tellers = [reader] if reader else [host['name'] for host in facts.hosts]
-    others = {'Requests that weren\'t approved'} | (set() if reader else {'Mediator'})
+    others = {REFUSALS} | (set() if reader else {'Mediator'})
     if set(sections) != set(tellers) | others:
         yield '%s: has the parts %s' % (path, ', '.join(sections))
         return
@@ -106,6 +131,9 @@ def faults(path):
                     yield '%s: at place %d %s of %s: shown %s, expected %s' % (path, place, fact, teller, shown[fact], wanted[fact])
         if not reader and waiting(sections['Mediator'], place) != facts.waiting(place):
             yield '%s: at place %d: shown %s, expected %s' % (path, place, waiting(sections['Mediator'], place), facts.waiting(place))
+        shown, wanted = refusals(sections[REFUSALS], place), facts.refusals(place, reader or None)
+        if shown != wanted:
+            yield '%s: at place %d refusals: shown %s, expected %s' % (path, place, shown, wanted)
 
 
 def main():

@@ -31,7 +31,7 @@ impl<'r> DisclosedRequest<'r> {
         })
     }
 
-    /// Whether views of it are withheld from somebody.
+    /// Whether views of the request are withheld from somebody.
     pub fn has_withheld(&self) -> bool {
         match &self.disclosure {
             Some(disclosure) => !disclosure.withheld.is_empty(),
@@ -43,7 +43,7 @@ impl<'r> DisclosedRequest<'r> {
 /// Requests in order of place.
 pub(crate) type DisclosedRequestList<'r> = ListOf<DisclosedRequest<'r>>;
 
-/// The requests among a log's first so many entries.
+/// The requests among the first `most` entries of a log, with all that they disclose, or with what they disclose to `reader`.
 pub(crate) fn disclosed_requests<'r>(
     alloc: Global,
     topology: &Topology,

@@ -1,12 +1,22 @@
 //! What a request discloses.
 use crate::offer::{Offer, offer_of};
 use crate::withheld::WithheldList;
-use blind_tree::{OpenedTree, RolesTree, Tree};
+use blind_tree::{OpenedTree, PlacedView, RolesTree, Tree};
 use canton_model::Request;
 use ledger_terms::{ListOf, ParticipantId, PartySet, Path, Topology};
 use proto_model::{envelope_of, read_outline, requested_views, tree_in};
 use std::alloc::{AllocError, Global};
 use view_split::View;
+
+/// The view at a path, where that is a placed view or one below it.
+fn view_in<'a>(placed: &'a PlacedView, path: &Path) -> Option<&'a View> {
+    let steps = path.as_slice().strip_prefix(placed.path.as_slice())?;
+    let mut view = &placed.view;
+    for step in steps {
+        view = view.below.get(*step as usize)?;
+    }
+    Some(view)
+}
 
 /// What is drawn of a request: a tree that says where its views are, what complete envelopes open of it, what the mediator is told
 /// of its views, and from whom they are withheld.
@@ -20,7 +30,8 @@ pub(crate) struct Disclosure {
 
 impl Disclosure {
     /// What is disclosed to a participant: what its envelope opens, where that is complete, and else only where the views are that
-    /// are withheld from it. Nothing where it is to see no view, and where the mediator's bytes can't be read.
+    /// are withheld from it. None where it is no recipient, where it is one only as the sender and has no complete envelope, and where the
+    /// mediator's bytes can't be read.
     pub fn to(
         alloc: Global,
         topology: &Topology,
@@ -43,8 +54,8 @@ impl Disclosure {
         Ok(Some(disclosure))
     }
 
-    /// What all messages of a request disclose together: the mediator's has every view with its informees and confirmers, and
-    /// the complete envelopes open them. Nothing where the mediator's can't be read.
+    /// What all messages of a request disclose together: the mediator's bytes have every view with its informees and confirmers, and the complete
+    /// envelopes open views. None where the mediator's bytes can't be read.
     pub fn of_all(
         alloc: Global,
         topology: &Topology,
@@ -98,7 +109,19 @@ impl Disclosure {
         None
     }
 
-    /// Informees and confirmers of the view at a path, as the mediator is told them.
+    /// The view at a path among all that is opened, whether an envelope opens it as a topmost view or below one.
+    pub fn view_within(&self, path: &Path) -> Option<&View> {
+        for part in self.opened.as_slice() {
+            for placed in part.views.as_slice() {
+                if let Some(view) = view_in(placed, path) {
+                    return Some(view);
+                }
+            }
+        }
+        None
+    }
+
+    /// The informees and confirmers of the view at a path, as the mediator is told them.
     pub fn roles_at(&self, path: &Path) -> Option<(&PartySet, &PartySet)> {
         let told = self.roles.as_ref()?;
         for view in told.views.as_slice() {

@@ -11,7 +11,7 @@ use ledger_terms::Text;
 use std::alloc::{AllocError, Global};
 use svg_text::{Anchor, Fill, Font, Frame, Label, Paint, Point, Svg, Tone};
 
-/// The picture as SVG. Boxes stand below those inside them, and all of them below the lines and the chips.
+/// The picture as SVG. Each box is drawn before those inside it, and all boxes before the lines and the chips, which cover them.
 pub fn drawn(alloc: Global, picture: &Picture) -> Result<Text, AllocError> {
     let mut svg = Svg::new(
         alloc,

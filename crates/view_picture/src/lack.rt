@@ -12,7 +12,7 @@ pub(crate) enum Lack {
 }
 
 impl Lack {
-    /// What a picture says of it.
+    /// What a picture says of the lack.
     pub fn words(self) -> &'static str {
         match self {
             Lack::NoEnvelope => "no envelope",

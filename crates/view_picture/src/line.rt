@@ -26,7 +26,7 @@ pub enum LineKind {
 }
 
 impl LineKind {
-    /// How many of its letters have room in a width.
+    /// How many letters of a line of this kind have room in a width.
     pub(crate) fn letters_in(self, width: u32) -> u32 {
         match self {
             LineKind::Action | LineKind::Blinded => letters_in(width),
@@ -39,7 +39,7 @@ impl LineKind {
     }
 }
 
-/// A line of text, where it begins at its foot, and how many letters have room.
+/// A line of text, with the point at its foot where it begins, and for how many letters there is room.
 #[derive(Drop)]
 pub struct Line {
     pub kind: LineKind,

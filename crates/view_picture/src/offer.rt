@@ -17,7 +17,7 @@ pub(crate) enum Offer {
     Withheld(Withheld),
 }
 
-/// What a request offers a participant, by the mediator's bytes and the envelope to it.
+/// What a request offers a participant, by its outline and the envelope to the participant.
 pub(crate) fn offer_of(
     alloc: Global,
     topology: &Topology,

@@ -3,11 +3,11 @@
 /// What a participant does with a view that it sees.
 #[derive(Clone, Copy)]
 pub enum Part {
-    /// It confirms the view.
+    /// The participant confirms the view.
     Confirms,
-    /// It confirms for a party that is told of the view, and for none of its confirmers.
+    /// The participant confirms for a party that is told of the view, and for none of the view's confirmers.
     Sees,
-    /// It hosts those that are told of the view only to observe.
+    /// The participant hosts the parties that are told of the view only to observe.
     Observes,
 }
 

@@ -20,7 +20,7 @@ const WIDTH: u32 = 960;
 
 const MARGIN: u32 = 24;
 
-/// The requests of a log with their views, as boxes, lines and chips. A text of the lines is as long as it is, whether it has room or not.
+/// The requests of a log with their views, as boxes, lines and chips. A line keeps its whole text, even where that has no room.
 #[derive(Drop)]
 pub struct Picture {
     pub title: Text,

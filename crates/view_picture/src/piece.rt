@@ -3,7 +3,7 @@ use crate::chip::Chip;
 use crate::line::Line;
 use ledger_terms::ListOf;
 
-/// A line of text or a chip.
+/// What stands in a picture beside boxes: a line of text or a chip.
 #[derive(Drop)]
 pub enum Piece {
     Line(Line),

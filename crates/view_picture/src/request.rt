@@ -32,7 +32,7 @@ pub(crate) fn put_request(
     put_disclosed(sheet, topology, span, disclosed, reader)
 }
 
-/// Puts what is disclosed of a request.
+/// Puts what is disclosed of a request, to one participant where `reader` is one.
 pub(crate) fn put_disclosed(
     sheet: &mut Sheet,
     topology: &Topology,

@@ -42,7 +42,7 @@ fn chip_width(name: Name, part: Part, is_withheld: bool) -> u32 {
 }
 
 impl Sheet {
-    /// An empty one.
+    /// An empty sheet.
     pub fn new(alloc: Global) -> Sheet {
         Sheet {
             alloc,
@@ -52,12 +52,12 @@ impl Sheet {
         }
     }
 
-    /// Leaves a gap.
+    /// Leaves a gap of this height.
     pub fn skip(&mut self, height: u32) {
         self.bottom = self.bottom.saturating_add(height);
     }
 
-    /// Puts a line below.
+    /// Puts a line of text below all that was put, in this part of the width.
     pub fn put_line(&mut self, kind: LineKind, span: Span, text: Text) -> Result<(), AllocError> {
         let at = Point {
             x: span.left,
@@ -73,7 +73,7 @@ impl Sheet {
         }))
     }
 
-    /// Puts a chip at `left`, or below where it has no room there, and says where the next one stands.
+    /// Puts a participant's chip at `left`, or below where it has no room there, and says how far to the right the next one stands.
     pub fn put_chip(
         &mut self,
         span: Span,
@@ -108,12 +108,12 @@ impl Sheet {
         Ok(left.saturating_add(width).saturating_add(CHIP_GAP))
     }
 
-    /// Ends a row of chips.
+    /// Ends a row of chips: what is put next stands below it.
     pub fn end_chips(&mut self) {
         self.skip(CHIP + CHIP_GAP);
     }
 
-    /// Begins a box, and says where its top is.
+    /// Begins a box below all that was put, and says where its top is.
     pub fn begin_box(&mut self) -> u32 {
         self.skip(BOX_GAP);
         let top = self.bottom;

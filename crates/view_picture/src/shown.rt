@@ -13,7 +13,7 @@ use std::alloc::{AllocError, Global};
 /// How wide what is shown is, in units.
 const WIDTH: u32 = 800;
 
-/// What the request at a place discloses to a participant, as its picture has it, from the left edge on.
+/// The lines and chips by which a picture shows what the request at a place discloses to one participant, from the left edge on.
 pub fn shown_pieces(
     alloc: Global,
     topology: &Topology,
@@ -36,7 +36,8 @@ pub fn shown_pieces(
     Ok(sheet.pieces)
 }
 
-/// The action with a number in the core of the view at a path, where the participant is shown that view.
+/// The text of the action with this number, in pre-order, in the core of the view at a path, as `me` is shown it: None where that view
+/// isn't opened to it, and where the core has no such action.
 pub fn shown_action(
     alloc: Global,
     topology: &Topology,
@@ -48,7 +49,7 @@ pub fn shown_action(
     let Some(disclosure) = Disclosure::to(alloc, topology, request, me)? else {
         return Ok(None);
     };
-    let Some(view) = disclosure.view_at(path) else {
+    let Some(view) = disclosure.view_within(path) else {
         return Ok(None);
     };
     let mut left = number;

@@ -17,7 +17,7 @@ const LEVEL: u32 = 20;
 const LETTER: u32 = 8;
 
 impl Span {
-    /// What is inside a box.
+    /// The part of the width that is left inside a box of this one.
     pub fn inside(&self) -> Span {
         Span {
             left: self.left.saturating_add(INSIDE),
@@ -25,7 +25,7 @@ impl Span {
         }
     }
 
-    /// What is left for something so many levels down.
+    /// The part of the width that is left for what stands so many levels below a view's first action.
     pub fn at_level(&self, level: u32) -> Span {
         Span {
             left: self.left.saturating_add(level.saturating_mul(LEVEL)),
@@ -33,18 +33,18 @@ impl Span {
         }
     }
 
-    /// How wide it is.
+    /// How wide the part is, in units.
     pub fn width(&self) -> u32 {
         self.right.saturating_sub(self.left)
     }
 }
 
-/// How wide a text of so many letters is.
+/// How wide a text of so many letters is, in units.
 pub(crate) fn width_of(letters: u32) -> u32 {
     letters.saturating_mul(LETTER)
 }
 
-/// How many letters have room in a width.
+/// How many letters of the font of code have room in a width.
 pub(crate) fn letters_in(width: u32) -> u32 {
     width / LETTER
 }
@@ -52,7 +52,7 @@ pub(crate) fn letters_in(width: u32) -> u32 {
 /// The greatest number of letters that anything is made wide for.
 const MOST_LETTERS: usize = 1_000;
 
-/// How many letters an ASCII text has, as far as that counts.
+/// How many letters an ASCII text has, up to the greatest number that anything is made wide for.
 pub(crate) fn letters_of(text: &str) -> u32 {
     text.len().min(MOST_LETTERS) as u32
 }

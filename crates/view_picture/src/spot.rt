@@ -13,7 +13,7 @@ pub(crate) struct Spot {
 }
 
 impl Spot {
-    /// That of a transaction's views.
+    /// Where the root views of a transaction stand.
     pub fn root(alloc: Global, span: Span) -> Spot {
         Spot {
             path: Path::new(alloc),
@@ -22,7 +22,7 @@ impl Spot {
         }
     }
 
-    /// That of the view with this number below.
+    /// Where the view with the number `at` directly below stands, in this part of the width, with `told` as the informees above it.
     pub fn below(&self, at: u16, span: Span, told: &PartySet) -> Result<Spot, AllocError> {
         let mut path = self.path.clone()?;
         path.push(at)?;
@@ -33,7 +33,7 @@ impl Spot {
         })
     }
 
-    /// That of the views below the one here, with its informees where they are told.
+    /// Where the list of views directly below the view here stands: inside its box, with its informees, where they are told, beside those above.
     pub fn inside(&self, informees: Option<&PartySet>) -> Result<Spot, AllocError> {
         let told = match informees {
             Some(informees) => self.told.union(informees)?,

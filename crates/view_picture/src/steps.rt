@@ -12,10 +12,10 @@ pub(crate) struct Step {
     pub action: Option<Text>,
 }
 
-/// Steps.
+/// Steps in the order of the walk.
 pub(crate) type StepList = ListOf<Step>;
 
-/// The walk through a view's core.
+/// The walk through a view's core, from its first action on.
 pub(crate) fn steps_of(alloc: Global, view: &SplitView) -> Result<StepList, AllocError> {
     let mut steps = StepList::new(alloc);
     let action = Some(action_text(alloc, &view.first.action)?);

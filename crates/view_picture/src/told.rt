@@ -6,7 +6,8 @@ use ledger_terms::{Name, Text};
 use report_text::put_number;
 use std::alloc::{AllocError, Global};
 
-/// Sender, ledger time and requesters, as an envelope tells them; the sender as the mediator is told it, where none does.
+/// What is told of a request as a whole: sender, ledger time and requesters as an envelope tells them, or the sender as the mediator is told it,
+/// where none does.
 pub(crate) fn told_text(alloc: Global, disclosure: &Disclosure) -> Result<Text, AllocError> {
     let mut out = String::new(alloc);
     if let Some(part) = disclosure.opened.get(0) {

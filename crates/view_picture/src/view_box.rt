@@ -5,13 +5,13 @@ use svg_text::Frame;
 /// How a box looks.
 #[derive(Clone, Copy)]
 pub enum BoxKind {
-    /// That of a view on an odd level, where roots stand on the first.
+    /// The box of a view on an odd level, where roots stand on the first.
     Tinted,
-    /// That of a view on an even level.
+    /// The box of a view on an even level.
     Plain,
-    /// That of a view which isn't shown.
+    /// The box of a view that isn't shown.
     Blinded,
-    /// That of a view which nobody is shown who is to see it.
+    /// The box of a view that isn't shown, where it is withheld from somebody.
     Withheld,
 }
 

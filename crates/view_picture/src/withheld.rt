@@ -2,7 +2,8 @@
 use crate::lack::Lack;
 use ledger_terms::{ListOf, ParticipantId, Path, PathList};
 
-/// A participant that is to see views, by what the mediator is told, and has no complete envelope: nothing is opened to it.
+/// A participant that is to see views, by what the mediator is told, and has no complete envelope, so that nothing is opened to it: `seen` are the
+/// paths of those views.
 #[derive(Drop)]
 pub(crate) struct Withheld {
     pub participant: ParticipantId,
@@ -10,11 +11,11 @@ pub(crate) struct Withheld {
     pub lack: Lack,
 }
 
-/// Such participants, in the order of the topology.
+/// The participants from whom views of a request are withheld, in the order of the topology.
 pub(crate) type WithheldList = ListOf<Withheld>;
 
 impl Withheld {
-    /// Whether it is to see the view at a path.
+    /// Whether the participant is to see the view at a path.
     pub fn sees(&self, path: &Path) -> bool {
         self.seen.as_slice().iter().any(|seen| *seen == *path)
     }

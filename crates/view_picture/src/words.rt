@@ -6,14 +6,14 @@ use std::alloc::{AllocError, Global};
 /// How many bytes of a hash are printed.
 const SHORT_HASH: usize = 4;
 
-/// An action, as a report has it.
+/// The text of an action, as a report has it.
 pub(crate) fn action_text(alloc: Global, action: &Action) -> Result<Text, AllocError> {
     let mut out = String::new(alloc);
     put_action(&mut out, action)?;
     Ok(Text::of_string(out))
 }
 
-/// Which view it is, with its informees and confirmers.
+/// The line that says which view a box is, with the view's informees and confirmers.
 pub(crate) fn view_text(
     alloc: Global,
     path: &Path,
@@ -27,7 +27,7 @@ pub(crate) fn view_text(
     Ok(Text::of_string(out))
 }
 
-/// Which view it is, with what isn't shown of it.
+/// The line that says which view a box is, with what isn't shown of the view.
 pub(crate) fn blind_text(alloc: Global, path: &Path, what: &str) -> Result<Text, AllocError> {
     let mut out = String::from_str(alloc, "view ")?;
     put_path(&mut out, path)?;
@@ -35,21 +35,21 @@ pub(crate) fn blind_text(alloc: Global, path: &Path, what: &str) -> Result<Text,
     Ok(Text::of_string(out))
 }
 
-/// What is blind, with its hash.
+/// The line that says what is blinded, with its hash.
 pub(crate) fn hash_line(alloc: Global, what: &str, hash: &Hash) -> Result<Text, AllocError> {
     let mut out = String::from_str(alloc, what)?;
     put_hash(alloc, &mut out, hash)?;
     Ok(Text::of_string(out))
 }
 
-/// Puts the beginning of a hash at the end.
+/// Puts the beginning of a hash at the end of `out`.
 pub(crate) fn put_hash(alloc: Global, out: &mut String, hash: &Hash) -> Result<(), AllocError> {
     let digits = hex::encode(alloc, &hash.as_bytes()[..SHORT_HASH])?;
     out.push_str(digits.as_str())?;
     out.push_str("..")
 }
 
-/// Puts a word and parties at the end.
+/// Puts a word and parties at the end of `out`.
 pub(crate) fn put_parties(
     out: &mut String,
     word: &str,
