@@ -26,17 +26,17 @@ inbox_over topology packages me log =
       items = inbox (framed_reading topology packages) me log;
     }
 
--- what it knows at a place, when it has read the entries below
+-- what a participant that forgets nothing knows at a place of a log, when it has read the entries below
 abbrev pub knowledge_at : Topology → Packages → ParticipantId → List Entry → (place : ℕ) → Knowledge
 knowledge_at topology packages me log place = knowledge_of (inbox_over topology packages me (take place log))
 
--- what it knows at each place up to one
+-- what it knows at each place, from 0 up to this one
 abbrev pub each_knowledge : Topology → Packages → ParticipantId → List Entry → (place : ℕ) → List Knowledge
 each_knowledge topology packages me log zero = knowledge_at topology packages me log zero ∷ []
 each_knowledge topology packages me log (suc place) =
     each_knowledge topology packages me log place ++ knowledge_at topology packages me log (suc place) ∷ []
 
--- the entry may stand behind those that were read
+-- an inbox may read the entry next: few items were read, the entry is later than the last of them, and its request is framed
 pub record MayRead (inbox : InboxState) (entry : Entry) : Type 0 where
   pub few : length inbox.items < 2 ^ 63
   pub rises : last_time inbox.items < entry.time

@@ -15,23 +15,15 @@ use Rattle.page_data.specs.declared.contract_state.ContractState.{ContractState}
 use Rattle.page_data.specs.declared.knowledge.Knowledge.{Knowledge}
 use Rattle.page_data.specs.declared.request_state.RequestState.{RequestState}
 
--- all that it knows of contracts comes of its items
-abbrev pub HasForgottenNothing : InboxState → Type 0
-HasForgottenNothing inbox = inbox.start ≡ no_start
+-- the inbox has no start: all that it knows of contracts comes of its items
+abbrev pub HasNoStart : InboxState → Type 0
+HasNoStart inbox = inbox.start ≡ no_start
 
--- the contracts of which approved requests tell
+-- the contracts of which approved requests told the participant, each with the places that created and consumed it
 abbrev pub store_rows : InboxState → List StoreRow
 store_rows inbox = written (changes_in (reading_of inbox) inbox.items) []
 
-abbrev pub rows_in : Option StoreRow → List StoreRow
-rows_in None = []
-rows_in (Some row) = row ∷ []
-
--- the one at a place of that list, where there is one
-abbrev pub store_rows_at : InboxState → ℕ → List StoreRow
-store_rows_at inbox at = rows_in (slice_get (store_rows inbox) at)
-
--- a contract, as all that was read says of it
+-- the status of a contract and whether a request holds it, by all items that were read
 abbrev pub contract_state : InboxState → Hash → ContractState
 contract_state inbox id =
     record {
@@ -40,12 +32,11 @@ contract_state inbox id =
       is_locked = is_locked_in_inbox (reading_of inbox) (params_of inbox) inbox.items (length inbox.items) id;
     }
 
+-- the state of each contract of which approved requests told the participant
 abbrev pub contract_states : InboxState → List ContractState
 contract_states inbox = map (λ (row : StoreRow). contract_state inbox row.known.id) (store_rows inbox)
 
-abbrev pub contract_states_at : InboxState → ℕ → List ContractState
-contract_states_at inbox at = map (λ (row : StoreRow). contract_state inbox row.known.id) (store_rows_at inbox at)
-
+-- what the participant knows of the request at a place, by what became of it; nothing where that is None, as no request was received
 abbrev pub with_outcome : InboxState → ℕ → Option Outcome → List RequestState
 with_outcome inbox place None = []
 with_outcome inbox place (Some outcome) =
@@ -60,10 +51,11 @@ abbrev pub request_states_below : InboxState → ℕ → List RequestState
 request_states_below inbox zero = []
 request_states_below inbox (suc place) = request_states_below inbox place ++ request_states_at inbox place
 
--- the active contracts with a hosted stakeholder at the cursor
+-- the ids of the participant's active contracts at the place up to which it has read
 abbrev pub active_ids : InboxState → List Hash
 active_ids inbox = map (λ (row : ActiveRow). row.known.id) (node_active (reading_of inbox) inbox.me inbox.items (length inbox.items))
 
+-- all that is told of what the participant knows by this inbox
 abbrev pub knowledge_of : InboxState → Knowledge
 knowledge_of inbox =
     record {
@@ -74,3 +66,16 @@ knowledge_of inbox =
       contracts = contract_states inbox;
       requests = request_states_below inbox (length inbox.items);
     }
+
+-- the row alone, where there is one
+abbrev pub rows_in : Option StoreRow → List StoreRow
+rows_in None = []
+rows_in (Some row) = row ∷ []
+
+-- the one with this index in `store_rows`, where there is one
+abbrev pub store_rows_at : InboxState → ℕ → List StoreRow
+store_rows_at inbox at = rows_in (slice_get (store_rows inbox) at)
+
+-- the state of the contract with this index there
+abbrev pub contract_states_at : InboxState → ℕ → List ContractState
+contract_states_at inbox at = map (λ (row : StoreRow). contract_state inbox row.known.id) (store_rows_at inbox at)

@@ -1,11 +1,11 @@
 //! What a participant knows, gathered by its own calls.
-ghost use Rattle.std.specs.Prelude.{◌≡◌, ◌++◌, ◌≤◌, ◌<◌, ℕ, List, length, map, IfOk, OnOk};
+ghost use Rattle.std.specs.Prelude.{◌≡◌, ◌++◌, ℕ, List, length, map, IfOk, OnOk};
 ghost use Rattle.ledger_terms.specs.declared.active_row.ActiveRow.{ActiveRow as ActiveRowValue};
 ghost use Rattle.canton_model.specs.Inbox.{is_locked_in_inbox, status_in_inbox};
 ghost use Rattle.contract_store.specs.Rows.{status_in};
 ghost use Rattle.contract_store.specs.Stored.{is_held};
 ghost use Rattle.node_inbox.specs.InboxState.{params_of, reading_of};
-ghost use Rattle.page_data.specs.Knowledge.{HasForgottenNothing, active_ids, contract_state, contract_states, contract_states_at, knowledge_of};
+ghost use Rattle.page_data.specs.Knowledge.{HasNoStart, active_ids, contract_state, contract_states, contract_states_at, knowledge_of};
 ghost use Rattle.page_data.specs.Knowledge.{request_states_at, request_states_below, store_rows, store_rows_at};
 
 use crate::contract_state::{ContractState, ContractStateList};
@@ -19,7 +19,7 @@ use std::alloc::{AllocError, Global};
 
 // What it knows of contracts, where it has forgotten nothing.
 fn store_of<'i>(inbox: &'i Inbox<'_>) -> &'i Store
-    requires { HasForgottenNothing inbox.now }
+    requires { HasNoStart inbox.now }
     ensures rows { result.now.rows ≡ store_rows inbox.now }
     ensures status { (c : List ℕ) → status_in result.now.rows c
         ≡ status_in_inbox (reading_of inbox.now) inbox.now.items (length inbox.now.items) c }
@@ -30,7 +30,7 @@ fn store_of<'i>(inbox: &'i Inbox<'_>) -> &'i Store
 }
 
 fn contract_state(inbox: &Inbox<'_>, id: Hash) -> ContractState
-    requires { HasForgottenNothing inbox.now }
+    requires { HasNoStart inbox.now }
     ensures { result ≡ contract_state inbox.now id }
 {
     let store = store_of(inbox);
@@ -46,7 +46,7 @@ fn put_contract_state(
     at: usize,
     states: &mut ContractStateList,
 ) -> Result<(), AllocError>
-    requires { HasForgottenNothing inbox.now }
+    requires { HasNoStart inbox.now }
     ensures { OnOk result (states.new ≡ states.old ++ contract_states_at inbox.now at) }
 {
     if let Some(row) = store_of(inbox).row(at) {
@@ -56,7 +56,7 @@ fn put_contract_state(
 }
 
 fn contract_states(alloc: Global, inbox: &Inbox<'_>) -> Result<ContractStateList, AllocError>
-    requires { HasForgottenNothing inbox.now }
+    requires { HasNoStart inbox.now }
     ensures { IfOk result (λ states. states ≡ contract_states inbox.now) }
 {
     let mut states = ContractStateList::new(alloc);
@@ -77,7 +77,7 @@ fn copy_row(row: &StoreRow) -> Result<StoreRow, AllocError>
 }
 
 fn put_row(inbox: &Inbox<'_>, at: usize, rows: &mut StoreRowList) -> Result<(), AllocError>
-    requires { HasForgottenNothing inbox.now }
+    requires { HasNoStart inbox.now }
     ensures { OnOk result (rows.new ≡ rows.old ++ store_rows_at inbox.now at) }
 {
     if let Some(row) = store_of(inbox).row(at) {
@@ -88,7 +88,7 @@ fn put_row(inbox: &Inbox<'_>, at: usize, rows: &mut StoreRowList) -> Result<(), 
 
 /// All contracts of which approved requests told a participant.
 pub fn store_rows(alloc: Global, inbox: &Inbox<'_>) -> Result<StoreRowList, AllocError>
-    requires { HasForgottenNothing inbox.now }
+    requires { HasNoStart inbox.now }
     ensures { IfOk result (λ rows. rows ≡ store_rows inbox.now) }
 {
     let mut rows = StoreRowList::new(alloc);
@@ -136,7 +136,7 @@ fn ids_of(alloc: Global, rows: &ActiveRowList) -> Result<HashList, AllocError>
 }
 
 fn active_ids(alloc: Global, inbox: &Inbox<'_>) -> Result<HashList, AllocError>
-    requires { HasForgottenNothing inbox.now }
+    requires { HasNoStart inbox.now }
     ensures { IfOk result (λ ids. ids ≡ active_ids inbox.now) }
 {
     let rows = inbox.active_at(alloc, inbox.cursor())?;
@@ -145,7 +145,7 @@ fn active_ids(alloc: Global, inbox: &Inbox<'_>) -> Result<HashList, AllocError>
 
 /// What a participant knows, by what it has read.
 pub fn knowledge_of(alloc: Global, inbox: &Inbox<'_>) -> Result<Knowledge, AllocError>
-    requires { HasForgottenNothing inbox.now }
+    requires { HasNoStart inbox.now }
     ensures { IfOk result (λ knowledge. knowledge ≡ knowledge_of inbox.now) }
 {
     Ok(Knowledge {

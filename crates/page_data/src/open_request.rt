@@ -1,4 +1,4 @@
-//! Requests that the mediator hasn't told the verdict of.
+//! Requests on which the mediator has given no verdict.
 use ledger_terms::{ListOf, ParticipantIdList};
 
 /// A request on which no verdict stands in the log: its place, until when responses count, and who of those that are asked hasn't
@@ -10,8 +10,8 @@ pub struct OpenRequest {
     pub missing: ParticipantIdList,
 }
 
-/// Requests in order of place.
+/// Requests without a verdict, in order of place.
 pub type OpenRequestList = ListOf<OpenRequest>;
 
-/// The requests at one place after another.
+/// The requests without a verdict at one place after another.
 pub type OpenRequestLists = ListOf<OpenRequestList>;

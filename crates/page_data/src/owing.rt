@@ -3,7 +3,7 @@ ghost use Rattle.std.specs.Prelude.{◌≡◌, ◌<◌, ◌++◌, true, length, 
 ghost use Rattle.world_model.specs.Node.{owed_at, owes_at};
 ghost use Rattle.node_inbox.specs.InboxState.{params_of, reading_of};
 ghost use Rattle.validate_job.specs.Outcome.{IsOutcome};
-ghost use Rattle.page_data.specs.Knowledge.{HasForgottenNothing};
+ghost use Rattle.page_data.specs.Knowledge.{HasNoStart};
 ghost use Rattle.page_data.specs.Owing.{owed_at_place, owed_below};
 
 use crate::owed::{Owed, OwedList};
@@ -26,7 +26,7 @@ fn run_job(job: ValidateJob<'_>) -> Result<Finished, AllocError>
 }
 
 fn checked(alloc: Global, inbox: &Inbox<'_>, place: u64) -> Result<ViewVerdictList, AllocError>
-    requires whole { HasForgottenNothing inbox.now }
+    requires whole { HasNoStart inbox.now }
     requires owes { owes_at (reading_of inbox.now) inbox.now.me inbox.now.items place ≡ true }
     ensures { IfOk result (λ verdicts. verdicts ≡ owed_at (reading_of inbox.now) (params_of inbox.now) inbox.now.me inbox.now.items place) }
 {
@@ -41,7 +41,7 @@ fn put_owed(
     place: u64,
     all: &mut OwedList,
 ) -> Result<(), AllocError>
-    requires { HasForgottenNothing inbox.now }
+    requires { HasNoStart inbox.now }
     ensures { OnOk result (all.new ≡ all.old ++ owed_at_place inbox.now place) }
 {
     if inbox.owes(place) {
@@ -53,7 +53,7 @@ fn put_owed(
 
 /// The verdicts that a participant owes to each request that it has read.
 pub fn owed_by(alloc: Global, inbox: &Inbox<'_>) -> Result<OwedList, AllocError>
-    requires { HasForgottenNothing inbox.now }
+    requires { HasNoStart inbox.now }
     ensures { IfOk result (λ all. all ≡ owed_below inbox.now (length inbox.now.items)) }
 {
     let mut all = OwedList::new(alloc);

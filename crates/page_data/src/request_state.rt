@@ -2,8 +2,8 @@
 use canton_model::Outcome;
 use ledger_terms::ListOf;
 
-/// What a participant knows at a place of a request that it received: what became of it so far, and whether it owes verdicts to it,
-/// decided or not.
+/// What a participant knows at a place of a request that it received: what became of it so far, and whether the participant owes verdicts
+/// to it, be it decided or not.
 #[derive(Clone, Copy)]
 pub struct RequestState {
     pub place: u64,

@@ -1,7 +1,7 @@
 //! For whom the mediator waits.
-ghost use Rattle.std.specs.Prelude.{◌≡◌, ◌++◌, ◌∷◌, [], ◌<◌, ◌≤◌, filter, length, not, IfOk, OnOk};
+ghost use Rattle.std.specs.Prelude.{◌≡◌, ◌++◌, ◌∷◌, [], length, IfOk, OnOk};
 ghost use Rattle.canton_model.specs.Mediation.{has_responded, is_response_of, missing_of};
-ghost use Rattle.page_data.specs.Waiting.{deadline_told, each_waiting, is_answered, is_verdict_on, open_at, open_below, open_in};
+ghost use Rattle.page_data.specs.Waiting.{each_waiting, is_answered, is_verdict_on, open_at, open_below, open_in};
 
 use crate::open_request::{OpenRequest, OpenRequestList, OpenRequestLists};
 use canton_model::{Entry, Message, Request};
@@ -126,7 +126,7 @@ fn open_requests(
     Ok(all)
 }
 
-/// For whom the mediator waits before the first entry of a log and after each.
+/// Before the first entry of a log and after each: the requests without a verdict, and for whom the mediator waits.
 pub fn waiting_over(
     alloc: Global,
     params: &Params,
