@@ -31,13 +31,13 @@ pub record IsSized (tree : Tree) : Type 0 where
   pub requesters_is : IsSizedLeaf tree.requesters
   pub vertices : AreSized tree.views
 
--- one leaf, where both show it
+-- where both leaves show their salt and bytes, these are the same
 abbrev pub AgreeLeaf : Leaf → Leaf → Type 0
 AgreeLeaf (Plain salt bytes) (Plain salt2 bytes2) = (salt ≡ salt2) × (bytes ≡ bytes2)
 AgreeLeaf (Plain salt bytes) (Blind hash) = Unit {0}
 AgreeLeaf (Blind hash) leaf = Unit {0}
 
--- as many vertices, and one leaf wherever both show it
+-- there are as many vertices, and wherever both show a leaf it is the same
 abbrev pub Agree : Vertices → Vertices → Type 0
 Agree NoVertices NoVertices = Unit {0}
 Agree NoVertices (BlindVertex hash others) = ⊥

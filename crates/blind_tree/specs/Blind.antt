@@ -48,7 +48,8 @@ hashes_of_views sha NoRoots = []
 hashes_of_views sha (Root view subviews others) =
     sha (view_hash_string (roles_digest sha view) (core_digest sha view) (hashes_of_views sha subviews)) ∷ hashes_of_views sha others
 
--- What a tree shows of a view: its hash alone; what stands below it; its informees and confirmers too; or its contents too.
+-- What a tree shows of a view. Hidden: its hash alone. Passed: what stands below it. Named: its informees and confirmers too. Whole: its
+-- contents too.
 pub data Visibility : Type 0 where
   Hidden : Visibility
   Passed : Visibility
@@ -95,16 +96,17 @@ vertices_shown sha (Root marked subviews others) =
 abbrev pub has_sight : (List ℕ → Bool) → Forest SplitView → Bool
 has_sight hosts views = list_any (is_sight hosts) (preorder views)
 
--- one of these views has
+-- one of these views has a hosted informee, those below them not counted
 abbrev pub sees_root : (List ℕ → Bool) → Forest SplitView → Bool
 sees_root hosts NoRoots = false
 sees_root hosts (Root view subviews others) = is_sight hosts view || sees_root hosts others
 
--- Whole what is seen: a view with a hosted informee, or one below such a view, as above says. Passed what stands above such
--- a view.
+-- What a participant's tree shows of a view: the whole view, if the participant sees it; else what stands below it, if there is a view
+-- below it that the participant sees; else its hash alone.
 abbrev pub visibility : (sees below : Bool) → Visibility
 visibility sees below = if sees then Whole else (if below then Passed else Hidden)
 
+-- each view with what the tree shows of it to who hosts these; `above` tells whether a view above them is seen
 abbrev pub shown_to : (hosts : List ℕ → Bool) (above : Bool) → Forest SplitView → Forest (Visibility × SplitView)
 shown_to hosts above NoRoots = NoRoots
 shown_to hosts above (Root view subviews others) =
@@ -112,7 +114,7 @@ shown_to hosts above (Root view subviews others) =
     (shown_to hosts (above || is_sight hosts view) subviews)
     (shown_to hosts above others)
 
--- to the mediator the informees and confirmers of every view
+-- what the mediator's tree shows of every view: its informees and confirmers
 abbrev pub informees_alone : SplitView → Visibility × SplitView
 informees_alone view = (Named, view)
 
@@ -121,7 +123,7 @@ pub record Salts : Type 0 where
   pub common : List ℕ
   pub requesters : List ℕ
 
--- A tree whose first two leaves have these salts, that shows so much of each view, and the requesters or not.
+-- A tree whose first two leaves have these salts. It shows of each view what that is marked with, and the requesters or not.
 abbrev pub tree_with : Hashing → Salts → (sender : List ℕ) (shows_requesters : Bool) → Transaction → Forest (Visibility × SplitView) → Tree
 tree_with sha salts sender shows_requesters transaction marked =
     record {
@@ -130,7 +132,7 @@ tree_with sha salts sender shows_requesters transaction marked =
       views = vertices_shown sha marked;
     }
 
--- for a participant that hosts these and may be the sender, where the transaction has these views
+-- the tree for a participant that hosts these parties, and is the sender if `sends` says so, of a transaction with these views
 abbrev pub tree_to : Hashing → Salts → (sender : List ℕ) → Transaction → Forest SplitView → (hosts : List ℕ → Bool) (sends : Bool) → Tree
 tree_to sha salts sender transaction views hosts sends =
     tree_with sha salts sender (sees_root hosts views || sends) transaction (shown_to hosts false views)
@@ -154,7 +156,7 @@ salts_of sha seed = record { common = salt_of sha 1 seed; requesters = salt_of s
 abbrev pub transaction_of : Views → Transaction
 transaction_of views = record { requesters = views.act_as; ledger_time = views.ledger_time; roots = assembled views.roots }
 
--- its trees, with the salts of its seed
+-- the tree of that transaction for a participant, with the salts of its seed
 abbrev pub blind_to : Hashing → Views → (sender : List ℕ) (hosts : List ℕ → Bool) (is_sender : Bool) → Tree
 blind_to sha views sender hosts is_sender =
     tree_to sha (salts_of sha views.seed) sender (transaction_of views) views.roots hosts is_sender
@@ -171,12 +173,12 @@ has_name (Some host) name = same_name host.name name
 abbrev pub is_host_named : List Host → ℕ → List ℕ → Bool
 is_host_named hosts p name = has_name (slice_get hosts p) name
 
--- for a recipient
+-- the tree for a recipient, a participant or the mediator
 abbrev pub blind_for : Hashing → Views → (sender : List ℕ) → List Host → Recipient → Tree
 blind_for sha views sender hosts (Participant p) = blind_to sha views sender (hosts_at hosts p) (is_host_named hosts p sender)
 blind_for sha views sender hosts Mediator = blind_for_mediator sha views sender
 
--- its hash
+-- the hash of the transaction, which each of these trees has
 abbrev pub transaction_digest : Hashing → Views → (sender : List ℕ) → List ℕ
 transaction_digest sha views sender =
     digest_with sha (salts_of sha views.seed) sender (transaction_of views) views.roots

@@ -89,7 +89,7 @@ parts_read informees contents subviews =
 abbrev pub own_view : ViewParts → SplitView
 own_view parts = (view_of parts NoRoots).root
 
--- the same of the leaves of a vertex
+-- the same, read from the two leaves of a vertex that has so many vertices below it
 abbrev pub own_view_read : (informees contents : Leaf) (subviews : ℕ) → Result SplitView WireFault
 own_view_read informees contents subviews = with_read (parts_read informees contents subviews) (λ parts. Ok (own_view parts))
 

@@ -6,15 +6,16 @@ use Rattle.blind_tree.specs.declared.leaf.Leaf.{Leaf}
 use Rattle.blind_tree.specs.declared.leaf.Leaf.TheVariants.{Blind, Plain}
 use Rattle.blind_tree.specs.declared.tree.Tree.{Tree}
 
+-- a function that gives each string its hash, as SHA-256 does
 abbrev pub Hashing : Type 0
 Hashing = List ℕ → List ℕ
 
--- of a leaf of a kind
+-- the hash of a leaf of a kind: 1 is common, 2 requesters, 3 informees, 4 contents
 abbrev pub hash_of_leaf : Hashing → ℕ → Leaf → List ℕ
 hash_of_leaf sha kind (Blind hash) = hash
 hash_of_leaf sha kind (Plain salt bytes) = sha (leaf_hash_string kind salt bytes)
 
--- of vertices side by side
+-- the hashes of vertices side by side
 abbrev pub hashes_of_vertices : Hashing → Vertices → List (List ℕ)
 hashes_of_vertices sha NoVertices = []
 hashes_of_vertices sha (BlindVertex hash others) = hash ∷ hashes_of_vertices sha others

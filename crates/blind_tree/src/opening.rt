@@ -132,8 +132,8 @@ fn view_with(informees: PartySet, confirmers: PartySet, core: CoreNode) -> Split
     }
 }
 
-/// The view that the two leaves of a vertex show, with these vertices below it, without the views there. Faults are those of
-/// `opened`.
+/// The view that the two leaves of a vertex show. The vertices below it aren't read: it is only tried that there are as many of them
+/// as the view's core has holes. Faults are those of `opened`.
 pub fn own_view(
     alloc: Global,
     informees: &Leaf,

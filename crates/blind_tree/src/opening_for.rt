@@ -27,8 +27,8 @@ use std::alloc::{AllocError, Global};
 use view_split::{OpenedTree, PlacedViewList};
 use wire_form::WireFault;
 
-/// What bytes open to a participant that sees the views with these paths, where they are a tree whose hash is `root`; the requesters
-/// where it is to know them. Anybody may have made the bytes.
+/// What bytes open to a participant that sees the views with these paths, and the requesters too if `requesters` says so; or that they are
+/// no tree whose hash is `root`, or lack something of it. Anybody may have made the bytes.
 pub fn opened_for(
     alloc: Global,
     bytes: &[u8],

@@ -56,14 +56,14 @@ impl VertexList {
         }
     }
 
-    /// The list of a vector's vertices, without memory.
+    /// The list of a vector's vertices. It asks for no memory.
     pub fn of(vertices: Vec<Vertex>) -> VertexList
         ensures { result ≡ vertices_of vertices.items }
     {
         VertexList { vertices }
     }
 
-    /// The vector of the vertices, without memory.
+    /// The vector of the vertices. It asks for no memory.
     pub fn into_vec(self) -> Vec<Vertex>
         ensures { vertices_of result.items ≡ self }
     {

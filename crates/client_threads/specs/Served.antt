@@ -13,7 +13,8 @@ use Rattle.world_model.specs.Rounds.{Why}
 use Rattle.world_play.specs.Results.{IsPlainResult, results_of}
 use Rattle.sync_shared.specs.Clients.{Seen}
 
--- Participant p's client, which had seen `first` when it began, with the results of its own among these submissions.
+-- What has come back of participant p's client, which had seen `first` when it began: it has a result for each of `submits` that is its
+-- participant's, in order, and what each says is so.
 pub record IsServed (m : Machine) (why : Why SubmitFault) (now : ℕ) (paused : List ParticipantId) (first : List Entry) (submits : List Submission)
     (p : ParticipantId) (client : Seen) (results : List SubmitResult) : Type 0 where
   pub mine : client.me ≡ p

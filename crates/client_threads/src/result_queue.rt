@@ -22,7 +22,7 @@ impl Model for ResultQueue {
 }
 
 impl ResultQueue {
-    /// No results.
+    /// A queue of no results.
     pub fn new(alloc: Global) -> ResultQueue
         ensures { result ≡ [] }
     {

@@ -82,7 +82,8 @@ pub fn serve_in_turn<'r, S: Session, R: Wait>(
     Ok(all)
 }
 
-/// Lets each client submit its own of these submissions, each in a thread of its own where one can be started.
+/// Lets each client submit its own of these submissions, each in a thread of its own where one can be started. What comes back of each
+/// client, in their order, may be want of memory.
 pub fn serve_each<'r, S: Session + Send + Sync, R: Threads + Wait + Sync>(
     rt: &R,
     alloc: Global,

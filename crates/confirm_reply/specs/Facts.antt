@@ -27,7 +27,7 @@ known_status facts c = status_of (fact_on facts c)
 abbrev pub is_known_locked : List IdFacts → Hash → Bool
 is_known_locked facts c = lock_of (fact_on facts c)
 
--- it says of its contract what is known of it, and whether a request holds it
+-- the fact says of its contract what is known of it, and whether a request holds it
 pub record IsFactOf (known : Hash → Status) (held : Hash → Bool) (fact : IdFacts) : Type 0 where
   pub status : fact.status ≡ known fact.id
   pub locked : fact.locked ≡ held fact.id

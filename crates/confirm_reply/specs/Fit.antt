@@ -15,6 +15,7 @@ IsCheckableAt packages trees n = (tree : Act × Actions) → slice_get trees n �
 abbrev pub matter_of : {N : Type 0} {T : N → Type 0} → Trial N T → Matter
 matter_of trial = record { trees = trees_in trial.nodes.now; core = trial.core.now; is_root = trial.is_root }
 
+-- The trial can be made: what stands at the numbers of its core can be checked, and the actions that it has are those of its nodes.
 pub record IsFit {N : Type 0} {T : N → Type 0} (trial : Trial N T) : Type 0 where
   pub checkable : All (IsCheckableAt trial.input.now.setup.now.checked (trees_in trial.nodes.now)) trial.core.now
   pub earlier : trial.earlier.now ≡ acts_of trial.nodes.now

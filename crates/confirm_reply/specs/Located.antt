@@ -43,7 +43,7 @@ view_or left view x children below =
     then Some (record { informees = view.informees; confirmers = view.confirmers; core = x.0 ∷ numbers_of (core_in view.below children) })
     else below
 
--- of views side by side, the first of which is number k, over the trees that they are put back to
+-- the view with what is left of the wanted path, among views side by side, the first of which is number k, over the trees that they are put back to
 abbrev pub view_found : Option (List ℕ) → ℕ → Forest SplitView → Forest (ℕ × Act) → Option Found
 view_found left k NoRoots trees = None
 view_found left k (Root view subviews others) NoRoots = None
@@ -51,7 +51,7 @@ view_found left k (Root view subviews others) (Root x children more) =
     option_or (view_or (after_step left k) view x children (view_found (after_step left k) 0 subviews (held_in view.below children)))
     (view_found left (suc k) others more)
 
--- of views with paths of their own
+-- the same of a whole path, among views with paths of their own
 abbrev pub view_found_in : List ℕ → List PlacedView → Forest (ℕ × Act) → Option Found
 view_found_in path [] trees = None
 view_found_in path (placed ∷ others) NoRoots = None

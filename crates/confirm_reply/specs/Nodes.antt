@@ -5,7 +5,7 @@ use Rattle.ledger_terms.specs.declared.act.Act.{Act}
 use Rattle.ledger_terms.specs.declared.action.Action.{Action}
 use Rattle.ledger_terms.specs.Trees.{ActionNode, Actions}
 
--- each with what stands below it
+-- each node's action with what stands below it
 abbrev pub trees_in : List (Bor ActionNode) → List (Act × Actions)
 trees_in nodes = map (λ (node : Bor ActionNode). (node.now.root, node.now.below)) nodes
 

@@ -16,7 +16,8 @@ pub record IsSure (packages : Packages) (action : Action) : Type 0 where
   pub roles : has_roles packages action ≡ true
   pub spellable : IsSpellableInstance (instance_of action)
 
--- Every action that is opened is so, and a view with this path is opened, whose core has no more than a verdict can number.
+-- Each action that is opened has roles and an id that can be told, and a view with this path is opened, whose core has no more actions than a
+-- verdict can number.
 pub record IsReady (packages : Packages) (tree : OpenedTree) (path : Path) : Type 0 where
   pub each : All (λ (act : Act). IsSure packages act.action) (acts (shown_by tree).roots)
   pub view : OpenedView

@@ -27,8 +27,8 @@ is_hosted input act = has_hosted_stakeholder (local_reading input.setup.now.topo
 abbrev pub is_requested : OpenedInput → Act → Bool
 is_requested input act = is_authorised_by_known (roles_in input.setup.now.checked) input.tree.now.requesters act.action
 
--- An action shows a reason, by what stands below it and before it. `asks` tells whether the requesters have to authorise it. The
--- reasons before these nine are no action's.
+-- An action shows a reason, by what stands below it and before it. `asks` tells whether the requesters have to authorise it. No action shows
+-- a reason that isn't one of these nine.
 abbrev pub shows : OpenedInput → Reason → Act → (below : Actions) → (earlier : List Act) → (asks : Bool) → Bool
 shows input IdMismatch act below earlier asks = not (is_authentic act)
 shows input NotVetted act below earlier asks =
@@ -65,17 +65,17 @@ tree_shows input matter reason n (Some tree) =
 abbrev pub shows_at : OpenedInput → Matter → Reason → ℕ → Bool
 shows_at input matter reason n = tree_shows input matter reason n (slice_get matter.trees n)
 
--- the place of the first that passes
+-- where the first of these numbers stands that passes the test
 abbrev pub place_shown : (ℕ → Bool) → List ℕ → Option ℕ
 place_shown test [] = None
 place_shown test (n ∷ ns) = if test n then Some 0 else option_map suc (place_shown test ns)
 
--- the first alone
+-- the same, where only the first number is tried
 abbrev pub first_alone : (ℕ → Bool) → List ℕ → Option ℕ
 first_alone test [] = None
 first_alone test (n ∷ ns) = if test n then Some 0 else None
 
--- Time and conformance are the whole view's.
+-- Where in the core the first action stands that shows the reason. Time and conformance are tried of the core's first action alone.
 abbrev pub place_of : OpenedInput → Matter → Reason → Option ℕ
 place_of input matter TimeSkew = first_alone (shows_at input matter TimeSkew) matter.core
 place_of input matter NotConformant = first_alone (shows_at input matter NotConformant) matter.core
@@ -88,6 +88,7 @@ abbrev pub rejected_or : Reason → Option ℕ → LocalVerdict → LocalVerdict
 rejected_or reason None rest = rest
 rejected_or reason (Some place) rest = Reject reason place
 
+-- the verdict where these reasons are tried one after another
 abbrev pub verdict_after : OpenedInput → Matter → List Reason → LocalVerdict
 verdict_after input matter [] = Approve
 verdict_after input matter (reason ∷ rest) = rejected_or reason (place_of input matter reason) (verdict_after input matter rest)

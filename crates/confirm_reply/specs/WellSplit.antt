@@ -15,7 +15,7 @@ abbrev pub taken_at : ℕ → Option (Act × Actions) → List (ℕ × Act)
 taken_at n None = []
 taken_at n (Some tree) = (n, tree.0) ∷ []
 
--- the actions at numbers, with these
+-- the actions at these numbers, each with its number
 abbrev pub taken : List (Act × Actions) → List ℕ → List (ℕ × Act)
 taken trees [] = []
 taken trees (n ∷ ns) = taken_at n (slice_get trees n) ++ taken trees ns

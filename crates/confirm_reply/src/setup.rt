@@ -2,7 +2,7 @@
 use lang_eval::Checked;
 use ledger_terms::Topology;
 
-/// The participants with their times, and the packages.
+/// The topology, with the participants and the times, and the packages.
 #[derive(Drop)]
 pub struct Setup {
     pub topology: Topology,

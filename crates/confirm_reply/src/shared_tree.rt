@@ -51,7 +51,7 @@ impl SharedTree {
         Ok(SharedTree { tree })
     }
 
-    /// The tree itself where nobody else looks at it, and else it as it is shared.
+    /// The tree itself where nobody else looks at it, and else the shared tree again.
     pub fn into_opened(self) -> Result<OpenedTree, SharedTree>
         ensures ok { IfOk result (λ tree. tree ≡ self) }
         ensures err { IfErr result (λ shared. shared ≡ self) }

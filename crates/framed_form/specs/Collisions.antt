@@ -52,10 +52,10 @@ message_strings topology Tick = []
 abbrev pub hashed : Topology → List Entry → List (List ℕ)
 hashed topology log = flat_map (λ (entry : Entry). message_strings topology entry.message) log
 
--- two different ones have one hash
+-- two different strings that are hashed of the log have one hash
 abbrev pub Collides : Topology → List Entry → Type 0
 Collides topology log = Clash sha256 (hashed topology log) (hashed topology log)
 
--- each request is framed
+-- each request of the log is framed
 abbrev pub AreFramed : Topology → List Entry → Type 0
 AreFramed topology log = (k : ℕ) (request : Request) → request_at log k ≡ Some request → IsFramed topology request

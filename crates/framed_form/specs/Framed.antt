@@ -94,7 +94,7 @@ are_bytes bytes = list_all (λ b. nat_lt b 256) bytes
 abbrev pub is_short : List ℕ → Bool
 is_short bytes = nat_le (length bytes) MOST_TREE_BYTES && are_bytes bytes
 
--- each of these envelopes is a participant's, later in the order than the one before, and short
+-- each of these envelopes is a participant's, not before the next and later in the order than the one before, and has bytes within the limit
 abbrev pub are_envelopes_framed : (next hosts : ℕ) → List Envelope → Bool
 are_envelopes_framed next hosts [] = true
 are_envelopes_framed next hosts (envelope ∷ rest) =

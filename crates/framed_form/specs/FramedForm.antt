@@ -38,7 +38,7 @@ abbrev pub outline_in : Option Tree → Forest Sets
 outline_in None = NoRoots
 outline_in (Some tree) = forest_in (roles_read tree.views)
 
--- the views, each with its informees and confirmers
+-- the views that the mediator is told of, each with its informees and confirmers
 abbrev pub outline_of : Request → Forest Sets
 outline_of request = outline_in (tree_in request.mediator)
 
@@ -77,7 +77,7 @@ abbrev pub offered_in : Topology → ℕ → Request → Option (List ℕ) → O
 offered_in topology p request None = Missing
 offered_in topology p request (Some bytes) = offered_by topology p request bytes
 
--- what its envelope offers it
+-- what the envelope to a participant offers it
 abbrev pub offered : Topology → ℕ → Request → OpenedFor
 offered topology p request = offered_in topology p request (envelope_to p request.envelopes)
 
@@ -86,7 +86,7 @@ complete_in Mismatch = None
 complete_in Missing = None
 complete_in (Open opened) = Some opened
 
--- what its envelope opens to it, where that is complete
+-- what the envelope to a participant opens to it, where it is complete
 abbrev pub opened_to : Topology → ℕ → Request → Option OpenedTree
 opened_to topology p request = complete_in (offered topology p request)
 

@@ -31,7 +31,7 @@ offer_of Mismatch = reading.Mismatch
 offer_of Missing = reading.Missing
 offer_of (Open opened) = reading.Open (shown_by opened)
 
--- the reading of a synchroniser with this topology, over a contract language and a test of identifiers
+-- the reading of a synchroniser with this topology, over a contract language, a test of what conforms and one of what is authentic
 abbrev pub framed_reading_over : Topology → Language → (conforms : Forest Act → Bool) → (is_authentic : Act → Bool) → Reading
 framed_reading_over topology language conforms is_authentic =
     record {

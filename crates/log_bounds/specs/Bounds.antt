@@ -6,19 +6,19 @@ use Rattle.canton_model.specs.Inbox.{inbox, node_active}
 use Rattle.canton_model.specs.Reading.{Reading}
 use Rattle.canton_model.specs.declared.entry.Entry.{Entry}
 
--- bytes of an action that is opened: those of its seed at least
+-- the least bytes of an action that is opened: those of its seed
 abbrev pub LEAST_ACTION_BYTES : ℕ
 LEAST_ACTION_BYTES = 32
 
--- bytes of a view that the mediator is told of at least: its tag, a hash with its tag for each of two leaves, and a count
+-- the least bytes of a view that the mediator is told of: its tag, a hash with its tag for each of two leaves, and a count
 abbrev pub LEAST_VIEW_BYTES : ℕ
 LEAST_VIEW_BYTES = 69
 
--- actions that an envelope opens at most: its bytes in parts of 32
+-- the most actions that an envelope opens: its most bytes in parts of 32
 abbrev pub MOST_OPENED_ACTIONS : ℕ
 MOST_OPENED_ACTIONS = 131072
 
--- The contract is one that the participant has as active below some place, over so many entries.
+-- The contract is one that the participant, having read some first entries of the log, has as active below some place.
 pub record WasActive (reading : Reading) (p : ParticipantId) (log : List Entry) (id : Hash) : Type 0 where
   pub read : ℕ
   pub below : ℕ

@@ -63,7 +63,8 @@ pub fn framed_requests_are_small()
     ensures envelopes { (topology : Topology) (request : Request) → IsFramed topology request → length request.envelopes ≤ length topology.hosts }
 {}
 
-/// What a framed request shows a participant are few actions, which name parties of the topology alone.
+/// What a framed request shows a participant are at most 131,072 actions. The actions that any request shows name parties of the topology
+/// alone.
 pub fn shown_actions_are_few()
     ensures few { (topology : Topology) (packages : Packages) (request : Request) (p : ParticipantId) (shown : Shown)
         → IsFramed topology request
@@ -80,8 +81,8 @@ pub fn owed_verdicts_are_spellable()
         → AreSpellable (verdicts_owed (framed_reading topology packages) params p (inbox (framed_reading topology packages) p log) k) }
 {}
 
-/// Below a place of a log of framed requests a participant has few authentic actions, few contracts that were created, and few that
-/// are active.
+/// Below place n of a log of framed requests a participant has at most n times 131,072 authentic actions, at most as many created contracts,
+/// and at most as many active ones.
 pub fn actions_of_logs_are_few()
     ensures authentic { (topology : Topology) (packages : Packages) (log : List Entry) (p : ParticipantId) (n : ℕ) → AreFramed topology log
         → length (authentic_below (framed_reading topology packages) (inbox (framed_reading topology packages) p log) n) ≤ MOST_OPENED_ACTIONS * n }
@@ -91,7 +92,7 @@ pub fn actions_of_logs_are_few()
         → length (node_active (framed_reading topology packages) p (inbox (framed_reading topology packages) p log) n) ≤ MOST_OPENED_ACTIONS * n }
 {}
 
-/// What a participant knows of created contracts has a spelling, so that it can be written down.
+/// What a participant knows of created contracts over a log of framed requests has a spelling, so that it can be written down.
 pub fn rows_of_logs_are_spellable()
     ensures created { (topology : Topology) (packages : Packages) (log : List Entry) (p : ParticipantId) (n : ℕ) → AreFramed topology log
         → All IsSpellableRow (created_below (framed_reading topology packages) (inbox (framed_reading topology packages) p log) n) }
@@ -99,7 +100,7 @@ pub fn rows_of_logs_are_spellable()
         → All IsSpellableRow (node_active (framed_reading topology packages) p (inbox (framed_reading topology packages) p log) n) }
 {}
 
-/// Contracts that were ever active at a participant, each of them once, are few.
+/// Contracts that were ever active at a participant over a log of framed requests, each of them once, are at most 131,072 for each entry.
 pub fn active_contracts_are_few()
     ensures { (topology : Topology) (packages : Packages) (log : List Entry) (p : ParticipantId) (ids : List Hash) → AreFramed topology log
         → IsDistinct bytes_eq ids
@@ -107,7 +108,7 @@ pub fn active_contracts_are_few()
         → length ids ≤ MOST_OPENED_ACTIONS * length log }
 {}
 
-/// A participant's active contracts name parties of the topology alone.
+/// A participant's active contracts over a log of framed requests name parties of the topology alone.
 pub fn active_contracts_name_known_parties()
     ensures { (topology : Topology) (packages : Packages) (log : List Entry) (p : ParticipantId) (n : ℕ) → AreFramed topology log
         → All (λ (row : ActiveRow). AreKnown (is_hosted topology) (parties_in_instance row.known.instance))

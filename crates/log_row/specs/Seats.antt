@@ -1,4 +1,4 @@
--- What the seats of a row know, the rule of its table, and what each kind of step tells.
+-- What the seats of a row know, the rule of its table, and what each kind of step tells. A row's pen has a seat, and each slip.
 use Rattle.std.specs.Prelude.{◌≡◌, ℕ, List, [], ◌∷◌, ◌++◌, length, true, false, if◌then◌else◌}
 use mathlib.Core.Option.{some}
 use mathlib.Core.List.{IsPrefix}
@@ -16,7 +16,7 @@ writer list = record { writes = true; list = list; joined = [] }
 abbrev pub reader : List Entry → View
 reader list = record { writes = false; list = list; joined = [] }
 
--- what the rule says of one view, where the writer has the seat and the log
+-- what the rule says of the view that the seat `by` has, where `seat` is the writer's and `log` the writer's list
 abbrev pub Fits : ℕ → List Entry → ℕ → View → Type 0
 Fits seat log by v = (v.writes ≡ true → (by ≡ seat) × (v.list ≡ log)) × IsPrefix v.list log × AllBegin v.joined log
 

@@ -27,13 +27,14 @@ pub struct EntryRows {
 }
 
 impl EntryRows {
+    /// No rows yet.
     pub fn new(alloc: Global) -> Result<EntryRows, AllocError> {
         let mut rows = Vec::new(alloc);
         rows.resize_with(64, || OnceLock::new())?;
         Ok(EntryRows { alloc, rows })
     }
 
-    /// Keeps the entry at the index, where none was. It comes back where there is no memory.
+    /// Puts the entry into the slot of the index. Where that isn't empty, or there is no memory, the entry comes back.
     pub fn put<'r>(&'r self, index: u64, entry: Stored) -> Result<&'r Stored, Stored>
         requires { index < 2 ^ 63 }
         ensures { MatchResult result (λ r. r.now ≡ entry) (λ e. e ≡ entry) }

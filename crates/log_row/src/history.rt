@@ -1,7 +1,7 @@
 //! The name that values behind different locks have in common.
 use std::marker::Brand;
 
-/// Names one history. A function that is generic in it is called with `Brand`, and the call picks the name.
+/// Names one history. A function that is generic in the name is called with `Brand`, and the call picks which it is.
 pub trait Row {
     ghost use Rattle.log_row.specs.LogPrefix.{RowName};
 

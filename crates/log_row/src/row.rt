@@ -138,6 +138,7 @@ impl<'r> Model for Slip<'r> {
 }
 
 impl LogRow {
+    /// A row in which no history has begun.
     pub fn new(alloc: Global) -> Result<LogRow, AllocError> {
         let histories = Histories::new(alloc)?;
         Ok(LogRow { histories })
@@ -204,7 +205,7 @@ impl<'r> Pen<'r> {
         })
     }
 
-    /// Tells that the slip's list begins the history.
+    /// Shows that the slip's list begins the history. Nothing changes.
     pub fn reaches(&mut self, slip: &mut Slip<'r>)
         requires { slip.old.row ≡ self.old.row }
         ensures same { (self.new ≡ self.old) × (slip.new ≡ slip.old) }
@@ -232,6 +233,7 @@ impl<'r> Slip<'r> {
         self.place
     }
 
+    /// The entry that the slip stands for.
     pub fn entry(&self) -> &Entry
         ensures { (k : ℕ) → length self.now.list ≡ k + 1 → slice_get self.now.list k ≡ Some result.now }
     {
@@ -246,7 +248,7 @@ impl<'r> Slip<'r> {
         self.stored.outline()
     }
 
-    /// The same slip once more.
+    /// A second slip of the same entry.
     pub fn again(&mut self) -> Slip<'r>
         ensures same { self.new ≡ self.old }
         ensures again { result ≡ self.old }
@@ -264,7 +266,7 @@ impl<'r> Slip<'r> {
         }
     }
 
-    /// Tells that the list of one of the two begins the other's.
+    /// Shows that the list of one of the two slips begins the other's. Nothing changes.
     pub fn compare(&mut self, other: &mut Slip<'r>)
         requires { other.old.row ≡ self.old.row }
         ensures same { (self.new ≡ self.old) × (other.new ≡ other.old) }

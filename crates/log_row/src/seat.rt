@@ -5,14 +5,15 @@ use std::alloc::Global;
 use std::collections::LinkedList;
 use std::marker::{Brand, PhantomData};
 
-/// What a seat knows. No value of it is made.
+/// What a seat knows, which a pen or a slip has: whether it is the writer's, which entries there are, and the lists that were joined into it.
+/// No value of it is made.
 pub struct View {
     pub writes: bool,
     pub list: LinkedList<Entry>,
     pub joined: LinkedList<LinkedList<Entry>>,
 }
 
-/// The rule of a row's table.
+/// The rule of a row's table: the list that a seat knows begins the writer's, and the table's word is the length of that.
 pub struct Law;
 
 impl TableRule<(), View, ()> for Law {
@@ -49,7 +50,7 @@ impl<J: Adds> Play<(), View> for Append<J> {
     ghost then = { Appends J.entries };
 }
 
-/// A seat learns that each list that it has joined begins its own.
+/// A seat learns that each list that was joined into its own begins that.
 pub struct Learn;
 
 impl Play<(), View> for Learn {

@@ -27,6 +27,7 @@ impl Model for Stored {
 }
 
 impl Stored {
+    /// An entry with what its mediator's bytes tell, where it brings a request.
     pub fn new(entry: Entry, outline: Option<Outline>) -> Stored
         requires { IsOutlined entry.message outline }
         ensures { result ≡ entry }

@@ -9,11 +9,11 @@ use Rattle.node_core.specs.Answers.{IsOf}
 use Rattle.node_core.specs.Participant.{HasRead, Participant, items_of, reading_of, with_state}
 use Rattle.node_restart.specs.Restarted.{HasRestarted}
 
--- a participant that has read `read`, once it has read these entries behind it
+-- the participant, which has read the entries `read`, after it has read `more` behind them
 abbrev pub having_read : (read more : List Entry) → Participant → Participant
 having_read read more p = with_state p (with_items p.state (items_of p ++ items_after (reading_of p) p.me read more))
 
--- with this inbox, a participant that never stopped and has taken back what it hadn't finished
+-- the state of p with this inbox, had it never stopped and had it put back the jobs that it hadn't finished
 abbrev pub never_stopped : Participant → List Item → NodeState
 never_stopped p whole =
     record {
@@ -24,7 +24,7 @@ never_stopped p whole =
       outbox = (p.state).outbox;
     }
 
--- One that had read all of a log has restarted, and more entries came.
+-- The participant `before` had read all of `log` and has restarted as `after`, and the log goes on with `more`, genuine as a whole.
 pub record CanGoOn (m : Machine) (log more : List Entry) (before after : Participant) : Type 0 where
   pub is_of : IsOf m before
   pub genuine : GenuineLog m (log ++ more)

@@ -13,14 +13,14 @@ ghost use Rattle.node_restart.specs.Short.{HasReadShort};
 ghost use Rattle.node_state.specs.declared.node_state.NodeState.{NodeState as State};
 ghost use Rattle.snapshot_store.specs.Spellable.{IsSpellableState};
 
-/// The state of a participant that has read a short log of framed requests, pruned or not, has a spelling: by the bytes of their trees such
-/// requests tell, show and open little.
+/// The state of a participant that has read a short genuine log, pruned or not, has a spelling: what framed requests tell, show and open is
+/// never more than it has room for.
 pub fn states_are_spellable()
     ensures { (p : Participant) (log : List Entry) (state : State) → HasReadShort p log state → IsSpellableState state }
 {}
 
-/// What begins from a participant's state, once that is pruned, is that participant restarted, however long the log that it had read. Over a
-/// short log the pruned state has a spelling, so that its bytes may stand between them.
+/// What begins again from a participant's pruned state is this participant, restarted, however long the log is that it had read. Where the log
+/// has fewer than 2^15 entries, the pruned state has a spelling, so that it may be written as bytes and read back in between.
 pub fn pruned_states_restart()
     ensures spelled { (m : Machine) (log : List Entry) (p : Participant) (state pruned : State) → CanRestart m log p
         → IsStateOf p state

@@ -43,7 +43,7 @@ AreWanted topology packages me known what roots = AreWantedBy packages known (se
 abbrev pub ConfirmsRequesters : Topology → (me : ℕ) → Submission → Type 0
 ConfirmsRequesters topology me what = (party : List ℕ) → Contains what.act_as party → confirms_at topology.hosts me party ≡ true
 
--- The request is the sealed form of the transaction that the submission wants, which has an action, and each of which has roles.
+-- The request is the sealed form of the transaction that the submission wants, which has an action, and each action of which has roles.
 pub record IsRequestOf (topology : Topology) (packages : Packages) (me : ℕ) (known : List Known) (what : Submission) (now : ℕ) (request : Request)
     : Type 0 where
   pub roots : Actions
@@ -53,7 +53,7 @@ pub record IsRequestOf (topology : Topology) (packages : Packages) (me : ℕ) (k
   pub has_roles : (a : Act) → Contains (acts roots) a → has_roles packages a.action ≡ true
   pub request_is : request ≡ request_for topology packages me what.command (tx_for topology me what now roots)
 
--- the wanted actions have one without roles, at the place that the fault says, or there is none
+-- one of the wanted actions has no roles, and its path is the fault's, or no action is wanted
 pub record IsUnsplit (topology : Topology) (packages : Packages) (me : ℕ) (known : List Known) (what : Submission) (now : ℕ) (fault : SplitFault)
     : Type 0 where
   pub roots : Actions

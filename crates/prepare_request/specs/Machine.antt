@@ -53,11 +53,12 @@ prepare_over topology packages offered what items now =
     then if_framed topology (prepared topology packages what.participant (offered what.participant items) what now)
     else None
 
--- why it wants none
+-- the fault, where the submission wants no request; where it wants one, of which nobody asks this, Memory stands for none
 abbrev pub fault_in : Result Request SubmitFault → SubmitFault
 fault_in (Ok request) = Memory
 fault_in (Err fault) = fault
 
+-- why a submission wants no request over these items
 abbrev pub why_over : Topology → Packages → Offered → Submission → List Item → (now : ℕ) → SubmitFault
 why_over topology packages offered what items now =
     fault_in (prepared topology packages what.participant (offered what.participant items) what now)

@@ -44,7 +44,7 @@ abbrev pub borrowed_or : Option SeedOf → Hash → Hash
 borrowed_or None own = own
 borrowed_or (Some other) own = root_seed other.participant other.command
 
--- where a participant's own seed for the command is this one
+-- the seed of the transaction, where a participant's own seed for the command is this one
 abbrev pub seed_of_what : What → Hash → Hash
 seed_of_what (Commands commands) own = own
 seed_of_what (Prepared borrowed roots) own = borrowed_or borrowed own

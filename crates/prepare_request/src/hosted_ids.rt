@@ -30,7 +30,7 @@ impl Model for HostedIds {
 }
 
 impl HostedIds {
-    /// None, without room.
+    /// No ids, and room for none.
     pub fn new(alloc: Global) -> HostedIds
         ensures ids { result.ids ≡ [] }
         ensures spare { result.spare ≡ 0 }
@@ -48,7 +48,7 @@ impl HostedIds {
         self.ids.contains_key(id)
     }
 
-    /// Makes room for so many more.
+    /// Makes room for so many more ids.
     pub fn reserve(&mut self, count: usize) -> Result<(), AllocError>
         ensures ids { self.new.ids ≡ self.old.ids }
         ensures spare { self.old.spare ≤ self.new.spare }

@@ -32,13 +32,15 @@ request_of_tx topology packages sender name command tx =
 abbrev pub confirms_any_view : (confirms : List ℕ → Bool) → Forest SplitView → Bool
 confirms_any_view confirms views = list_any (λ (view : SplitView). list_any confirms view.confirmers) (preorder views)
 
--- a participant's envelope, cut from the tree with every hash, and as it is blinded
+-- a participant's envelope, cut from the tree with every hash
 abbrev pub envelope_cut : KeptTree → (name : List ℕ) → List Host → ℕ → Envelope
 envelope_cut kept name hosts p = record { to = p; bytes = spell_tree (cut_tree kept name hosts (Participant p)) }
 
+-- a participant's envelope, with the tree as it is blinded for it
 abbrev pub envelope_by : List Host → (name : List ℕ) → Views → ℕ → Envelope
 envelope_by hosts name views p = record { to = p; bytes = spell_tree (blind_for sha256 views name hosts (Participant p)) }
 
+-- the request of these views, of a sender with this name, which concerns these participants at most
 abbrev pub request_by : Topology → (participants : List ℕ) (sender : ℕ) (name command : List ℕ) → Views → Request
 request_by topology participants sender name command views =
     record {

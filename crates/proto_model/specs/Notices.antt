@@ -9,7 +9,7 @@ use Rattle.blind_tree.specs.declared.view_roles.ViewRoles.{ViewRoles}
 use Rattle.framed_form.specs.FramedForm.{offered, root_of}
 use Rattle.proto_model.specs.declared.notice.Notice.{Notice}
 
--- the paths of those of these views that have a confirmer who is confirmed for
+-- the paths of the views that have a confirmer for whom the participant confirms
 abbrev pub confirmed_among : (confirms : Name → Bool) → List ViewRoles → List Path
 confirmed_among confirms views =
     map (λ (view : ViewRoles). view.path) (filter (λ (view : ViewRoles). list_any confirms view.confirmers) views)

@@ -29,7 +29,7 @@ pub struct Notice {
     pub offered: OpenedFor,
 }
 
-/// What an envelope offers, where an envelope that names somebody unknown isn't complete.
+/// What an envelope offers, which is Missing, too, where it opens an action that names a party outside the topology.
 pub fn if_known(
     alloc: Global,
     topology: &Topology,

@@ -46,7 +46,7 @@ roles_by packages = roles_of (the_language packages)
 abbrev pub views_by : Packages → Transaction → Forest SplitView
 views_by packages t = split (roles_by packages) t.roots
 
--- A transaction with its views, as what is split is seen. Nothing that is asked of it hangs on the seed, which isn't told.
+-- A transaction with its views, as the code gives them where it is split. Nothing that is asked of it depends on the seed, which isn't told.
 abbrev pub split_as : Transaction → Forest SplitView → Views
 split_as t views = record { act_as = t.requesters; ledger_time = t.ledger_time; seed = []; roots = views }
 

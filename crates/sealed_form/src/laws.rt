@@ -119,7 +119,7 @@ pub fn wanted_transactions_keep_the_limits_of_trees()
         → KeepLimits forest }
 {}
 
-/// A prepared tree that is filled keeps them too.
+/// What a prepared tree is filled to keeps these limits, too.
 pub fn filled_trees_keep_the_limits_of_trees()
     ensures { (known : List Known) (seed : List ℕ) (drafts : Drafts) (forest : Actions) → IsFilled known seed drafts forest → KeepLimits forest }
 {}

@@ -1,5 +1,5 @@
--- Which messages a log of this capacity and these times takes, where `framed` tells which requests are framed, and when. In words
--- of the world model, without a machine.
+-- Which messages a log takes, and when, by its capacity, its times and a test of framed requests. It is what the world model says of a
+-- machine, said without one.
 use Rattle.std.specs.Prelude.{◌≡◌, ℕ, ◌+◌, Bool, List, Option, Some, None, length, nat_lt, max, if◌then◌else◌}
 use Rattle.canton_model.specs.Log.{Params}
 use Rattle.canton_model.specs.Timeline.{or_else}
@@ -32,6 +32,7 @@ other_fault framed capacity params list (ResponseMessage response) = s.if_late p
 other_fault framed capacity params list (VerdictMessage verdict) = s.if_late params list verdict.request
 other_fault framed capacity params list Tick = None
 
+-- the first cause why the message isn't appended, if there is one
 abbrev pub fault_in : (framed : Request → Bool) (capacity : ℕ) → Params → List Entry → Message → Option s.AppendFault
 fault_in framed capacity params list message =
     or_else (s.if_already (s.first_from (s.is_same message) 0 list)) (other_fault framed capacity params list message)

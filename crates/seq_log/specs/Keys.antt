@@ -8,7 +8,7 @@ use Rattle.world_model.specs.Sequencing.{is_verdict_on}
 use Rattle.seq_log.specs.declared.key.Key.{Key}
 use Rattle.seq_log.specs.declared.key.Key.TheVariants.{Request, Response, Verdict}
 
--- what a message is the only one of
+-- the key of a message, which no other message of a log has; a Tick has none
 abbrev pub key_of : Message → Option Key
 key_of (RequestMessage request) = Some (Request request.sender request.command)
 key_of (ResponseMessage response) = Some (Response response.from response.request)

@@ -15,11 +15,11 @@ pub record Sequenced : Type 0 where
   pub capacity : ℕ
   pub topology : Topology
 
--- its history
+-- the history that the sequencer writes
 abbrev pub prefix_of : Sequenced → LogPrefix
 prefix_of s = record { row = s.row; list = s.list }
 
--- it has the times and the capacity of the machine, and its topology tells which requests are framed there
+-- the sequencer has the times and the capacity of the machine, and its topology tells which requests are framed there
 pub record IsFor (m : Machine) (s : Sequenced) : Type 0 where
   pub params : m.params ≡ (s.topology).params
   pub framed : (request : Request) → (m.reading).is_framed request ≡ is_framed s.topology request

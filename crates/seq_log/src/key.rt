@@ -5,7 +5,7 @@ ghost use Rattle.seq_log.specs.Keys.{key_of};
 use canton_model::Message;
 use ledger_terms::{Name, ParticipantId};
 
-/// A request's sender and command, a response's sender and request, or the request of a verdict.
+/// What no two messages of a log have in common: a request's sender and command, a response's sender and request, or the request of a verdict.
 #[derive(Clone, Copy, PartialEq, Eq, Hash)]
 pub enum Key {
     Request(ParticipantId, Name),
@@ -13,7 +13,7 @@ pub enum Key {
     Verdict(u64),
 }
 
-/// What a message is the only one of.
+/// The key of a message, which no other message of a log has. A Tick has none.
 pub fn key_of(message: &Message) -> Option<Key>
     ensures { result ≡ key_of message.now }
 {

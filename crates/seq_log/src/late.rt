@@ -21,7 +21,7 @@ fn entry_time(slips: &Vec<Slip<'_>>, place: u64) -> u64
     }
 }
 
-/// Whether the next entry would come after the request's decision time.
+/// The fault that the next entry would come after the decision time of the request, where it would. `last` is the time of the last entry.
 pub fn if_late(
     slips: &Vec<Slip<'_>>,
     params: &Params,
@@ -52,7 +52,7 @@ pub fn is_past(slips: &Vec<Slip<'_>>, params: &Params, place: u64, time: u64) ->
     decision < time
 }
 
-/// Whether a request would spend more than the capacity.
+/// The fault that a request needs more places than the capacity leaves, where it does.
 pub fn if_full(capacity: u64, reserved: u64, need: u64) -> Option<AppendFault>
     requires { reserved ≤ capacity }
     ensures { if_full capacity reserved need ≡ fault_if result }

@@ -29,7 +29,8 @@ use ledger_terms::{Params, ParticipantId, Topology};
 use log_row::Slip;
 use std::alloc::{AllocError, Global};
 
-/// The times and the capacity of a log, where its messages stand, its open requests, what was spent, and the time of its last entry.
+/// The times and the capacity of a log, where its messages stand, its open requests, how many places its requests need in all, and the time of
+/// its last entry.
 #[derive(Drop)]
 pub struct LogIndex {
     pub params: Params,
@@ -40,7 +41,7 @@ pub struct LogIndex {
     pub last: u64,
 }
 
-/// The time of the next entry.
+/// The time of the next entry: a microsecond after the last one's, and for a Tick `now`, where that is later.
 pub fn next_time(now: u64, message: &Message, last: u64) -> u64
     requires { last + 1 < 2 ^ 64 }
     ensures { result ≡ next_time now message.now last }
@@ -51,7 +52,7 @@ pub fn next_time(now: u64, message: &Message, last: u64) -> u64
     }
 }
 
-/// What a message adds to what was spent.
+/// How many places of the log a message needs: a request two and one for each confirming participant, any other message none.
 pub fn need_of(message: &Message) -> u64
     ensures { result ≡ s.need_of message.now }
 {

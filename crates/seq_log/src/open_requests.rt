@@ -16,7 +16,7 @@ use log_row::Slip;
 use std::alloc::AllocError;
 use std::collections::VecDeque;
 
-/// Their places, which rise, and so do their decision times.
+/// The places of the requests that are undecided in the whole log. They rise, and so do the requests' decision times.
 #[derive(Drop)]
 pub struct OpenRequests {
     pub places: VecDeque<u64>,
@@ -35,7 +35,7 @@ impl OpenRequests {
         }
     }
 
-    /// Those go whose decision time lies before this time.
+    /// Drops the requests whose decision time lies before this time, from the front on.
     pub fn expire(&mut self, slips: &Vec<Slip<'_>>, params: &Params, time: u64)
         ensures places { (t : LogPrefix) → Holds t slips.now.items
             → self.new.places.items ≡ after_front (λ k. nat_lt (decision_time_of params.now t.list k) time) self.old.places.items }
@@ -67,7 +67,7 @@ impl OpenRequests {
         }
     }
 
-    /// Makes room for one more.
+    /// Makes room for one more place.
     pub fn reserve(&mut self) -> Result<(), AllocError>
         ensures places { self.new.places.items ≡ self.old.places.items }
         ensures room { OnOk result (deque_len self.new.places < deque_capacity self.new.places) }
@@ -89,7 +89,7 @@ impl OpenRequests {
     }
 
     /// Follows the entry at `place`, whose message has this key: a verdict decides its request, and a request is open unless a verdict
-    /// on it stands before it.
+    /// on it stands before it, as `is_decided` says.
     pub fn follow(&mut self, key: &Option<Key>, place: u64, is_decided: bool)
         requires room { deque_len self.old.places < deque_capacity self.old.places }
         ensures { (message : Message) (low high : ℕ) → key.now ≡ key_of message → RisesBetween low self.old.places.items high

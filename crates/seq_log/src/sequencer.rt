@@ -187,7 +187,7 @@ impl<'r> Sequencer<'r> {
         &self.topology.params
     }
 
-    /// Tells that the slip's list begins the log.
+    /// Shows that the slip's list begins the log. Nothing changes.
     pub fn reaches(&mut self, slip: &mut Slip<'r>)
         requires { slip.old.row ≡ self.old.row }
         ensures same { (self.new ≡ self.old) × (slip.new ≡ slip.old) }

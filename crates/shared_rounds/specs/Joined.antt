@@ -14,7 +14,8 @@ use Rattle.world_model.specs.Sequencing.{reserved}
 use Rattle.world_model.specs.Settled.{sum_below}
 use Rattle.shared_rounds.specs.Queues.{AreQueuesOf, queued}
 
--- The log, which was `first` when the round's submissions began, with a queue of results for each participant.
+-- What is so once the submissions `submits` of a round are answered: of the log, which was `first` when they began, and of the queues of
+-- results, one for each participant.
 pub record AreAnswered (m : Machine) (why : Why SubmitFault) (now : ℕ) (paused : List ParticipantId) (first : List Entry) (submits : List Submission)
     (log : List Entry) (queues : List (List SubmitResult)) : Type 0 where
   pub genuine : GenuineLog m log

@@ -8,7 +8,7 @@ use Rattle.threads_model.specs.Inputs.{submissions_of}
 use Rattle.world_model.specs.Rounds.{Results}
 use Rattle.world_play.specs.Results.{IsPlainResult, results_of}
 
--- the queue of a participant, and an empty one where it has none
+-- the queue of a participant, and an empty one where there is none for it
 abbrev pub queue_at : List (List SubmitResult) → ParticipantId → List SubmitResult
 queue_at queues p = slice_index_or queues p []
 

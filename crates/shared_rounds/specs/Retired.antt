@@ -7,21 +7,26 @@ use Rattle.sync_shared.specs.Slips.{read_to, InRow}
 use Rattle.client_threads.specs.declared.served.Served.{Served}
 use Rattle.shared_rounds.specs.declared.retired.Retired.{Retired}
 
+-- the entries that a client has seen, by what came back of it
 abbrev pub list_seen : {S : Type 0} → Served S → List Entry
 list_seen served = (served.client).list
 
+-- the results of a client's submissions, by what came back of it
 abbrev pub results_brought : {S : Type 0} → Served S → List SubmitResult
 results_brought served = served.results
 
+-- how many tickets a client was given, by what came back of it
 abbrev pub tickets_brought : {S : Type 0} → Served S → ℕ
 tickets_brought served = (served.client).tickets
 
+-- the entries that a retired client had seen
 abbrev pub list_left : Retired → List Entry
 list_left retired = read_to retired.last
 
+-- the results that a retired client leaves
 abbrev pub results_left : Retired → List SubmitResult
 results_left retired = retired.results
 
--- its slip is of this history
+-- the slip that a retired client left is of this history
 abbrev pub IsLeftIn : RowName → Retired → Type 0
 IsLeftIn row retired = InRow row retired.last

@@ -48,7 +48,7 @@ pub fn retire_each<'r, S: Session>(
     Ok(retired)
 }
 
-// Tells that the entries as far as the slip begin the log.
+// Changes nothing. The prover learns from it that the entries as far as the slip begin the log.
 fn reaches<'r>(sequencer: &mut Sequencer<'r>, last: Option<Slip<'r>>)
     requires { InRow sequencer.old.row last }
     ensures same { sequencer.new ≡ sequencer.old }

@@ -91,8 +91,8 @@ fn shared_of<'r, S: Session>(alloc: Global, world: World<'r>, count: Book<S>) ->
 }
 
 impl<'r, S: Session> Synchroniser<'r, S> {
-    /// Puts the parts of a world behind locks, without memory. In its round nobody is paused and no verdicts are held. `alloc` is what
-    /// its calls allocate from.
+    /// Puts the parts of a world behind locks, without memory. In the synchroniser's round nobody is paused and no verdicts are held. `alloc` is
+    /// what its calls allocate from.
     pub fn of(alloc: Global, world: World<'r>, blank: Blank) -> Synchroniser<'r, S>
         requires set_up { IsSetUp S.topology S.packages S.machine S.why }
         requires nodes { AreSetUp S.topology S.packages (world.nodes).items }
@@ -138,7 +138,8 @@ impl<'r, S: Session> Synchroniser<'r, S> {
         Ok(Synchroniser::of(alloc, world, blank))
     }
 
-    /// Begins a round. Where time moves on, a Tick tells of it. After want of memory all is as before.
+    /// Begins a round: time moves on by `advance` microseconds, of which a Tick tells where they are more than none, and just these participants
+    /// are paused. After want of memory all is as before.
     pub fn begin_round(
         &mut self,
         advance: u64,

@@ -13,12 +13,12 @@ use Rattle.node_state.specs.declared.item_what.ItemWhat.{ItemWhat}
 use Rattle.node_state.specs.declared.item_what.ItemWhat.TheVariants.{Nothing, Request, Verdict}
 use Rattle.node_state.specs.declared.node_state.NodeState.{NodeState}
 
--- as many as four bytes count, each of which is so
+-- there are no more than four bytes count, and `Is` holds of each
 pub record AreCounted {A : Type 0} (Is : A → Type 0) (xs : List A) : Type 0 where
   pub few : length xs < 2 ^ 32
   pub each : All Is xs
 
--- its id is that of its salt and instance
+-- The parts of a row are in range, and its id is that of its salt and its instance.
 pub record IsRow (row : ActiveRow) : Type 0 where
   pub place : IsPlace row.created_at
   pub salt : IsHash row.known.salt
@@ -30,7 +30,7 @@ pub record AreIds (ids : List (List ℕ)) : Type 0 where
   pub counted : AreCounted IsHash ids
   pub ascend : IsRising ids
 
--- as many paths as two bytes count
+-- no more paths than two bytes count, each of them in range
 pub record ArePaths (paths : List (List ℕ)) : Type 0 where
   pub few : length paths ≤ MOST_OF_TWO_BYTES
   pub each : All IsPath paths
@@ -41,7 +41,7 @@ IsTime time = time < 2 ^ 64
 abbrev pub IsByte : ℕ → Type 0
 IsByte b = b < 2 ^ 8
 
--- its length has four bytes
+-- the length of an envelope has room in four bytes
 abbrev pub IsEnvelope : Option (List ℕ) → Type 0
 IsEnvelope None = Unit {0}
 IsEnvelope (Some bytes) = length bytes < 2 ^ 32

@@ -15,7 +15,7 @@ use Rattle.node_state.specs.declared.item_what.ItemWhat.{ItemWhat}
 use Rattle.node_state.specs.declared.item_what.ItemWhat.TheVariants.{Nothing, Request, Verdict}
 use Rattle.node_state.specs.declared.node_state.NodeState.{NodeState}
 
--- the parts of a contract, whose id is computed
+-- what is spelled of a row: its place, its salt and its instance, of which the id is computed
 abbrev pub RowParts : Type 0
 RowParts = (ℕ × List ℕ) × Instance
 
@@ -28,7 +28,7 @@ row_at = seen_at row_of (both_at (both_at (number_at w64) hash_at) instance_at)
 unfoldable pub rows_at : Reading (List ActiveRow)
 rows_at = counted_at (number_at w32) any_item row_at
 
--- ids that ascend
+-- a count in four bytes and so many ids, which ascend
 unfoldable pub ids_at : Reading (List (List ℕ))
 ids_at = counted_at (number_at w32) stands_above hash_at
 
@@ -89,7 +89,7 @@ items_listed_at = counted_at (number_at w32) any_item item_at
 unfoldable pub responses_at : Reading (List Response)
 responses_at = counted_at (number_at w32) any_item (response_at MOST_OF_BYTE)
 
--- places that ascend
+-- a count in four bytes and so many places, which ascend
 unfoldable pub places_at : Reading (List ℕ)
 places_at = counted_at (number_at w32) is_past (number_at w64)
 

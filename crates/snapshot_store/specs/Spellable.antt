@@ -13,17 +13,17 @@ use Rattle.node_state.specs.declared.item_what.ItemWhat.{ItemWhat}
 use Rattle.node_state.specs.declared.item_what.ItemWhat.TheVariants.{Nothing, Request, Verdict}
 use Rattle.node_state.specs.declared.node_state.NodeState.{NodeState}
 
--- its id is that of its salt and instance
+-- A row's instance has a spelling, and its id, which isn't spelled, is that of its salt and its instance.
 pub record IsSpellableRow (row : ActiveRow) : Type 0 where
   pub instance : IsSpellableInstance row.known.instance
   pub id : row.known.id ≡ contract_id row.known.salt row.known.instance
 
--- as many paths as two bytes count
+-- no more paths than two bytes count, each of which has a spelling
 pub record AreSpellablePaths (paths : List (List ℕ)) : Type 0 where
   pub few : length paths ≤ MOST_OF_TWO_BYTES
   pub each : All IsSpellablePath paths
 
--- its length has four bytes
+-- the length of an envelope has room in four bytes
 abbrev pub IsSpellableEnvelope : Option (List ℕ) → Type 0
 IsSpellableEnvelope None = Unit {0}
 IsSpellableEnvelope (Some bytes) = length bytes < 2 ^ 32

@@ -58,11 +58,11 @@ spell_place place = to_be_bytes w64 place
 unfoldable pub spell_places : List ℕ → List ℕ
 spell_places places = spell_counted spell_place places
 
--- the version and whose it is
+-- the byte of the version, 1, and that of the participant whose state it is
 unfoldable pub spell_owner : ℕ → List ℕ
 spell_owner me = 1 ∷ (me ∷ [])
 
--- from where on, and whether it is paused
+-- the base, the time of the entry before it, and whether the participant is paused
 unfoldable pub spell_position : (base base_time : ℕ) → Bool → List ℕ
 spell_position base base_time paused = to_be_bytes w64 base ++ to_be_bytes w64 base_time ++ spell_truth paused
 

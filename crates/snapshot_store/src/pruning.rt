@@ -13,7 +13,7 @@ use node_core::{Node, copy_responses};
 use node_state::NodeState;
 use std::alloc::{AllocError, Global};
 
-// What a participant that begins again from the state has as its state, pruned to the base of its inbox.
+// The state of a participant that begins again from this state, pruned to the base of its inbox.
 fn begun_pruned(alloc: Global, setup: &Setup, state: &NodeState) -> Result<NodeState, AllocError>
     requires { MayBegin setup.now.topology setup.now.checked state.now }
     ensures base { IfOk result (λ pruned. pruned.base ≡ Base.base setup.now.topology.params (items_in setup.now.topology state.now)) }
@@ -26,8 +26,8 @@ fn begun_pruned(alloc: Global, setup: &Setup, state: &NodeState) -> Result<NodeS
     node.pruned_state(alloc)
 }
 
-/// The state, pruned to the base of its inbox, the greatest place below which every request is decided at it. It is what it would be, had its
-/// participant been pruned there at once.
+/// The state, pruned to the base of its inbox: the greatest place at which every request below it is decided. What comes of it is the state that
+/// the participant would have, had it been pruned there at once.
 pub fn prune(alloc: Global, setup: &Setup, state: &NodeState) -> Result<NodeState, AllocError>
     requires { IsLawful setup.now.topology setup.now.checked state.now }
     ensures base { IfOk result (λ pruned. pruned.base ≡ Base.base setup.now.topology.params (items_in setup.now.topology state.now)) }

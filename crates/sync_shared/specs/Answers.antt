@@ -41,7 +41,8 @@ told_of (append.LogFull reserved need) = LogFull reserved need
 told_of (append.TooLate decision time) = Memory
 told_of append.Memory = Memory
 
--- the entries that the client has seen then, of a log that had these
+-- The entries that a client has seen once the log has refused its request: the whole log where this has the request already or no room for it,
+-- and else those that it had seen before.
 abbrev pub seen_after : AppendFault → (seen log : List Entry) → List Entry
 seen_after (append.Already place) seen log = log
 seen_after append.Unframed seen log = seen

@@ -23,11 +23,12 @@ pub record IsClaimed (row : RowName) (m : Machine) (bases : Bases) (p : Particip
   pub base : bases p ≤ c.job.given.place
   pub verdicts : owed_on_each c.job.given.input c.job.given.views ≡ owed_at m.reading m.params p (inbox m.reading p (read_to c.known)) c.job.given.place
 
--- the response is owed over what is known
+-- the response is owed by what its participant had read when it was copied
 pub record IsCopied (row : RowName) (m : Machine) (c : CopiedResponse) : Type 0 where
   pub in_row : InRow row c.known
   pub owed : IsOwed m.reading m.params (read_to c.known) c.response
 
+-- what is to be done outside participant p's lock is a job that it has claimed or a response that it owes, if it is anything
 abbrev pub IsStep : RowName → Machine → Bases → ParticipantId → NodeStep → Type 0
 IsStep row m bases p Done = Unit {0}
 IsStep row m bases p (Check claimed) = IsClaimed row m bases p claimed

@@ -67,7 +67,7 @@ impl<'r, S: Session> Client<'r, S> {
         count_of(&self.last)
     }
 
-    /// Has seen no less than the slip ties from now on.
+    /// From now on the client has seen at least the entries that the slip ties.
     pub(crate) fn sees(&mut self, last: Option<Slip<'r>>)
         requires { InRow S.history last }
         ensures { self.new ≡ record self.old { list = read_to last.entry } }
@@ -75,7 +75,7 @@ impl<'r, S: Session> Client<'r, S> {
         self.last = last;
     }
 
-    /// Tells that what it has seen begins the log.
+    /// Changes nothing. The prover learns from it that what the client has seen begins the log.
     pub(crate) fn reaches(&mut self, log: &mut LockedLog<'r, S>)
         ensures same { (self.new ≡ self.old) × (log.new ≡ log.old) }
         ensures begins { IsPrefix self.old.list log.old }

@@ -167,7 +167,7 @@ impl<'r, S: Session> LockedLog<'r, S> {
         last_of(&mut self.sequencer)
     }
 
-    /// Tells that the slip's list begins the log.
+    /// Changes nothing. The prover learns from it that the slip's list begins the log.
     pub fn reaches_slip(&mut self, slip: &mut Slip<'r>)
         requires { slip.old.row ≡ S.history }
         ensures same { (self.new ≡ self.old) × (slip.new ≡ slip.old) }
@@ -176,7 +176,7 @@ impl<'r, S: Session> LockedLog<'r, S> {
         self.sequencer.reaches(slip);
     }
 
-    /// Tells that what somebody has read begins the log, which is genuine and within its capacity.
+    /// Changes nothing. The prover learns from it that what somebody has read begins the log, and that this is genuine and within its capacity.
     pub fn reaches(&mut self, last: &mut Option<Slip<'r>>)
         requires { InRow S.history last.old }
         ensures same { (self.new ≡ self.old) × (last.new ≡ last.old) }
@@ -210,7 +210,7 @@ pub fn last_of<'r>(sequencer: &mut Sequencer<'r>) -> Option<Slip<'r>>
     slip_to(sequencer, count)
 }
 
-/// Tells that what somebody has read begins the log.
+/// Changes nothing. The prover learns from it that what somebody has read begins the log.
 pub fn reached<'r>(sequencer: &mut Sequencer<'r>, last: &mut Option<Slip<'r>>)
     requires { InRow sequencer.old.row last.old }
     ensures same { (sequencer.new ≡ sequencer.old) × (last.new ≡ last.old) }

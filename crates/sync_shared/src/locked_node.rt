@@ -120,7 +120,7 @@ impl<'r, S: Session, const I: u8> LockedNode<'r, S, I> {
         log.entry(self.cursor())
     }
 
-    /// Tells that what it has read begins the log.
+    /// Changes nothing. The prover learns from it that what the node has read begins the log.
     pub fn reaches(&mut self, log: &mut LockedLog<'r, S>)
         ensures same { (self.new ≡ self.old) × (log.new ≡ log.old) }
         ensures begins { IsPrefix self.old log.old }
@@ -215,7 +215,7 @@ impl<'r, S: Session, const I: u8> LockedNode<'r, S, I> {
         self.node.outbox(self.alloc)
     }
 
-    /// The response to a request waits no longer.
+    /// Takes the response to a request out of the outbox.
     pub fn sent(&mut self, request: u64)
         ensures same { self.new ≡ self.old }
     {

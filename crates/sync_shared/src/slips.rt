@@ -1,4 +1,4 @@
-//! The last slip that somebody has read.
+//! The last slip that somebody has read. A slip ties entries: its own and all that stand before it in the history.
 ghost use Rattle.std.specs.Prelude.{◌≡◌, ◌+◌, IsTrue, length};
 ghost use Rattle.sync_shared.specs.Slips.{read_to, InRow};
 ghost use mathlib.Core.List.{IsPrefix};
@@ -26,7 +26,7 @@ pub fn count_of(last: &Option<Slip<'_>>) -> u64
     }
 }
 
-/// Tells that what was read begins the list of the slip of the next place.
+/// Changes nothing. The prover learns from it that what was read begins the list of the slip of the next place.
 pub fn tie<'r>(last: &mut Option<Slip<'r>>, slip: &mut Slip<'r>)
     requires row { InRow slip.old.row last.old }
     requires next { length slip.old.list ≡ length (read_to last.old) + 1 }

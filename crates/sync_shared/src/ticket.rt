@@ -45,7 +45,7 @@ impl<'r> Ticket<'r> {
         }
     }
 
-    /// Tells that the entries as far as the request begin the log.
+    /// Changes nothing. The prover learns from it that the entries as far as the request begin the log.
     pub(crate) fn reaches<S: Session>(&mut self, log: &mut LockedLog<'r, S>)
         requires { self.old.row ≡ S.history }
         ensures same { (self.new ≡ self.old) × (log.new ≡ log.old) }

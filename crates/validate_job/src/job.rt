@@ -111,7 +111,7 @@ impl<'s> ValidateJob<'s> {
         self.place
     }
 
-    /// How many views are left, or the greatest number that can be told where that is more.
+    /// How many views are left to check, or 2^32 - 1 where these are more.
     pub fn left(&self) -> u32
         ensures { result ≡ min self.now.left (2 ^ 32 - 1) }
     {
@@ -119,7 +119,7 @@ impl<'s> ValidateJob<'s> {
         left.min(u32::MAX as usize) as u32
     }
 
-    /// Gives the check up, for the place of the request.
+    /// Gives the job up, and tells the place of its request.
     pub fn cancel(self) -> u64
         ensures { result ≡ self.entry.given.place }
     {
@@ -127,7 +127,7 @@ impl<'s> ValidateJob<'s> {
         place
     }
 
-    /// Checks the next view, and gives all verdicts after the last. None where views remain.
+    /// Checks the next view, and gives all verdicts after the last. None where views remain. After want of memory the job is as before.
     pub fn check_next(&mut self) -> Result<Option<Finished>, AllocError>
         requires { 0 < self.old.left }
         ensures one_view { OnOk result (self.new.left + 1 ≡ self.old.left) }

@@ -25,21 +25,21 @@ module _ (topology : Topology) (packages : Packages) (now : ℕ) (log : List Ent
   abbrev pub Wants : (read_to : ℕ) → Request → Type 0
   Wants read_to request = IsRequestOf topology packages what.participant (active_at topology packages log what.participant read_to) what now request
 
-  -- this request stands at the place
+  -- the request that the submission wants stands at the place
   abbrev pub IsSent : (place read_to : ℕ) → Type 0
   IsSent place read_to = (request : Request) × (request_at log place ≡ Some request) × Wants read_to request
 
-  -- one with its sender and command stands there
+  -- a request with the wanted one's sender and command stands at the place
   abbrev pub StandsThere : (place read_to : ℕ) → Type 0
   StandsThere place read_to =
       (request : Request) × Wants read_to request × (first : Request) × (request_at log place ≡ Some first) × (first.sender ≡ request.sender)
       × (first.command ≡ request.command)
 
-  -- its need is this
+  -- the wanted request needs so many places of the log: its own, one for each response and one for the verdict
   abbrev pub Needs : (need read_to : ℕ) → Type 0
   Needs need read_to = (request : Request) × Wants read_to request × (need ≡ 2 + length request.confirming)
 
-  -- Nothing is said of want of memory, which no result has.
+  -- What a result says of the submission is so. Nothing is said of want of memory, which no result has.
   abbrev pub IsAnsweredBy : SubmitResult SubmitFault → Type 0
   IsAnsweredBy (Sent place read_to) = IsSent place read_to
   IsAnsweredBy (Refused Paused read_to) = Unit {0}

@@ -15,7 +15,7 @@ use Rattle.world_play.specs.Results.{result_of}
 use Rattle.world_play.specs.Standing.{IsParticipant}
 use Rattle.world_play.specs.Submitting.{CanSubmit}
 
--- The submission is this participant's, which is one of the topology, and is within it.
+-- The submission is this participant's, which is one of the topology, and it names only parties of the topology.
 pub record CanAnswer (m : Machine) (node : NodeValue) (what : Submission) (sequencer : Sequenced) : Type 0 where
   pub is : IsParticipant m what.participant node sequencer
   pub is_host : what.participant < length (node.topology).hosts

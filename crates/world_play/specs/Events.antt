@@ -42,7 +42,7 @@ abbrev pub advance_in : List Event → ℕ
 advance_in [] = 0
 advance_in (event ∷ rest) = advance_of event + advance_in rest
 
--- a submission is within the topology
+-- The event may happen. Where it is a submission, this names only parties of the topology, which is valid, and so do the packages.
 abbrev pub CanHappen : Topology → Packages → Event → Type 0
 CanHappen topology packages (Advance by) = Unit {0}
 CanHappen topology packages (Submit what) = CanSubmit topology packages what

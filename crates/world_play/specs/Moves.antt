@@ -28,7 +28,7 @@ Happens m p event node log node' log' =
     → record { log = log'.list; now = now; mediator = mediator; nodes = set_at nodes p (state_over log'.list node') }
     ≡ happens m (record { log = log.list; now = now; mediator = mediator; nodes = nodes }) event
 
--- claimed and finished, where there is a place to be claimed
+-- a participant's state once it has claimed a place and finished the job there, where there is a place to be claimed
 abbrev pub validated_if : Reading → Params → ParticipantId → NodeState → Option ℕ → NodeState
 validated_if reading params p node None = node
 validated_if reading params p node (Some k) = validate reading params p node k

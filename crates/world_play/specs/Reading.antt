@@ -7,7 +7,7 @@ use Rattle.world_model.specs.Node.{with_items}
 use Rattle.node_core.specs.OverLog.{HasInbox, inbox_over, kept_of}
 use Rattle.node_core.specs.Participant.{Participant as NodeValue, reading_of, with_state}
 
--- its items are what it keeps of the inbox of these entries
+-- the participant once it has read just these entries: its items are what it keeps of their inbox
 abbrev pub has_read : NodeValue → List Entry → NodeValue
 has_read node read = with_state node (with_items node.state (kept_of node (inbox (reading_of node) node.me read)))
 
@@ -16,7 +16,7 @@ pub record Reads (node : NodeValue) (log : List Entry) : Type 0 where
   pub genuine : Genuine (reading_of node) (node.topology).params log
   pub inbox : HasInbox (inbox_over log node) node
 
--- a participant that has read some more of the log
+-- The node is `first` once this has read on to some place of the log.
 pub record IsReader (first : NodeValue) (log : List Entry) (node : NodeValue) : Type 0 where
   pub read : ℕ
   pub from : length (first.state).items ≤ read

@@ -28,12 +28,12 @@ result_of (Refused fault read_to) = w.Refused (fault_of fault) read_to
 abbrev pub results_of : List Submission → List SubmitResult → w.Results SubmitFault
 results_of submits results = zip submits (map result_of results)
 
--- where it is sent, it stands in the log
+-- where the result says that a request was sent, the log reaches to the request's place
 abbrev pub IsPlaced : List Entry → SubmitResult → Type 0
 IsPlaced log (Sent place read_to) = place < length log
 IsPlaced log (Refused fault read_to) = Unit {0}
 
--- it isn't want of memory, and doesn't hold one
+-- the result is no refusal for want of memory, nor one whose fault holds want of memory
 abbrev pub IsPlainResult : SubmitResult → Type 0
 IsPlainResult (Sent place read_to) = Unit {0}
 IsPlainResult (Refused fault read_to) = (fault ≢ Memory) × HoldsNoMemory fault

@@ -14,7 +14,7 @@ use Rattle.node_core.specs.Participant.{Participant as NodeValue}
 use Rattle.node_core.specs.Machines.{IsNodeOf}
 use Rattle.node_core.specs.OverLog.{HasInbox, inbox_over, state_over}
 
--- participant p has read a beginning of a genuine log
+-- The node is participant p of the machine, and has read a beginning of the sequencer's log, which is genuine.
 pub record IsParticipant (m : Machine) (p : ParticipantId) (node : NodeValue) (sequencer : Sequenced) : Type 0 where
   pub is_reading : IsReading m.reading
   pub is_for : IsFor m sequencer

@@ -31,7 +31,7 @@ abbrev pub IsOutOfMemory : Result LogPrefix SubmitRefusal → Type 0
 IsOutOfMemory (Ok slip) = ⊥
 IsOutOfMemory (Err refusal) = refusal.fault ≡ Memory
 
--- it is what its participant answers in whatever round has these flags, and the log goes on so
+-- The answer, and how the log goes on, are those of the submission's participant, in whatever round has just these participants paused.
 abbrev pub IsAnsweredBy : SubmitResult → World → Submission → World → Type 0
 IsAnsweredBy answer before what after =
     (m : Machine) (state : MediatorState) (topology : Topology) (packages : Packages) (round : Round) → IsWorldOf m state before

@@ -14,7 +14,7 @@ use Rattle.node_core.specs.Preparing.{offered_by}
 use Rattle.node_core.specs.Machines.{wanted_request}
 use Rattle.node_core.specs.OverLog.{inbox_over}
 
--- over a log, none where there is no such participant, or it is paused
+-- The request that a submission wants of a participant over a log: none where there is no such participant, or it is paused.
 abbrev pub wanted_of : List Entry → Submission → (now : ℕ) → Option NodeValue → Option Request
 wanted_of log what now None = None
 wanted_of log what now (Some node) =

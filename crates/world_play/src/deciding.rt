@@ -12,7 +12,7 @@ use mediator::Mediator;
 use seq_log::Sequencer;
 use std::alloc::AllocError;
 
-/// It reads the entry at its cursor, where one stands there.
+/// The mediator reads the entry at its cursor, where one stands there.
 pub fn read_next(mediator: &mut Mediator, sequencer: &mut Sequencer<'_>) -> Result<(), AllocError>
     requires { (m : Machine) × (state : MediatorState) × (n : ℕ) × IsMediator m state n mediator.old sequencer.old }
     ensures log { sequencer.new ≡ sequencer.old }
@@ -27,7 +27,7 @@ pub fn read_next(mediator: &mut Mediator, sequencer: &mut Sequencer<'_>) -> Resu
     Ok(())
 }
 
-/// It gives its next verdict, which is handed in.
+/// The mediator gives its next verdict, and this is handed in to the sequencer.
 pub fn give(mediator: &mut Mediator, sequencer: &mut Sequencer<'_>) -> Result<(), AllocError>
     ensures on { GoesOn sequencer.old sequencer.new }
     ensures ok { OnOk result ((m : Machine) (state : MediatorState) (n : ℕ) → IsMediator m state n mediator.old sequencer.old
@@ -39,7 +39,7 @@ pub fn give(mediator: &mut Mediator, sequencer: &mut Sequencer<'_>) -> Result<()
     Ok(())
 }
 
-/// Its next verdict is lost.
+/// The mediator gives its next verdict, and this is lost.
 pub fn lose(mediator: &mut Mediator) -> Result<(), AllocError>
     ensures ok { OnOk result ((m : Machine) (state : MediatorState) (n : ℕ) (log : Sequenced) → IsMediator m state n mediator.old log
         → Decides m LoseVerdict state log mediator.new log) }

@@ -94,7 +94,7 @@ fn verdict_is_lost(world: &mut World<'_>) -> Result<(), AllocError>
     lose(&mut world.mediator)
 }
 
-/// What the event does. One with nothing to do changes nothing.
+/// The event happens to the synchroniser. One with nothing to do changes nothing.
 pub fn happen<'r>(
     alloc: Global,
     natives: &'r NativeList,

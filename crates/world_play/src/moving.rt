@@ -26,7 +26,7 @@ use node_core::Node;
 use seq_log::Sequencer;
 use std::alloc::{AllocError, Global};
 
-/// What a participant does.
+/// One thing that a participant may do.
 #[derive(Clone, Copy)]
 pub enum NodeMove {
     Read,
@@ -36,7 +36,7 @@ pub enum NodeMove {
     Pause(bool),
 }
 
-// It reads the entry at its cursor, where one stands there.
+// The participant reads the entry at its cursor, where one stands there.
 fn read_next(node: &mut Node<'_>, sequencer: &mut Sequencer<'_>) -> Result<(), AllocError>
     requires { (m : Machine) × (p : ParticipantId) × IsParticipant m p node.old sequencer.old }
     ensures log { sequencer.new ≡ sequencer.old }
@@ -52,7 +52,7 @@ fn read_next(node: &mut Node<'_>, sequencer: &mut Sequencer<'_>) -> Result<(), A
     }
 }
 
-// It claims the first request that it can, and finishes its job.
+// The participant claims the first request that it can, and finishes its job.
 fn validate_next<'r>(
     alloc: Global,
     natives: &'r NativeList,
@@ -73,7 +73,7 @@ fn validate_next<'r>(
     Ok(())
 }
 
-// It sends the head of its outbox.
+// The participant sends the head of its outbox.
 fn reply(
     alloc: Global,
     node: &mut Node<'_>,
@@ -94,7 +94,7 @@ fn reply(
     Ok(())
 }
 
-// The head of its outbox is lost.
+// The head of the participant's outbox is lost.
 fn lose_reply(alloc: Global, node: &mut Node<'_>) -> Result<(), AllocError>
     ensures same { node.new ≡ with_state node.old node.new.state }
     ensures ok { OnOk result ((m : Machine) (p : ParticipantId) (log : Sequenced) → IsParticipant m p node.old log

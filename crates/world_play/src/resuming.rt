@@ -54,7 +54,7 @@ fn resume_node(node: &mut Node<'_>, sequencer: &mut Sequencer<'_>, at: usize)
     }
 }
 
-// Each of the participants does.
+// Each of the participants puts back such requests.
 fn resume_nodes_slice(nodes: &mut [Node<'_>], sequencer: &mut Sequencer<'_>)
     requires { (m : Machine) × (now : ℕ) × (state : MediatorState) × AreNodesOf m nodes.old sequencer.old
         × Lawful m (world_with now state nodes.old sequencer.old) }

@@ -15,7 +15,7 @@ use Rattle.node_core.specs.Participant.{Participant as NodeValue, items_of, para
 use Rattle.node_core.specs.States.{is_done_from, responses_from}
 use Rattle.world_play.specs.Standing.{IsParticipant}
 
--- It is the participant that it was, it has read to the end of the log, and it has forgotten what is below the base of its inbox there. It is
+-- `after` is the participant that `before` was, restarted: it has read to the end of the log, and forgotten what is below the base of its inbox there. It is
 -- paused as it was. From its base on it knows which jobs it did and keeps the responses that wait, and no job is unfinished.
 pub record IsRestarted (log : List Entry) (before after : NodeValue) : Type 0 where
   pub topology : after.topology ≡ before.topology
@@ -37,19 +37,19 @@ pub record AreRestarted (participants : List ParticipantId) (log : List Entry) (
   pub others : (p : ParticipantId) (x y : NodeValue) → slice_get before p ≡ Some x → slice_get after p ≡ Some y → has_place participants p ≡ false
       → y ≡ x
 
--- The bases once these participants have restarted at the end of the log: each of theirs is that of all that was received, and each other is
--- as it was.
+-- The bases once these participants have restarted at the end of the log: of each of them the greatest place at which every request that it
+-- received below is decided, and of each other the one that it had.
 abbrev pub bases_after : Reading → Params → List Entry → List ParticipantId → Bases → Bases
 bases_after reading params log participants bases p = if has_place participants p then Base.base params (inbox reading p log) else bases p
 
--- it is still the participant of each machine that it was, and paused as it was
+-- `after` is still the participant of each machine that `before` was, and paused as that was.
 pub record Remains (sequencer : Sequenced) (before after : NodeValue) : Type 0 where
   pub topology : after.topology ≡ before.topology
   pub packages : after.packages ≡ before.packages
   pub paused : (after.state).is_paused ≡ (before.state).is_paused
   pub is : (m : Machine) (p : ParticipantId) → IsParticipant m p before sequencer → IsParticipant m p after sequencer
 
--- each of them is
+-- Each of these participants is still the one that it was, as `Remains` says.
 pub record AllRemain (sequencer : Sequenced) (before after : List NodeValue) : Type 0 where
   pub many : length after ≡ length before
   pub each : (p : ParticipantId) (x y : NodeValue) → slice_get before p ≡ Some x → slice_get after p ≡ Some y → Remains sequencer x y
