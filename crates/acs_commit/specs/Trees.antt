@@ -73,7 +73,7 @@ tree_strings ids = strings_at sha256 ids levels 0
 abbrev pub is_other_bucket : (mine theirs : List (List ℕ)) → ℕ → Bool
 is_other_bucket mine theirs b = not (bytes_eq (bucket_hash mine b) (bucket_hash theirs b))
 
--- the first number that passes a test, of so many from one on
+-- the first number that passes a test, of so many from `start` on
 unfoldable pub first_where : (ℕ → Bool) → (start count : ℕ) → Option ℕ
 first_where test start zero = None
 first_where test start (suc count) = if test start then Some start else first_where test (suc start) count

@@ -67,7 +67,7 @@ pub fn shared_ids(
     Ok(ids)
 }
 
-/// The tree of the contracts among these of which the participant hosts a stakeholder.
+/// The tree of the ids of the contracts among these of which the participant hosts a stakeholder.
 pub fn shared(
     alloc: Global,
     topology: &Topology,

@@ -29,7 +29,7 @@ IsUnframed reading Tick = ⊥
 abbrev pub is_repeated : (before : List Entry) → Message → Bool
 is_repeated before message = list_any (λ (entry : Entry). is_same message entry.message) before
 
--- a request stands there that asks the response's sender
+-- the response is to a request of the log that asks its sender
 abbrev pub IsAsked : (before : List Entry) → Response → Type 0
 IsAsked before response = (request : Request) × (request_at before response.request ≡ Some request) × Contains request.confirming response.from
 
@@ -77,6 +77,7 @@ Shows s before entry WrongTrigger = is_wrong_trigger s before entry.message ≡ 
 abbrev pub ShowsNone : Standard → (before : List Entry) → Entry → Type 0
 ShowsNone s before entry = (why : Why) → ¬ Shows s before entry why
 
+-- the order of the cases
 abbrev pub number_of : Why → ℕ
 number_of Time = 1
 number_of Unframed = 2
@@ -91,7 +92,7 @@ number_of WrongTrigger = 8
 abbrev pub NoneBefore : Standard → (before : List Entry) → Entry → Why → Type 0
 NoneBefore s before entry why = (other : Why) → number_of other < number_of why → ¬ Shows s before entry other
 
--- the first case that it shows
+-- this case is the first that the entry shows
 pub record ShowsFirst (s : Standard) (before : List Entry) (entry : Entry) (why : Why) : Type 0 where
   pub shows : Shows s before entry why
   pub first : NoneBefore s before entry why

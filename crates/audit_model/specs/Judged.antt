@@ -18,7 +18,7 @@ pub record IsProper (s : Standard) (log : List Entry) : Type 0 where
 abbrev pub IsClear : Standard → List Entry → Type 0
 IsClear s log = (k : ℕ) (entry : Entry) → slice_get log k ≡ Some entry → ShowsNone s (take k log) entry
 
--- the first entry that shows a case, and the first that it shows
+-- the entry at this place is the first that shows a case, and this case is the first that it shows
 pub record FailsAt (s : Standard) (log : List Entry) (place : ℕ) (why : Why) : Type 0 where
   pub entry : Entry
   pub there : slice_get log place ≡ Some entry
@@ -29,6 +29,7 @@ pub record FailsAt (s : Standard) (log : List Entry) (place : ℕ) (why : Why) :
 abbrev pub is_approved : List Entry → ℕ → Bool
 is_approved log k = is_some (request_at log k) && is_approved_in k (timeline_of log)
 
+-- how many of the requests below a place are approved
 abbrev pub approved_below : List Entry → ℕ → ℕ
 approved_below log zero = 0
 approved_below log (suc k) = (if is_approved log k then 1 else 0) + approved_below log k

@@ -13,7 +13,7 @@ use Rattle.audit_model.specs.Standard.{Rule, Standard}
 abbrev pub is_caused_by : Rule → Request → Bool
 is_caused_by rule request = nat_eq rule.participant request.sender && rule.has_command request.command
 
--- one party alone
+-- whether these parties are this one alone
 abbrev pub is_just : Name → PartySet → Bool
 is_just party [] = false
 is_just party (one ∷ []) = bytes_eq one party
@@ -24,7 +24,7 @@ exercised_by (Create id instance) = None
 exercised_by (Exercise id salt instance choice args actors consuming result) = Some id
 exercised_by (Fetch id salt instance actors) = None
 
--- the contract that the one root exercises
+-- the contract that the root exercises, where there is just one
 abbrev pub exercised_in : Forest Act → Option Hash
 exercised_in NoRoots = None
 exercised_in (Root act below NoRoots) = exercised_by act.action
@@ -43,7 +43,7 @@ abbrev pub is_contract : Option Hash → Hash → Bool
 is_contract None contract = false
 is_contract (Some id) contract = bytes_eq contract id
 
--- a request of the rule that exercises the contract for it
+-- whether the message is a request of the rule that exercises the contract for it
 abbrev pub has_exercised : Reading → Rule → Hash → Message → Bool
 has_exercised reading rule contract (RequestMessage request) =
     is_caused_by rule request && is_contract (exercised_for rule (reading.whole request)) contract
@@ -56,6 +56,7 @@ abbrev pub is_wrong_use : Reading → Rule → (before : List Entry) → Option 
 is_wrong_use reading rule before None = true
 is_wrong_use reading rule before (Some contract) = list_any (λ (entry : Entry). has_exercised reading rule contract entry.message) before
 
+-- the request is the rule's, and isn't what the rule may cause after the log before it
 abbrev pub is_wrongly_caused_by : Reading → (before : List Entry) → Request → Rule → Bool
 is_wrongly_caused_by reading before request rule =
     is_caused_by rule request && is_wrong_use reading rule before (exercised_for rule (reading.whole request))

@@ -10,10 +10,11 @@ use Rattle.script_read.specs.declared.round.Round.{Round}
 use Rattle.world_model.specs.Rounds as w
 use Rattle.world_play.specs.Results.{results_of}
 
--- what a client hands in, as the sequencer takes it
+-- an envelope of a raw request, as the sequencer takes it
 abbrev pub envelope_of : RawEnvelope → Envelope
 envelope_of raw = record { to = raw.to; bytes = raw.bytes }
 
+-- a raw request as the sequencer takes it
 abbrev pub request_of : RawRequest → Request
 request_of raw =
     record {
@@ -24,9 +25,11 @@ request_of raw =
       envelopes = map envelope_of raw.envelopes;
     }
 
+-- raw requests as the sequencer takes them, in their order
 abbrev pub requests_of : List RawRequest → List Request
 requests_of raws = map request_of raws
 
+-- a script's round in the words of the world model, which don't say who restarts
 abbrev pub round_of : Round → w.Round
 round_of round =
     record {
@@ -37,10 +40,12 @@ round_of round =
       submits = round.submits;
     }
 
+-- a script's round with its results and the length of the log at its end, in the words of the world model
 abbrev pub answered_round : Round → List SubmitResult → (end : ℕ) → w.RoundAnswers SubmitFault
 answered_round round results end = record { round = round_of round; results = results_of round.submits results; end = end }
 
--- Each round with its own results and the length of the log at its end. The results stand in script order.
+-- Each round with its own results and the length of the log at its end, in the words of the world model. `results` are those of all rounds, in script
+-- order.
 abbrev pub answered : List Round → List SubmitResult → (ends : List ℕ) → List (w.RoundAnswers SubmitFault)
 answered [] results ends = []
 answered (round ∷ rounds) results [] = []

@@ -25,16 +25,17 @@ use Rattle.world_play.specs.declared.world.World.{World}
 use Rattle.canton_run.specs.Answered.{answered, round_of}
 use Rattle.canton_run.specs.Run.{machine_for, script_with, submissions_in, why_for}
 
--- by how much the rounds move time in all
+-- by how many microseconds the rounds move time in all
 abbrev pub time_in : List Round → ℕ
 time_in rounds = sum_by (λ (round : Round). round.advance) rounds
 
--- it is the round after so many others of an accepted script
+-- the script is accepted, and the round is the one behind its first `count` rounds
 pub record IsRoundOf (script : Script) (count : ℕ) (round : Round) : Type 0 where
   pub accepted : IsAccepted script
   pub there : slice_get script.rounds count ≡ Some round
 
--- It is a part of a run of an accepted script: what it submits is within the topology.
+-- The script is accepted, and the part may be one of a run of it: its submissions are of participants that there are and name only parties of
+-- the topology.
 pub record IsPartOf (script : Script) (part : Round) : Type 0 where
   pub accepted : IsAccepted script
   pub within : All (CanSubmit script.topology script.checked) part.submits
@@ -44,7 +45,8 @@ pub record IsPartOf (script : Script) (part : Round) : Type 0 where
 abbrev pub IsSetupOf : Script → Setup → Type 0
 IsSetupOf script setup = script ≡ script_with setup script.triggers script.rounds
 
--- The round has begun on the script's synchroniser, and its submissions are within the topology.
+-- The round has begun on the script's synchroniser, and its submissions are of participants that there are and name only parties of the
+-- topology.
 pub record CanBeAnswered (script : Script) (capacity : ℕ) (round : Round) (world : World) : Type 0 where
   pub machine : IsMachine (machine_for script capacity)
   pub state : MediatorState
@@ -93,7 +95,7 @@ pub record ArePlayed (script : Script) (capacity workers : ℕ) (parts : List Ro
   pub plain : All IsPlainResult results
   pub played : RoundsBy workers (machine_for script capacity) (why_for script) 0 [] (answered parts results ends) (world.sequencer).list
 
--- One part more was played behind the others: the log goes on, and these are the results and the ends with its own behind the others.
+-- One part more was played behind the others: the log goes on, and `results'` and `ends'` are `results` and `ends` with its own behind them.
 pub record IsPlayedOn (script : Script) (capacity workers : ℕ) (parts : List Round) (part : Round) (before after : World)
     (results results' : List SubmitResult) (ends ends' : List ℕ) : Type 0 where
   pub own : List SubmitResult

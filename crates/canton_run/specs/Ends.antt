@@ -1,4 +1,4 @@
--- How a run may end.
+-- How a run may end. `left` and `left'` are the bytes that the source has left before the run and after it, None where it doesn't tell.
 use Rattle.std.specs.Prelude.{◌≡◌, ◌≢◌, ◌↔◌, ℕ, ◌+◌, ◌≤◌, ◌<◌, Bool, true, false, List, [], length, Option, option_map, Some, None, Ok, Err}
 use Rattle.std.proofs.Common.{◌⊎◌}
 use Rattle.std.specs.Io.KnownBytes.{Consumes, Keeps}
@@ -22,15 +22,15 @@ use Rattle.canton_run.specs.declared.finish.Finish.{Finish}
 use Rattle.canton_run.specs.Jobs.{GivesScript, ReadWhole, capacity_of, most_bytes, needs_script, needs_source, text_of, workers_of}
 use Rattle.canton_run.specs.Run.{IsRun}
 
--- one of the statuses
+-- the status is one that the program may end with
 abbrev pub IsStatus : ℕ → Type 0
 IsStatus s = (s ≡ 0) ⊎ ((s ≡ 2) ⊎ ((s ≡ 3) ⊎ ((s ≡ 4) ⊎ ((s ≡ 5) ⊎ ((s ≡ 6) ⊎ (s ≡ 70))))))
 
--- one of those that an audit may end with
+-- the status is one that an audit may end with
 abbrev pub IsAuditStatus : ℕ → Type 0
 IsAuditStatus s = (s ≡ 0) ⊎ ((s ≡ 4) ⊎ ((s ≡ 5) ⊎ ((s ≡ 6) ⊎ (s ≡ 70))))
 
--- one of those that a run of the source's script may end with
+-- the status is one that a run of the source's script may end with
 abbrev pub IsRunStatus : ℕ → Type 0
 IsRunStatus s = (s ≡ 0) ⊎ ((s ≡ 3) ⊎ ((s ≡ 4) ⊎ ((s ≡ 5) ⊎ ((s ≡ 6) ⊎ (s ≡ 70)))))
 
@@ -42,7 +42,7 @@ AsksForSource words = option_map needs_source (job_of words) ≡ Some true
 abbrev pub AsksForScript : List (List ℕ) → Type 0
 AsksForScript words = option_map needs_script (job_of words) ≡ Some true
 
--- nothing was run
+-- nothing was run: there is no log, no result, no end of a round, and nothing that rules caused
 abbrev pub HasRunNothing : Finish → Type 0
 HasRunNothing finish = (finish.log ≡ []) × (finish.results ≡ []) × (finish.ends ≡ []) × (finish.caused ≡ [])
 
@@ -63,7 +63,7 @@ RanScript may job left left' finish text =
     (bytes : List ℕ) × (script : Script) × GivesScript job left left' bytes script
     × IsRun may script (capacity_of job) (workers_of job) finish.log finish.results finish.ends finish.caused × (text ≡ text_of job bytes script finish)
 
--- what a job did, and the text that it writes
+-- the job was done, an audit or a run of its script, and the text is what it writes
 abbrev pub Did : Answers → Job → Option (List ℕ) → Option (List ℕ) → Finish → List ℕ → Type 0
 Did may jobs.Audit left left' finish text = Audited left left' finish text
 Did may (jobs.Run workers log) left left' finish text = RanScript may (jobs.Run workers log) left left' finish text
@@ -75,7 +75,7 @@ Did may (jobs.Dump workers log) left left' finish text = RanScript may (jobs.Dum
 abbrev pub Ran : Answers → List (List ℕ) → Option (List ℕ) → Option (List ℕ) → Finish → List ℕ → Type 0
 Ran may words left left' finish text = (job : Job) × (job_of words ≡ Some job) × Did may job left left' finish text
 
--- what was written is judged to be the dump of the run's log
+-- an audit of what was written says yes, with the number of the log's entries and of its approved requests
 abbrev pub IsJudgedYes : Finish → (dump : List ℕ) → Type 0
 IsJudgedYes finish dump = IsAudit script_of most_of standard_of dump (Yes (length finish.log) (approved_in finish.log))
 
@@ -89,11 +89,11 @@ ReadsFault left left' finish =
 abbrev pub KeepsFault : List (List ℕ) → Option (List ℕ) → Option (List ℕ) → Finish → Type 0
 KeepsFault words left left' finish = AsksForScript words × ReadsFault left left' finish
 
--- the bytes were taken: at most one past the limit, and that one exactly at status 6
+-- these bytes were taken from the source: at most one past the limit, and that one exactly at status 6
 abbrev pub TakesAtMost : (most : ℕ) → Option (List ℕ) → Option (List ℕ) → (status : ℕ) → List ℕ → Type 0
 TakesAtMost most left left' status bytes = Consumes left left' bytes × (length bytes ≤ most + 1) × (status ≡ 6 ↔ (most < length bytes))
 
--- how many bytes are read where words ask for this
+-- how many bytes are read at most for the job that words ask for, and the limit of scripts where they ask for none
 abbrev pub most_asked : Option Job → ℕ
 most_asked None = MOST_SCRIPT_BYTES
 most_asked (Some job) = most_bytes job
@@ -115,7 +115,7 @@ OffersScript left = (bytes : List ℕ) × (script : Script) × (left ≡ Some by
 abbrev pub OffersBytes : Option (List ℕ) → Type 0
 OffersBytes left = (bytes : List ℕ) × (left ≡ Some bytes) × (length bytes ≤ MOST_DUMP_BYTES)
 
--- a fact, where a test says that it is asked for
+-- the fact holds where the test is true; where the test is false, nothing is said
 abbrev pub Where : Bool → Type 0 → Type 0
 Where true fact = fact
 Where false fact = Unit {0}
@@ -128,10 +128,10 @@ HasInput (jobs.Gen count seed workers) left = Unit {0}
 HasInput (jobs.Commitments workers log) left = OffersScript left
 HasInput (jobs.Dump workers log) left = OffersScript left
 
--- the source's count didn't rise, where the job needs a source
+-- where the job needs a source, the source's count of faults didn't rise
 abbrev pub NoReadFault : Job → (before after : ℕ) → Type 0
 NoReadFault job before after = Where (needs_source job) (¬ Rose before after)
 
--- no take failed, the source was not too long and memory was found
+-- the status says neither that a read failed, nor that the source was too long, nor that there was no memory
 abbrev pub IsReadWhole : ℕ → Type 0
 IsReadWhole status = (status ≢ 4) × (status ≢ 6) × (status ≢ 70)

@@ -22,7 +22,7 @@ use Rattle.canton_run.specs.declared.finish.Finish.{Finish}
 use Rattle.canton_run.specs.Restarts.{base_in, pruned_in}
 use Rattle.canton_run.specs.Run.{params_of, reading_for}
 
--- the bytes that the source gave, which was read to its end, within the limit
+-- the source gave these bytes and was read to its end, and they are at most so many
 abbrev pub ReadWhole : (most : ℕ) → Option (List ℕ) → Option (List ℕ) → List ℕ → Type 0
 ReadWhole most left left' bytes = Consumes left left' bytes × IsAtEnd left' × (length bytes ≤ most)
 
@@ -38,7 +38,7 @@ needs_source (Commitments workers log) = true
 needs_source (Dump workers log) = true
 needs_source Audit = true
 
--- whether it takes a script from there
+-- whether the job takes a script from the source
 abbrev pub needs_script : Job → Bool
 needs_script (Run workers log) = true
 needs_script (Gen count seed workers) = false
@@ -46,7 +46,7 @@ needs_script (Commitments workers log) = true
 needs_script (Dump workers log) = true
 needs_script Audit = false
 
--- how many bytes it reads
+-- how many bytes the job reads at most
 abbrev pub most_bytes : Job → ℕ
 most_bytes (Run workers log) = MOST_SCRIPT_BYTES
 most_bytes (Gen count seed workers) = MOST_SCRIPT_BYTES
@@ -54,7 +54,7 @@ most_bytes (Commitments workers log) = MOST_SCRIPT_BYTES
 most_bytes (Dump workers log) = MOST_SCRIPT_BYTES
 most_bytes Audit = MOST_DUMP_BYTES
 
--- The script of the source, with its bytes, or the generated one, for which nothing is read. There is none to audit by.
+-- What the job runs is this script: that of the source, with its bytes, or the generated one, for which nothing is read. An audit runs none.
 abbrev pub GivesScript : Job → Option (List ℕ) → Option (List ℕ) → (bytes : List ℕ) → Script → Type 0
 GivesScript (Run workers log) left left' bytes script = ReadsScript left left' bytes script
 GivesScript (Gen count seed workers) left left' bytes script = Keeps left left' × (bytes ≡ []) × (script ≡ generated seed count)
@@ -62,7 +62,7 @@ GivesScript (Commitments workers log) left left' bytes script = ReadsScript left
 GivesScript (Dump workers log) left left' bytes script = ReadsScript left left' bytes script
 GivesScript Audit left left' bytes script = ⊥
 
--- how many places of the log the requests may need
+-- how many places of the log the requests of the job may need in all; 0 for an audit
 abbrev pub capacity_of : Job → ℕ
 capacity_of (Run workers log) = log
 capacity_of (Gen count seed workers) = MOST_PLACES
@@ -70,7 +70,7 @@ capacity_of (Commitments workers log) = log
 capacity_of (Dump workers log) = log
 capacity_of Audit = 0
 
--- how many lanes work beside the clients of a round
+-- how many lanes work beside the clients of a round, 0 where one thread does all the work
 abbrev pub workers_of : Job → ℕ
 workers_of (Run workers log) = workers
 workers_of (Gen count seed workers) = workers
@@ -78,7 +78,7 @@ workers_of (Commitments workers log) = workers
 workers_of (Dump workers log) = workers
 workers_of Audit = 0
 
--- the report of a run, its summary, its commitments, or the dump of its log
+-- what the job writes of a run: its report, its summary, its commitments or the dump of its log; nothing for an audit
 abbrev pub text_over : Job → (bytes : List ℕ) → Script → List Entry → List SubmitResult → List NodeView → List Knowledge → List Caused → List ℕ
 text_over (Run workers log) bytes script entries results views known caused = report_of script.topology script.rounds entries results views caused
 text_over (Gen count seed workers) bytes script entries results views known caused = summary_of script.topology entries results views

@@ -10,11 +10,11 @@ use Rattle.trigger_rules.specs.declared.caused.Caused.{Caused}
 use Rattle.world_play.specs.Results.{results_of}
 use Rattle.canton_run.specs.Answered.{round_of}
 
--- the submissions that rules caused in the round of a number
+-- the submissions that rules caused in the round with this number
 abbrev pub caused_submits : (number : ℕ) → List Caused → List Submission
 caused_submits number caused = map (λ (one : Caused). one.submission) (of_round number caused)
 
--- The second part, as a round: nobody restarts, no time passes, and no raw request comes.
+-- The second part of a round, as a round of these submissions that rules caused: nobody restarts, no time passes, and no raw request comes.
 abbrev pub second_of : Round → List Submission → Round
 second_of round caused = record { advance = 0; paused = round.paused; hold_verdicts = round.hold_verdicts; submits = caused; raws = []; restarts = [] }
 

@@ -18,31 +18,32 @@ use Rattle.canton_run.specs.Run.{params_of, reading_for}
 abbrev pub is_restarted : List Round → ParticipantId → Bool
 is_restarted rounds p = list_any (λ (round : Round). has_place round.restarts p) rounds
 
--- what a participant knows once these rounds were played
+-- what a participant knows once these rounds were played, with its base where one of them restarted it
 abbrev pub view_in : List Round → Participant → NodeView
 view_in rounds participant = view_of (is_restarted rounds participant.me) participant
 
--- where the rounds of a script begin, and who restarts there
+-- where the rounds of a script begin, by the ends of their parts, and who restarts there
 abbrev pub begins_in : List Round → (ends : List ℕ) → List RoundBegin
 begins_in rounds ends = begins_of 0 (map (λ (round : Round). round.restarts) rounds) ends
 
--- the base where a participant restarted last in these rounds, and the first place where it never did
+-- a participant's base by the last of these begins of rounds in which it restarted, and 0 where it restarted in none
 abbrev pub bases_in : Script → List Entry → List RoundBegin → Bases
 bases_in script log begins p = base_or_first (pruned_to (reading_for script) (params_of script) log begins p)
 
--- each participant is pruned to that
+-- each of the participants has the base that these begins of rounds leave it
 abbrev pub ArePrunedIn : Script → List Entry → List RoundBegin → List Participant → Type 0
 ArePrunedIn script log begins nodes = AreBases (bases_in script log begins) nodes
 
--- The same once these rounds were played with these ends. What is said of the log holds of every log that goes on with it.
+-- Each participant has the base that these rounds leave it, once they were played with these ends. What is said of the log holds of every log that
+-- goes on with it.
 abbrev pub ArePrunedBy : Script → List Round → (ends : List ℕ) → World → Type 0
 ArePrunedBy script rounds ends world =
     (more : List Entry) → ArePrunedIn script ((world.sequencer).list ++ more) (begins_in rounds ends) (world.nodes).items
 
--- the base of a participant that restarted in the run
+-- the base of a participant that restarted in the run, and None of another
 abbrev pub pruned_in : Script → List Entry → (ends : List ℕ) → ParticipantId → Option ℕ
 pruned_in script log ends p = pruned_to (reading_for script) (params_of script) log (begins_in script.rounds ends) p
 
--- the base of any, which is the first place where it never restarted
+-- the base of any participant, which is 0 where it never restarted in the run
 abbrev pub base_in : Script → List Entry → (ends : List ℕ) → ParticipantId → ℕ
 base_in script log ends p = bases_in script log (begins_in script.rounds ends) p

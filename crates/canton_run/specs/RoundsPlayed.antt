@@ -15,12 +15,12 @@ use Rattle.canton_run.specs.Between.{ArePlayed}
 use Rattle.canton_run.specs.Parts.{parts_in, round_parts}
 use Rattle.canton_run.specs.Run.{SecondPartsArePlain, machine_for, params_of, reading_for, submissions_in, why_for}
 
--- the first so many rounds in their two parts
+-- the first `count` rounds of the script in their two parts, with their results and ends
 abbrev pub first_rounds : Script → (count : ℕ) → List SubmitResult → (ends : List ℕ) → List Caused → List (RoundParts SubmitFault)
 first_rounds script count results ends caused = round_parts 0 (take count script.rounds) caused results ends
 
--- The first so many rounds of the script were played, both parts of each, with these results and ends, and its rules caused this. What
--- is said of the log holds of every log that goes on with it. `fired_by` tells on which contracts the rule of a number has fired.
+-- The first so many rounds of the script were played, both parts of each, with these results and ends, and its rules caused this. What is said of the
+-- log holds of every log that goes on with it. `fired_by` tells on which contracts the rule at an index of the script's rules has fired.
 pub record RoundsArePlayed (may : Answers) (script : Script) (capacity workers count : ℕ) (world : World) (fired_by : ℕ → List (List ℕ))
     (results : List SubmitResult) (ends : List ℕ) (caused : List Caused) : Type 0 where
   pub parts : ArePlayed script capacity workers (parts_in 0 (take count script.rounds) caused) world results ends

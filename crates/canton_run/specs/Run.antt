@@ -33,22 +33,23 @@ use Rattle.canton_run.specs.Parts.{round_parts}
 abbrev pub script_with : Setup → List Rule → List Round → Script
 script_with setup rules rounds = record { topology = setup.topology; checked = setup.checked; triggers = rules; rounds = rounds }
 
--- how its participants read requests
+-- how the participants of a script read requests
 abbrev pub reading_for : Script → Reading
 reading_for script = framed_reading script.topology script.checked
 
+-- the times of a script, in microseconds
 abbrev pub params_of : Script → Params
 params_of script = (script.topology).params
 
--- its synchroniser, whose requests may need so many places of the log
+-- the machine of a script's synchroniser, whose requests may need so many places of the log in all
 abbrev pub machine_for : Script → (capacity : ℕ) → Machine
 machine_for script capacity = machine_of script.topology script.checked capacity
 
--- why a submission wants no request
+-- why a participant of the script refuses a submission, over its inbox and at a time
 abbrev pub why_for : Script → Why SubmitFault
 why_for script = why_of script.topology script.checked
 
--- how many submissions there are in all
+-- how many submissions the rounds have in all
 abbrev pub submissions_in : List Round → ℕ
 submissions_in rounds = sum_by (λ (round : Round). length round.submits) rounds
 
@@ -64,8 +65,8 @@ SecondPartsArePlain m why now log (x ∷ rest) =
     PlainPart m why (now + (x.round).advance) (second_round x.round x.caused) x.caused_results (take x.end log) (take x.caused_end log)
     × SecondPartsArePlain m why (now + (x.round).advance) log rest
 
--- The log, the results of the submissions, the ends of the parts of rounds and what rules caused are those of a run of the script,
--- whose rules may be answered so.
+-- The log, the results of the submissions, the ends of the parts of rounds and what rules caused are those of a run of the script. What its
+-- rules are answered about contracts is what `may` allows.
 pub record IsRun (may : Answers) (script : Script) (capacity workers : ℕ) (log : List Entry) (results : List SubmitResult) (ends : List ℕ)
     (caused : List Caused) : Type 0 where
   -- what the log has to do with the script: it is genuine, within its capacity and cut at the ends, each part and each result is as its
@@ -74,7 +75,9 @@ pub record IsRun (may : Answers) (script : Script) (capacity workers : ℕ) (log
   -- without workers each first part is its Tick, the raw requests, the submissions in script order, and passes until one appends nothing
   pub alone : workers ≡ 0
       → PlainRounds (machine_for script capacity) (why_for script) 0 [] (parts_of (parts_of_run script results ends caused)) log
+  -- each second part is one thread's: its requests in order, and passes until one appends nothing
   pub second : SecondPartsArePlain (machine_for script capacity) (why_for script) 0 log (parts_of_run script results ends caused)
+  -- each submission has a result, and each that rules caused; each round has two ends; and no result is a refusal for want of memory
   pub each_result : length results ≡ submissions_in script.rounds + length caused
   pub each_end : length ends ≡ 2 * length script.rounds
   pub plain : All IsPlainResult results
@@ -85,10 +88,12 @@ pub record IsRun (may : Answers) (script : Script) (capacity workers : ℕ) (log
       → Contains (parts_of (parts_of_run script results ends caused)) round → Contains round.results (what, Sent place read_to)
       → (now : ℕ) × (request : Request) × (request_at log place ≡ Some request)
       × IsOwnRequest script.topology script.checked now log what read_to request
-  -- what the script's rules caused, round after round
+  -- what the script's rules caused, round after round: `fired` has these rounds with what was caused in each
   pub fired : List FiredRound
   pub same : AreRounds 0 0 (parts_of_run script results ends caused) fired
   pub whole : caused ≡ all_caused fired
+  -- no rule fired twice on a contract, each firing had its contract and its command, and on each contract that was active at the end of a
+  -- first part, for a participant that wasn't paused, a rule of that has fired, or none may be answered
   pub causes : CausedHolds may script.triggers (reading_for script) (params_of script) log fired
   -- each request with a command id that is kept for a rule of its sender is that of something that a rule caused
   pub rules : (k : ℕ) (request : Request) → request_at log k ≡ Some request

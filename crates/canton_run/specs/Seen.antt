@@ -11,16 +11,17 @@ use Rattle.world_model.specs.Machine.{Machine}
 use Rattle.world_play.specs.declared.world.World.{World}
 use Rattle.canton_run.specs.Actives.{own_active}
 
+-- the active contracts of a participant at its clean place, and none where it isn't there
 abbrev pub active_if : Option Participant → List ActiveRow
 active_if None = []
 active_if (Some participant) = own_active participant
 
--- what is active at the clean place of one of them, over what it has read
+-- what is active at the clean place of participant p of these, over what it has read
 abbrev pub rows_at : List Participant → ParticipantId → List ActiveRow
 rows_at participants p = active_if (slice_get participants p)
 
--- The rules are few and of participants that there are. Each has fired on so few contracts, and so few are active wherever its
--- participant has read to, that its commands have ids.
+-- The rules are at most 16, and of participants that there are. Each has fired on so few contracts, and so few are active wherever its participant
+-- has read to, that there are ids for its commands.
 pub record CanBeAsked (m : Machine) (world : World) (rules : List Rule) (fired_by : ℕ → List (List ℕ)) : Type 0 where
   pub few : length rules ≤ MOST_RULES
   pub there : (k : ℕ) (rule : Rule) → slice_get rules k ≡ Some rule → rule.participant < length (world.nodes).items

@@ -40,7 +40,7 @@ fn audit_bytes<K: Sink>(alloc: Global, bytes: &[u8], sink: &mut K) -> Finish
     }
 }
 
-/// Reads a dump from the source and writes what an audit says of it. Nothing is run.
+/// Reads a dump from the source and writes what an audit says of it to the sink. Nothing is run.
 pub fn run_audit<S: Source, K: Sink>(alloc: Global, source: &mut S, sink: &mut K) -> Finish
     ensures status { IsAuditStatus result.status }
     ensures kept { result.fault ≡ None }

@@ -12,8 +12,8 @@ use std::mem;
 use trigger_rules::CausedList;
 
 /// How a run ended: its status, the script's fault at status 3, and, at statuses 0 and 5, where the script was run, the log, the
-/// results of the submissions in script order, the length of the log at both ends of each round, and what rules caused. `left` is what
-/// nobody asks for any more.
+/// results of the submissions in script order, the length of the log at the end of both parts of each round, and what rules caused. `left` is
+/// what nobody asks for any more.
 #[derive(Drop)]
 pub struct Finish {
     pub status: u8,
@@ -26,13 +26,13 @@ pub struct Finish {
 }
 
 impl Finish {
-    /// Gives no memory back, for a program that ends. Whoever lets an end go so proves nothing of how the many types in it are dropped.
+    /// Gives no memory back, for a program that ends. Whoever lets an end go by this function proves nothing of how the many types in it are dropped.
     pub fn forget(self) {
         mem::forget(self);
     }
 }
 
-/// The end of a run.
+/// The end of a run that took place, with this status, by its record.
 pub fn finished(status: u8, run_record: RunRecord, left: Leftovers) -> Finish
     ensures status { result.status ≡ status }
     ensures fault { result.fault ≡ None }
@@ -52,7 +52,7 @@ pub fn finished(status: u8, run_record: RunRecord, left: Leftovers) -> Finish
     }
 }
 
-/// An end before anything was run.
+/// An end before anything was run, with this status, and the script's fault where there is one.
 pub fn ended(alloc: Global, status: u8, fault: Option<ScriptFault>) -> Finish
     ensures { (result.status ≡ status) × (result.fault ≡ fault) × (result.log ≡ []) × (result.results ≡ []) × (result.ends ≡ [])
         × (result.caused ≡ []) }

@@ -16,7 +16,7 @@ pub struct Leftovers {
 }
 
 impl Leftovers {
-    /// What a run was made of.
+    /// What a run was made of, put together.
     pub fn new(
         row: LogRow,
         views: NodeViewList,

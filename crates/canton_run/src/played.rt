@@ -7,8 +7,8 @@ use node_core::SubmitResultList;
 use trigger_rules::CausedList;
 use world_play::NodeList;
 
-/// The sequencer's log, the results of the submissions in script order, the length of the log at both ends of each round, and what
-/// rules caused. The results of what was caused in a round stand behind those of its submissions.
+/// The sequencer's log, the results of the submissions in script order, the length of the log at the end of both parts of each round, and
+/// what rules caused. The results of what was caused in a round stand behind those of its submissions.
 #[derive(Drop)]
 pub struct RunRecord {
     pub log: EntryList,

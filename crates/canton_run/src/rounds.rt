@@ -164,7 +164,8 @@ fn play_both<
     Ok(PlayedRounds { world, answers })
 }
 
-/// Plays the rounds of a script on its new synchroniser, both parts of each, once the participants that restart in it have done so.
+/// Plays the rounds of a script on its new synchroniser. In each round first the participants restart that the round names, and then both its parts
+/// are played.
 pub fn play_rounds<
     'r,
     R: Threads + Wait + Sync + RandomSource + AllocGlobal,

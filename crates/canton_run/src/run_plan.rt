@@ -2,7 +2,7 @@
 use confirm_reply::Setup;
 use script_read::RoundList;
 
-/// A script's participants and packages, its rounds, and how many places of the log its requests may need in all.
+/// What a run is of: a script's participants and packages, its rounds, and how many places of the log its requests may need in all.
 #[derive(Drop)]
 pub struct RunPlan<'r> {
     pub setup: &'r Setup,

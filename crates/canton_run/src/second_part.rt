@@ -163,7 +163,8 @@ fn append_caused(caused: &mut CausedList, more: CausedList) -> Result<(), AllocE
     Ok(())
 }
 
-/// What rules caused in a round is submitted in order, and the world settles.
+/// Hands in what rules caused in a round, in order, and settles the world. What was caused, the results and the end of this part are put behind those
+/// of `answers`. After want of memory some of that may be done.
 pub fn play_caused<'r>(
     alloc: Global,
     natives: &'r NativeList,

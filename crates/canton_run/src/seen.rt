@@ -8,7 +8,7 @@ use std::alloc::{AllocError, Global};
 use trigger_loop::Participants;
 use world_play::NodeList;
 
-/// The participants of a synchroniser, each of which offers what is active at its clean place.
+/// The participants of a synchroniser, as rules see them: of each, what is active at its clean place.
 #[derive(Drop)]
 pub struct SeenNodes<'n, 'r> {
     pub nodes: &'n NodeList<'r>,

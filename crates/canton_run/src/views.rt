@@ -34,7 +34,7 @@ fn view_in(alloc: Global, rounds: &RoundList, node: Node<'_>) -> Result<NodeView
     NodeView::taken(alloc, node, restarted)
 }
 
-/// What each of the participants knows at its clean place once these rounds were played, in their order. It is taken out of them.
+/// What each of the participants knows at its clean place once these rounds were played, in their order. What they know is taken out of them.
 pub fn views_of(
     alloc: Global,
     rounds: &RoundList,
@@ -65,7 +65,7 @@ fn each_active(alloc: Global, nodes: &[Node<'_>]) -> Result<ActiveRowLists, Allo
     Ok(actives)
 }
 
-/// The active contracts in what each of them knows.
+/// The active contracts of each participant at its clean place.
 #[tactic(auto, using(crate::proofs::Actives::actives_are))]
 pub fn actives_of(alloc: Global, nodes: &[Node<'_>]) -> Result<ActiveRowLists, AllocError>
     ensures { (rounds : List ScriptRound) → IfOk result (λ actives. actives ≡ actives_in (map (view_in rounds) nodes.now)) }
@@ -73,7 +73,7 @@ pub fn actives_of(alloc: Global, nodes: &[Node<'_>]) -> Result<ActiveRowLists, A
     each_active(alloc, nodes)
 }
 
-/// What they kept, when nobody asks them any more.
+/// What the participants kept, when nobody asks them any more.
 pub fn remains_of(alloc: Global, nodes: Vec<Node<'_>>) -> Result<Vec<NodeRemains>, AllocError> {
     let mut remains = Vec::new(alloc);
     for node in nodes {

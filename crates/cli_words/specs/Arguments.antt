@@ -25,6 +25,7 @@ pub data Form : Type 0 where
   flag : Form
   plain : Form
 
+-- the form of a word other than `--`, by what `clap` finds behind two hyphens, and behind one
 abbrev pub form_behind : Option (Text × Option Text) → Option Text → Form
 form_behind (Some named) short = option named.0 named.1
 form_behind None (Some letters) = flag
@@ -50,12 +51,12 @@ abbrev pub text_of : Text → List Argument → Option Text
 text_of name [] = None
 text_of name (a ∷ given) = if bytes_eq a.0 name then Some a.1 else text_of name given
 
--- an option that isn't given yet, and what the words after it say
+-- what `after` makes of the arguments with this option and its text added; none where the name isn't an option's or is given already
 abbrev pub with_option : List Argument → Text → Text → (List Argument → Option (List Argument)) → Option (List Argument)
 with_option given name text after =
     if is_option name && not (is_given name given) then after (given ++ (name, text) ∷ []) else None
 
--- the first positional of those that are left, and what the words after it say
+-- what `after` makes of the arguments with this text as the first positional that is left, and of the others left; none where none is
 abbrev pub with_positional : List Argument → List Text → Text → (List Argument → List Text → Option (List Argument))
     → Option (List Argument)
 with_positional given [] text after = None
@@ -63,13 +64,14 @@ with_positional given (name ∷ left) text after = after (given ++ (name, text) 
 
 -- ---- all words
 
--- After `--` each word is a positional.
+-- The arguments that are given, with those of the words after `--`, each of which is a positional.
 abbrev pub positionals_from : List Argument → List Text → List Text → Option (List Argument)
 positionals_from given left [] = Some given
 positionals_from given left (word ∷ words) =
     with_positional given left word (λ given' left'. positionals_from given' left' words)
 
--- what the form of a word makes of it; nothing where the word begins with a single hyphen
+-- How to go on behind a word, by its form: `last` behind `--`, `joined` with an option and its text, `apart` with an option whose text is
+-- to come, `other` with a plain word. A flag is at fault.
 abbrev pub by_form : Form → (Unit {0} → Option (List Argument)) → (Text → Text → Option (List Argument))
     → (Text → Option (List Argument)) → (Unit {0} → Option (List Argument)) → Option (List Argument)
 by_form ending last joined apart other = last tt
@@ -78,7 +80,7 @@ by_form (option name None) last joined apart other = apart name
 by_form flag last joined apart other = None
 by_form plain last joined apart other = other tt
 
--- nothing but a plain word
+-- `other` for a plain word; a word of another form is at fault
 abbrev pub if_plain : Form → (Unit {0} → Option (List Argument)) → Option (List Argument)
 if_plain plain other = other tt
 if_plain _ other = None

@@ -18,7 +18,7 @@ option_rule name = record (new_rule name) { long = Some name; action = Some Set 
 abbrev pub positional_rule : Text → Rule
 positional_rule name = record (new_rule name) { action = Some Set }
 
--- with these arguments, and no help
+-- the command with these arguments, and no help
 abbrev app_with : List Rule → App
 app_with rules =
     record {

@@ -43,7 +43,7 @@ abbrev pub number_of : ℕ → ℕ → Option Text → Option ℕ
 number_of low high None = None
 number_of low high (Some text) = number_in low high text
 
--- nothing may be given
+-- an argument that mustn't be given
 abbrev pub absent : Option Text → Option (Unit {0})
 absent None = Some tt
 absent (Some text) = None

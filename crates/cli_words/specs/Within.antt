@@ -10,7 +10,7 @@ use Rattle.cli_words.specs.declared.run_options.RunOptions.{RunOptions}
 abbrev pub AreWithin : RunOptions → Type 0
 AreWithin options = (options.workers ≤ MOST_WORKERS) × (1 ≤ options.log) × (options.log ≤ MOST_PLACES)
 
--- the numbers of a job are
+-- the numbers of a job are within their limits
 abbrev pub IsWithin : Job → Type 0
 IsWithin (Run workers log) = AreWithin (record { workers = workers; log = log })
 IsWithin (Gen count seed workers) = (1 ≤ count) × (count ≤ MOST_COUNT) × (seed ≤ MOST_SEED) × (workers ≤ MOST_WORKERS)

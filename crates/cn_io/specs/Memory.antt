@@ -31,7 +31,8 @@ pub record Roomy : Type 0 where
 abbrev pub is_listed : ℕ → List ℕ → Bool
 is_listed call calls = list_any (λ c. c == call) calls
 
--- a put was counted as a call, and where it took bytes these are a piece
+-- What a call of `put` does to a sink in memory. It counts as one call more, and where it takes bytes, it takes as many as a call takes at most,
+-- or all where there are fewer.
 abbrev pub PutsPiece : {E : Type 0} → Store → List ℕ → Result ℕ E → Store → Type 0
 PutsPiece store from result store' =
     (store'.calls ≡ counted store.calls) × (store'.piece ≡ store.piece) × IfOk result (λ n. n ≡ min (length from) store.piece)

@@ -62,7 +62,7 @@ impl MemSink {
         self.bytes.reserve(n)
     }
 
-    /// What was taken.
+    /// The bytes that the sink has taken.
     pub fn written(&self) -> &[u8]
         ensures { result.now ≡ self.now.held }
     {

@@ -50,7 +50,7 @@ impl SureSink {
         self.bytes.reserve(n)
     }
 
-    /// What was taken.
+    /// The bytes that the sink has taken.
     pub fn written(&self) -> &[u8]
         ensures { result.now ≡ self.now.held }
     {

@@ -7,23 +7,25 @@ use Rattle.commitment_text.specs.Counterparties.{Counterparty}
 use Rattle.commitment_text.specs.Knowledge.{knowledge_of}
 use Rattle.commitment_text.specs.declared.active_at.ActiveAt.{ActiveAt}
 
--- which participant of the topology it is, its name, and itself
+-- a participant with its index in the topology and its name
 pub record NamedNode : Type 0 where
   pub number : ParticipantId
   pub name : List ℕ
   pub node : Participant
 
+-- the participant as others see it
 abbrev pub counterparty_of : NamedNode → Counterparty
 counterparty_of named = record { number = named.number; name = named.name; knowledge = knowledge_of named.node }
 
--- the same of a host's participant, where there is one
+-- the counterparty that the participant of a host is, and none where there is no such participant
 abbrev pub counterparty_at : ParticipantId → Host → Option Participant → List Counterparty
 counterparty_at p host None = []
 counterparty_at p host (Some node) = record { number = p; name = host.name; knowledge = knowledge_of node } ∷ []
 
--- they are the participant's active contracts at that place
+-- the rows that were asked for are the participant's active contracts at their place
 abbrev pub IsActiveAt : Participant → ActiveAt → Type 0
 IsActiveAt node at = at.rows ≡ (knowledge_of node).active_at at.place
 
+-- all rows that were asked for are the participant's active contracts, each at its place
 abbrev pub AreActiveAt : Participant → List ActiveAt → Type 0
 AreActiveAt node asked = All (IsActiveAt node) asked

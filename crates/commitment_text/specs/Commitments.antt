@@ -11,61 +11,67 @@ use Rattle.acs_commit.specs.Trees.{first_difference}
 use Rattle.commitment_text.specs.Counterparties.{Counterparty, counterparties_from}
 use Rattle.commitment_text.specs.Knowledge.{Knowledge}
 
--- the ids of the contracts that are active for a participant at a place and of which another hosts a stakeholder
+-- the ids of the contracts that are active at a place for a participant with this knowledge, and of which the other hosts a stakeholder
 abbrev pub ids_shared : Reading → (other : ParticipantId) → Knowledge → (place : ℕ) → List (List ℕ)
 ids_shared reading other knowledge place = shared_ids reading other (knowledge.active_at place)
 
+-- `equal`, or `differ` with the number of the first bucket in which both differ
 abbrev pub agreement_text : Option ℕ → List ℕ
 agreement_text None = codes "equal"
 agreement_text (Some bucket) = codes "differ " ++ decimal bucket
 
--- with the first bucket whose hashes differ
+-- whether two sets of ids have one root, and where they haven't, the first bucket whose hashes differ
 abbrev pub agreement : (mine theirs : List (List ℕ)) → List ℕ
 agreement mine theirs = agreement_text (first_difference (set_of mine) (set_of theirs))
 
+-- how the line of two participants begins: their names, and the place at which they are compared
 abbrev pub place_text : (one other : List ℕ) → (place : ℕ) → List ℕ
 place_text one other place = codes "pair " ++ one ++ codes " " ++ other ++ codes " at " ++ decimal place
 
--- `pair P Q pruned N`
+-- the line of two participants, one of which has forgotten the place at which they are compared: `pair P Q pruned N`, where N is a base
 abbrev pub pruned_text : (one other : List ℕ) → (base : ℕ) → List ℕ
 pruned_text one other base = codes "pair " ++ one ++ codes " " ++ other ++ codes " pruned " ++ decimal base ++ codes "\n"
 
+-- how many contracts each of two participants shares with the other
 abbrev pub counts_text : (mine theirs : ℕ) → List ℕ
 counts_text mine theirs = codes " count " ++ decimal mine ++ codes " " ++ decimal theirs ++ codes " "
 
+-- how the line of two participants ends: both counts, and whether they commit to the same contracts
 abbrev pub told_text : (mine theirs : ℕ) → (told : List ℕ) → List ℕ
 told_text mine theirs told = counts_text mine theirs ++ told ++ codes "\n"
 
+-- how many ids each of two participants shares with the other, and whether both commit to the same ones
 abbrev pub shared_text : (mine theirs : List (List ℕ)) → List ℕ
 shared_text mine theirs = told_text (length mine) (length theirs) (agreement mine theirs)
 
--- `pair P Q at M count A B equal`, or `differ N` in place of `equal`
+-- the line of two participants that are compared at a place: `pair P Q at M count A B equal`, or `differ N` in place of `equal`
 abbrev pub pair_at : Reading → (one other : Counterparty) → (place : ℕ) → List ℕ
 pair_at reading one other place =
     place_text one.name other.name place
     ++ shared_text (ids_shared reading other.number one.knowledge place) (ids_shared reading one.number other.knowledge place)
 
--- the lesser of both clean places
+-- the place at which two participants are compared: the lesser of their clean places
 abbrev pub place_of : (one other : Counterparty) → ℕ
 place_of one other = min (one.knowledge).clean (other.knowledge).clean
 
--- the greater of both bases
+-- the greater of two participants' bases
 abbrev pub base_of : (one other : Counterparty) → ℕ
 base_of one other = max (one.knowledge).base (other.knowledge).base
 
--- the line of two participants at a place, which may be below the greater of their bases
+-- the line of two participants that are compared at a place, which may be below the greater of their bases
 abbrev pub pair_since : Reading → (one other : Counterparty) → (base place : ℕ) → List ℕ
 pair_since reading one other base place =
     if nat_lt place base then pruned_text one.name other.name base else pair_at reading one other place
 
+-- the line of two participants, at the place up to which both know the log
 abbrev pub pair_text : Reading → (one other : Counterparty) → List ℕ
 pair_text reading one other = pair_since reading one other (base_of one other) (place_of one other)
 
--- each with each that comes after it
+-- the lines of each two of these participants, in their order
 abbrev pub pairs_text : Reading → List Counterparty → List ℕ
 pairs_text reading [] = []
 pairs_text reading (one ∷ others) = flat_map (pair_text reading one) others ++ pairs_text reading others
 
--- the text of participants with what they know, in order of the topology
+-- the commitments of participants with what they know, in order of the topology
 abbrev pub commitments_of : Reading → List Host → List Knowledge → List ℕ
 commitments_of reading hosts known = pairs_text reading (counterparties_from 0 hosts known) ++ codes "end\n"

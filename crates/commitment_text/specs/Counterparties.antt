@@ -8,6 +8,7 @@ use Rattle.canton_model.specs.Reading.{Reading}
 use Rattle.canton_model.specs.declared.entry.Entry.{Entry}
 use Rattle.commitment_text.specs.Knowledge.{Knowledge, knowledge_over}
 
+-- a participant as another one sees it: its index in the topology, its name, and what it knows of active contracts
 pub record Counterparty : Type 0 where
   pub number : ParticipantId
   pub name : List ℕ
@@ -18,7 +19,7 @@ abbrev pub counterparty_over : Reading → Params → List Entry → Participant
 counterparty_over reading params log p name base =
     record { number = p; name = name; knowledge = knowledge_over reading params p base (inbox reading p log) }
 
--- each participant, from this one on, with what it knows
+-- each participant, the first of which has index p, with its host's name and what it knows
 abbrev pub counterparties_from : ParticipantId → List Host → List Knowledge → List Counterparty
 counterparties_from p [] known = []
 counterparties_from p (host ∷ hosts) [] = []

@@ -9,7 +9,7 @@ use Rattle.canton_model.specs.declared.entry.Entry.{Entry}
 use Rattle.pruned_inbox.specs.Start.{Start, active_kept}
 use Rattle.node_core.specs.Participant.{Participant, items_of, params_of, reading_of}
 
--- a participant's base, its clean place, and its active contracts at each place
+-- what a participant knows of active contracts: its base, its clean place, and the contracts that are active at each place
 pub record Knowledge : Type 0 where
   pub base : ℕ
   pub clean : ℕ
@@ -20,15 +20,16 @@ abbrev pub knowledge_over : Reading → Params → ParticipantId → (base : ℕ
 knowledge_over reading params p base items =
     record { base = base; clean = clean params items; active_at = λ place. node_active reading p items place }
 
--- the same over an inbox that left this at its base
+-- what a participant knows over an inbox that begins at its base, where it left this start
 abbrev pub knowledge_kept : Reading → Params → ParticipantId → (base : ℕ) → Start → List Item → Knowledge
 knowledge_kept reading params p base start items =
     record { base = base; clean = clean params items; active_at = λ place. active_kept reading p start items place }
 
+-- what a participant knows over the inbox that it keeps
 abbrev pub knowledge_of : Participant → Knowledge
 knowledge_of p = knowledge_kept (reading_of p) (params_of p) p.me p.base p.start (items_of p)
 
--- what so many participants, from this one on, know over a whole log, each pruned to its base
+-- what `count` participants, the first of which has index p, know over a whole log, each pruned to its base
 abbrev pub knowledge_from : Reading → Params → List Entry → (bases : ParticipantId → ℕ) → ParticipantId → (count : ℕ) → List Knowledge
 knowledge_from reading params log bases p zero = []
 knowledge_from reading params log bases p (suc count) =
@@ -38,13 +39,13 @@ knowledge_from reading params log bases p (suc count) =
 abbrev pub each_knowledge : Reading → Params → List Entry → (bases : ParticipantId → ℕ) → (hosts : ℕ) → List Knowledge
 each_knowledge reading params log bases hosts = knowledge_from reading params log bases 0 hosts
 
--- what is known is the same from one base on
+-- both knowledges have one base and one clean place, and at each place from the base on the same active contracts
 pub record KnowsAlike (a b : Knowledge) : Type 0 where
   pub base : a.base ≡ b.base
   pub clean : a.clean ≡ b.clean
   pub active : (place : ℕ) → a.base ≤ place → a.active_at place ≡ b.active_at place
 
--- the same of each participant
+-- both lists have one length, and the knowledges at each index are alike
 abbrev pub KnowAlike : List Knowledge → List Knowledge → Type 0
 KnowAlike [] [] = Unit {0}
 KnowAlike [] (b ∷ others) = ⊥

@@ -15,7 +15,7 @@ pub(crate) struct ActiveAt {
     pub rows: ActiveRowList,
 }
 
-/// What was asked for at a place.
+/// The active contracts at a place, where they were asked for.
 pub(crate) fn asked_at(asked: &[ActiveAt], place: u64) -> Option<&ActiveRowList>
     ensures { (node : Participant) → AreActiveAt node asked.now → IfSome result (λ rows. rows.now ≡ (knowledge_of node).active_at place) }
 {

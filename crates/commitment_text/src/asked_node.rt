@@ -62,7 +62,7 @@ fn asked_beside(
 }
 
 impl<'n, 's> AskedNode<'n, 's> {
-    /// One of these participants.
+    /// The participant with this number among `nodes`, which is asked here for all that it is compared by with the others.
     pub(crate) fn new(
         alloc: Global,
         number: ParticipantId,
@@ -81,13 +81,14 @@ impl<'n, 's> AskedNode<'n, 's> {
         })
     }
 
+    /// The participant's name.
     pub(crate) fn name(&self) -> Name
         ensures { result ≡ self.now.name }
     {
         self.name
     }
 
-    /// Its base.
+    /// The participant's base.
     pub(crate) fn base(&self) -> u64
         ensures { result ≡ (knowledge_of self.now.node).base }
     {
@@ -95,7 +96,7 @@ impl<'n, 's> AskedNode<'n, 's> {
         node.base()
     }
 
-    /// Its clean place.
+    /// The participant's clean place.
     pub(crate) fn clean(&self) -> u64
         ensures { result ≡ (knowledge_of self.now.node).clean }
     {
@@ -103,7 +104,7 @@ impl<'n, 's> AskedNode<'n, 's> {
         node.clean()
     }
 
-    /// The ids of its contracts at a place of which another participant hosts a stakeholder.
+    /// The ids of the participant's active contracts at a place of which the other participant hosts a stakeholder.
     pub(crate) fn ids_shared(
         &self,
         alloc: Global,

@@ -36,7 +36,7 @@ pub fn counterparties_are_told_equal()
     counterparties_agree();
 }
 
-/// Where the lesser of two clean places is below a base, the line of both tells the greater base.
+/// Where the lesser of two participants' clean places is below the greater of their bases, their line tells that base.
 pub fn forgotten_places_are_told()
     ensures { (reading : Reading) (one other : Counterparty)
         → place_of one other < base_of one other

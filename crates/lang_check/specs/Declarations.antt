@@ -16,7 +16,7 @@ use Rattle.lang_check.specs.Statements.{is_among, stmts_from}
 abbrev pub NameLists : Type 0
 NameLists = List (List ℕ)
 
--- a name that is declared, which stands at this place, behind those before it
+-- A name that is declared at this place. It is a fault where one of those before it, `taken`, is the same; else the answer is all of them.
 unfoldable pub named_at : Place → List ℕ → NameLists → Result NameLists CheckFault
 named_at at name taken = do
   _ ← tried (not (is_among name taken)) DuplicateName at
@@ -27,7 +27,7 @@ abbrev pub names_from : Place → ℕ → NameLists → NameLists → Result ⊤
 names_from at i taken [] = Ok tt
 names_from at i taken (n ∷ ns) = named_at (at_member (at_item at i) (codes "name")) n taken >>= λ more. names_from at (i + 1) more ns
 
--- a choice's name, which Archive is reserved from being
+-- A choice's name at this place. It is a fault where a choice before has it, and where it is Archive, which each template has built in.
 unfoldable pub choice_name_at : Place → List ℕ → NameLists → Result NameLists CheckFault
 choice_name_at at name taken = do
   more ← named_at at name taken
@@ -44,7 +44,7 @@ choice_body_at at packages t c = do
   end ← stmts_from (at_member at (codes "body")) 0 packages c.body (body_scope t c)
   expr_at (at_member at (codes "result")) end c.returns c.result
 
--- a choice after others with these names
+-- the check of one choice, behind others with the names `taken`: the first fault, or these names with its own behind them
 unfoldable pub choice_from : Place → Packages → TemplateForm → ChoiceForm → NameLists → Result NameLists CheckFault
 choice_from at packages t c taken = do
   more ← choice_name_at (at_member at (codes "name")) c.name taken

@@ -18,11 +18,11 @@ loop_template_name = record { «package» = codes "Iou"; name = codes "Loop" }
 abbrev pub transfer_name : List ℕ
 transfer_name = codes "Transfer"
 
--- above 0
+-- whether the variable with this name is above 0
 abbrev pub is_positive : List ℕ → ExprForm
 is_positive name = Less (Literal (IntValue (pos 0))) (Var name)
 
--- a choice with one parameter, without observers, that gives nothing
+-- a choice with one parameter, without observers, that gives nothing; `controller` is the variable of who controls it
 abbrev pub choice_with : List ℕ → Bool → FieldDecl → List ℕ → StmtForms → ChoiceForm
 choice_with name consuming param controller body =
     record {
@@ -39,17 +39,17 @@ choice_with name consuming param controller body =
 abbrev pub only : StmtForm → StmtForms
 only stmt = MoreStmts stmt NoStmts
 
--- the debt in place of this one
+-- the Create of a debt in place of this one, with this owner and this amount
 abbrev pub new_iou : ExprForm → ExprForm → StmtForm
 new_iou owner amount = Create (codes "x") iou_template_name (MoreExprs (Var (codes "this.issuer")) (MoreExprs owner (MoreExprs amount NoExprs)))
 
--- to a new owner
+-- the choice by which a debt gets a new owner
 abbrev pub transfer_form : ChoiceForm
 transfer_form =
     choice_with transfer_name true (declared (codes "to") PartyKind) (codes "this.owner")
     (only (new_iou (Var (codes "arg.to")) (Var (codes "this.amount"))))
 
--- of an amount that is larger by a number
+-- the choice by which a debt grows by a number
 abbrev pub grow_form : ChoiceForm
 grow_form =
     choice_with (codes "Grow") true (declared (codes "by") IntKind) (codes "this.issuer")
@@ -70,7 +70,7 @@ iou_form =
       choices = transfer_form ∷ grow_form ∷ [];
     }
 
--- the choice once more, with a number that is less by one
+-- the exercise of the choice Down once more, with a number that is less by one
 abbrev pub again : StmtForm
 again =
     Exercise (codes "y") loop_template_name (Var (codes "self")) (codes "Down")
@@ -79,11 +79,12 @@ again =
 abbrev pub down_body : StmtForms
 down_body = only (When (is_positive (codes "arg.n")) (only again) NoStmts)
 
--- as often as the number says
+-- the choice that calls itself as often as its number says
 abbrev pub down_form : ChoiceForm
 down_form =
     choice_with (codes "Down") false (declared (codes "n") IntKind) (codes "this.owner") down_body
 
+-- a contract whose choice calls itself
 abbrev pub loop_form : TemplateForm
 loop_form =
     record {

@@ -14,7 +14,7 @@ use Rattle.load_gen.specs.Iou.{iou_template_name, transfer_name}
 use Rattle.load_gen.specs.Numbers.{number, amount_by, numbered, participant_at, party_at}
 use Rattle.load_gen.specs.declared.topology.TheConstants.{PARTICIPANTS}
 
--- who takes the part `step` in the turn i: of the debt, 0 owes, 1 is owed, and 2 is owed after the transfer
+-- the participant that has part `step` in the i-th debt: part 0 owes it, part 1 is owed it, and part 2 is owed it after the transfer
 abbrev pub in_turn : ℕ → ℕ → ℕ
 in_turn i step = (i + step) % PARTICIPANTS
 
@@ -32,7 +32,7 @@ submission_of place name command =
 abbrev pub party_arg : ℕ → Arg
 party_arg place = Plain (Party (party_at place))
 
--- the i-th debt, of an amount by a number
+-- the submission of the i-th debt, with the amount by the number x
 abbrev pub debt_by : ℕ → ℕ → Submission
 debt_by i x =
     submission_of (in_turn i 0) (numbered (codes "c") i)
@@ -42,12 +42,12 @@ debt_by i x =
 abbrev pub debt_label : ℕ → ContractRef
 debt_label i = Label (record { participant = participant_at (in_turn i 0); command = numbered (codes "c") i; path = 0 ∷ [] })
 
--- the transfer of the i-th debt
+-- the submission that transfers the i-th debt
 abbrev pub transfer_of : ℕ → Submission
 transfer_of i =
     submission_of (in_turn i 1) (numbered (codes "t") i) (Exercise iou_template_name (debt_label i) transfer_name (party_arg (in_turn i 2) ∷ []))
 
--- the debts, the i-th by the number i + 1
+-- the submissions of so many debts, the i-th of them by the number i + 1 of the seed
 abbrev pub debts : ℕ → ℕ → List Submission
 debts seed count = map (λ i. debt_by i (number seed (i + 1))) (range_with_len 0 count)
 

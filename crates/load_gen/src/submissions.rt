@@ -99,7 +99,7 @@ fn transfer_of(alloc: Global, turn: u32) -> Result<Submission, AllocError>
     )
 }
 
-/// The debts, each of an amount by the next number.
+/// The submissions of so many debts, each of an amount by the next number behind the seed.
 pub fn generated_debts(alloc: Global, count: u32, seed: u64) -> Result<SubmissionList, AllocError>
     ensures { IfOk result (λ s. s ≡ debts seed count) }
 {
@@ -112,7 +112,7 @@ pub fn generated_debts(alloc: Global, count: u32, seed: u64) -> Result<Submissio
     Ok(debts)
 }
 
-/// The transfers of the debts.
+/// The submissions that transfer so many debts.
 pub fn generated_transfers(alloc: Global, count: u32) -> Result<SubmissionList, AllocError>
     ensures { IfOk result (λ s. s ≡ transfers count) }
 {

@@ -16,7 +16,8 @@ use Rattle.log_audit.specs.declared.answer.Audit.TheVariants.{Yes, No, Bad}
 abbrev pub Dumps : {S : Type 0} → (reads : List ℕ → Option S) → (most : S → ℕ) → List ℕ → S → List Entry → Type 0
 Dumps reads most bytes script log = dump_in reads most bytes ≡ Ok (script, log)
 
--- a dump of a proper log with so many entries and approved requests; or of one that fails at that place; or no dump
+-- What the audit says of the bytes is so: they are a dump of a proper log with so many entries and approved requests; or of a log that fails
+-- at that place, for that reason; or no dump, and what can't be read begins at `at`.
 abbrev pub IsAudit : {S : Type 0} → (reads : List ℕ → Option S) → (most : S → ℕ) → (standard : S → Standard) → (bytes : List ℕ) → Audit → Type 0
 IsAudit {S} reads most standard bytes (Yes entries approved) =
     (script : S) × (log : List Entry) × Dumps reads most bytes script log × IsProper (standard script) log
@@ -36,12 +37,13 @@ pub record SpellsProperLog {S : Type 0} (reads : List ℕ → Option S) (most : 
   pub in_range : IsLog (most script) log
   pub proper : IsProper (standard script) log
 
+-- the audit says yes
 abbrev pub IsYes : Audit → Type 0
 IsYes (Yes entries approved) = Unit {0}
 IsYes (No place why) = ⊥
 IsYes (Bad at) = ⊥
 
--- a judgement as an audit
+-- what an audit says of a dump, by the judgement on its log
 abbrev pub audit_of : Judgement → Audit
 audit_of (judgement.Yes entries approved) = Yes entries approved
 audit_of (judgement.No place why) = No place why

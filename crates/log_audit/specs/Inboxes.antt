@@ -22,11 +22,12 @@ inbox_of topology packages log p =
       items = inbox (framed_reading topology packages) p log;
     }
 
+-- There is an inbox for each host, in their order, and each has read this log.
 pub record HaveRead (topology : Topology) (packages : Packages) (inboxes : List InboxState) (log : List Entry) : Type 0 where
   pub hosts : length inboxes ≡ length topology.hosts
   pub each : (p : ℕ) → p < length inboxes → slice_get inboxes p ≡ Some (inbox_of topology packages log p)
 
--- they have read a log that stays genuine with this entry
+-- The inboxes have read a log that stays genuine with this entry behind it.
 pub record MayRead (inboxes : List InboxState) (entry : Entry) : Type 0 where
   pub topology : Topology
   pub packages : Packages

@@ -11,7 +11,7 @@ use script_read::{Script, ScriptFault, read_script};
 use std::alloc::Global;
 use wire_form::{Reader, ReaderFault};
 
-/// A script with a log.
+/// What a dump spells: a script, and a log.
 #[derive(Drop)]
 pub struct Dump {
     pub script: Script,

@@ -12,7 +12,7 @@ use node_inbox::Inbox;
 use std::alloc::{AllocError, Global};
 use whole_request::{WholeTransaction, whole_of};
 
-/// The participants by their inboxes, each of which reads the entries itself.
+/// The participants of an audit by their inboxes, each of which reads the entries itself.
 #[derive(Drop)]
 pub struct Inboxes<'s> {
     pub setup: &'s Setup,

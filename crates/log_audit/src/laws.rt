@@ -39,8 +39,8 @@ pub fn dumps_of_proper_logs_are_judged_yes()
         → IsAudit script_of most_of standard_of bytes (Yes (length spelled.log) (approved_in spelled.log)) }
 {}
 
-/// A genuine log of a synchroniser with few participants has a spelling, where it has fewer than 2^32 entries: its requests are framed, and
-/// those have room.
+/// A genuine log of a synchroniser with at most 255 participants has a spelling, where it has fewer than 2^32 entries: its requests are framed, and
+/// framed requests have room.
 pub fn genuine_logs_can_be_dumped()
     ensures { (topology : Topology) (packages : Packages) (log : List Entry)
         → length topology.hosts ≤ 255
@@ -63,8 +63,8 @@ pub fn logs_that_are_judged_yes_are_ledgers()
         × (is_commit_authorised (roles_of (the_language spelled.script.checked)) commit ≡ true) }
 {}
 
-/// A genuine log of a synchroniser with few participants is in range, where its times have eight bytes and its commands are names: its
-/// participants are some that there are, and what is owed and decided has small numbers.
+/// A genuine log of a synchroniser with 1 to 255 participants is in range, where it has fewer than 2^32 entries, its times have eight bytes and its
+/// commands are names: its participants are some that there are, and what is owed and decided has small numbers.
 pub fn genuine_logs_are_in_range()
     ensures { (topology : Topology) (packages : Packages) (log : List Entry)
         → 0 < length topology.hosts
@@ -75,7 +75,8 @@ pub fn genuine_logs_are_in_range()
         → IsLog (length topology.hosts - 1) log }
 {}
 
-/// The dump of a genuine log of a script's synchroniser is judged yes, where each request of a rule is what that rule may cause.
+/// The dump of a genuine log of a script's synchroniser is judged yes, where the log has fewer than 2^32 entries, its times have eight bytes and its
+/// commands are names, and each request of a rule is what that rule may cause.
 pub fn genuine_logs_are_judged_yes()
     ensures { (bytes : List ℕ) (script : Script) (log : List Entry)
         → script_in bytes ≡ Ok script
@@ -88,8 +89,8 @@ pub fn genuine_logs_are_judged_yes()
         → IsAudit script_of most_of standard_of (spell_dump bytes log) (Yes (length log) (approved_in log)) }
 {}
 
-/// In the log of a run with rules each request of a rule is what that rule may cause, where neither submissions nor raw requests have a
-/// rule's id.
+/// In the log of a run with rules each request of a rule is what that rule may cause, where neither submissions nor raw requests have a rule's id,
+/// and each request of a submission that a rule caused was prepared for that submission.
 pub fn runs_use_rules_rightly<F, A: Answering>()
     ensures { (m : Machine) (why : Why F) (answer : A) (script : Script) (log : List Entry) (rounds : List (RoundParts F)) (fired : List FiredRound)
         → IsMachine m

@@ -25,8 +25,8 @@ pub(crate) fn new_inboxes<'s>(alloc: Global, setup: &'s Setup) -> Result<Vec<Inb
     Ok(inboxes)
 }
 
-/// Each participant reads one more entry, by what its mediator's bytes tell, where it brings a request. After want of memory some have
-/// read it and some haven't.
+/// Each participant reads one more entry. Where that is a request, `outline` is what the request's mediator's bytes tell. After want of memory
+/// some have read it and some haven't.
 pub(crate) fn read_each(
     inboxes: &mut Vec<Inbox<'_>>,
     entry: &Entry,

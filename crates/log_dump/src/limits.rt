@@ -1,4 +1,4 @@
 //! The limits of dumps.
 
-/// Bytes of a dump that is read whole.
+/// The most bytes of a dump that is read.
 pub const MOST_DUMP_BYTES: usize = 16_777_216;

@@ -21,7 +21,7 @@ pub record Used : Type 0 where
   pub rule : rules.Rule
   pub contracts : List Hash
 
--- nothing was exercised yet
+-- a rule whose requests have exercised nothing yet
 abbrev pub unused : rules.Rule → Used
 unused rule = record { rule = rule; contracts = [] }
 
@@ -31,7 +31,7 @@ rules_of uses = map (λ (one : Used). rule_of one.rule) uses
 abbrev pub has_used : List Hash → Hash → Bool
 has_used contracts contract = list_any (bytes_eq contract) contracts
 
--- nothing, or a contract that was exercised before
+-- what a rule's request exercises is nothing, or a contract that was exercised before
 abbrev pub is_wrong_use : List Hash → Option Hash → Bool
 is_wrong_use contracts None = true
 is_wrong_use contracts (Some contract) = has_used contracts contract
@@ -40,13 +40,13 @@ is_wrong_use contracts (Some contract) = has_used contracts contract
 abbrev pub is_wrong_by : Request → Option Transaction → Used → Bool
 is_wrong_by request whole one = is_caused_by (rule_of one.rule) request && is_wrong_use one.contracts (exercised_for (rule_of one.rule) whole)
 
--- one contract more, where it isn't there
+-- with one more contract, unless it is there already
 abbrev pub with_contract : Used → Option Hash → Used
 with_contract one None = one
 with_contract one (Some contract) =
     record { rule = one.rule; contracts = if has_used one.contracts contract then one.contracts else one.contracts ++ contract ∷ [] }
 
--- after one more request
+-- what is kept of a rule after one more request, which counts where it is the rule's
 abbrev pub used_after : Request → Option Transaction → Used → Used
 used_after request whole one = if is_caused_by (rule_of one.rule) request then with_contract one (exercised_for (rule_of one.rule) whole) else one
 
@@ -60,7 +60,8 @@ abbrev pub AreUsed : Reading → List Entry → List Used → Type 0
 AreUsed reading log [] = Unit {0}
 AreUsed reading log (one ∷ more) = IsUsed reading log one × AreUsed reading log more
 
--- What the message exercises for rules is noted: they are those of the log with it.
+-- What the message exercises for rules is noted: where contracts were kept as those of a log, they are now those of the log with the message
+-- behind it.
 pub record IsNoted (reading : Reading) (message : Message) (before after : List Used) : Type 0 where
   pub same : rules_of after ≡ rules_of before
   pub used : (log : List Entry) (time : ℕ) → ¬ IsUnframed reading message → AreUsed reading log before

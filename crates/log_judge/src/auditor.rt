@@ -45,7 +45,7 @@ fn is_unframed(message: &Message, outline: Option<&Outline>) -> bool
 }
 
 impl<P: Participants> Auditor<P> {
-    /// Nothing was read.
+    /// An auditor that has read nothing.
     pub fn new(
         alloc: Global,
         topology: &Topology,
@@ -102,7 +102,7 @@ impl<P: Participants> Auditor<P> {
         }
     }
 
-    // No verdict on its request was read.
+    // Whether a message is a verdict whose decision isn't the mediator's, where no verdict on its request was read before.
     fn is_other_decision(&self, message: &Message) -> bool
         ensures { (log : List EntryValue)
             → KnowsLog (P.reading self.now.participants) (P.params self.now.participants) (P.have_read self.now.participants) self.now log

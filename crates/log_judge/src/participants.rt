@@ -54,8 +54,8 @@ pub trait Participants: Drop {
         ensures { IfOk result (λ verdicts. (log : List EntryValue) → have_read self.now log
             → verdicts ≡ verdicts_owed (reading self.now) (params self.now) p (inbox (reading self.now) p (take (suc place) log)) place) };
 
-    /// Each reads one more entry, by what its mediator's bytes tell, where it brings a request. After want of memory nothing is known
-    /// of what they have read.
+    /// Each reads one more entry. Where that is a request, `outline` is what the request's mediator's bytes tell. After want of memory nothing
+    /// is known of what they have read.
     fn read(&mut self, entry: &Entry, outline: Option<&Outline>) -> Result<(), AllocError>
         requires known { (log : List EntryValue) × have_read self.old log × Genuine (reading self.old) (params self.old) (log ++ entry.now ∷ [])
             × (length log < 2 ^ 63) }

@@ -37,7 +37,7 @@ impl Model for ReadLog {
 }
 
 impl ReadLog {
-    /// Nothing was read.
+    /// A log of which nothing was read.
     pub fn new(alloc: Global) -> ReadLog
         ensures { result ≡ record { list = [] } }
     {

@@ -35,7 +35,7 @@ impl Model for RuleUse {
 }
 
 impl RuleUse {
-    /// Nothing was requested yet.
+    /// A rule whose requests have exercised nothing yet.
     pub(crate) fn new(alloc: Global, rule: &Rule) -> Result<RuleUse, AllocError>
         ensures { IfOk result (λ made. made ≡ unused rule.now) }
     {

@@ -41,7 +41,7 @@ fn read_each(
 }
 
 impl RuleUses {
-    /// Nothing was requested yet.
+    /// These rules, whose requests have exercised nothing yet.
     pub(crate) fn new(alloc: Global, rules: &RuleList) -> Result<RuleUses, AllocError>
         ensures { IfOk result (λ uses. uses ≡ map unused rules.now) }
     {

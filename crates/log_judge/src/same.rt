@@ -44,7 +44,7 @@ fn same_verdict(a: &ViewVerdict, b: &ViewVerdict) -> bool
     same_paths(&a.view, &b.view) && same_local(a.verdict, b.verdict)
 }
 
-/// Whether two lists of verdicts are one.
+/// Whether two lists of verdicts are the same.
 pub fn same_verdicts(a: &[ViewVerdict], b: &[ViewVerdict]) -> bool
     ensures { Decides result (a.now ≡ b.now) }
 {
@@ -59,7 +59,7 @@ pub fn same_verdicts(a: &[ViewVerdict], b: &[ViewVerdict]) -> bool
     true
 }
 
-/// Whether two decisions are one.
+/// Whether two decisions are the same.
 pub fn same_decisions(a: &Decision, b: &Decision) -> bool
     ensures { Decides result (a.now ≡ b.now) }
 {

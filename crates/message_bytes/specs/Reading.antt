@@ -1,4 +1,4 @@
--- The readings of paths, responses and verdicts.
+-- The readings of paths, responses and verdicts. Participants are numbers up to `most`.
 use Rattle.std.specs.Prelude.{ℕ, zero, suc, Bool, true, List, [], ◌∷◌, Result, Ok, Err, length, nat_lt}
 use Rattle.std.specs.Int.{w16, w64}
 use Rattle.ledger_terms.specs.declared.limits.TheConstants.{MOST_ACTION_DEPTH}
@@ -27,7 +27,7 @@ MOST_OF_TWO_BYTES = 65535
 unfoldable pub path_at : Reading (List ℕ)
 path_at = counted_at (small_count_at MOST_ACTION_DEPTH) any_item (number_at w16)
 
--- the reason of a number
+-- the reason with this number, and the bytes behind it; `here` bytes were left at the number
 unfoldable pub numbered_reason_at : ℕ → List ℕ → ℕ → Result (Reason × List ℕ) ℕ
 numbered_reason_at zero rest here = Err here
 numbered_reason_at (suc zero) rest here = Ok (IdMismatch, rest)
@@ -57,7 +57,7 @@ RejectParts = Reason × ℕ
 abbrev pub reject_of : RejectParts → LocalVerdict
 reject_of parts = Reject parts.0 parts.1
 
--- what follows the tag of a local verdict
+-- the local verdict with this tag, read from the bytes behind it; `here` bytes were left at the tag
 unfoldable pub tagged_local_at : ℕ → List ℕ → ℕ → Result (LocalVerdict × List ℕ) ℕ
 tagged_local_at zero rest here = Ok (Approve, rest)
 tagged_local_at (suc zero) rest here = seen_at reject_of (both_at reason_at (number_at w16)) rest
@@ -89,11 +89,11 @@ ResponseParts = (ℕ × ℕ) × List ViewVerdict
 abbrev pub response_of : ResponseParts → Response
 response_of parts = record { from = parts.0.0; request = parts.0.1; verdicts = parts.1 }
 
--- a participant up to the greatest that there is
+-- a byte for the participant, the place of the request and the verdicts
 unfoldable pub response_at : (most : ℕ) → Reading Response
 response_at most = seen_at response_of (both_at (both_at (small_count_at most) (number_at w64)) view_verdicts_at)
 
--- whether a participant stands above the last of these
+-- whether a participant is greater than the last of these
 abbrev pub is_past : List ℕ → ℕ → Bool
 is_past [] p = true
 is_past (q ∷ []) p = nat_lt q p
@@ -110,7 +110,7 @@ RejectedParts = (ℕ × List ℕ) × Reason
 abbrev pub rejected_of : RejectedParts → Decision
 rejected_of parts = Rejected parts.0.0 parts.0.1 parts.1
 
--- what follows the tag of a decision
+-- the decision with this tag, read from the bytes behind it; `here` bytes were left at the tag
 unfoldable pub tagged_decision_at : (most : ℕ) → ℕ → List ℕ → ℕ → Result (Decision × List ℕ) ℕ
 tagged_decision_at most zero rest here = Ok (Approved, rest)
 tagged_decision_at most (suc zero) rest here = seen_at rejected_of (both_at (both_at (small_count_at most) path_at) reason_at) rest

@@ -14,7 +14,7 @@ use ledger_terms::{ParticipantId, ParticipantIdList, Path};
 use std::alloc::Global;
 use wire_form::{Reader, ReaderFault};
 
-/// A path of at most 16 steps.
+/// Reads a path of at most 16 steps.
 #[tactic(auto, unfolding(crate::specs::Reading::path_at))]
 pub fn read_path(reader: &mut Reader<'_>, alloc: Global) -> Result<Path, ReaderFault>
     ensures { Gives (λ x. (x, reader.new)) result (path_at reader.old) }
@@ -155,7 +155,7 @@ fn read_next_verdict(
     Ok(())
 }
 
-/// A response.
+/// Reads a response of a participant up to `most`.
 #[tactic(auto, unfolding(crate::specs::Reading::response_at))]
 pub fn read_response(
     reader: &mut Reader<'_>,
@@ -264,7 +264,7 @@ fn read_tagged_decision(
     }
 }
 
-/// A verdict.
+/// Reads a verdict, which names participants up to `most`.
 #[tactic(auto, unfolding(crate::specs::Reading::verdict_at))]
 pub fn read_verdict(
     reader: &mut Reader<'_>,

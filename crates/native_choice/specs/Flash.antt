@@ -15,12 +15,12 @@ abbrev pub value_or_unit : Option Value → Value
 value_or_unit None = UnitValue
 value_or_unit (Some v) = v
 
--- the note that is created: of the same owner and the same reader
+-- the fields of the note that is created: the same owner, the same reader, and a text
 abbrev pub second_note : List Value → List Value
 second_note fields =
     value_or_unit (slice_get fields 0) ∷ value_or_unit (slice_get fields 1) ∷ TextValue (codes "flash") ∷ []
 
--- a note, its end, and no result
+-- the step after the children so far: the second note is created, then archived, and then the choice is done, with no result
 abbrev pub flash_next : ChoiceCall → List ChildResult → Result Step EvalFault
 flash_next call [] = Ok (Create note_template_name (second_note call.instance.fields))
 flash_next call (note ∷ []) = exercise_step note_template_name archive_name (id_in (value_seen note)) (Ok [])

@@ -8,7 +8,7 @@ use ledger_terms::{Choice, TemplateName};
 use std::alloc::{AllocError, Global};
 use std::marker::Model;
 
-/// The choice Flash of `Note.Note`. Contracts see nothing of it, since all of them are one.
+/// The choice Flash of `Note.Note`. Contracts see nothing of it, since each is the same as any other.
 #[derive(Drop)]
 pub struct FlashNative {
     alloc: Global,

@@ -6,13 +6,13 @@ use ledger_terms::Text;
 use std::alloc::{AllocError, Global};
 use svg_text::{Dash, Fill, Frame, Label, Paint, Point, Size, Stroke, Svg, Tone};
 
-/// The height of a row.
+/// The height of a chart's row, in units.
 pub(crate) const ROW: u32 = 44;
 
 /// Rows for which there is room.
 const MOST_ROWS: usize = 10_000;
 
-/// A chart in work.
+/// A chart in work: what is drawn so far, and where the lanes stand.
 #[derive(Drop)]
 pub(crate) struct Chart {
     pub svg: Svg,
@@ -20,7 +20,7 @@ pub(crate) struct Chart {
     pub lanes: Lanes,
 }
 
-/// So many letters of a text at most, with an ellipsis where it has more.
+/// At most `most` letters of a text, with an ellipsis where it has more.
 pub(crate) fn shortened(alloc: Global, text: &str, most: u32) -> Result<String, AllocError> {
     let mut kept = String::new(alloc);
     if text.chars().count() <= most as usize {
@@ -35,7 +35,7 @@ pub(crate) fn shortened(alloc: Global, text: &str, most: u32) -> Result<String, 
 }
 
 impl Chart {
-    /// Draws a line of text, cut where it has more letters than that.
+    /// Draws a line of text, cut where it has more than `most` letters, with the whole text as its title then.
     pub fn words(&mut self, label: &Label, words: &str, most: u32) -> Result<(), AllocError> {
         let short = shortened(self.alloc, words, most)?;
         if short.as_str() == words {
@@ -54,7 +54,7 @@ impl Chart {
         self.svg.line(top, Point { x, y: end }, stroke)
     }
 
-    /// Draws the frame of a row, which is seen where the row is the one that was read last.
+    /// Draws the frame of the row with its top at `y`. The frame is seen where the row is that of the entry read last.
     pub fn frame(&mut self, y: u32) -> Result<(), AllocError> {
         let frame = Frame {
             corner: Point {

@@ -25,7 +25,7 @@ const MARK: u32 = 20;
 /// Letters that have room beside the lanes.
 const LETTERS: u32 = 40;
 
-/// Draws a row for each entry.
+/// Draws a row for each entry of the page's log.
 pub(crate) fn draw_rows(chart: &mut Chart, story: &Story<'_>) -> Result<(), AllocError> {
     let mut y = 0;
     for (place, entry) in story.log.iter().enumerate() {

@@ -135,7 +135,7 @@ fn put_rows(
     Ok(())
 }
 
-/// Puts the table of contracts.
+/// Puts the table of the contracts that the participant is told of, with what it knows of each at each place.
 pub(crate) fn put_contracts(
     html: &mut Html,
     story: &Story<'_>,

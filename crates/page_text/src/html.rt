@@ -24,13 +24,14 @@ impl Model for Html {
 }
 
 impl Html {
+    /// A page on which nothing stands yet.
     pub(crate) fn new(alloc: Global) -> Html {
         Html {
             out: String::new(alloc),
         }
     }
 
-    /// Puts markup of this program.
+    /// Puts markup, which stands in this program and isn't escaped.
     pub(crate) fn markup(&mut self, markup: &'static str) -> Result<(), AllocError>
         ensures { OnOk result (self.new ≡ self.old ++ markup.now) }
     {
@@ -44,6 +45,7 @@ impl Html {
         put_escaped(&mut self.out, text)
     }
 
+    /// Puts a number, in decimal.
     pub(crate) fn number(&mut self, number: u64) -> Result<(), AllocError>
         ensures { OnOk result (self.new ≡ self.old ++ decimal number) }
     {
@@ -55,12 +57,13 @@ impl Html {
         put_path(&mut self.out, path)
     }
 
-    /// Puts a picture that was made by the calls of pictures.
+    /// Puts a picture, which is markup and isn't escaped.
     pub(crate) fn picture(&mut self, picture: &Text) -> Result<(), AllocError> {
         self.out.push_str(picture.as_str())
     }
 
-    /// Begins an element that is seen at some places of the log alone. Without the script it is seen where the last place is one.
+    /// Begins an element with this name that is seen only while the reader is at one of the places of `stay`. Without the script it is seen where the
+    /// page's last place, `last`, is one.
     pub(crate) fn begin_at(
         &mut self,
         name: &'static str,
@@ -80,7 +83,7 @@ impl Html {
         self.out.push_str(">")
     }
 
-    /// The whole page, with U+FFFD for each character that XML hasn't.
+    /// The whole page as text, with U+FFFD for each character that XML hasn't.
     pub(crate) fn finish(self, alloc: Global) -> Result<Text, AllocError> {
         let Html { out } = self;
         Ok(Text::of_string(drawable(alloc, out.as_str())?))

@@ -84,7 +84,7 @@ fn put_hosted(html: &mut Html, story: &Story<'_>, teller: &Teller) -> Result<(),
     html.markup("</p>\n")
 }
 
-/// Puts the part of a participant.
+/// Puts the part of the page that says what one participant knows.
 pub(crate) fn put_knowledge(
     html: &mut Html,
     story: &Story<'_>,

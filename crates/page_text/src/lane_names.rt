@@ -29,7 +29,7 @@ fn put_lane_name(
     html.markup("</span>")
 }
 
-/// Puts the names of the lanes in a row that stays where the chart is moved below it.
+/// Puts the names of the lanes in a row that stays while the chart moves below it.
 pub(crate) fn put_lane_names(html: &mut Html, story: &Story<'_>) -> Result<(), AllocError> {
     let lanes = Lanes::of(story);
     html.markup("<div class=\"lanes\">")?;

@@ -16,7 +16,7 @@ const MOST_STEP: u32 = 135;
 /// Lanes beside those of the participants.
 const OTHERS: u32 = 2;
 
-/// Where begins what an entry says.
+/// How far from the left edge the words that say what an entry is begin, in units.
 pub(crate) const SAYS: u32 = 690;
 
 /// The lanes: one for each participant of which the page tells, one for the log, and in the page of all one for the mediator.
@@ -27,28 +27,30 @@ pub(crate) struct Lanes {
 }
 
 impl Lanes {
+    /// The lanes of a page, which share the room, each at most `MOST_STEP` wide.
     pub fn of(story: &Story<'_>) -> Lanes {
         let participants = story.tellers.len().min(MOST_PARTICIPANTS) as u32;
         let step = (ROOM / (participants + OTHERS)).min(MOST_STEP);
         Lanes { participants, step }
     }
 
-    /// How wide a lane is.
+    /// How wide a lane is, in units.
     pub fn step(&self) -> u32 {
         self.step
     }
 
-    /// The middle of the lane with a number.
+    /// How far from the left edge the middle of the lane with this number is.
     pub fn middle(&self, number: u32) -> u32 {
         LEFT.saturating_add(self.step / 2)
             .saturating_add(self.step.saturating_mul(number))
     }
 
+    /// How far from the left edge the middle of the log's lane is.
     pub fn log(&self) -> u32 {
         self.middle(self.participants)
     }
 
-    /// The mediator's lane, which is the log's where the page tells of one participant.
+    /// How far from the left edge the middle of the mediator's lane is, which is the log's where the page tells of one participant.
     pub fn mediator(&self, story: &Story<'_>) -> u32 {
         match story.reader {
             Some(_) => self.log(),
@@ -56,7 +58,7 @@ impl Lanes {
         }
     }
 
-    /// The lane of a participant, where it has one.
+    /// How far from the left edge the middle of a participant's lane is, where it has one.
     pub fn participant(&self, story: &Story<'_>, at: ParticipantId) -> Option<u32> {
         for (number, teller) in (0..=255u32).zip(story.tellers.as_slice()) {
             if teller.me == at {

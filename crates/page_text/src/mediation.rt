@@ -84,7 +84,7 @@ fn put_rows(
     }
 }
 
-/// Puts the part of the mediator.
+/// Puts the part of the page that says for whom the mediator waits.
 pub(crate) fn put_mediation(html: &mut Html, story: &Story<'_>) -> Result<(), AllocError> {
     html.markup(
         "<section class=\"who\" aria-labelledby=\"mediator\"><h3 id=\"mediator\">Mediator</h3>\n<h4>Requests without a verdict</h4>\n",

@@ -80,8 +80,8 @@ fn put_parts(html: &mut Html, story: &Story<'_>) -> Result<(), AllocError> {
     html.markup("</div></section>\n</main>\n")
 }
 
-/// The page of the first entries of a log that has so many, as HTML: of all participants and the mediator, or of what one
-/// participant knows and nothing else.
+/// The page of a log's first entries as HTML: of all participants and the mediator, or of what `reader` knows and nothing else. The whole
+/// log has `entries` entries, and `log` are the first of them.
 pub fn page_of<'p>(
     alloc: Global,
     setup: &'p Setup,

@@ -164,7 +164,7 @@ fn put_verdict(
     }
 }
 
-/// Puts why requests weren't approved.
+/// Puts the part of the page that says why requests weren't approved.
 pub(crate) fn put_refusals(html: &mut Html, story: &Story<'_>) -> Result<(), AllocError> {
     html.markup(
         "<section class=\"who\" aria-labelledby=\"refusals\"><h3 id=\"refusals\">Requests that weren't approved</h3>\n",

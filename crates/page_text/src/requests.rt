@@ -80,7 +80,7 @@ fn put_request(
     html.markup("</td></tr>\n")
 }
 
-/// Puts the table of requests.
+/// Puts the table of the requests that the participant received, with what it owes and what became of each at each place.
 pub(crate) fn put_requests(
     html: &mut Html,
     story: &Story<'_>,

@@ -1,7 +1,7 @@
 //! The rules by which requests aren't approved, in the words of docs/PROTOCOL.md.
 use canton_model::Reason;
 
-/// When a reason holds.
+/// When a participant rejects a view for this reason.
 pub(crate) fn rule_of(reason: Reason) -> &'static str {
     match reason {
         Reason::RootMismatch => {
@@ -39,12 +39,13 @@ or an action of the core below the first starts a view; or the first action of a
 pub(crate) const TIMED_OUT: &str =
     "An entry whose time is past the deadline settles it as timed out, with the confirming participants that have not responded before it.";
 
-/// How it expires.
+/// How a request expires.
 pub(crate) const EXPIRED: &str =
     "Its outcome over a log is its first verdict; without one it is expired where some entry is later than the decision time.";
 
-/// Links to the parts of docs/PROTOCOL.md.
+/// A link to the part of docs/PROTOCOL.md that has the checks of a participant.
 pub(crate) const CHECKS: &str =
     " <a href=\"../PROTOCOL.md#a-participant\">docs/PROTOCOL.md, 'A participant'</a>";
 
+/// A link to the part of docs/PROTOCOL.md that has the rules of the log.
 pub(crate) const LOG: &str = " <a href=\"../PROTOCOL.md#the-log\">docs/PROTOCOL.md, 'The log'</a>";

@@ -21,7 +21,7 @@ pub(crate) fn put_request_words(
     Ok(())
 }
 
-/// Puts what an entry brings, as far as it is told.
+/// Puts what an entry brings, as far as the page tells it.
 pub(crate) fn put_entry_words(
     html: &mut Html,
     story: &Story<'_>,
@@ -74,7 +74,7 @@ fn put_place(
     html.markup(".</p>\n")
 }
 
-/// Puts a line for each place, of which one is seen at a time.
+/// Puts a line for each place of the page, of which one is seen at a time.
 pub(crate) fn put_places(html: &mut Html, story: &Story<'_>) -> Result<(), AllocError> {
     let first = Stay { from: 0, to: 0 };
     html.markup("<div id=\"said\" aria-live=\"polite\">")?;

@@ -1,6 +1,6 @@
 //! The script that steps through the places. It reads the places of elements and hides them or not, and makes no markup.
 
-/// It has no ampersand and no less-than sign, so that it stands in XML as it is.
+/// The script by which a reader steps through the places. It has no ampersand and no less-than sign, so that it stands in XML as it is.
 pub(crate) const SCRIPT: &str = "<script>
 (function () {
 'use strict';

@@ -89,7 +89,8 @@ fn put_summary(html: &mut Html, amounts: Amounts) -> Result<(), AllocError> {
     html.markup("</summary>")
 }
 
-/// Puts the views that are opened to it, hashes in the place of all else, and what is withheld.
+/// Puts what the request at a place discloses to the participant: the views that are opened to it, hashes in the place of all else, and what is
+/// withheld.
 pub(crate) fn put_shown(
     html: &mut Html,
     story: &Story<'_>,

@@ -8,6 +8,7 @@ pub(crate) struct Stay {
 }
 
 impl Stay {
+    /// Whether the place is one from `from` to `to`.
     pub fn has(self, place: u64) -> bool {
         self.from <= place && place <= self.to
     }

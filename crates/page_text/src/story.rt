@@ -6,8 +6,8 @@ use ledger_terms::{Name, ParticipantId};
 use page_data::OpenRequestLists;
 use std::alloc::Global;
 
-/// What a page tells: of how many entries a log has its first ones, what participants learnt of them, and for whom the mediator
-/// waited. Of one participant's page `reader` is that one, and nothing else is told.
+/// What a page tells: how many entries the log has, the first of them, what participants learnt of these, and for whom the mediator
+/// waited. Where the page is for one participant, `reader` is that one, and it tells of nobody else.
 #[derive(Clone, Copy)]
 pub(crate) struct Story<'p> {
     pub alloc: Global,
@@ -20,16 +20,17 @@ pub(crate) struct Story<'p> {
 }
 
 impl<'p> Story<'p> {
-    /// The last place.
+    /// The last place of the page: that behind its last entry.
     pub fn last(&self) -> u64 {
         self.log.len() as u64
     }
 
-    /// Whether the log goes on.
+    /// Whether the log goes on behind the page's entries.
     pub fn is_cut(&self) -> bool {
         self.entries > self.last()
     }
 
+    /// The name of a participant, if it is one of the topology.
     pub fn name(&self, at: ParticipantId) -> Option<&Name> {
         match self.setup.topology.host(at) {
             Some(host) => Some(&host.name),
@@ -37,6 +38,7 @@ impl<'p> Story<'p> {
         }
     }
 
+    /// The request that stands at a place, if one does.
     pub fn request(&self, place: u64) -> Option<&'p Request> {
         let entry = self.log.get(place as usize)?;
         match &entry.message {

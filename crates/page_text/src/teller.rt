@@ -2,7 +2,7 @@
 use ledger_terms::{ListOf, Name, ParticipantId};
 use page_data::{Course, Knowledge, RequestState};
 
-/// A participant with what it learnt.
+/// A participant of whom a page tells, with what it learnt of the log.
 #[derive(Drop)]
 pub(crate) struct Teller {
     pub me: ParticipantId,
@@ -10,10 +10,10 @@ pub(crate) struct Teller {
     pub course: Course,
 }
 
-/// Participants, in the order of the topology.
+/// Participants of whom a page tells, in the order of the topology.
 pub(crate) type TellerList = ListOf<Teller>;
 
-/// What is known of the request at a place, if it was received.
+/// What is known of the request at a place, if that was received.
 pub(crate) fn request_in(knowledge: &Knowledge, place: u64) -> Option<RequestState> {
     for request in knowledge.requests.as_slice() {
         if request.place == place {
@@ -24,7 +24,7 @@ pub(crate) fn request_in(knowledge: &Knowledge, place: u64) -> Option<RequestSta
 }
 
 impl Teller {
-    /// Whether it received the request at a place.
+    /// Whether the participant received the request at a place of the page's entries.
     pub fn received(&self, place: u64) -> bool {
         match self.course.states.as_slice().last() {
             Some(knowledge) => request_in(knowledge, place).is_some(),

@@ -8,7 +8,7 @@ use canton_model::{Message, Outcome, Response};
 use ledger_terms::ParticipantId;
 use std::alloc::AllocError;
 
-/// A participant's response to the request at a place, with its own place.
+/// A participant's response to the request at the place `request`, with the response's own place.
 pub(crate) fn response_of<'l>(
     story: &Story<'l>,
     from: ParticipantId,
@@ -94,7 +94,7 @@ fn put_late(html: &mut Html, story: &Story<'_>, from: u64) -> Result<(), AllocEr
     html.markup("not answered before it was decided</span>")
 }
 
-/// Puts what it owes to the request at a place and what it answered, each as long as that is so.
+/// Puts what the participant owes to the request at a place and what it answered, each as long as that is so.
 pub(crate) fn put_duty(
     html: &mut Html,
     story: &Story<'_>,

@@ -18,7 +18,7 @@ pub(crate) fn put_name(
     }
 }
 
-/// Puts names with commas between them.
+/// Puts the names of participants with commas between them.
 pub(crate) fn put_names(
     html: &mut Html,
     story: &Story<'_>,
@@ -33,6 +33,7 @@ pub(crate) fn put_names(
     Ok(())
 }
 
+/// Puts a decision of the mediator.
 pub(crate) fn put_decision(
     html: &mut Html,
     story: &Story<'_>,
@@ -78,6 +79,7 @@ pub(crate) fn put_verdicts(html: &mut Html, verdicts: &ViewVerdictList) -> Resul
     Ok(())
 }
 
+/// Puts a contract by its instance.
 pub(crate) fn put_contract(
     alloc: Global,
     html: &mut Html,
@@ -101,7 +103,7 @@ pub(crate) fn outcome_words(outcome: Outcome) -> &'static str {
     }
 }
 
-/// The class of its colour.
+/// The class of the colour in which an outcome stands.
 pub(crate) fn outcome_class(outcome: Outcome) -> &'static str {
     match outcome {
         Outcome::Approved => "good",

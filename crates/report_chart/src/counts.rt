@@ -16,6 +16,7 @@ pub struct Counts {
 }
 
 impl Counts {
+    /// What the report has, counted.
     pub fn of(report: &Report<'_>) -> Counts {
         Counts {
             entries: report.entries.len(),
@@ -63,7 +64,7 @@ pub fn title_of(alloc: Global, counts: &Counts) -> Result<String, AllocError> {
     format!(in alloc; "The log of a run: entries {entries}, requests {requests}")
 }
 
-/// How the requests ended, in words.
+/// How many requests ended how, and how many submissions were refused, in words.
 pub fn endings_of(alloc: Global, counts: &Counts) -> Result<String, AllocError> {
     let Counts {
         approved,

@@ -115,7 +115,7 @@ fn draw_name(sheet: &mut Sheet, x: u32, name: &str, width: u32) -> Result<(), Al
     sheet.words(&label, name, letters)
 }
 
-/// A text that begins at a point.
+/// How a text stands that begins at a point.
 pub fn label(at: Point, font: Font) -> Label {
     Label {
         at,
@@ -125,7 +125,7 @@ pub fn label(at: Point, font: Font) -> Label {
     }
 }
 
-/// A text that begins at a point and stands back.
+/// How a text stands that begins at a point, in the tone of what is less important.
 pub fn quiet(at: Point, font: Font) -> Label {
     Label {
         at,

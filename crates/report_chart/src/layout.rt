@@ -16,7 +16,7 @@ const LANES_WIDTH: u32 = 540;
 /// How wide a lane is at most.
 const MOST_STEP: u32 = 135;
 
-/// Where begins what an entry says, and how wide that is.
+/// Where the words for an entry begin, and how wide they may be.
 pub const SAYS_LEFT: u32 = 712;
 
 pub const SAYS_WIDTH: u32 = 276;
@@ -43,6 +43,7 @@ pub struct Lanes {
 }
 
 impl Lanes {
+    /// The lanes for so many participants, which share the room, each at most `MOST_STEP` wide.
     pub fn of(participants: usize) -> Lanes {
         let participants = (participants.min(MOST_LANES as usize)) as u32;
         let step = (LANES_WIDTH / (participants + OTHER_LANES)).min(MOST_STEP);
@@ -54,14 +55,17 @@ impl Lanes {
         self.step
     }
 
+    /// How far from the left edge the middle of a participant's lane is.
     pub fn participant(&self, lane: Lane) -> u32 {
         self.middle(lane.0.min(MOST_LANES as usize) as u32)
     }
 
+    /// How far from the left edge the middle of the log's lane is.
     pub fn sequencer(&self) -> u32 {
         self.middle(self.participants)
     }
 
+    /// How far from the left edge the middle of the mediator's lane is.
     pub fn mediator(&self) -> u32 {
         self.middle(self.participants.saturating_add(1))
     }

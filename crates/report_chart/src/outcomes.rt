@@ -12,7 +12,7 @@ pub fn outcome_at<'t>(report: &Report<'t>, place: u64) -> Option<Decision<'t>> {
     None
 }
 
-/// The round that sent the request at a place.
+/// The round whose submission sent the request at a place; a raw request has none.
 pub fn round_at(report: &Report<'_>, place: u64) -> Option<u64> {
     for result in report.results.as_slice() {
         if let Answer::Sent(sent) = result.answer {

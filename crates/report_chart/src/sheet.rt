@@ -30,7 +30,7 @@ impl Sheet {
         self.y = self.y.saturating_add(height);
     }
 
-    /// Draws words that have room for so many letters, and are cut where they have more.
+    /// Draws words, cut where they are wider than so many letters, with the whole text as their title then.
     pub fn words(&mut self, label: &Label, words: &str, letters: u32) -> Result<(), AllocError> {
         if fits(words, letters) {
             return self.svg.text(label, words);

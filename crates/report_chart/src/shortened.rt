@@ -9,7 +9,7 @@ fn width_of(letter: char) -> u32 {
     if letter < FIRST_WIDE { 1 } else { 2 }
 }
 
-/// Whether a text is no wider than so many letters.
+/// Whether a text is at most as wide as so many letters.
 pub fn fits(text: &str, most: u32) -> bool {
     let mut width = 0u32;
     for letter in text.chars() {
@@ -21,7 +21,7 @@ pub fn fits(text: &str, most: u32) -> bool {
     true
 }
 
-/// The beginning of a text with an ellipsis, together no wider than so many letters.
+/// The beginning of a text with an ellipsis behind it, together at most as wide as so many letters.
 pub fn shortened(alloc: Global, text: &str, most: u32) -> Result<String, AllocError> {
     let mut kept = String::new(alloc);
     let mut width = 1u32;

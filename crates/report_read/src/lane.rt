@@ -14,14 +14,14 @@ pub struct LaneSet {
 }
 
 impl LaneSet {
-    /// Nobody.
+    /// The empty set.
     pub fn none() -> LaneSet {
         LaneSet {
             lanes: [false; MOST_LANES],
         }
     }
 
-    /// All of the first so many.
+    /// The first `count` participants, up to eight.
     pub fn first(count: usize) -> LaneSet {
         let mut lanes = LaneSet::none();
         for at in 0..count {

@@ -15,7 +15,7 @@ use crate::submit_result::SubmitResultList;
 use crate::withheld::WithheldList;
 use std::alloc::Global;
 
-/// A report. What is said in the words of its text borrows from it.
+/// A report that was read: its lines by kind, whose words borrow from its text.
 #[derive(Drop)]
 pub struct Report<'t> {
     pub hosts: Hosts<'t>,
@@ -28,7 +28,7 @@ pub struct Report<'t> {
     pub actives: ActiveList<'t>,
 }
 
-/// The report that a text is (docs/FORMATS.md, 'The report'), or the first line that isn't as it has to be.
+/// The text read as a report (docs/FORMATS.md, 'The report'), or its first line that isn't as it has to be.
 pub fn read_report<'t>(alloc: Global, text: &'t str) -> Result<Report<'t>, ReportFault> {
     let hosts = Hosts::of(alloc, text)?;
     let mut lines = Lines::new(text);

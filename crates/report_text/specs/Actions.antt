@@ -18,7 +18,7 @@ abbrev pub indent : ℕ → List ℕ
 indent zero = []
 indent (suc level) = 32 ∷ 32 ∷ indent level
 
--- a line for each action in pre-order, the roots at the level
+-- a line for each action of a forest in pre-order; roots are indented by this level, and what is below an action by one more than it
 abbrev pub tree_lines : ℕ → Actions → List ℕ
 tree_lines level NoRoots = []
 tree_lines level (Root root below others) =

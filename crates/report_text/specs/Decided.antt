@@ -5,7 +5,7 @@ use Rattle.canton_model.specs.declared.decision.Decision.{Decision}
 use Rattle.canton_model.specs.declared.entry.Entry.{Entry}
 use Rattle.canton_model.specs.Timeline.{verdict_on, is_past, timeline_of}
 
--- these are the first verdicts of the log on its requests, and this is the greatest time of its entries, or 0
+-- `verdicts` gives the first verdict of the log on the request at a place, and `latest` is the greatest time of its entries, or 0
 pub record Decides (verdicts : ℕ → Option (Bor Decision)) (latest : ℕ) (log : List Entry) : Type 0 where
   pub verdict : (request : ℕ) → option_copied (verdicts request) ≡ verdict_on request (timeline_of log)
   pub past : (time : ℕ) → nat_lt time latest ≡ is_past time (timeline_of log)

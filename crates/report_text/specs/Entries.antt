@@ -42,11 +42,12 @@ views_told request = views_in (requested_views request)
 abbrev pub sees_one : List ViewRoles → Host → Bool
 sees_one views host = list_any (λ (view : ViewRoles). list_any (λ party. keeps_party party host) view.informees) views
 
--- a request goes to its sender, and to those that see one of its views, whether an envelope is addressed to them or not
+-- Whether participant p, whose host this is, is a recipient of the sender's request with these views. The sender is, and who sees one of
+-- the views, whether an envelope is addressed to it or not.
 abbrev pub is_recipient : (sender : ℕ) → List ViewRoles → ℕ → Host → Bool
 is_recipient sender views p host = nat_eq p sender || sees_one views host
 
--- the recipients in order of the topology, whose hosts from this index on are given, each with a space before it
+-- the names of the recipients among these hosts in order, each with a space before it; the first host is that of participant p
 abbrev pub recipients_from : (sender : ℕ) → List ViewRoles → ℕ → List Host → List ℕ
 recipients_from sender views p [] = []
 recipients_from sender views p (host ∷ hosts) =

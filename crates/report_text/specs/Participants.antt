@@ -14,7 +14,7 @@ commit_lines commit = codes "commit " ++ decimal commit.place ++ codes "\n" ++ t
 abbrev pub active_line : ActiveRow → List ℕ
 active_line row = codes "active " ++ decimal row.created_at ++ codes " " ++ instance_text row.known.instance ++ codes "\n"
 
--- an approved place of whose request it has no complete envelope
+-- the place of an approved request that is withheld from the participant
 abbrev pub withheld_line : (place : ℕ) → List ℕ
 withheld_line place = codes "withheld " ++ decimal place ++ codes "\n"
 
@@ -22,7 +22,7 @@ abbrev pub participant_line : Host → NodeView → List ℕ
 participant_line host view =
     codes "participant " ++ host.name ++ codes " clean " ++ decimal view.clean ++ codes " time " ++ decimal view.clean_time ++ codes "\n"
 
--- the base of one that restarted
+-- the base of a participant that restarted; there is no line of another
 abbrev pub pruned_line : (pruned : Option ℕ) → List ℕ
 pruned_line None = []
 pruned_line (Some base) = codes "pruned " ++ decimal base ++ codes "\n"

@@ -13,6 +13,7 @@ use Rattle.report_text.specs.Results.{result_lines}
 use Rattle.report_text.specs.Outcomes.{outcome_lines}
 use Rattle.report_text.specs.Participants.{participant_lines}
 
+-- the report of a run: its log, the results of its submissions, what rules caused, what became of its requests, and the participants
 abbrev pub report_of : Topology → List Round → List Entry → List SubmitResult → List NodeView → List Caused → List ℕ
 report_of topology rounds log results views caused =
     codes "entries " ++ decimal (length log) ++ codes "\n"

@@ -33,15 +33,15 @@ pub record Submitted : Type 0 where
 abbrev pub submitted_in : ℕ → List Submission → List Submitted
 submitted_in round submissions = map (λ submission. record { round = round; submission = submission }) submissions
 
--- what rules caused in the round of a number
+-- what rules caused in the round with this number
 abbrev pub of_round : ℕ → List Caused → List Caused
 of_round number caused = filter (λ (one : Caused). nat_eq one.round number) caused
 
--- the same as submissions of the round
+-- the submissions that rules caused in the round with this number
 abbrev pub caused_in : ℕ → List Caused → List Submitted
 caused_in number caused = submitted_in number (map (λ (one : Caused). one.submission) (of_round number caused))
 
--- the submissions of the rounds in order, the first of them with this number; behind those of a round what rules caused in it
+-- the submissions of the rounds in order, of which the first has this number; behind a round's own stand those that rules caused in it
 abbrev pub submitted_from : ℕ → List Round → List Caused → List Submitted
 submitted_from number [] caused = []
 submitted_from number (round ∷ rounds) caused =
@@ -52,7 +52,7 @@ result_line hosts (submitted, answer) =
     codes "result " ++ decimal submitted.round ++ codes " " ++ host_text hosts submitted.submission.participant ++ codes " "
     ++ submitted.submission.command ++ codes " " ++ answer_text answer ++ codes "\n"
 
--- The results are those of the submissions in script order, behind those of a round those of what rules caused in it. Where they are
--- fewer, the last submissions have no line.
+-- A line for each submission with its result. Both are in script order, and behind a round's own stands what rules caused in it. Where
+-- there are fewer results, the last submissions have no line.
 abbrev pub result_lines : List Host → List Round → List Caused → List SubmitResult → List ℕ
 result_lines hosts rounds caused results = flat_map (result_line hosts) (zip (submitted_from 0 rounds caused) results)

@@ -49,12 +49,12 @@ is_refused (Refused fault read_to) = true
 abbrev pub is_iou : TemplateName → Bool
 is_iou template = bytes_eq template.package (codes "Iou") && bytes_eq template.name (codes "Iou")
 
--- the third of the values, where it is an Int
+-- the third of the values, where it is an Int, and 0 otherwise
 abbrev pub third_number : List Value → ℤ
 third_number (first ∷ second ∷ Int number ∷ more) = number
 third_number values = pos 0
 
--- what a contract counts for: an Iou has its amount as its third field
+-- the amount of a contract: the third field of an Iou, where that is an Int, and 0 otherwise
 abbrev pub amount_of : Instance → ℤ
 amount_of contract = if is_iou contract.template then third_number contract.fields else pos 0
 
@@ -63,7 +63,7 @@ abbrev pub amounts_onto : ℤ → List ActiveRow → ℤ
 amounts_onto total [] = total
 amounts_onto total (row ∷ rows) = amounts_onto (total +ℤ amount_of row.known.instance) rows
 
--- a participant's active contracts, their number and the sum of their amounts
+-- the number of a participant's active contracts, and the sum of their amounts
 abbrev pub active_total_line : Host × List ActiveRow → List ℕ
 active_total_line (host, active) =
     codes "active " ++ host.name ++ codes " " ++ decimal (length active) ++ codes " amount " ++ signed_decimal (amounts_onto (pos 0) active)
@@ -87,5 +87,6 @@ summary_over topology log results actives =
     ++ flat_map active_total_line (zip topology.hosts actives)
     ++ codes "end\n"
 
+-- the summary, where this is what each participant knows at its clean place
 abbrev pub summary_of : Topology → List Entry → List SubmitResult → List NodeView → List ℕ
 summary_of topology log results views = summary_over topology log results (actives_in views)

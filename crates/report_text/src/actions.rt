@@ -56,7 +56,7 @@ fn put_indent(out: &mut String, level: u64) -> Result<(), AllocError>
     Ok(())
 }
 
-/// Puts a line for each action at the end, the roots at the level.
+/// Puts a line at the end for each action of the trees, indented by its level: `level` for roots, and one more for each step down.
 pub fn put_trees(out: &mut String, level: u64, trees: &ActionNodeList) -> Result<(), AllocError>
     ensures { OnOk result (string_bytes out.new ≡ string_bytes out.old ++ tree_lines level trees.now) }
 {

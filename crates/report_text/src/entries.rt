@@ -209,7 +209,7 @@ fn put_entry(
     out.push_str("\n")
 }
 
-/// Puts a line for each entry at the end.
+/// Puts a line at the end for each entry of the log.
 pub fn put_entries(
     alloc: Global,
     out: &mut String,

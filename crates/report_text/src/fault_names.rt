@@ -5,7 +5,7 @@ ghost use Rattle.report_text.specs.FaultNames.{command_fault_name, split_fault_n
 use interpret::CommandFault;
 use view_split::SplitFault;
 
-/// The word of a fault of commands; that of an evaluation has the evaluation's word.
+/// The word that a report has for a fault of commands. Where an evaluation failed, it is the word for the evaluation's own fault.
 pub fn command_fault_name(fault: &CommandFault) -> &'static str
     ensures { result.now ≡ command_fault_name fault.now }
 {
@@ -23,7 +23,7 @@ pub fn command_fault_name(fault: &CommandFault) -> &'static str
     }
 }
 
-/// The word of a fault of splitting.
+/// The word that a report has for a fault of splitting a transaction into views.
 pub fn split_fault_name(fault: &SplitFault) -> &'static str
     ensures { result.now ≡ split_fault_name fault.now }
 {

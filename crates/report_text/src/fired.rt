@@ -28,7 +28,7 @@ fn put_one(out: &mut String, one: &Caused) -> Result<(), AllocError>
     out.push_str("\n")
 }
 
-/// Puts a line for each of what rules caused at the end.
+/// Puts a line at the end for each submission that a rule caused.
 pub fn put_fired(out: &mut String, caused: &CausedList) -> Result<(), AllocError>
     ensures { OnOk result (string_bytes out.new ≡ string_bytes out.old ++ fired_lines caused.now) }
 {

@@ -54,7 +54,7 @@ fn put_outcome_line(
     out.push_str("\n")
 }
 
-/// Puts a line for each request of the log at the end.
+/// Puts a line at the end for each request of the log, with what became of it.
 pub fn put_outcomes(
     alloc: Global,
     out: &mut String,

@@ -92,7 +92,7 @@ impl<'l> Outcomes<'l> {
         })
     }
 
-    /// The decision of the first verdict on the request.
+    /// The decision of the first verdict on the request at this place.
     pub fn verdict(&self, request: u64) -> Option<&'l Decision>
         ensures { option_copied result ≡ verdict_on request (timeline_of self.now) }
     {

@@ -92,7 +92,7 @@ fn put_participant(out: &mut String, host: &Host, view: &NodeView) -> Result<(),
     put_actives(out, &view.active)
 }
 
-/// Puts the lines of each participant at the end. The views stand in order of the topology.
+/// Puts the lines of each participant at the end. `views` has what each knows, in the order of `hosts`.
 pub fn put_participants(
     out: &mut String,
     hosts: &HostList,

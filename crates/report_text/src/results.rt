@@ -148,7 +148,7 @@ fn put_caused<'a>(
     Ok(rest)
 }
 
-/// Puts a line for each result at the end.
+/// Puts a line at the end for each submission that has a result.
 pub fn put_results(
     out: &mut String,
     hosts: &HostList,

@@ -41,12 +41,12 @@ pub record IsTemplate (t : TemplateName) : Type 0 where
   pub «package» : IsName t.«package»
   pub name : IsName t.name
 
--- a participant and a command's id
+-- the seed is that of a command's id of one of the participants
 pub record IsSeed (hosts : List Host) (s : SeedOf) : Type 0 where
   pub participant : IsParticipant hosts s.participant
   pub command : IsName s.command
 
--- a participant, a command's id and 1 to 16 steps
+-- The label names one of the participants, a command's id and a path of 1 to 16 steps.
 pub record IsLabel (hosts : List Host) (l : Label) : Type 0 where
   pub participant : IsParticipant hosts l.participant
   pub command : IsName l.command
@@ -54,14 +54,14 @@ pub record IsLabel (hosts : List Host) (l : Label) : Type 0 where
   pub few : length l.path ≤ MOST_LABEL_STEPS
   pub low : All (λ step. step ≤ MOST_LABEL_STEP) l.path
 
--- a label or a hash of 32 bytes
+-- the reference is a hash of 32 bytes, or a label
 abbrev pub IsReference : List Host → ContractRef → Type 0
 IsReference hosts (Id hash) = length hash ≡ 32
 IsReference hosts (LabelRef l) = IsLabel hosts l
 
 -- ---- fields and arguments
 
--- a text, if it is one, has few bytes
+-- where the value is a text, it has no more bytes than the limit lets pass
 abbrev pub IsShort : Value → Type 0
 IsShort (Text s) = length s ≤ MOST_TEXT_BYTES
 IsShort v = Unit {0}
@@ -81,7 +81,7 @@ IsCommand hosts (Create template fields) = IsTemplate template × AreArgs hosts 
 IsCommand hosts (Exercise template contract choice args) =
     IsTemplate template × IsReference hosts contract × IsName choice × AreArgs hosts MOST_PARAMETERS args
 
--- 1 to 16 commands, whose parties are hosted
+-- There are 1 to 16 commands, and for each party that they name somebody confirms.
 pub record AreCommands (hosts : List Host) (commands : List Command) : Type 0 where
   pub some : 1 ≤ length commands
   pub few : length commands ≤ MOST_COMMANDS
@@ -101,7 +101,7 @@ IsDraft hosts (DraftExercise input choice args actors consuming result) =
     IsInput hosts input × IsName choice × AreArgs hosts MOST_PARAMETERS args × IsArg hosts result
 IsDraft hosts (DraftFetch input actors) = IsInput hosts input
 
--- 1 to 16 trees of at most 64 drafts in all, at most 16 deep, whose parties are hosted
+-- There are 1 to 16 trees of at most 64 drafts in all, at most 16 deep, and for each party that they name somebody confirms.
 pub record AreDrafts (hosts : List Host) (drafts : Drafts) : Type 0 where
   pub some : 1 ≤ trees_count drafts
   pub few_roots : trees_count drafts ≤ MOST_COMMANDS

@@ -52,7 +52,7 @@ arg_of hosts at (string s) = text_arg_of at s
 arg_of hosts at (array ds) = Err (Shape at)
 arg_of hosts at (object ms) = object_of hosts at (object ms)
 
--- those in a member, within the limit
+-- the values in a member, whose number keeps the limit
 unfoldable pub args_in : List Host → Place → List ℕ → Limit → Data → Result (List Arg) WalkFault
 args_in hosts at k limit d = do
   m ← member_of at k d

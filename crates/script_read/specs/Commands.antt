@@ -42,7 +42,7 @@ exercise_of hosts at d = do
   args ← args_in hosts at (codes "args") PARAMETERS d
   Ok (command.Exercise template contract choice args)
 
--- the object has this one member
+-- the object has the one member `create`
 unfoldable pub is_create : Data → Bool
 is_create d = has_members (codes "create" ∷ []) [] d
 

@@ -170,7 +170,7 @@ exercise_draft_of hosts at d = do
 unfoldable pub is_draft : Data → Bool
 is_draft d = is_create d || (is_exercise d || is_fetch d)
 
--- A draft keeps the limit on depth. The first that doesn't stands one deeper than the limit.
+-- A fault at this place, where the depth breaks its limit. The first draft that does stands one deeper than the limit.
 abbrev pub within_tree : Place → ℕ → Result ⊤ WalkFault
 within_tree at depth = within_limit at DRAFT_DEPTH depth
 

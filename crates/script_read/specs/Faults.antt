@@ -25,7 +25,7 @@ fault_path (Limit path which found) = Some path
 fault_path (Repeated path) = Some path
 fault_path Memory = None
 
--- a fault of a walk
+-- a fault of a walk as one of a script
 abbrev pub script_fault : WalkFault → ScriptFault
 script_fault walk.NotJson = NotJson
 script_fault (walk.Shape path) = Shape path
@@ -35,7 +35,7 @@ script_fault (walk.Limit path which found) = Limit path which found
 script_fault (walk.Repeated path) = Repeated path
 script_fault walk.Memory = Memory
 
--- what a walk gave
+-- what a walk gave, with its fault as one of a script
 abbrev pub from_walk : {A : Type 0} → Result A WalkFault → Result A ScriptFault
 from_walk (Ok a) = Ok a
 from_walk (Err e) = Err (script_fault e)

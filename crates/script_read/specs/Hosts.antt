@@ -23,7 +23,7 @@ use Rattle.json_walk.specs.declared.walk_fault.WalkFault.TheVariants.{Shape, Rep
 abbrev pub is_participant : List Host → List ℕ → Bool
 is_participant hosts name = list_any (λ (h : Host). same_name h.name name) hosts
 
--- one more party, which is hosted nowhere so far
+-- one more party of a participant, for which nobody so far confirms
 unfoldable pub new_party_step : List Host → Place → ℕ → List (List ℕ) → Data → Result (List (List ℕ)) WalkFault
 new_party_step hosts at i before d = do
   name ← name_of (at_item at i) d
@@ -68,7 +68,7 @@ hosts_of at d = do
   items ← few_items_of at PARTICIPANTS d
   walk_items (host_step at) 0 ([], 0) items
 
--- the place of the participants, and the member
+-- the place of the member `participants`
 abbrev pub participants_at : Place
 participants_at = at_member [] (codes "participants")
 
@@ -126,7 +126,7 @@ package_name_of packages at d = do
   _ ← check (is_package packages name) (Unknown at name)
   Ok name
 
--- all packages where the member is absent
+-- the names of the packages that a participant has vetted, which are all where the member is absent
 abbrev pub vetted_if : List PackageForm → Place → Option Data → Result (List (List ℕ)) WalkFault
 vetted_if packages at None = Ok (package_names packages)
 vetted_if packages at (Some d) = list_of (package_name_of packages) at d

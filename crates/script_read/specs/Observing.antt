@@ -14,7 +14,7 @@ use Rattle.json_walk.specs.declared.walk_fault.WalkFault.TheVariants.{Repeated, 
 
 -- ---- names, whatever they name
 
--- none where the member is absent
+-- the names of a list, and none where the member is absent
 abbrev pub observing_names_if : Place → Option Data → Result (List (List ℕ)) WalkFault
 observing_names_if at None = Ok []
 observing_names_if at (Some d) = list_of name_of at d

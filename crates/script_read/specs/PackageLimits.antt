@@ -127,7 +127,7 @@ pub record AreSmall (packages : Packages) : Type 0 where
   pub few_templates : sum_by (λ (p : PackageForm). length p.templates) packages ≤ MOST_TEMPLATES
   pub templates : All (λ (p : PackageForm). All IsSmallTemplate p.templates) packages
 
--- They are packages within the limits with what is built in, and name no party but those that are hosted.
+-- They are packages within the limits with what is built in, and name no party but those for which somebody confirms.
 pub record AreAccepted (hosts : List Host) (packages : Packages) : Type 0 where
   pub given : Packages
   pub built_in : packages ≡ checked_packages given

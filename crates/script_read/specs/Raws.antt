@@ -24,7 +24,7 @@ use Rattle.trigger_rules.specs.declared.rule.Rule.{Rule}
 abbrev pub bytes_named : List ℕ → Option (List ℕ)
 bytes_named s = result_ok (decode_of s)
 
--- so few bytes
+-- the bytes that a text spells, which have to keep their limit
 unfoldable pub bytes_of : Place → Data → Result (List ℕ) WalkFault
 bytes_of at d = do
   s ← ok_or (as_str d) (Shape at)
@@ -34,7 +34,7 @@ bytes_of at d = do
 
 -- ---- envelopes
 
--- a list of a participant's name and the bytes for it
+-- an envelope as a list of a participant's name and the bytes for it
 unfoldable pub envelope_of : List Host → Place → Data → Result RawEnvelope WalkFault
 envelope_of hosts at d = do
   items ← items_of at d
@@ -75,7 +75,7 @@ raw_of hosts rules at d = do
   envelopes ← envelopes_in hosts at d
   Ok (record { participant = participant; command = command; confirming = confirming; mediator = mediator; envelopes = envelopes })
 
--- none where the member is absent
+-- the raw requests of a list, and none where the member is absent
 abbrev pub raws_if : List Host → List Rule → Place → Option Data → Result (List RawRequest) WalkFault
 raws_if hosts rules at None = Ok []
 raws_if hosts rules at (Some d) = few_of (raw_of hosts rules) at RAWS d

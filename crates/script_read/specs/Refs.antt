@@ -65,7 +65,7 @@ unfoldable pub label_named : List ℕ → Option Label
 label_named s =
     option_and_then (λ p. option_and_then (λ q. option_and_then (label_with p.0 q.0) (path_named q.1)) (parts_round 58 p.1)) (parts_round 58 s)
 
--- a label that is spelled so, of so few steps and a participant that there is
+-- the label that is spelled so; its steps have to keep their limit, and its participant to be there
 unfoldable pub label_of : List Host → Place → List ℕ → Result Label WalkFault
 label_of hosts at s = do
   label ← ok_or (label_named s) (Shape at)

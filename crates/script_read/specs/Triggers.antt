@@ -41,7 +41,7 @@ rule_party_in hosts at d = do
   m ← member_of at (codes "party") d
   party_of hosts (at_member at (codes "party")) m
 
--- one rule more
+-- the rules before with one more
 unfoldable pub rule_of : List Host → List Rule → Place → Data → Result (List Rule) WalkFault
 rule_of hosts before at d = do
   _ ← check (has_rule_members d) (Shape at)

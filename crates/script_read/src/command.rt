@@ -113,7 +113,7 @@ fn exercise_in(
     read_exercise(alloc, found, &at.member("exercise"), topology)
 }
 
-/// A command.
+/// The command that a value spells.
 #[tactic(auto, unfolding(crate::specs::Commands::command_of))]
 pub fn read_command(
     alloc: Global,

@@ -123,7 +123,7 @@ fn fetch_in(
     read_fetch(alloc, found, &at.member("fetch"), topology)
 }
 
-/// A draft that has no children.
+/// The draft that a value spells, where it is a create or a fetch and so has no children.
 #[tactic(auto, unfolding(crate::specs::Drafts::leaf_of))]
 pub fn read_leaf(
     alloc: Global,
@@ -189,7 +189,7 @@ fn read_effect(
     Ok((actors, consuming, result))
 }
 
-/// An exercise without its children.
+/// The exercise that a value spells, as a draft without its children.
 #[tactic(auto, unfolding(crate::specs::Drafts::exercise_draft_of))]
 pub fn read_exercise(
     alloc: Global,

@@ -11,7 +11,7 @@ pub fn topologies_are_valid()
     ensures { (bytes : List ℕ) (s : Script) → script_in bytes ≡ Ok s → IsValid s.topology }
 {}
 
-/// The packages of a script that is read are within their limits, and name no party but those that its participants host.
+/// The packages of a script that is read are within their limits, and name no party but those for which a participant confirms.
 pub fn packages_are_within_limits()
     ensures { (bytes : List ℕ) (s : Script) → script_in bytes ≡ Ok s → AreAccepted s.topology.hosts s.checked }
 {}

@@ -178,7 +178,7 @@ pub fn read_reference(
     read_text(alloc, text, at, topology)
 }
 
-/// The same of a member.
+/// The contract that a member of this name names.
 #[tactic(auto, unfolding(crate::specs::Commands::reference_in))]
 pub fn reference_in(
     alloc: Global,

@@ -1,9 +1,8 @@
 //! Rounds.
 use ledger_terms::{ListOf, ParticipantIdList, RawRequestList, SubmissionList};
 
-/// A round of a script: how far the time is moved first, in microseconds, which participants are paused, whether the
-/// mediator holds its verdicts back, what is submitted, in order, which requests that nobody prepared are handed in, and which
-/// participants restart before anything else.
+/// A round of a script: how far the time is moved, in microseconds, which participants are paused, whether the mediator holds its
+/// verdicts back, what is submitted, in order, which raw requests are handed in, and which participants restart before anything else.
 #[derive(Drop)]
 pub struct Round {
     pub advance: u64,

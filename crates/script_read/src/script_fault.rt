@@ -56,7 +56,7 @@ impl ScriptFault {
         }
     }
 
-    /// The place of the fault, where it has one.
+    /// The place of the fault in the script. NotJson, Package and Memory have none.
     pub fn path(&self) -> Option<&str>
         ensures { option_map (λ p. p.now) result ≡ fault_path self.now }
     {

@@ -144,7 +144,7 @@ pub fn triggers_in(alloc: Global, value: &Value, topology: &Topology) -> Result<
     }
 }
 
-/// The id of a command of a participant, which isn't kept for one of its rules.
+/// The id in the member `command`, of a command of the participant. One that is kept for a rule of it is a repetition.
 #[tactic(auto, unfolding(crate::specs::Triggers::own_command_in))]
 pub fn own_command_in(
     value: &Value,

@@ -49,7 +49,7 @@ abbrev pub ends : Point → Point → List ℕ
 ends from to =
     number_attribute (codes "x1") from.x ++ number_attribute (codes "y1") from.y ++ number_attribute (codes "x2") to.x ++ number_attribute (codes "y2") to.y
 
--- an element that holds a text alone
+-- the title of an element, which holds a text alone
 abbrev pub title_element : List ℕ → List ℕ
 title_element title = codes "<title>" ++ escaped title ++ codes "</title>"
 
@@ -63,7 +63,7 @@ label_start label = codes "<text" ++ place label.at ++ label_class label ++ code
 abbrev pub text_element : Label → List ℕ → List ℕ
 text_element label words = label_start label ++ escaped words ++ codes "</text>\n"
 
--- a text with another that says it whole
+-- a text that was cut, with the whole of it as its title
 abbrev pub titled_text_element : Label → List ℕ → List ℕ → List ℕ
 titled_text_element label words whole = label_start label ++ escaped words ++ title_element whole ++ codes "</text>\n"
 
@@ -82,18 +82,21 @@ arrow_element from to stroke =
 abbrev pub paint_class : Paint → List ℕ
 paint_class paint = class_attribute (tone_word paint.tone) (fill_word paint.fill)
 
+-- where a rectangle stands, its size, and the radius of its corners
 abbrev pub outline : Frame → List ℕ
 outline frame = place frame.corner ++ extent frame.size ++ number_attribute (codes "rx") frame.radius
 
 abbrev pub rectangle_element : Frame → Paint → List ℕ
 rectangle_element frame paint = codes "<rect" ++ outline frame ++ paint_class paint ++ codes "/>\n"
 
+-- where the middle of a circle is, and its radius
 abbrev pub round : Point → ℕ → List ℕ
 round at radius = number_attribute (codes "cx") at.x ++ number_attribute (codes "cy") at.y ++ number_attribute (codes "r") radius
 
 abbrev pub circle_element : Point → ℕ → Paint → List ℕ
 circle_element at radius paint = codes "<circle" ++ round at radius ++ paint_class paint ++ codes "/>\n"
 
+-- the attribute that moves a path from the point 0 0 to another
 abbrev pub shift : Point → List ℕ
 shift at = pair_attribute (codes "transform") (codes "translate(") at.x at.y (codes ")")
 

@@ -12,6 +12,7 @@ mark_tone TimedOut = Waiting
 mark_tone Expired = Waiting
 mark_tone Undecided = Waiting
 
+-- the path of a mark, drawn round the point 0 0
 abbrev pub mark_path : Mark → List ℕ
 mark_path Approved = codes "M-6 0L-2 4L6 -5"
 mark_path Rejected = codes "M-5 -5L5 5M5 -5L-5 5"

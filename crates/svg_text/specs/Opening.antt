@@ -9,6 +9,7 @@ use Rattle.svg_text.specs.declared.style.TheConstants.{ROOT, STYLE, TIPS}
 abbrev pub view_box : Size → List ℕ
 view_box size = pair_attribute (codes "viewBox") (codes "0 0 ") size.width size.height []
 
+-- the first tag of a picture
 abbrev pub root : Size → List ℕ
 root size = ROOT.now ++ extent size ++ view_box size ++ codes ">\n"
 
@@ -22,6 +23,7 @@ described_end name = codes "</" ++ name ++ codes ">\n"
 abbrev pub described : List ℕ → List ℕ → List ℕ
 described name text = described_start name ++ escaped text ++ described_end name
 
+-- the style sheet and the tips of arrows
 abbrev pub sheets : List ℕ
 sheets = STYLE.now ++ TIPS.now
 
@@ -29,6 +31,7 @@ sheets = STYLE.now ++ TIPS.now
 abbrev pub page : Size → List ℕ
 page size = codes "<rect class=\"sheet\"" ++ extent size ++ codes "/>\n"
 
+-- all that stands before the first element
 abbrev pub opening : Size → List ℕ → List ℕ → List ℕ
 opening size title description =
     root size ++ described (codes "title") title ++ described (codes "desc") description ++ sheets ++ page size

@@ -14,7 +14,8 @@ meaning name =
     if is_same name (codes "amp") then 38 ∷ [] else (if is_same name (codes "lt") then 60 ∷ [] else (if is_same name (codes "gt") then 62 ∷ []
     else (if is_same name (codes "quot") then 34 ∷ [] else (if is_same name (codes "apos") then 39 ∷ [] else 38 ∷ name ++ 59 ∷ []))))
 
--- the rest of a text, read behind an ampersand and the part of a name, or outside of entities
+-- What the rest of a text is read as. With `Some name`, an ampersand and this part of an entity's name stand before it; with None, no
+-- entity is begun.
 abbrev pub read_on : Option (List ℕ) → List ℕ → List ℕ
 read_on None [] = []
 read_on None (byte ∷ bytes) = if byte == 38 then read_on (Some []) bytes else byte ∷ read_on None bytes

@@ -18,7 +18,7 @@ submissions_in caused = map (λ (one : Caused). one.submission) caused
 abbrev pub fired_round : {F : Type 0} → (number now : ℕ) → RoundParts F → List Caused → FiredRound
 fired_round number now x caused = record { number = number; now = now; paused = x.round.paused; end = x.end; caused = caused }
 
--- They are the same rounds, counted from a number. `now` is the time of the round before.
+-- Both lists are of the same rounds, the first of which has this number. `now` is the time of the round before it.
 abbrev pub AreRounds : {F : Type 0} → (number now : ℕ) → List (RoundParts F) → List FiredRound → Type 0
 AreRounds number now [] [] = Unit {0}
 AreRounds number now [] (y ∷ ys) = ⊥

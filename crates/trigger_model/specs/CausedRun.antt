@@ -26,7 +26,7 @@ pub record FiredRound : Type 0 where
 abbrev pub all_caused : List FiredRound → List Caused
 all_caused rounds = flat_map (λ (round : FiredRound). round.caused) rounds
 
--- by the rule of a name
+-- whether the rule with this name caused it
 abbrev pub is_by : (name : List ℕ) → Caused → Bool
 is_by name one = bytes_eq one.rule name
 
@@ -51,13 +51,13 @@ RulesFire may reading params log round earlier (rule ∷ rules) caused =
     × Fires may rule round.number round.now (fired_on rule.name earlier) (active_at_clean reading params rule.participant n log) own
     × RulesFire may reading params log round earlier rules others
 
--- round after round
+-- in each of the rounds, which follow one another, the rules fire so; `earlier` was caused in the rounds before these
 abbrev pub RoundsFire : Answers → Reading → Params → List Entry → List Rule → (earlier : List Caused) → List FiredRound → Type 0
 RoundsFire may reading params log rules earlier [] = Unit {0}
 RoundsFire may reading params log rules earlier (round ∷ rounds) =
     RulesFire may reading params log round earlier rules round.caused × RoundsFire may reading params log rules (earlier ++ round.caused) rounds
 
--- no two have one rule and one contract
+-- no rule fired twice on one contract
 abbrev pub AreOnce : List Caused → Type 0
 AreOnce caused = (i j : ℕ) (a b : Caused) → slice_get caused i ≡ Some a → slice_get caused j ≡ Some b → a.rule ≡ b.rule → a.contract ≡ b.contract → i ≡ j
 
@@ -77,7 +77,8 @@ pub record IsCausedIn (may : Answers) (rules : List Rule) (reading : Reading) (p
   pub answered : may rule.name row.known (Ok (Some command))
   pub exercises : IsExerciseOf row.known command
 
--- What rules caused in a run.
+-- What holds of what rules caused in a run: no rule fired twice on a contract, each had a contract and a command for it, and no active
+-- contract was passed over.
 pub record CausedHolds (may : Answers) (rules : List Rule) (reading : Reading) (params : Params) (log : List Entry) (rounds : List FiredRound) : Type 0 where
   pub once : AreOnce (all_caused rounds)
   pub each : (round : FiredRound) (one : Caused) → Contains rounds round → Contains round.caused one → IsCausedIn may rules reading params log round one

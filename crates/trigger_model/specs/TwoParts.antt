@@ -16,11 +16,12 @@ pub record RoundParts (F : Type 0) : Type 0 where
   pub caused_results : Results F
   pub caused_end : ℕ
 
--- The second part is a round in which no time passes and no raw request comes: it has the round's lists.
+-- The second part of a round as a round of its own: no time passes, no raw request comes, and pauses and held verdicts are the round's.
 abbrev pub second_round : Round → List Submission → Round
 second_round round caused =
     record { advance = 0; paused = round.paused; holds_verdicts = round.holds_verdicts; raws = []; submits = caused }
 
+-- both parts of a round, each as a round with its results
 abbrev pub both_parts : {F : Type 0} → RoundParts F → List (RoundAnswers F)
 both_parts x =
     record { round = x.round; results = x.results; end = x.end }

@@ -49,7 +49,7 @@ pub fn requests_are_caused<F, A: Answering>()
         × (read_to : ℕ) × Contains x.caused_results (one.submission, Sent k read_to) }
 {}
 
-/// Rules that are asked one after another.
+/// No rules cause nothing; and one more rule that is asked behind others adds what it causes to what they caused.
 pub fn rules_one_by_one<A: Answering>()
     ensures none { (answer : A) (reading : Reading) (params : Params) (log : List Entry) (round : FiredRound) (earlier : List Caused)
         → RulesFire (A.may_answer answer) reading params log round earlier [] [] }
@@ -61,7 +61,7 @@ pub fn rules_one_by_one<A: Answering>()
         → RulesFire (A.may_answer answer) reading params log round earlier (rules ++ rule ∷ []) (caused ++ own) }
 {}
 
-/// Rounds one after another.
+/// One more round in which rules are asked may follow others: all together they are rounds in which rules were asked in order.
 pub fn rounds_one_by_one<A: Answering>()
     ensures { (answer : A) (reading : Reading) (params : Params) (log : List Entry) (rules : List Rule) (rounds : List FiredRound) (round : FiredRound)
         → RoundsFire (A.may_answer answer) reading params log rules [] rounds
@@ -69,7 +69,7 @@ pub fn rounds_one_by_one<A: Answering>()
         → RoundsFire (A.may_answer answer) reading params log rules [] (rounds ++ round ∷ []) }
 {}
 
-/// On which contracts rules have fired, once one more was asked.
+/// A rule that was asked has then fired also on the contracts of what it caused, and each other rule on those on which it had before.
 pub fn fires_are_noted<A: Answering>()
     ensures own { (answer : A) (rule : Rule) (round now : ℕ) (fired : List (List ℕ)) (rows : List ActiveRow) (before own : List Caused)
         → Fires (A.may_answer answer) rule round now fired rows own
@@ -89,7 +89,8 @@ pub fn fires_stay<A: Answering>()
         → RulesFire (A.may_answer answer) reading params (log ++ more) round earlier rules caused }
 {}
 
-/// The next rule is asked, which has fired on what it is known to have fired on.
+/// Where the first rules of a round were asked, and it is known on which contracts each rule has fired, the next rule may be asked: then one
+/// rule more was asked, and the same is known.
 pub fn rules_are_asked_in_order<A: Answering>()
     ensures { (answer : A) (reading : Reading) (params : Params) (log : List Entry) (round : FiredRound) (earlier : List Caused) (rules : List Rule)
         (fired fired' : ℕ → List (List ℕ)) (count n : ℕ) (caused own : List Caused) (rule : Rule)

@@ -12,7 +12,7 @@ use Rattle.trigger_rules.specs.declared.caused.Caused.{Caused}
 use Rattle.trigger_rules.specs.declared.rule.Rule.{Rule}
 use Rattle.trigger_rules.specs.Answers.{Answers, IsExerciseOf}
 
--- it has fired on that contract
+-- whether the rule that fired on these contracts fired on this one
 abbrev pub has_fired : List (List ℕ) → (id : List ℕ) → Bool
 has_fired fired id = list_any (bytes_eq id) fired
 
@@ -23,7 +23,7 @@ contracts_of caused = map (λ (one : Caused). one.contract) caused
 abbrev pub command_id : (name : List ℕ) → (before : ℕ) → List ℕ
 command_id name before = name ++ (45 ∷ decimal before)
 
--- what the rule submits with a command, for its party
+-- what the rule submits with a command, for its party, where it fired so often before
 abbrev pub submission_by : Rule → (now before : ℕ) → Command → Submission
 submission_by rule now before command =
     record {
@@ -34,7 +34,7 @@ submission_by rule now before command =
       what = Commands (command ∷ []);
     }
 
--- what it causes with a command on a contract
+-- what the rule causes in a round with a command on a contract, where it fired so often before
 abbrev pub caused_by : Rule → (round now before : ℕ) → Known → Command → Caused
 caused_by rule round now before known command =
     record { round = round; rule = rule.name; contract = known.id; instance = known.instance; submission = submission_by rule now before command }
@@ -55,7 +55,7 @@ AsksOne may rule round now fired row caused fired' caused' =
     ⊎ (may rule.name row.known (Ok None) × (fired' ≡ fired) × (caused' ≡ caused))
     ⊎ ((one : Caused) × FiresOn may rule round now fired row.known one × (fired' ≡ fired ++ (row.known).id ∷ []) × (caused' ≡ caused ++ one ∷ []))
 
--- each is below those behind it
+-- each place is less than those behind it
 abbrev pub Rise : List ℕ → Type 0
 Rise places = (i j a b : ℕ) → i < j → slice_get places i ≡ Some a → slice_get places j ≡ Some b → a < b
 

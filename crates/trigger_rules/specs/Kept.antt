@@ -24,7 +24,7 @@ fired_by kept rule = or_none (slice_get kept.fired rule)
 abbrev pub AreShort : List Rule → Type 0
 AreShort rules = All (λ (rule : Rule). length rule.name ≤ MOST_RULE_NAME_BYTES) rules
 
--- rules that have names of their own
+-- no two rules have the same name
 abbrev pub AreNamed : List Rule → Type 0
 AreNamed rules = AllPairs (λ (one other : Rule). other.name ≢ one.name) rules
 

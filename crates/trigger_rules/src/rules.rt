@@ -69,8 +69,8 @@ impl<F: Answering> Rules<F> {
         self.rules.as_slice()
     }
 
-    /// A rule is asked about contracts in their order, of each on which it hasn't fired. `now` is the time in microseconds. After
-    /// want of memory nothing has fired.
+    /// The rule with a number is asked in order about the contracts on which it hasn't fired, and fires on those for which a command is
+    /// answered; what it caused comes back. `now` is the time in microseconds. After want of memory nothing has fired.
     pub fn fire(
         &mut self,
         rule: u32,

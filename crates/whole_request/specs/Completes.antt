@@ -21,29 +21,32 @@ use Rattle.whole_request.specs.declared.whole_transaction.WholeTransaction.{Whol
 abbrev pub transaction : WholeTransaction → Transaction
 transaction whole = record { requesters = whole.requesters; ledger_time = whole.ledger_time; roots = whole.roots }
 
+-- a complete envelope of what was opened and the tree, where both are there
 abbrev pub completed : (seen : List (List ℕ)) → Option OpenedTree → Option Tree → Option Complete
 completed seen None tree = None
 completed seen (Some opened) None = None
 completed seen (Some opened) (Some tree) = Some (record { seen = seen; requesters = opened.requesters; tree = tree })
 
--- an envelope that opens all that its recipient is to see
+-- the envelope as a complete one, where it opens all that its recipient is to see
 abbrev pub complete_of : Topology → Request → Envelope → Option Complete
 complete_of topology request envelope =
     completed (paths_seen topology envelope.to request) (complete_in (offered_by topology envelope.to request envelope.bytes)) (tree_in envelope.bytes)
 
+-- the complete ones of these envelopes
 abbrev pub completes : Topology → Request → List Envelope → List Complete
 completes topology request [] = []
 completes topology request (envelope ∷ more) = option_to_list (complete_of topology request envelope) ++ completes topology request more
 
--- what they show of the root views
+-- what complete envelopes show of the root views
 abbrev pub shown : List Complete → List Shown
 shown [] = []
 shown (envelope ∷ more) = (envelope.seen, (envelope.tree).views) ∷ shown more
 
--- the requesters that one tells
+-- the requesters that a complete envelope tells, where its recipient sees a root view
 abbrev pub requesters_told : Complete → Option (List (List ℕ))
 requesters_told envelope = if list_any is_root_path envelope.seen then envelope.requesters else None
 
+-- the requesters, from the first of the envelopes that tells them
 abbrev pub requesters_among : List Complete → Option (List (List ℕ))
 requesters_among [] = None
 requesters_among (envelope ∷ more) = or_else (requesters_told envelope) (requesters_among more)
@@ -52,6 +55,7 @@ requesters_among (envelope ∷ more) = or_else (requesters_told envelope) (reque
 abbrev pub time_told : Tree → Option ℕ
 time_told tree = option_map (λ (head : List ℕ × ℕ). head.1) (found (read_leaf head_at tree.common))
 
+-- the transaction with this ledger time, these requesters and these views, where all are there
 abbrev pub transaction_with : Option ℕ → Option (List (List ℕ)) → Option (Forest SplitView) → Option Transaction
 transaction_with None requesters views = None
 transaction_with (Some ledger_time) None views = None

@@ -10,11 +10,12 @@ use Rattle.framed_form.specs.Together.{Part, others_in, view_at}
 abbrev pub Shown : Type 0
 Shown = List (List ℕ) × Vertices
 
--- those from a number on
+-- the vertices from number k on
 abbrev pub from : ℕ → Vertices → Vertices
 from zero vertices = vertices
 from (suc k) vertices = others_in (from k vertices)
 
+-- what an envelope shows of the vertices from number k on
 abbrev pub part_at : ℕ → Shown → Part
 part_at k shown = record { opens = is_listed shown.0; views = from k shown.1 }
 
@@ -28,6 +29,7 @@ subviews_in NoVertices = None
 subviews_in (BlindVertex hash others) = None
 subviews_in (InnerVertex informees contents subviews others) = Some subviews
 
+-- what an envelope shows of what stands below vertex k, where that isn't blind
 abbrev pub below_at : ℕ → Shown → Option Shown
 below_at k shown = option_map (λ (subviews : Vertices). (shown.0, subviews)) (subviews_in (from k shown.1))
 
@@ -35,6 +37,7 @@ abbrev pub shown_below : ℕ → List Shown → List Shown
 shown_below k [] = []
 shown_below k (shown ∷ more) = option_to_list (below_at k shown) ++ shown_below k more
 
+-- a view, what is below it and the views behind it as one forest, where all three are there
 abbrev pub with_rest : Option SplitView → (below rest : Option (Forest SplitView)) → Option (Forest SplitView)
 with_rest None below rest = None
 with_rest (Some view) None rest = None
