@@ -25,7 +25,7 @@ LAYERS = [
     ('participant', 'what one participant knows, owes and answers', 'page_data node_restart node_core node_inbox node_state snapshot_store log_bounds acs_commit'),
     ('log', 'the sequencer and the mediator', 'seq_log mediator log_row log_dump'),
     ('requests', 'transactions in blinded envelopes, made and read', 'prepare_request whole_request proto_model framed_form sealed_form blind_tree'),
-    ('checks', 'contracts, holds and local verdicts', 'validate_job confirm_reply inbox_standing request_track contract_store'),
+    ('checks', 'contracts, holds and local verdicts', 'validate_job confirm_reply inbox_registry request_track contract_store'),
     ('transactions', 'commands as trees of actions, and their tests', 'interpret authorise project consist view_split'),
     ('triggers', 'rules that submit by themselves', 'trigger_loop trigger_model'),
     ('bytes', 'spellings and hashes', 'message_bytes wire_form hash_id'),

@@ -9,7 +9,7 @@ use Rattle.world_model.specs.Lawful.{Lawful}
 use Rattle.world_model.specs.Rounds.{handed_in}
 use Rattle.world_model.specs.Sequencing.{sequenced}
 use Rattle.seq_log.specs.Sequenced.{IsFor}
-use Rattle.world_play.specs.Standing.{GoesOn}
+use Rattle.world_play.specs.Parts.{GoesOn}
 use Rattle.world_play.specs.WorldOf.{IsWorldOf, world_of}
 use Rattle.world_play.specs.declared.world.World.{World}
 use Rattle.world_play.proofs.Sends.{goes_further, stays, still_for}

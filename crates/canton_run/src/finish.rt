@@ -1,8 +1,8 @@
 //! How a run ended.
 ghost use Rattle.std.specs.Prelude.{◌≡◌, [], None};
 
-use crate::leftovers::Leftovers;
 use crate::played::RunRecord;
+use crate::run_remains::RunRemains;
 use canton_model::EntryList;
 use ledger_terms::U64List;
 use node_core::SubmitResultList;
@@ -22,7 +22,7 @@ pub struct Finish {
     pub results: SubmitResultList,
     pub ends: U64List,
     pub caused: CausedList,
-    pub left: Option<Leftovers>,
+    pub left: Option<RunRemains>,
 }
 
 impl Finish {
@@ -33,7 +33,7 @@ impl Finish {
 }
 
 /// The end of a run that took place, with this status, by its record.
-pub fn finished(status: u8, run_record: RunRecord, left: Leftovers) -> Finish
+pub fn finished(status: u8, run_record: RunRecord, left: RunRemains) -> Finish
     ensures status { result.status ≡ status }
     ensures fault { result.fault ≡ None }
     ensures log { result.log ≡ run_record.log }

@@ -20,7 +20,7 @@ ghost use Rattle.world_model.specs.Plain.{PlainPart, Submitted as AreSubmitted};
 ghost use Rattle.world_model.specs.Rounds.{Round as PartRound};
 ghost use Rattle.world_play.specs.Flags.{ArePaused};
 ghost use Rattle.world_play.specs.Results.{IsPlainResult, results_of};
-ghost use Rattle.world_play.specs.Standing.{GoesOn};
+ghost use Rattle.world_play.specs.Parts.{GoesOn};
 ghost use Rattle.world_play.specs.Submitted.{IsAnsweredBy};
 ghost use Rattle.world_play.specs.Submitting.{AreSetUp, CanSubmit};
 ghost use Rattle.world_play.specs.WorldOf.{IsWorldOf, world_of};

@@ -10,9 +10,9 @@ ghost use Rattle.canton_run.specs.Run.{IsRun};
 
 use crate::given_script::{GivenScript, ScriptParts, parts_of};
 use crate::job_text::{JobText, text_of};
-use crate::leftovers::Leftovers;
 use crate::played::{Played, RunRecord};
 use crate::run_plan::RunPlan;
+use crate::run_remains::RunRemains;
 use crate::script_run::run_script;
 use cli_words::Job;
 use lane_pool::Gate;
@@ -32,7 +32,7 @@ use trigger_rules::{Answering, Rules};
 pub struct ToldRun {
     pub record: RunRecord,
     pub text: Bytes,
-    pub left: Leftovers,
+    pub left: RunRemains,
 }
 
 // How many places of the log the requests of a job may need.
@@ -91,6 +91,6 @@ pub fn told_run<
         return Err(AllocError);
     };
     let JobText { text, views, nodes } = told;
-    let left = Leftovers::new(row, views, nodes, setup, rounds);
+    let left = RunRemains::new(row, views, nodes, setup, rounds);
     Ok(ToldRun { record, text, left })
 }

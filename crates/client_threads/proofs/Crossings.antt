@@ -26,7 +26,7 @@ use Rattle.ledger_terms.proofs.party_set.PartySet.TheSendSync as party_set
 use Rattle.ledger_terms.proofs.template_name.TemplateName.TheSendSync as template_name
 use Rattle.ledger_terms.proofs.topology.Topology.TheSendSync as topology
 use Rattle.ledger_terms.proofs.participant_id.ParticipantId.TheSendSync as participant_id
-use Rattle.inbox_standing.proofs.standing.Standing.TheSendSync as standing
+use Rattle.inbox_registry.proofs.registry.Registry.TheSendSync as registry
 use Rattle.prepare_request.proofs.hosted_ids.HostedIds.TheSendSync as hosted_ids
 use Rattle.node_inbox.proofs.approved_places.ApprovedPlaces.TheSendSync as approved_places
 use Rattle.node_inbox.proofs.kept_active.KeptActive.TheSendSync as kept_active
@@ -83,11 +83,11 @@ setup_sync = search (of_terms, topology.the_field_sync, checked_sync) depth 40 f
 
 pub inbox_send : (κ : NamedLft) → IsSend (Inbox.the_row κ)
 inbox_send κ =
-    search (sendable, crosses, setup_sync, participant_id.the_send, kept_items_send, standing.the_send, hosted_ids.the_send, approved_places.the_field_send, kept_active.the_field_send) depth 40 fits 10000
+    search (sendable, crosses, setup_sync, participant_id.the_send, kept_items_send, registry.the_send, hosted_ids.the_send, approved_places.the_field_send, kept_active.the_field_send) depth 40 fits 10000
 
 pub inbox_sync : (κ : NamedLft) → IsSync (Inbox.the_row κ)
 inbox_sync κ =
-    search (sendable, crosses, setup_sync, participant_id.the_sync, kept_items_sync, standing.the_sync, hosted_ids.the_sync, approved_places.the_field_sync, kept_active.the_field_sync) depth 40 fits 10000
+    search (sendable, crosses, setup_sync, participant_id.the_sync, kept_items_sync, registry.the_sync, hosted_ids.the_sync, approved_places.the_field_sync, kept_active.the_field_sync) depth 40 fits 10000
 
 pub node_send : (κ : NamedLft) → IsSend (Node.the_row κ)
 node_send κ = search (sendable, crosses, setup_sync, participant_id.the_send, inbox_send, duties.the_send) depth 40 fits 10000

@@ -21,7 +21,7 @@ use Rattle.canton_model.proofs.shared_bytes.SharedBytes.TheSendSync as shared_by
 use Rattle.canton_model.proofs.verdict.Verdict.TheSendSync as verdict
 use Rattle.confirm_reply.specs.contracts.shared_tree.SharedTree as SharedTree
 use Rattle.confirm_reply.proofs.id_facts.IdFacts.TheSendSync as id_facts
-use Rattle.inbox_standing.proofs.change.Change.TheSendSync as change
+use Rattle.inbox_registry.proofs.change.Change.TheSendSync as change
 use Rattle.node_inbox.specs.contracts.boxed_request.BoxedRequest as BoxedRequest
 use Rattle.node_inbox.specs.contracts.kept_offer.KeptOffer as KeptOffer
 use Rattle.node_inbox.specs.contracts.kept_item.KeptRequest as KeptRequest

@@ -15,7 +15,7 @@ use Rattle.view_split.specs.Numbered.{core_in, held_in, with_cores}
 use Rattle.view_split.specs.Placed.{placed_forest}
 use Rattle.view_split.specs.SeenViews.{opened_as}
 use Rattle.view_split.specs.declared.placed_view.PlacedView.{PlacedView}
-use Rattle.confirm_reply.specs.Located.{Found, after_path, after_step, is_all, view_found, view_found_in, view_or}
+use Rattle.confirm_reply.specs.Located.{Found, after_path, after_step, is_reached, view_found, view_found_in, view_or}
 use Rattle.confirm_reply.specs.Numbers.{numbers_of}
 
 abbrev Numbered : Type 0
@@ -53,14 +53,14 @@ after_none : (path : List ℕ) → after_path None path ≡ None
 after_none [] = refl
 after_none (step ∷ path) = after_none path
 
-pub same_path : (wanted path : List ℕ) → bytes_eq wanted path ≡ is_all (after_path (Some wanted) path)
+pub same_path : (wanted path : List ℕ) → bytes_eq wanted path ≡ is_reached (after_path (Some wanted) path)
 same_path [] [] = refl
 same_path (w ∷ wanted) [] = refl
-same_path [] (step ∷ path) = sym (ap is_all (after_none path))
+same_path [] (step ∷ path) = sym (ap is_reached (after_none path))
 same_path (w ∷ wanted) (step ∷ path) =
     elim (cases_Bool (nat_eq w step)) [
       | inl same ↦ rw same (same_path wanted path)
-      | inr other ↦ rw other (sym (ap is_all (after_none path)))
+      | inr other ↦ rw other (sym (ap is_reached (after_none path)))
     ]
 
 -- ---- the first of several
@@ -78,10 +78,10 @@ first_append wanted vs ws =
 -- a view, those below it and those after it
 step : (wanted : List ℕ) (left : Option (List ℕ)) (path : Path) (view : SplitView) (x : Numbered) (children : Forest Numbered)
     (inside after : List NumberedView) (below rest : Option Found)
-    → bytes_eq wanted path ≡ is_all left → first_found wanted inside ≡ below → first_found wanted after ≡ rest
+    → bytes_eq wanted path ≡ is_reached left → first_found wanted inside ≡ below → first_found wanted after ≡ rest
     → first_found wanted (((path, view), x ∷ core_in view.below children) ∷ (inside ++ after)) ≡ option_or (view_or left view x children below) rest
 step wanted left path view x children inside after below rest here found later =
-    elim (cases_Bool (is_all left)) [
+    elim (cases_Bool (is_reached left)) [
       | inl all ↦ rw (here, all) refl
       | inr some ↦ rw (here, some) (first_append wanted inside after ∙ (λ i. option_or (found i) (later i)))
     ]
@@ -97,7 +97,7 @@ located wanted above k (Root view subviews others) (Root x children more) =
     let ends : after_path (Some wanted) path ≡ left = after_end (Some wanted) above k in
     step wanted left path view x children (preorder (laid (paths_from path 0 subviews) held)) (preorder (laid (paths_from above (suc k) others) more))
     (view_found left 0 subviews held) (view_found (after_path (Some wanted) above) (suc k) others more)
-    (same_path wanted path ∙ ap is_all ends)
+    (same_path wanted path ∙ ap is_reached ends)
     (located wanted path 0 subviews held ∙ ap (λ (l : Option (List ℕ)). view_found l 0 subviews held) ends)
     (located wanted above (suc k) others more)
 

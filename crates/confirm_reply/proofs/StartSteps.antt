@@ -10,7 +10,7 @@ use Rattle.view_split.specs.declared.split_view.SplitView.{SplitView}
 use Rattle.view_split.specs.declared.placed_view.PlacedView.{PlacedView}
 use Rattle.view_split.specs.Numbered.{held_in}
 use Rattle.view_split.specs.ViewTrees.{View}
-use Rattle.confirm_reply.specs.Located.{after_path, after_step, is_all, number_if, starts_among, starts_in}
+use Rattle.confirm_reply.specs.Located.{after_path, after_step, is_reached, number_if, starts_among, starts_in}
 use Rattle.confirm_reply.specs.Numbers.{numbered_trees}
 use Rattle.confirm_reply.specs.declared.numbered.Numbered.{Numbered}
 
@@ -59,14 +59,14 @@ module _ (left : Option (List ℕ)) (vs : List View) (ts : List Numbered) (i : �
         ∙ (ap (λ (f : Forest SplitView). starts ++ starts_among left i f (numbered_trees (drop i ts))) (sym over) ∙ keeps)
 
     pub next : (v : View) (t : Numbered) (new last : List ℕ) → i < length vs → v ≡ get_or vs i v → i < length ts → t ≡ get_or ts i t
-        → new ≡ starts ++ number_if (is_all left) (t.number, t.node.now.root) → last ≡ new ++ starts_under (after_step left i) v t
+        → new ≡ starts ++ number_if (is_reached left) (t.number, t.node.now.root) → last ≡ new ++ starts_under (after_step left i) v t
         → last ++ starts_among left (i + 1) (forest_of (drop (i + 1) vs)) (numbered_trees (drop (i + 1) ts)) ≡ all
     next v t new last h at k there first second =
         let view : drop i vs ≡ v ∷ drop (i + 1) vs = rw (drop_more vs i v h, ← at) refl in
         let tree : drop i ts ≡ t ∷ drop (i + 1) ts = rw (drop_more ts i t k, ← there) refl in
         let rest = starts_among left (suc i) (forest_of (drop (i + 1) vs)) (numbered_trees (drop (i + 1) ts)) in
         ap (λ (m : ℕ). last ++ starts_among left m (forest_of (drop (i + 1) vs)) (numbered_trees (drop (i + 1) ts))) (add-one i)
-        ∙ two_more starts (number_if (is_all left) (t.number, t.node.now.root)) (starts_under (after_step left i) v t) new last rest all first second
+        ∙ two_more starts (number_if (is_reached left) (t.number, t.node.now.root)) (starts_under (after_step left i) v t) new last rest all first second
         ((λ j. starts ++ starts_among left i (forest_of (sym view j)) (numbered_trees (sym tree j))) ∙ keeps)
 
 nothing_over_in : (path : List ℕ) (placed : List PlacedView) → starts_in path placed NoRoots ≡ []

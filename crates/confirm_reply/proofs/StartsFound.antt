@@ -18,7 +18,7 @@ use Rattle.view_split.specs.Placed.{placed_forest, shown_by}
 use Rattle.view_split.specs.SeenViews.{opened_as, placed_numbered, put_back}
 use Rattle.view_split.specs.declared.placed_view.PlacedView.{PlacedView}
 use Rattle.view_split.specs.declared.opened_tree.OpenedTree.{OpenedTree}
-use Rattle.confirm_reply.specs.Located.{after_path, after_step, is_all, number_if, starts_among, starts_in}
+use Rattle.confirm_reply.specs.Located.{after_path, after_step, is_reached, number_if, starts_among, starts_in}
 use Rattle.confirm_reply.specs.Opened.{acts_of_core}
 use Rattle.confirm_reply.specs.WellSplit.{taken, taken_at}
 use Rattle.confirm_reply.proofs.Located.{after_end, same_path}
@@ -60,7 +60,7 @@ below_other wanted above k differ =
           absurd (both_ways (bytes_eq wanted above) differ ((bytes_eq-Decides wanted above).1 (sym same)))
     ]
 
-below_by_one : (wanted above : List ℕ) (k : ℕ) → is_directly_below wanted (above ++ k ∷ []) ≡ is_all (after_path (Some wanted) above)
+below_by_one : (wanted above : List ℕ) (k : ℕ) → is_directly_below wanted (above ++ k ∷ []) ≡ is_reached (after_path (Some wanted) above)
 below_by_one wanted above k =
     elim (cases_Bool (bytes_eq wanted above)) [
       | inl same ↦
@@ -106,7 +106,7 @@ walked wanted above k (Root view subviews others) (Root x children more) =
     let left = after_path (Some wanted) above in
     let held = held_in view.below children in
     let ends : after_path (Some wanted) path ≡ after_step left k = after_end (Some wanted) above k in
-    step wanted (is_all left) path view x (core_in view.below children) (preorder (laid (paths_from path 0 subviews) held))
+    step wanted (is_reached left) path view x (core_in view.below children) (preorder (laid (paths_from path 0 subviews) held))
     (preorder (laid (paths_from above (suc k) others) more)) (starts_among (after_step left k) 0 subviews held) (starts_among left (suc k) others more)
     (below_by_one wanted above k)
     (walked wanted path 0 subviews held ∙ ap (λ (l : Option (List ℕ)). starts_among l 0 subviews held) ends)

@@ -22,10 +22,10 @@ abbrev pub after_path : Option (List ℕ) → List ℕ → Option (List ℕ)
 after_path left [] = left
 after_path left (step ∷ path) = after_path (after_step left step) path
 
-abbrev pub is_all : Option (List ℕ) → Bool
-is_all None = false
-is_all (Some []) = true
-is_all (Some (step ∷ rest)) = false
+abbrev pub is_reached : Option (List ℕ) → Bool
+is_reached None = false
+is_reached (Some []) = true
+is_reached (Some (step ∷ rest)) = false
 
 -- what a view states of its informees and confirmers, and the numbers of its core
 pub record Found : Type 0 where
@@ -39,7 +39,7 @@ found_as found = record { informees = found.informees.now; confirmers = found.co
 -- the view where its path is the one that is wanted, else what is found below
 abbrev pub view_or : Option (List ℕ) → SplitView → ℕ × Act → Forest (ℕ × Act) → Option Found → Option Found
 view_or left view x children below =
-    if is_all left
+    if is_reached left
     then Some (record { informees = view.informees; confirmers = view.confirmers; core = x.0 ∷ numbers_of (core_in view.below children) })
     else below
 
@@ -71,7 +71,7 @@ abbrev pub starts_among : Option (List ℕ) → ℕ → Forest SplitView → For
 starts_among left k NoRoots trees = []
 starts_among left k (Root view subviews others) NoRoots = []
 starts_among left k (Root view subviews others) (Root x children more) =
-    number_if (is_all left) x
+    number_if (is_reached left) x
     ++ (starts_among (after_step left k) 0 subviews (held_in view.below children) ++ starts_among left (suc k) others more)
 
 -- the same among views with paths of their own

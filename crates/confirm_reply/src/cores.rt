@@ -3,7 +3,7 @@ ghost use Rattle.std.specs.Prelude.{◌≡◌, ◌++◌, ◌∷◌, [], Some, su
 ghost use Rattle.ledger_terms.specs.Forest.{join, number_from};
 ghost use Rattle.view_split.specs.CoreLists.{children_of};
 ghost use Rattle.view_split.specs.Numbered.{core_in, held_in};
-ghost use Rattle.confirm_reply.specs.Located.{after_path, after_step, found_as, is_all, view_found, view_found_in, view_or};
+ghost use Rattle.confirm_reply.specs.Located.{after_path, after_step, found_as, is_reached, view_found, view_found_in, view_or};
 ghost use Rattle.confirm_reply.specs.Numbers.{numbered_trees, numbers_of};
 
 use crate::found_view::FoundView;
@@ -89,8 +89,8 @@ pub(crate) fn after_path<'p>(wanted: &'p [u16], path: &[u16]) -> Option<&'p [u16
 }
 
 /// Whether all of it was walked.
-pub(crate) fn is_all(left: Option<&[u16]>) -> bool
-    ensures { result ≡ is_all (option_copied left.entry) }
+pub(crate) fn is_reached(left: Option<&[u16]>) -> bool
+    ensures { result ≡ is_reached (option_copied left.entry) }
 {
     match left {
         Some(rest) => rest.is_empty(),
@@ -148,7 +148,7 @@ fn found_of_view<'v>(
         return Ok(None);
     };
     let Laid { core, held } = lay_core(alloc, view, tree)?;
-    if is_all(left) {
+    if is_reached(left) {
         return Ok(Some(FoundView {
             informees: &view.root.informees,
             confirmers: &view.root.confirmers,

@@ -6,7 +6,7 @@ ghost use Rattle.view_split.specs.Numbered.{held_in};
 ghost use Rattle.confirm_reply.specs.Located.{after_path, number_if, starts_among, starts_in};
 ghost use Rattle.confirm_reply.specs.Numbers.{numbered_trees};
 
-use crate::cores::{Laid, after_path, after_step, is_all, lay_core};
+use crate::cores::{Laid, after_path, after_step, is_reached, lay_core};
 use crate::numbered::Numbered;
 use ledger_terms::Path;
 use std::alloc::{AllocError, Global};
@@ -63,7 +63,7 @@ fn starts_among(
             return Ok(());
         }
         let tree = &trees[at];
-        push_if(starts, is_all(left), tree)?;
+        push_if(starts, is_reached(left), tree)?;
         starts_below(alloc, &items[at], tree, after_step(left, at), starts)?;
     }
     Ok(())

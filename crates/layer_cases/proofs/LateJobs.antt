@@ -18,7 +18,7 @@ use Rattle.node_core.proofs.OverLog.{claimed_one, cursor_is, put_back_one}
 use Rattle.node_core.proofs.Alike.{owed_stays}
 use Rattle.node_core.proofs.LogEnds.{before_last}
 use Rattle.world_play.specs.Reading.{Reads}
-use Rattle.world_play.specs.Standing.{IsParticipant}
+use Rattle.world_play.specs.Parts.{IsParticipant}
 use Rattle.world_play.proofs.Jobs.{claim_open, claim_owes}
 use Rattle.world_play.proofs.Readers.{begins, can_read, stands}
 use Rattle.world_play.proofs.Turns.{node_with}

@@ -15,8 +15,8 @@ use Rattle.canton_model.specs.Timeline.{is_approved_in}
 use Rattle.contract_store.specs.ActiveLaw.{InOrder, NoneBefore}
 use Rattle.contract_store.specs.Written.{acts_of}
 use Rattle.pruned_inbox.specs.Start.{IsStart, Start, has_row, is_left_by, left_below, touches}
-use Rattle.inbox_standing.specs.Changes.{NoneGone, creation_of}
-use Rattle.inbox_standing.specs.Offered.{CreatedOnce}
+use Rattle.inbox_registry.specs.Changes.{NoneGone, creation_of}
+use Rattle.inbox_registry.specs.Offered.{CreatedOnce}
 use Rattle.node_core.proofs.DutyFacts.{false_if_not}
 
 -- ---- in order of creation

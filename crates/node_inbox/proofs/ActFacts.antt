@@ -19,8 +19,8 @@ use Rattle.view_split.specs.SeenViews.{put_back}
 use Rattle.view_split.specs.Split.{assembled}
 use Rattle.view_split.specs.declared.split_view.SplitView.{SplitView}
 use Rattle.view_split.specs.declared.placed_view.PlacedView.{PlacedView}
-use Rattle.inbox_standing.specs.ChangeLists.{change_of, changes_of}
-use Rattle.inbox_standing.specs.declared.change.Change.{Change}
+use Rattle.inbox_registry.specs.ChangeLists.{change_of, changes_of}
+use Rattle.inbox_registry.specs.declared.change.Change.{Change}
 use Rattle.node_inbox.specs.Acts.{is_authentic_change}
 
 -- what holds of each holds of the one at a place

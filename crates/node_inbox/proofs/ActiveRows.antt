@@ -14,8 +14,8 @@ use Rattle.contract_store.specs.Active.{active}
 use Rattle.contract_store.specs.Below.{at_place, writes_of}
 use Rattle.contract_store.specs.Written.{Placed, written}
 use Rattle.contract_store.specs.declared.row.StoreRow.{StoreRow}
-use Rattle.inbox_standing.specs.ChangeLists.{changes_of, write_changes}
-use Rattle.inbox_standing.proofs.Written.{changes_written, written_append}
+use Rattle.inbox_registry.specs.ChangeLists.{changes_of, write_changes}
+use Rattle.inbox_registry.proofs.Written.{changes_written, written_append}
 use Rattle.node_inbox.specs.Approved.{approved_at}
 use Rattle.node_inbox.specs.KeptActive.{placed_between}
 use Rattle.node_inbox.specs.Listed.{listed, listed_at, listed_if}

@@ -17,8 +17,8 @@ use Rattle.contract_store.specs.Rows.{consumed, created, is_of, put, row_of, sma
 use Rattle.contract_store.specs.Written.{Placed, contract_of, write, written}
 use Rattle.contract_store.specs.declared.row.StoreRow.{StoreRow}
 use Rattle.contract_store.proofs.Maps.{equal_bytes, same_bytes, there}
-use Rattle.inbox_standing.specs.ChangeLists.{id_in, write_change, write_changes}
-use Rattle.inbox_standing.specs.declared.change.Change.{Change}
+use Rattle.inbox_registry.specs.ChangeLists.{id_in, write_change, write_changes}
+use Rattle.inbox_registry.specs.declared.change.Change.{Change}
 use Rattle.prepare_request.specs.Hosted.{AreTold, is_among}
 use Rattle.node_inbox.specs.AddedIds.{added_behind, added_by, are_new, is_new, is_on, is_unheard, is_unknown}
 

@@ -10,7 +10,7 @@ use Rattle.canton_model.specs.declared.outcome.Outcome.{Outcome as OutcomeKind}
 use Rattle.canton_model.specs.Inbox.{Item, decision_time_in, moments, Notice, notice_at, opened_at, part_if, shown_in_notice}
 use Rattle.canton_model.specs.Log.{Params}
 use Rattle.canton_model.specs.Timeline.{is_approval, is_approved_in, is_past, kind_of, outcome_from, verdict_on}
-use Rattle.inbox_standing.specs.Requests.{outcome_received}
+use Rattle.inbox_registry.specs.Requests.{outcome_received}
 use Rattle.node_inbox.specs.Approved.{approved_at, is_approved}
 
 pub by_verdict : (d : Option Decision) (past : Bool) → is_approved (Some (kind_of (outcome_from d past))) ≡ is_approval d

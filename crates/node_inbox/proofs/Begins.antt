@@ -14,11 +14,11 @@ use Rattle.framed_form.specs.FramedReading.{framed_reading}
 use Rattle.pruned_inbox.specs.Forgotten.{silent_front}
 use Rattle.pruned_inbox.specs.Received.{is_received_in}
 use Rattle.pruned_inbox.specs.Start.{Start, no_start}
-use Rattle.inbox_standing.specs.Changes.{NoneGone, changes_since, creation_of}
-use Rattle.inbox_standing.specs.Offered.{CreatedOnce}
-use Rattle.inbox_standing.specs.Order.{IsInOrder}
-use Rattle.inbox_standing.specs.Standing.{Follows, Stands}
-use Rattle.inbox_standing.proofs.Grown.{get_before, one_longer}
+use Rattle.inbox_registry.specs.Changes.{NoneGone, changes_since, creation_of}
+use Rattle.inbox_registry.specs.Offered.{CreatedOnce}
+use Rattle.inbox_registry.specs.Order.{IsInOrder}
+use Rattle.inbox_registry.specs.Registry.{Follows, Registered}
+use Rattle.inbox_registry.proofs.Grown.{get_before, one_longer}
 use Rattle.node_inbox.specs.Beginnings.{IsBeginning}
 use Rattle.node_inbox.specs.InboxState.{InboxState, begun_at}
 use Rattle.node_inbox.specs.Items.{model_items}
@@ -40,7 +40,7 @@ begins_more base start items x begins =
       };
     }
 
-module _ (topology : Topology) (packages : Packages) (me : ParticipantId) (base : ℕ) (old new : List KeptItem) (start : Start) (stands : Stands) where
+module _ (topology : Topology) (packages : Packages) (me : ParticipantId) (base : ℕ) (old new : List KeptItem) (start : Start) (stands : Registered) where
   abbrev At : Start → List Item → Type 0
   At from items = BeginsAt base from items
 
@@ -89,7 +89,7 @@ module _ (reading : Reading) (start : Start) (base base_time : ℕ) where
         stands = record { order = is.order; below = is.below; silent = λ m lt. silent_unreceived base base_time m };
       }
 
-  pub follows_begun : (params : Params) (stands : Stands) → (stands.store).rows ≡ written (map creation_of start.active) []
+  pub follows_begun : (params : Params) (stands : Registered) → (stands.store).rows ≡ written (map creation_of start.active) []
       → (stands.store).holds ≡ [] → (stands.tracking).pairs ≡ [] → (stands.tracking).cursor ≡ base → Follows reading params start front stands
   follows_begun params stands rows holds pairs cursor =
       record {
@@ -114,7 +114,7 @@ begins_new =
 
 module _ (topology : Topology) (packages : Packages) (me : ParticipantId) (base base_time : ℕ) where
   -- as many silent items as stand below the base, and the contracts of the start
-  pub is_begun : (start : Start) (items : List KeptItem) (stands : Stands) → IsBeginning base base_time start → model_items items ≡ silent_front base base_time
+  pub is_begun : (start : Start) (items : List KeptItem) (stands : Registered) → IsBeginning base base_time start → model_items items ≡ silent_front base base_time
       → stands.start ≡ start → (stands.store).rows ≡ written (map creation_of start.active) [] → (stands.store).holds ≡ []
       → (stands.tracking).pairs ≡ [] → (stands.tracking).cursor ≡ base → IsInbox topology packages me items stands
   is_begun start items stands is same from rows holds pairs cursor =

@@ -23,9 +23,9 @@ use Rattle.contract_store.proofs.Maps.{equal_bytes, same_bytes}
 use Rattle.contract_store.specs.declared.row.StoreRow.{StoreRow}
 use Rattle.pruned_inbox.specs.Received.{is_received_at}
 use Rattle.pruned_inbox.specs.Start.{Start, active_kept, is_active_since, is_gone}
-use Rattle.inbox_standing.specs.Changes.{creation_of}
-use Rattle.inbox_standing.proofs.Told.{left_unused}
-use Rattle.inbox_standing.proofs.Written.{written_append}
+use Rattle.inbox_registry.specs.Changes.{creation_of}
+use Rattle.inbox_registry.proofs.Told.{left_unused}
+use Rattle.inbox_registry.proofs.Written.{written_append}
 use Rattle.node_inbox.specs.AddedIds.{is_unknown}
 use Rattle.node_inbox.specs.KeptActive.{AreFresh, CreateOnly, begun_below, is_consumed, is_unconsumed, placed_between}
 use Rattle.node_inbox.specs.Kept.{BeginsIn}

@@ -20,9 +20,9 @@ use Rattle.node_state.specs.declared.item_what.ItemWhat.{ItemWhat}
 use Rattle.proto_model.specs.Notices.{IsNotice}
 use Rattle.proto_model.specs.declared.notice.Notice.{Notice as Read}
 use Rattle.proto_model.proofs.Noticed.{seen_is}
-use Rattle.inbox_standing.specs.ChangeLists.{id_in}
+use Rattle.inbox_registry.specs.ChangeLists.{id_in}
 use Rattle.pruned_inbox.specs.Start.{Start}
-use Rattle.inbox_standing.specs.Standing.{Stands}
+use Rattle.inbox_registry.specs.Registry.{Registered}
 use Rattle.node_inbox.specs.Coming.{AreParts, IsComing, IsKeptOf}
 use Rattle.node_inbox.specs.Entries.{told_if_received}
 use Rattle.node_inbox.specs.InboxState.{InboxState, with_item}
@@ -87,7 +87,7 @@ module _ (topology : Topology) (packages : Packages) (me : ParticipantId) where
       record { topology = topology; packages = packages; me = me; base = base; base_time = base_time; start = start; items = items }
 
   -- one item more, as it is said
-  pub reads_as : {X E : Type 0} (r : Result X E) (base base_time : ℕ) (old new : List KeptItem) (start : Start) (stands : Stands) (item is : Item)
+  pub reads_as : {X E : Type 0} (r : Result X E) (base base_time : ℕ) (old new : List KeptItem) (start : Start) (stands : Registered) (item is : Item)
       → is ≡ item → OnOk r (HasRead topology packages me old new start stands item)
       → OnOk r (state_of base base_time stands.start (model_items new) ≡ with_item (state_of base base_time start (model_items old)) is)
   reads_as (Ok x) base base_time old new start stands item is same read =
@@ -96,7 +96,7 @@ module _ (topology : Topology) (packages : Packages) (me : ParticipantId) where
   reads_as (Err e) base base_time old new start stands item is same read = tt
 
   -- what is read of a request that comes is what the protocol's definitions say of it
-  pub reads : {X E : Type 0} (r : Result X E) (base base_time : ℕ) (old new : List KeptItem) (start : Start) (stands : Stands) (time : ℕ) (content : Content) (kept : KeptRequest)
+  pub reads : {X E : Type 0} (r : Result X E) (base base_time : ℕ) (old new : List KeptItem) (start : Start) (stands : Registered) (time : ℕ) (content : Content) (kept : KeptRequest)
       → content ≡ Received (notice_of kept) → OnOk r (HasRead topology packages me old new start stands (item_with time (Received (notice_of kept))))
       → OnOk r (state_of base base_time stands.start (model_items new) ≡ with_item (state_of base base_time start (model_items old)) (item_with time content))
   reads (Ok x) base base_time old new start stands time content kept is read =

@@ -8,10 +8,10 @@ use Rattle.canton_model.specs.Reading.{Reading}
 use Rattle.contract_store.specs.Rows.{created, row_of}
 use Rattle.contract_store.specs.Written.{Placed, written}
 use Rattle.contract_store.specs.declared.row.StoreRow.{StoreRow}
-use Rattle.inbox_standing.specs.ChangeLists.{write_changes}
-use Rattle.inbox_standing.specs.Changes.{creation_of}
-use Rattle.inbox_standing.specs.declared.change.Change.{Change}
-use Rattle.inbox_standing.proofs.Written.{written_append}
+use Rattle.inbox_registry.specs.ChangeLists.{write_changes}
+use Rattle.inbox_registry.specs.Changes.{creation_of}
+use Rattle.inbox_registry.specs.declared.change.Change.{Change}
+use Rattle.inbox_registry.proofs.Written.{written_append}
 use Rattle.prepare_request.specs.Hosted.{AreTold, is_among}
 use Rattle.node_inbox.specs.AddedIds.{added_behind}
 use Rattle.node_inbox.proofs.AddedIds.{TellsOn, all_say, all_told}

@@ -13,7 +13,7 @@ use Rattle.canton_model.specs.declared.decision.Decision.{Decision}
 use Rattle.canton_model.specs.declared.verdict.Verdict.{Verdict}
 use Rattle.canton_model.proofs.Decided.{verdict_on_append}
 use Rattle.world_model.specs.Places.{first_from}
-use Rattle.inbox_standing.specs.Order.{AllLater, IsBelow, IsInOrder, Rise, VerdictsBehind}
+use Rattle.inbox_registry.specs.Order.{AllLater, IsBelow, IsInOrder, Rise, VerdictsBehind}
 use Rattle.node_inbox.specs.Decisions.{decided_from, start_of}
 use Rattle.node_inbox.specs.InboxState.{decided_since}
 use Rattle.node_inbox.specs.Items.{model_content, model_item, model_items}

@@ -7,7 +7,7 @@ use Rattle.canton_model.specs.declared.decision.Decision.{Decision}
 use Rattle.canton_model.specs.declared.verdict.Verdict.{Verdict}
 use Rattle.canton_model.specs.Timeline.{decision_on, or_else, verdict_on}
 use Rattle.canton_model.specs.Inbox.{Item, moments, verdict_in}
-use Rattle.inbox_standing.specs.Order.{IsBelow, VerdictsBehind}
+use Rattle.inbox_registry.specs.Order.{IsBelow, VerdictsBehind}
 use Rattle.node_inbox.specs.Items.{model_content, model_items}
 use Rattle.node_inbox.specs.declared.kept_item.KeptItem.{KeptItem}
 use Rattle.node_inbox.proofs.DecidedSince.{item_next}

@@ -16,12 +16,12 @@ use Rattle.pruned_inbox.specs.Start.{Start}
 use Rattle.contract_store.specs.Written.{acts_of, written}
 use Rattle.contract_store.specs.declared.row.StoreRow.{StoreRow}
 use Rattle.framed_form.specs.FramedReading.{framed_reading}
-use Rattle.inbox_standing.specs.ChangeLists.{changes_of}
-use Rattle.inbox_standing.specs.Changes.{acts_of_verdict, changes_since}
-use Rattle.inbox_standing.specs.Order.{IsInOrder}
-use Rattle.inbox_standing.specs.Standing.{Stands}
-use Rattle.inbox_standing.specs.declared.change.Change.{Change}
-use Rattle.inbox_standing.proofs.Grown.{one_longer}
+use Rattle.inbox_registry.specs.ChangeLists.{changes_of}
+use Rattle.inbox_registry.specs.Changes.{acts_of_verdict, changes_since}
+use Rattle.inbox_registry.specs.Order.{IsInOrder}
+use Rattle.inbox_registry.specs.Registry.{Registered}
+use Rattle.inbox_registry.specs.declared.change.Change.{Change}
+use Rattle.inbox_registry.proofs.Grown.{one_longer}
 use Rattle.node_inbox.specs.AddedIds.{AreNew, is_unknown}
 use Rattle.node_inbox.specs.Coming.{IsTelling}
 use Rattle.node_inbox.specs.Items.{model_items}
@@ -73,7 +73,7 @@ module _ (reading : Reading) (p : ParticipantId) (start : Start) (items : List I
 
 -- ---- both, as an inbox reads
 
-module _ (topology : Topology) (packages : Packages) (me : ParticipantId) (old new : List KeptItem) (stands stands' : Stands)
+module _ (topology : Topology) (packages : Packages) (me : ParticipantId) (old new : List KeptItem) (stands stands' : Registered)
     (i : IsInbox topology packages me old stands) (approved : ApprovedPlaces) (active : Option KeptActive) where
   abbrev reading : Reading
   reading = framed_reading topology packages

@@ -23,12 +23,12 @@ use Rattle.contract_store.specs.Below.{at_place, placed_below, writes_of}
 use Rattle.contract_store.specs.Rows.{status_in}
 use Rattle.contract_store.specs.Written.{Placed, acts_of, written}
 use Rattle.contract_store.proofs.Following.{status_follows}
-use Rattle.inbox_standing.specs.Changes.{acts_of_verdict, authentic_at, changes_in, changes_since, creation_of}
-use Rattle.inbox_standing.specs.Order.{IsBelow, IsInOrder, VerdictsBehind}
-use Rattle.inbox_standing.proofs.Grown.{authentic_before, moments_push}
-use Rattle.inbox_standing.proofs.Order.{below_end, no_verdict_yet}
-use Rattle.inbox_standing.proofs.Outcomes.{verdict_first, verdict_new, verdict_same}
-use Rattle.inbox_standing.proofs.Told.{any_in}
+use Rattle.inbox_registry.specs.Changes.{acts_of_verdict, authentic_at, changes_in, changes_since, creation_of}
+use Rattle.inbox_registry.specs.Order.{IsBelow, IsInOrder, VerdictsBehind}
+use Rattle.inbox_registry.proofs.Grown.{authentic_before, moments_push}
+use Rattle.inbox_registry.proofs.Order.{below_end, no_verdict_yet}
+use Rattle.inbox_registry.proofs.Outcomes.{verdict_first, verdict_new, verdict_same}
+use Rattle.inbox_registry.proofs.Told.{any_in}
 use Rattle.node_inbox.specs.AddedIds.{is_unknown}
 use Rattle.node_inbox.specs.KeptActive.{AreFresh, CreateOnly, begun_below}
 

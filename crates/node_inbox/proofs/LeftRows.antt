@@ -23,9 +23,9 @@ use Rattle.contract_store.proofs.Maps.{same_bytes}
 use Rattle.world_model.proofs.Steps.{take_next}
 use Rattle.pruned_inbox.specs.Start.{GoesOn, Start, has_row, is_gone, is_left_since, is_row_of, left_kept}
 use Rattle.pruned_inbox.proofs.Starts.{has_created, has_first, row_filtered, touched}
-use Rattle.inbox_standing.specs.Changes.{creation_of}
-use Rattle.inbox_standing.proofs.Told.{left_unused}
-use Rattle.inbox_standing.proofs.Written.{written_append}
+use Rattle.inbox_registry.specs.Changes.{creation_of}
+use Rattle.inbox_registry.proofs.Told.{left_unused}
+use Rattle.inbox_registry.proofs.Written.{written_append}
 use Rattle.node_inbox.specs.Kept.{BeginsIn}
 use Rattle.node_inbox.specs.KeptActive.{begun_below, placed_between}
 use Rattle.node_inbox.specs.Leaving.{consumed_at, consumed_in, stays}

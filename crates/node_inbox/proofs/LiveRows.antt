@@ -10,8 +10,8 @@ use Rattle.ledger_model.specs.declared.status.Status.TheVariants.{Unknown, Activ
 use Rattle.contract_store.specs.Rows.{is_of, put, created, consumed, row_of, status_in, status_of}
 use Rattle.contract_store.specs.declared.row.StoreRow.{StoreRow}
 use Rattle.contract_store.proofs.Maps.{same_bytes, equal_bytes}
-use Rattle.inbox_standing.specs.ChangeLists.{write_change}
-use Rattle.inbox_standing.specs.declared.change.Change.{Change}
+use Rattle.inbox_registry.specs.ChangeLists.{write_change}
+use Rattle.inbox_registry.specs.declared.change.Change.{Change}
 use Rattle.node_inbox.specs.KeptActive.{is_consumed}
 use Rattle.node_inbox.specs.LiveRows.{AreById, changed_row, has_consumed_row, new_row, row_after}
 

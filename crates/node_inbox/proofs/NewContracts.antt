@@ -19,12 +19,12 @@ use Rattle.contract_store.specs.Written.{Placed, acts_of, is_change, written}
 use Rattle.contract_store.specs.declared.row.StoreRow.{StoreRow}
 use Rattle.contract_store.proofs.Following.{status_follows}
 use Rattle.contract_store.proofs.Maps.{equal_bytes, same_bytes}
-use Rattle.inbox_standing.specs.ChangeLists.{change_of, changes_of}
+use Rattle.inbox_registry.specs.ChangeLists.{change_of, changes_of}
 use Rattle.pruned_inbox.specs.Start.{Start, is_gone}
-use Rattle.inbox_standing.specs.Changes.{NoneGone, acts_of_verdict, approves_first, authentic_at, changes_in, changes_of_verdict, changes_since, creation_of}
-use Rattle.inbox_standing.specs.Offered.{CreatedOnce}
-use Rattle.inbox_standing.specs.declared.change.Change.{Change}
-use Rattle.inbox_standing.proofs.Grown.{changes_push}
+use Rattle.inbox_registry.specs.Changes.{NoneGone, acts_of_verdict, approves_first, authentic_at, changes_in, changes_of_verdict, changes_since, creation_of}
+use Rattle.inbox_registry.specs.Offered.{CreatedOnce}
+use Rattle.inbox_registry.specs.declared.change.Change.{Change}
+use Rattle.inbox_registry.proofs.Grown.{changes_push}
 use Rattle.prepare_request.specs.Hosted.{is_among}
 use Rattle.node_inbox.specs.AddedIds.{AreNew, are_new, creates_gone, is_unheard, is_unknown}
 use Rattle.node_inbox.specs.KeptActive.{CreateOnly}

@@ -18,8 +18,8 @@ use Rattle.contract_store.specs.Written.{Placed, acts_of, written}
 use Rattle.contract_store.specs.declared.row.StoreRow.{StoreRow}
 use Rattle.contract_store.proofs.Left.{actives, actives_left, cons_if}
 use Rattle.contract_store.proofs.Ordered.{active_is_left, hosted_is_active}
-use Rattle.inbox_standing.specs.Changes.{creation_of}
-use Rattle.inbox_standing.proofs.Told.{nothing_there}
+use Rattle.inbox_registry.specs.Changes.{creation_of}
+use Rattle.inbox_registry.proofs.Told.{nothing_there}
 use Rattle.node_inbox.specs.Kept.{BeginsIn}
 use Rattle.node_inbox.specs.KeptActive.{begun_below}
 use Rattle.node_inbox.specs.Listed.{is_offered, listed, listed_if}

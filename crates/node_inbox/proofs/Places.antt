@@ -13,9 +13,9 @@ use Rattle.canton_model.specs.Timeline.{decision_on, is_approval, is_approved_in
 use Rattle.request_track.specs.Pairs.{Pair, outcome_at}
 use Rattle.pruned_inbox.specs.Forgotten.{silent_front}
 use Rattle.pruned_inbox.specs.Received.{is_received_at}
-use Rattle.inbox_standing.specs.Requests.{outcome_received}
-use Rattle.inbox_standing.proofs.Grown.{get_before, moments_push, one_longer}
-use Rattle.inbox_standing.proofs.Outcomes.{verdict_same}
+use Rattle.inbox_registry.specs.Requests.{outcome_received}
+use Rattle.inbox_registry.proofs.Grown.{get_before, moments_push, one_longer}
+use Rattle.inbox_registry.proofs.Outcomes.{verdict_same}
 use Rattle.node_inbox.specs.Approved.{is_approved}
 use Rattle.node_inbox.specs.Places.{AreApproved, approved_below, parts_at, place_if, places_below, tracked_below}
 use Rattle.node_inbox.specs.declared.approved_places.ApprovedPlaces.{ApprovedPlaces}

@@ -13,12 +13,12 @@ use Rattle.pruned_inbox.specs.Start.{Start}
 use Rattle.contract_store.specs.Stored.{Stored}
 use Rattle.request_track.specs.Pairs.{expired}
 use Rattle.framed_form.specs.FramedReading.{framed_reading}
-use Rattle.inbox_standing.specs.Order.{IsBelow, IsInOrder}
-use Rattle.inbox_standing.specs.Standing.{Follows, Stands}
-use Rattle.inbox_standing.specs.Steps.{HoldsFollow, InStep}
-use Rattle.inbox_standing.proofs.Followed.{follows_nothing}
-use Rattle.inbox_standing.proofs.Order.{in_order_push}
-use Rattle.inbox_standing.proofs.Tracked.{in_step}
+use Rattle.inbox_registry.specs.Order.{IsBelow, IsInOrder}
+use Rattle.inbox_registry.specs.Registry.{Follows, Registered}
+use Rattle.inbox_registry.specs.Steps.{HoldsFollow, InStep}
+use Rattle.inbox_registry.proofs.Followed.{follows_nothing}
+use Rattle.inbox_registry.proofs.Order.{in_order_push}
+use Rattle.inbox_registry.proofs.Tracked.{in_step}
 use Rattle.node_inbox.specs.Items.{model_item, model_items}
 use Rattle.node_inbox.specs.Kept.{AreKept, IsInbox, IsKeptContent}
 use Rattle.node_inbox.specs.Reads.{HasRead, IsUnread, item_with}
@@ -55,7 +55,7 @@ model_push (x ∷ xs) y = ap (λ (zs : List Item). model_item x ∷ zs) (model_p
 
 module _ (topology : Topology) (packages : Packages) (me : ParticipantId) where
   -- the start stays
-  started : (all : List KeptItem) (stands stands' : Stands) → stands'.start ≡ stands.start
+  started : (all : List KeptItem) (stands stands' : Registered) → stands'.start ≡ stands.start
       → Follows (framed_reading topology packages) topology.params stands.start (model_items all) stands'
       → IsInOrder (model_items all) → AreKept topology packages me stands.start all → IsInbox topology packages me all stands'
   started all stands stands' same follows order each =
@@ -67,7 +67,7 @@ module _ (topology : Topology) (packages : Packages) (me : ParticipantId) where
 
   -- ---- nothing was read
 
-  pub unread : (old new : List KeptItem) (stands stands' : Stands) → IsInbox topology packages me old stands → new ≡ old
+  pub unread : (old new : List KeptItem) (stands stands' : Registered) → IsInbox topology packages me old stands → new ≡ old
       → (stands'.store).rows ≡ (stands.store).rows → (stands'.store).holds ≡ (stands.store).holds
       → (stands'.tracking).pairs ≡ (stands.tracking).pairs → (stands'.tracking).cursor ≡ (stands.tracking).cursor
       → stands'.start ≡ stands.start → IsUnread topology packages me old new stands.start stands'
@@ -102,7 +102,7 @@ module _ (topology : Topology) (packages : Packages) (me : ParticipantId) where
     ]
   ]
 
-  pub has_read : (old new : List KeptItem) (y : KeptItem) (stands stands' : Stands) → IsInbox topology packages me old stands
+  pub has_read : (old new : List KeptItem) (y : KeptItem) (stands stands' : Registered) → IsInbox topology packages me old stands
       → last_time (model_items old) < y.time → IsBelow (length (model_items old)) (verdict_in (model_item y).content)
       → IsKeptContent topology packages me stands.start (model_items old ++ model_item y ∷ []) (length old) y.content
       → Follows (framed_reading topology packages) topology.params stands.start (model_items old ++ model_item y ∷ []) stands'
@@ -118,10 +118,10 @@ module _ (topology : Topology) (packages : Packages) (me : ParticipantId) where
       }
 
   -- what a tracker keeps is in step
-  pub steps : (old : List KeptItem) (stands : Stands) → IsInbox topology packages me old stands → InStep (stands.tracking).pairs
+  pub steps : (old : List KeptItem) (stands : Registered) → IsInbox topology packages me old stands → InStep (stands.tracking).pairs
   steps old stands i = rw (i.follows.pairs) (in_step topology.params (model_items old) i.order.rise)
 
-  pub read_nothing : (old new : List KeptItem) (time : ℕ) (stands mid stands' : Stands) → IsInbox topology packages me old stands
+  pub read_nothing : (old new : List KeptItem) (time : ℕ) (stands mid stands' : Registered) → IsInbox topology packages me old stands
       → last_time (model_items old) < time → time ≤ 2 ^ 64 - 1
       → (mid.store).rows ≡ (stands.store).rows → (mid.tracking).pairs ≡ expired time (stands.tracking).pairs
       → HoldsFollow (stands.tracking).pairs (mid.tracking).pairs (stands.store).holds (mid.store).holds

@@ -16,15 +16,15 @@ use Rattle.framed_form.specs.FramedReading.{framed_reading}
 use Rattle.pruned_inbox.specs.Start.{Start, status_kept}
 use Rattle.confirm_reply.specs.Facts.{IsFactOf}
 use Rattle.confirm_reply.specs.declared.id_facts.IdFacts.{IdFacts}
-use Rattle.inbox_standing.specs.ChangeLists.{hold_on, id_in}
-use Rattle.inbox_standing.specs.Order.{IsBelow}
-use Rattle.inbox_standing.specs.Requests.{decision_after, pairs_from, pairs_in, told_time, tracked_of}
-use Rattle.inbox_standing.specs.Standing.{Stands, known_status}
-use Rattle.inbox_standing.specs.Steps.{AllAfter, HoldsFollow, InStep}
-use Rattle.inbox_standing.proofs.Followed.{Comes, follows_request, request_comes}
-use Rattle.inbox_standing.proofs.Order.{in_order_push}
-use Rattle.inbox_standing.proofs.Told.{locked_told, status_told}
-use Rattle.inbox_standing.proofs.Tracked.{in_step_from, none_at_end, pairs_push}
+use Rattle.inbox_registry.specs.ChangeLists.{hold_on, id_in}
+use Rattle.inbox_registry.specs.Order.{IsBelow}
+use Rattle.inbox_registry.specs.Requests.{decision_after, pairs_from, pairs_in, told_time, tracked_of}
+use Rattle.inbox_registry.specs.Registry.{Registered, known_status}
+use Rattle.inbox_registry.specs.Steps.{AllAfter, HoldsFollow, InStep}
+use Rattle.inbox_registry.proofs.Followed.{Comes, follows_request, request_comes}
+use Rattle.inbox_registry.proofs.Order.{in_order_push}
+use Rattle.inbox_registry.proofs.Told.{locked_told, status_told}
+use Rattle.inbox_registry.proofs.Tracked.{in_step_from, none_at_end, pairs_push}
 use Rattle.node_inbox.specs.Acts.{blank_fact, fact_in}
 use Rattle.node_inbox.specs.Coming.{IsComing}
 use Rattle.node_inbox.specs.Items.{model_content, model_items, notice_of}
@@ -40,7 +40,7 @@ all_mapped : {X Y : Type 0} (P : Y → Type 0) (f : X → Y) (xs : List X) → (
 all_mapped P f [] h = All-nil P
 all_mapped P f (x ∷ xs) h = All-cons P (f x) (map f xs) (h x) (all_mapped P f xs h)
 
-same_ids : (stands : Stands) (facts : List IdFacts) → map (λ (fact : IdFacts). fact.id) (map (fact_in stands) facts) ≡ map (λ (fact : IdFacts). fact.id) facts
+same_ids : (stands : Registered) (facts : List IdFacts) → map (λ (fact : IdFacts). fact.id) (map (fact_in stands) facts) ≡ map (λ (fact : IdFacts). fact.id) facts
 same_ids stands [] = refl
 same_ids stands (x ∷ xs) = ap (λ (ids : List Hash). x.id ∷ ids) (same_ids stands xs)
 
@@ -74,7 +74,7 @@ module _ (topology : Topology) (packages : Packages) (me : ParticipantId) (old :
   below : IsBelow (length (model_items old)) (verdict_in x.content)
   below = tt
 
-  module _ (stands mid : Stands) (i : IsInbox topology packages me old stands) (start : mid.start ≡ stands.start)
+  module _ (stands mid : Registered) (i : IsInbox topology packages me old stands) (start : mid.start ≡ stands.start)
       (c : Comes reading topology.params stands.start (model_items old) x mid) where
     abbrev Fact : Start → ℕ → IdFacts → Type 0
     Fact from n fact =
@@ -107,7 +107,7 @@ module _ (topology : Topology) (packages : Packages) (me : ParticipantId) (old :
       all_ids = same_ids mid (coming.kept).facts ∙ ap (map (λ (fact : IdFacts). fact.id)) comes.parts.facts_are ∙ blank_ids (acts (roots_offered (coming.kept).offer));
     }
 
-  pub read_request : (new : List KeptItem) (place : ℕ) (stands begun mid stands' : Stands) → IsInbox topology packages me old stands
+  pub read_request : (new : List KeptItem) (place : ℕ) (stands begun mid stands' : Registered) → IsInbox topology packages me old stands
       → last_time (model_items old) < time → time ≤ 2 ^ 64 - 1
       → (begun.store).rows ≡ (stands.store).rows → (begun.store).holds ≡ (stands.store).holds
       → (begun.tracking).pairs ≡ (stands.tracking).pairs
@@ -134,7 +134,7 @@ module _ (topology : Topology) (packages : Packages) (me : ParticipantId) (old :
       pairs3 cursor3) put start'
 
   -- with the request that comes, what is tracked is in step
-  pub begun_steps : (stands begun : Stands) → IsInbox topology packages me old stands → last_time (model_items old) < time
+  pub begun_steps : (stands begun : Registered) → IsInbox topology packages me old stands → last_time (model_items old) < time
       → (begun.tracking).pairs ≡ (stands.tracking).pairs
       ++ ((stands.tracking).cursor, record { decision = told_time (decision_after topology.params time); outcome = kind.Undecided }) ∷ []
       → InStep (begun.tracking).pairs
@@ -157,7 +157,7 @@ module _ (topology : Topology) (packages : Packages) (me : ParticipantId) (old :
       subst InStep (sym is) other
 
 -- nothing is tracked at the end
-pub none_yet : (topology : Topology) (packages : Packages) (me : ParticipantId) (old : List KeptItem) (stands : Stands) → IsInbox topology packages me old stands
+pub none_yet : (topology : Topology) (packages : Packages) (me : ParticipantId) (old : List KeptItem) (stands : Registered) → IsInbox topology packages me old stands
     → tracked_at (stands.tracking).pairs (stands.tracking).cursor ≡ None
 none_yet topology packages me old stands i =
     ap (λ (ps : List Pair). tracked_at ps (stands.tracking).cursor) i.follows.pairs

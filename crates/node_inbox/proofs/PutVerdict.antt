@@ -15,11 +15,11 @@ use Rattle.canton_model.specs.Reading.{Reading}
 use Rattle.lang_eval.specs.Found.{Packages}
 use Rattle.request_track.specs.Pairs.{expired}
 use Rattle.framed_form.specs.FramedReading.{framed_reading}
-use Rattle.inbox_standing.specs.ChangeLists.{write_changes}
-use Rattle.inbox_standing.specs.Standing.{Follows, Stands}
-use Rattle.inbox_standing.specs.Steps.{HoldsFollow}
-use Rattle.inbox_standing.specs.declared.change.Change.{Change}
-use Rattle.inbox_standing.proofs.Followed.{follows_later, follows_verdict}
+use Rattle.inbox_registry.specs.ChangeLists.{write_changes}
+use Rattle.inbox_registry.specs.Registry.{Follows, Registered}
+use Rattle.inbox_registry.specs.Steps.{HoldsFollow}
+use Rattle.inbox_registry.specs.declared.change.Change.{Change}
+use Rattle.inbox_registry.proofs.Followed.{follows_later, follows_verdict}
 use Rattle.node_inbox.specs.Coming.{IsTelling}
 use Rattle.node_inbox.specs.Items.{model_items}
 use Rattle.node_inbox.specs.Kept.{IsInbox}
@@ -52,7 +52,7 @@ module _ (topology : Topology) (packages : Packages) (me : ParticipantId) (old :
   abbrev x : Item
   x = item_with time (Told coming.verdict)
 
-  follows : (stands mid after stands' : Stands) → IsInbox topology packages me old stands → time ≤ 2 ^ 64 - 1
+  follows : (stands mid after stands' : Registered) → IsInbox topology packages me old stands → time ≤ 2 ^ 64 - 1
       → (mid.store).rows ≡ (stands.store).rows → (mid.tracking).pairs ≡ expired time (stands.tracking).pairs
       → HoldsFollow (stands.tracking).pairs (mid.tracking).pairs (stands.store).holds (mid.store).holds
       → (mid.tracking).cursor ≡ (stands.tracking).cursor
@@ -63,12 +63,12 @@ module _ (topology : Topology) (packages : Packages) (me : ParticipantId) (old :
       → Follows reading topology.params stands.start (model_items old ++ x ∷ []) stands'
   follows stands mid after stands' i fits rows pairs holds cursor store' pairs' cursor' (Some d) told some none =
       let same : after ≡ mid = none in
-      let rows2 : (stands'.store).rows ≡ (stands.store).rows = ap (λ s. s.rows) store' ∙ ap (λ (s : Stands). (s.store).rows) same ∙ rows in
-      let pairs2 : (stands'.tracking).pairs ≡ (mid.tracking).pairs = pairs' ∙ ap (λ (s : Stands). (s.tracking).pairs) same in
-      let holds2 : (stands'.store).holds ≡ (mid.store).holds = ap (λ s. s.holds) store' ∙ ap (λ (s : Stands). (s.store).holds) same in
+      let rows2 : (stands'.store).rows ≡ (stands.store).rows = ap (λ s. s.rows) store' ∙ ap (λ (s : Registered). (s.store).rows) same ∙ rows in
+      let pairs2 : (stands'.tracking).pairs ≡ (mid.tracking).pairs = pairs' ∙ ap (λ (s : Registered). (s.tracking).pairs) same in
+      let holds2 : (stands'.store).holds ≡ (mid.store).holds = ap (λ s. s.holds) store' ∙ ap (λ (s : Registered). (s.store).holds) same in
       let held : HoldsFollow (stands.tracking).pairs (stands'.tracking).pairs (stands.store).holds (mid.store).holds =
       subst (λ ps. HoldsFollow (stands.tracking).pairs ps (stands.store).holds (mid.store).holds) (sym pairs2) holds in
-      let at : (after.tracking).cursor ≡ (stands.tracking).cursor = ap (λ (s : Stands). (s.tracking).cursor) same ∙ cursor in
+      let at : (after.tracking).cursor ≡ (stands.tracking).cursor = ap (λ (s : Registered). (s.tracking).cursor) same ∙ cursor in
       follows_later reading topology.params stands.start (model_items old) x v d stands stands' refl refl told fits i.follows rows2 (pairs2 ∙ pairs)
       (λ f n e. holds2 ∙ held f n e) (cursor' ∙ ap (λ (n : ℕ). n + 1) at)
   follows stands mid after stands' i fits rows pairs holds cursor store' pairs' cursor' None first some none =
@@ -79,7 +79,7 @@ module _ (topology : Topology) (packages : Packages) (me : ParticipantId) (old :
       (pairs' ∙ s.pairs)
       (cursor' ∙ ap (λ (n : ℕ). n + 1) (s.cursor ∙ cursor))
 
-  pub read_verdict : (new : List KeptItem) (stands mid after stands' : Stands) → IsInbox topology packages me old stands
+  pub read_verdict : (new : List KeptItem) (stands mid after stands' : Registered) → IsInbox topology packages me old stands
       → last_time (model_items old) < time → time ≤ 2 ^ 64 - 1
       → (mid.store).rows ≡ (stands.store).rows → (mid.tracking).pairs ≡ expired time (stands.tracking).pairs
       → HoldsFollow (stands.tracking).pairs (mid.tracking).pairs (stands.store).holds (mid.store).holds
@@ -106,5 +106,5 @@ module _ (topology : Topology) (packages : Packages) (me : ParticipantId) (old :
       told = ap (λ (items : List Item). is_some (notice_at items v.request)) front ∙ tells.received
 
       settled_start : (w : Option Kind) → IfSome w (λ o. IsSettled mid after v.request o coming.changes.items) → IfNone w (after ≡ mid) → after.start ≡ mid.start
-      settled_start None s n = ap (λ (t : Stands). t.start) n
+      settled_start None s n = ap (λ (t : Registered). t.start) n
       settled_start (Some o) s n = s.start

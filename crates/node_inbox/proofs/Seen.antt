@@ -23,11 +23,11 @@ use Rattle.request_track.specs.Pairs.{Pair, clean_of, outcome_at}
 use Rattle.request_track.proofs.CleanSame.{clean_same}
 use Rattle.canton_model.proofs.InboxFacts.{clean_is_clean}
 use Rattle.framed_form.specs.FramedReading.{framed_reading}
-use Rattle.inbox_standing.specs.ChangeLists.{changes_of}
-use Rattle.inbox_standing.specs.Changes.{authentic_at}
-use Rattle.inbox_standing.specs.Requests.{outcome_received, pairs_in}
-use Rattle.inbox_standing.specs.Standing.{Stands}
-use Rattle.inbox_standing.proofs.Tracked.{as_many_moments, outcome_is, tracks}
+use Rattle.inbox_registry.specs.ChangeLists.{changes_of}
+use Rattle.inbox_registry.specs.Changes.{authentic_at}
+use Rattle.inbox_registry.specs.Requests.{outcome_received, pairs_in}
+use Rattle.inbox_registry.specs.Registry.{Registered}
+use Rattle.inbox_registry.proofs.Tracked.{as_many_moments, outcome_is, tracks}
 use Rattle.node_inbox.specs.Approved.{KeepChanges, roots_kept}
 use Rattle.node_inbox.specs.Coming.{IsTelling, is_told}
 use Rattle.node_inbox.specs.Decided.{is_closed, is_without_verdict}
@@ -176,7 +176,7 @@ none_told params items m e = by (notice_at items m) (verdict_on m (moments items
 
 -- ---- questions
 
-module _ (topology : Topology) (packages : Packages) (me : ParticipantId) (items : List KeptItem) (stands : Stands) (i : IsInbox topology packages me items stands) where
+module _ (topology : Topology) (packages : Packages) (me : ParticipantId) (items : List KeptItem) (stands : Registered) (i : IsInbox topology packages me items stands) where
   pub outcome_at_is : (m : ℕ) → outcome_at (stands.tracking).pairs m ≡ outcome_received topology.params (model_items items) m
   outcome_at_is m = ap (λ (ps : List Pair). outcome_at ps m) i.follows.pairs ∙ outcome_is topology.params (model_items items) m
 

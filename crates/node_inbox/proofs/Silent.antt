@@ -15,10 +15,10 @@ use Rattle.contract_store.specs.Written.{Placed}
 use Rattle.pruned_inbox.specs.Forgotten.{silent_front}
 use Rattle.pruned_inbox.specs.Received.{is_received_at}
 use Rattle.pruned_inbox.specs.Start.{Start}
-use Rattle.inbox_standing.specs.Changes.{authentic_at, changes_after, changes_in, pending_changes, placed_below}
-use Rattle.inbox_standing.specs.Order.{AllLater, IsInOrder, Rise, VerdictsBehind}
-use Rattle.inbox_standing.specs.Requests.{pairs_from, pairs_in}
-use Rattle.inbox_standing.proofs.Told.{nothing_there}
+use Rattle.inbox_registry.specs.Changes.{authentic_at, changes_after, changes_in, pending_changes, placed_below}
+use Rattle.inbox_registry.specs.Order.{AllLater, IsInOrder, Rise, VerdictsBehind}
+use Rattle.inbox_registry.specs.Requests.{pairs_from, pairs_in}
+use Rattle.inbox_registry.proofs.Told.{nothing_there}
 use Rattle.node_inbox.specs.Items.{model_content, model_item, model_items}
 use Rattle.node_inbox.specs.Kept.{AreKept, IsKeptContent}
 use Rattle.node_inbox.specs.declared.kept_item.KeptContent.{KeptContent}

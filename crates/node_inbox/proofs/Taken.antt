@@ -16,8 +16,8 @@ use Rattle.canton_model.specs.Timeline.{is_approved_in}
 use Rattle.canton_model.specs.declared.outcome.Outcome.{Outcome}
 use Rattle.request_track.specs.Pairs.{outcome_at}
 use Rattle.pruned_inbox.specs.Received.{is_received_at}
-use Rattle.inbox_standing.specs.Requests.{outcome_received}
-use Rattle.inbox_standing.specs.Standing.{Stands}
+use Rattle.inbox_registry.specs.Requests.{outcome_received}
+use Rattle.inbox_registry.specs.Registry.{Registered}
 use Rattle.view_split.specs.Placed.{placed_forest}
 use Rattle.view_split.specs.SeenViews.{put_back}
 use Rattle.view_split.specs.Split.{assembled}
@@ -79,7 +79,7 @@ part_is params ms k told (Received kept) is opens =
 part_is params ms k told (Told verdict) is opens = sym (ap (part_if (is_approved_in k (moments ms)) k) opens ∙ no_part (is_approved_in k (moments ms)) k)
 part_is params ms k told Nothing is opens = sym (ap (part_if (is_approved_in k (moments ms)) k) opens ∙ no_part (is_approved_in k (moments ms)) k)
 
-pub taken_step : (params : Params) (stands : Stands) (items before left : List KeptItem) (bound k : ℕ) (item : KeptItem) (commits new : List Commit)
+pub taken_step : (params : Params) (stands : Registered) (items before left : List KeptItem) (bound k : ℕ) (item : KeptItem) (commits new : List Commit)
     → TellsOutcomes params (model_items items) stands → k < bound → before ≡ item ∷ left
     → new ≡ commits ++ part_of (is_approved (outcome_at (stands.tracking).pairs k)) k item.content
     → Takes items before bound k commits → Takes items left bound (k + 1) new

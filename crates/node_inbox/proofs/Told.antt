@@ -15,12 +15,12 @@ use Rattle.contract_store.specs.Rows.{row_of}
 use Rattle.contract_store.specs.Written.{written}
 use Rattle.contract_store.specs.declared.row.StoreRow.{StoreRow}
 use Rattle.framed_form.specs.FramedReading.{framed_reading}
-use Rattle.inbox_standing.specs.ChangeLists.{changes_of, write_changes}
+use Rattle.inbox_registry.specs.ChangeLists.{changes_of, write_changes}
 use Rattle.pruned_inbox.specs.Start.{Start}
-use Rattle.inbox_standing.specs.Changes.{acts_of_verdict, changes_since}
-use Rattle.inbox_standing.specs.Standing.{Stands}
-use Rattle.inbox_standing.specs.declared.change.Change.{Change}
-use Rattle.inbox_standing.proofs.Grown.{rows_same, rows_written}
+use Rattle.inbox_registry.specs.Changes.{acts_of_verdict, changes_since}
+use Rattle.inbox_registry.specs.Registry.{Registered}
+use Rattle.inbox_registry.specs.declared.change.Change.{Change}
+use Rattle.inbox_registry.proofs.Grown.{rows_same, rows_written}
 use Rattle.prepare_request.specs.Hosted.{AreTold, TellHosted, has_hosted_id, hosted_rows, is_among}
 use Rattle.node_inbox.specs.AddedIds.{AreNew, added_behind}
 use Rattle.node_inbox.specs.Coming.{IsTelling}
@@ -34,12 +34,12 @@ use Rattle.node_inbox.specs.declared.telling.ComingVerdict.{ComingVerdict}
 use Rattle.node_inbox.proofs.AddedIds.{TellsOn, all_say, all_told}
 use Rattle.node_inbox.proofs.NewContracts.{once_same, once_told}
 
-module _ (topology : Topology) (packages : Packages) (me : ParticipantId) (old new : List KeptItem) (stands stands' : Stands)
+module _ (topology : Topology) (packages : Packages) (me : ParticipantId) (old new : List KeptItem) (stands stands' : Registered)
     (i : IsInbox topology packages me old stands) (ids : List Hash) where
   abbrev reading : Reading
   reading = framed_reading topology packages
 
-  abbrev at_rows : List Hash → Stands → Type 0
+  abbrev at_rows : List Hash → Registered → Type 0
   at_rows known s = AreTold reading me known (s.store).rows
 
   -- nothing was read

@@ -8,10 +8,10 @@ use Rattle.canton_model.specs.Reading.{is_some_path, shown_in_offer}
 use Rattle.canton_model.specs.declared.outcome.Outcome.{Outcome}
 use Rattle.ledger_model.specs.Terms.{Path}
 use Rattle.request_track.specs.Pairs.{outcome_at}
-use Rattle.inbox_standing.specs.Requests.{is_approved, outcome_received}
-use Rattle.inbox_standing.specs.Standing.{Stands}
-use Rattle.inbox_standing.proofs.Tracked.{outcome_is}
-use Rattle.inbox_standing.proofs.Withheld.{withheld_is_tracked}
+use Rattle.inbox_registry.specs.Requests.{is_approved, outcome_received}
+use Rattle.inbox_registry.specs.Registry.{Registered}
+use Rattle.inbox_registry.proofs.Tracked.{outcome_is}
+use Rattle.inbox_registry.proofs.Withheld.{withheld_is_tracked}
 use Rattle.node_inbox.specs.Approved.{TellsOutcomes}
 use Rattle.node_inbox.specs.Items.{model_items, notice_of}
 use Rattle.node_inbox.specs.Kept.{kept_at}
@@ -61,7 +61,7 @@ either_order false true = refl
 either_order false false = refl
 
 -- as it is tracked
-pub withheld_is : (params : Params) (items : List Item) (stands : Stands) → TellsOutcomes params items stands → (place : ℕ)
+pub withheld_is : (params : Params) (items : List Item) (stands : Registered) → TellsOutcomes params items stands → (place : ℕ)
     → (is_kept_from_at items place && is_approved (outcome_at (stands.tracking).pairs place)) ≡ is_withheld_in items place
 withheld_is params items stands tells place =
     either_order (is_kept_from_at items place) (is_approved (outcome_at (stands.tracking).pairs place))

@@ -11,7 +11,7 @@ use Rattle.pruned_inbox.specs.Start.{Start, is_gone}
 use Rattle.contract_store.specs.Rows.{status_in}
 use Rattle.contract_store.specs.declared.row.StoreRow.{StoreRow}
 use Rattle.prepare_request.specs.Hosted.{is_among}
-use Rattle.inbox_standing.specs.declared.change.Change.{Change}
+use Rattle.inbox_registry.specs.declared.change.Change.{Change}
 
 abbrev pub is_unknown : Status → Bool
 is_unknown Unknown = true

@@ -7,9 +7,9 @@ use Rattle.canton_model.specs.Inbox.{Item, moments, opened_at, part_if}
 use Rattle.canton_model.specs.Log.{Params}
 use Rattle.canton_model.specs.Timeline.{is_approved_in}
 use Rattle.request_track.specs.Pairs.{outcome_at}
-pub use Rattle.inbox_standing.specs.Requests.{is_approved}
-use Rattle.inbox_standing.specs.Requests.{outcome_received}
-use Rattle.inbox_standing.specs.Standing.{Stands}
+pub use Rattle.inbox_registry.specs.Requests.{is_approved}
+use Rattle.inbox_registry.specs.Requests.{outcome_received}
+use Rattle.inbox_registry.specs.Registry.{Registered}
 use Rattle.node_inbox.specs.Kept.{kept_at}
 use Rattle.node_inbox.specs.Offers.{opened_changes, roots_offered}
 use Rattle.node_inbox.specs.declared.kept_item.KeptContent.{KeptContent}
@@ -18,7 +18,7 @@ use Rattle.node_inbox.specs.declared.kept_item.KeptItem.{KeptItem}
 use Rattle.node_inbox.specs.declared.kept_item.KeptRequest.{KeptRequest}
 
 -- what is tracked of each request is what became of it
-abbrev pub TellsOutcomes : Params → List Item → Stands → Type 0
+abbrev pub TellsOutcomes : Params → List Item → Registered → Type 0
 TellsOutcomes params items stands = (k : ℕ) → outcome_at (stands.tracking).pairs k ≡ outcome_received params items k
 
 -- each request that is kept has the changes of what is opened of it

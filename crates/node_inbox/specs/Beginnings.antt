@@ -4,8 +4,8 @@ use Rattle.ledger_terms.specs.Parties.{IsRising}
 use Rattle.ledger_terms.specs.declared.active_row.ActiveRow.{ActiveRow}
 use Rattle.contract_store.specs.ActiveLaw.{InOrder}
 use Rattle.pruned_inbox.specs.Start.{Start}
-use Rattle.inbox_standing.specs.Changes.{NoneGone, creation_of}
-use Rattle.inbox_standing.specs.Offered.{CreatedOnce}
+use Rattle.inbox_registry.specs.Changes.{NoneGone, creation_of}
+use Rattle.inbox_registry.specs.Offered.{CreatedOnce}
 use Rattle.node_inbox.specs.declared.beginning.Beginning.{Beginning}
 
 -- what the inbox left at its base

@@ -12,9 +12,9 @@ use Rattle.canton_model.specs.Timeline.{Decided, kind_of, verdict_on}
 use Rattle.canton_model.specs.Reading.{Reading}
 use Rattle.lang_eval.specs.Found.{Packages}
 use Rattle.confirm_reply.specs.declared.id_facts.IdFacts.{IdFacts}
-use Rattle.inbox_standing.specs.ChangeLists.{changes_of, id_in}
-use Rattle.inbox_standing.specs.Changes.{acts_of_verdict}
-use Rattle.inbox_standing.specs.declared.change.Change.{Change}
+use Rattle.inbox_registry.specs.ChangeLists.{changes_of, id_in}
+use Rattle.inbox_registry.specs.Changes.{acts_of_verdict}
+use Rattle.inbox_registry.specs.declared.change.Change.{Change}
 use Rattle.sealed_form.specs.SealedForm.{envelope_to}
 use Rattle.proto_model.specs.declared.notice.Notice.{Notice}
 use Rattle.node_inbox.specs.Acts.{blank_fact}

@@ -9,9 +9,9 @@ use Rattle.lang_eval.specs.Found.{Packages}
 use Rattle.sealed_form.specs.SealedForm.{envelope_to}
 use Rattle.framed_form.specs.FramedForm.{offered, root_of}
 use Rattle.framed_form.specs.FramedReading.{framed_reading}
-use Rattle.inbox_standing.specs.Changes.{StandsBelow}
-use Rattle.inbox_standing.specs.Order.{IsInOrder}
-use Rattle.inbox_standing.specs.Standing.{Follows, Stands}
+use Rattle.inbox_registry.specs.Changes.{StandsBelow}
+use Rattle.inbox_registry.specs.Order.{IsInOrder}
+use Rattle.inbox_registry.specs.Registry.{Follows, Registered}
 use Rattle.pruned_inbox.specs.Start.{Start, status_kept}
 use Rattle.confirm_reply.specs.Facts.{IsFactOf}
 use Rattle.confirm_reply.specs.declared.id_facts.IdFacts.{IdFacts}
@@ -58,8 +58,8 @@ abbrev pub AreKept : Topology → Packages → ParticipantId → Start → List 
 AreKept topology packages me start items =
     (k : ℕ) (item : KeptItem) → slice_get items k ≡ Some item → IsKeptContent topology packages me start (take (suc k) (model_items items)) k item.content
 
--- The items are an inbox in order, the standing follows them, and what each keeps is right.
-pub record IsInbox (topology : Topology) (packages : Packages) (me : ParticipantId) (kept : List KeptItem) (stands : Stands) : Type 0 where
+-- The items are an inbox in order, the registry follows them, and what each keeps is right.
+pub record IsInbox (topology : Topology) (packages : Packages) (me : ParticipantId) (kept : List KeptItem) (stands : Registered) : Type 0 where
   pub follows : Follows (framed_reading topology packages) topology.params stands.start (model_items kept) stands
   pub order : IsInOrder (model_items kept)
   pub each : AreKept topology packages me stands.start kept

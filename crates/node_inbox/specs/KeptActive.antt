@@ -13,7 +13,7 @@ use Rattle.contract_store.specs.Below.{at_place, placed_below, writes_of}
 use Rattle.contract_store.specs.Rows.{status_in}
 use Rattle.contract_store.specs.Written.{Placed, acts_of}
 use Rattle.contract_store.specs.declared.row.StoreRow.{StoreRow}
-use Rattle.inbox_standing.specs.Changes.{creation_of}
+use Rattle.inbox_registry.specs.Changes.{creation_of}
 use Rattle.node_inbox.specs.AddedIds.{is_unknown}
 use Rattle.node_inbox.specs.declared.kept_active.KeptActive.{KeptActive}
 

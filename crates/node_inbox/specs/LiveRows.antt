@@ -4,7 +4,7 @@ use Rattle.ledger_terms.specs.declared.known.Known.{Known}
 use Rattle.ledger_model.specs.Terms.{Hash}
 use Rattle.contract_store.specs.Rows.{with_created, with_consumed}
 use Rattle.contract_store.specs.declared.row.StoreRow.{StoreRow}
-use Rattle.inbox_standing.specs.declared.change.Change.{Change}
+use Rattle.inbox_registry.specs.declared.change.Change.{Change}
 
 -- the row of a contract that nothing has created or consumed
 abbrev pub new_row : Known → StoreRow

@@ -7,8 +7,8 @@ use Rattle.canton_model.specs.Reading.{Reading}
 use Rattle.contract_store.specs.Active.{active_rows}
 use Rattle.contract_store.specs.declared.row.StoreRow.{StoreRow}
 use Rattle.pruned_inbox.specs.Start.{Start}
-use Rattle.inbox_standing.specs.Changes.{NoneGone, changes_since}
-use Rattle.inbox_standing.specs.Offered.{CreatedOnce}
+use Rattle.inbox_registry.specs.Changes.{NoneGone, changes_since}
+use Rattle.inbox_registry.specs.Offered.{CreatedOnce}
 use Rattle.node_inbox.specs.Listed.{is_offered}
 
 -- the active ones with a hosted stakeholder, in order of creation

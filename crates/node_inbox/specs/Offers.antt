@@ -10,8 +10,8 @@ use Rattle.interpret.specs.Ids.{is_authentic}
 use Rattle.blind_tree.specs.declared.shown_for.OpenedFor.{OpenedFor}
 use Rattle.blind_tree.specs.declared.shown_for.OpenedFor.TheVariants as opened
 use Rattle.framed_form.specs.FramedReading.{offer_of}
-use Rattle.inbox_standing.specs.ChangeLists.{changes_of}
-use Rattle.inbox_standing.specs.declared.change.Change.{Change}
+use Rattle.inbox_registry.specs.ChangeLists.{changes_of}
+use Rattle.inbox_registry.specs.declared.change.Change.{Change}
 use Rattle.node_inbox.specs.declared.kept_offer.KeptOffer.{KeptOffer}
 use Rattle.node_inbox.specs.declared.kept_offer.KeptOffer.TheVariants.{Mismatch, Missing, Open}
 

@@ -4,7 +4,7 @@ use Rattle.ledger_model.specs.declared.commit.Commit.{Commit}
 use Rattle.canton_model.specs.Inbox.{Item, is_kept_from, notice_at, opened_at, part_if}
 use Rattle.canton_model.specs.Log.{Params}
 use Rattle.request_track.specs.Pairs.{Pair, outcome_at}
-use Rattle.inbox_standing.specs.Requests.{outcome_received}
+use Rattle.inbox_registry.specs.Requests.{outcome_received}
 use Rattle.node_inbox.specs.Approved.{is_approved}
 use Rattle.node_inbox.specs.declared.approved_places.ApprovedPlaces.{ApprovedPlaces}
 

@@ -8,9 +8,9 @@ use Rattle.canton_model.specs.declared.outcome.Outcome.{Outcome as Kind}
 use Rattle.contract_store.specs.Holds.{released}
 use Rattle.request_track.specs.Pairs.{settled}
 use Rattle.pruned_inbox.specs.Start.{Start}
-use Rattle.inbox_standing.specs.ChangeLists.{write_changes}
-use Rattle.inbox_standing.specs.Standing.{Stands}
-use Rattle.inbox_standing.specs.declared.change.Change.{Change}
+use Rattle.inbox_registry.specs.ChangeLists.{write_changes}
+use Rattle.inbox_registry.specs.Registry.{Registered}
+use Rattle.inbox_registry.specs.declared.change.Change.{Change}
 use Rattle.node_inbox.specs.Acts.{fact_in}
 use Rattle.node_inbox.specs.declared.kept_item.KeptRequest.{KeptRequest}
 use Rattle.node_inbox.specs.declared.kept_item.KeptItem.{KeptItem}
@@ -20,25 +20,26 @@ use Rattle.node_inbox.specs.Kept.{IsInbox}
 abbrev pub item_with : (time : ℕ) → Content → Item
 item_with time content = record { time = time; content = content }
 
--- The new items with the standing are an inbox, which has this item behind the old ones, and the start that it had.
-pub record HasRead (topology : Topology) (packages : Packages) (me : ParticipantId) (old new : List KeptItem) (start : Start) (stands : Stands)
+-- The new items with the registry are an inbox, which has this item behind the old ones, and the start that it had.
+pub record HasRead (topology : Topology) (packages : Packages) (me : ParticipantId) (old new : List KeptItem) (start : Start) (stands : Registered)
     (item : Item) : Type 0 where
   pub inbox : IsInbox topology packages me new stands
   pub start_is : stands.start ≡ start
   pub items : model_items new ≡ model_items old ++ item ∷ []
 
--- The new items with the standing are an inbox, which has the items and the start that it had.
-pub record IsUnread (topology : Topology) (packages : Packages) (me : ParticipantId) (old new : List KeptItem) (start : Start) (stands : Stands) : Type 0 where
+-- The new items with the registry are an inbox, which has the items and the start that it had.
+pub record IsUnread (topology : Topology) (packages : Packages) (me : ParticipantId) (old new : List KeptItem) (start : Start) (stands : Registered)
+    : Type 0 where
   pub inbox : IsInbox topology packages me new stands
   pub start_is : stands.start ≡ start
   pub items : new ≡ old
 
--- a kept request with what the standing knows of its contracts
-abbrev pub kept_with : KeptRequest → Stands → KeptRequest
+-- a kept request with what the registry knows of its contracts
+abbrev pub kept_with : KeptRequest → Registered → KeptRequest
 kept_with kept stands = record kept { facts = map (fact_in stands) kept.facts }
 
 -- the request at a place got the outcome, holds nothing any more, and made these changes
-pub record IsSettled (old new : Stands) (place : ℕ) (outcome : Kind) (changes : List Change) : Type 0 where
+pub record IsSettled (old new : Registered) (place : ℕ) (outcome : Kind) (changes : List Change) : Type 0 where
   pub rows : (new.store).rows ≡ write_changes place changes (old.store).rows
   pub holds : (new.store).holds ≡ released place (old.store).holds
   pub pairs : (new.tracking).pairs ≡ settled place outcome (old.tracking).pairs

@@ -8,14 +8,14 @@ ghost use Rattle.wire_form.specs.Spellable.{IsSpellableInstance};
 ghost use Rattle.interpret.specs.Ids.{is_authentic};
 ghost use Rattle.view_split.specs.Placed.{placed_forest};
 ghost use Rattle.view_split.specs.SeenViews.{put_back};
-ghost use Rattle.inbox_standing.specs.ChangeLists.{change_of, changes_of};
+ghost use Rattle.inbox_registry.specs.ChangeLists.{change_of, changes_of};
 ghost use Rattle.node_inbox.specs.Acts.{blank_fact, is_authentic_change};
 ghost use Rattle.node_inbox.specs.Offers.{roots_offered};
 
 use crate::kept_offer::KeptOffer;
 use blind_tree::PlacedViewList;
 use confirm_reply::{IdFacts, IdFactsList};
-use inbox_standing::Change;
+use inbox_registry::Change;
 use interpret::is_authentic;
 use ledger_model::Status;
 use ledger_terms::{Action, ActionNodeList, Exact, Hash, Known, push_closely};

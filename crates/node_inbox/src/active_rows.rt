@@ -6,8 +6,8 @@ ghost use Rattle.contract_store.specs.Written.{written};
 ghost use Rattle.framed_form.specs.FramedReading.{framed_reading};
 ghost use Rattle.pruned_inbox.specs.Received.{is_received_at};
 ghost use Rattle.pruned_inbox.specs.Start.{active_kept};
-ghost use Rattle.inbox_standing.specs.ChangeLists.{changes_of, write_changes};
-ghost use Rattle.inbox_standing.specs.Changes.{creation_of};
+ghost use Rattle.inbox_registry.specs.ChangeLists.{changes_of, write_changes};
+ghost use Rattle.inbox_registry.specs.Changes.{creation_of};
 ghost use Rattle.node_inbox.specs.Approved.{KeepChanges, TellsOutcomes, approved_at};
 ghost use Rattle.node_inbox.specs.Hosts.{offers, reading_by};
 ghost use Rattle.node_inbox.specs.Items.{model_items};
@@ -22,7 +22,7 @@ use crate::kept_items::KeptItems;
 use crate::live_row::LiveRow;
 use crate::live_rows::LiveRows;
 use confirm_reply::Setup;
-use inbox_standing::{Change, Standing};
+use inbox_registry::{Change, Registry};
 use ledger_terms::{ActiveRow, ActiveRowList, Exact, Known};
 use std::alloc::{AllocError, Global};
 
@@ -40,16 +40,16 @@ fn write<'k>(live: &mut LiveRows<'k>, place: u64, changes: &'k [Change]) -> Resu
 fn write_approved<'k>(
     setup: &Setup,
     items: &'k KeptItems,
-    standing: &Standing,
+    registry: &Registry,
     place: u64,
     live: &mut LiveRows<'k>,
 ) -> Result<(), AllocError>
-    requires told { TellsOutcomes setup.now.topology.params (model_items items.now.items) standing.now }
+    requires told { TellsOutcomes setup.now.topology.params (model_items items.now.items) registry.now }
     requires kept { KeepChanges items.now.items }
     ensures { OnOk result (live.new
         ≡ write_changes place (changes_of (filter is_authentic (acts (approved_at (model_items items.now.items) place)))) live.old) }
 {
-    match approved_at(setup, items, standing, place) {
+    match approved_at(setup, items, registry, place) {
         Some(kept) => write(live, place, kept.changes.as_slice()),
         None => Ok(()),
     }
@@ -59,19 +59,19 @@ fn write_approved<'k>(
 fn write_between<'k>(
     setup: &Setup,
     items: &'k KeptItems,
-    standing: &Standing,
+    registry: &Registry,
     start: u64,
     end: u64,
     live: &mut LiveRows<'k>,
 ) -> Result<(), AllocError>
     requires order { start ≤ end }
-    requires told { TellsOutcomes setup.now.topology.params (model_items items.now.items) standing.now }
+    requires told { TellsOutcomes setup.now.topology.params (model_items items.now.items) registry.now }
     requires kept { KeepChanges items.now.items }
     ensures { OnOk result (live.new
         ≡ written (placed_between (framed_reading setup.now.topology setup.now.checked) (model_items items.now.items) start end) live.old) }
 {
     'places: for place in start..end {
-        write_approved(setup, items, standing, place, live)?;
+        write_approved(setup, items, registry, place, live)?;
     }
     Ok(())
 }
@@ -196,18 +196,18 @@ pub fn rows_below<'k>(
     alloc: Global,
     setup: &Setup,
     items: &'k KeptItems,
-    standing: &'k Standing,
+    registry: &'k Registry,
     end: u64,
 ) -> Result<LiveRows<'k>, AllocError>
-    requires told { TellsOutcomes setup.now.topology.params (model_items items.now.items) standing.now }
+    requires told { TellsOutcomes setup.now.topology.params (model_items items.now.items) registry.now }
     requires kept { KeepChanges items.now.items }
     ensures { IfOk result (λ live. live
         ≡ written (placed_between (framed_reading setup.now.topology setup.now.checked) (model_items items.now.items) 0 end)
-        (written (map creation_of standing.now.start.active) [])) }
+        (written (map creation_of registry.now.start.active) [])) }
 {
     let mut live = LiveRows::new(alloc);
-    write_start(&mut live, standing.start().active().as_slice())?;
-    write_between(setup, items, standing, first_of(items, end), end, &mut live)?;
+    write_start(&mut live, registry.start().active().as_slice())?;
+    write_between(setup, items, registry, first_of(items, end), end, &mut live)?;
     Ok(live)
 }
 
@@ -216,11 +216,11 @@ fn active_from(
     alloc: Global,
     hosting: &Hosting<'_>,
     items: &KeptItems,
-    standing: &Standing,
+    registry: &Registry,
     kept: &KeptActive,
     end: u64,
 ) -> Result<ActiveRowList, AllocError>
-    requires told { TellsOutcomes hosting.now.topology.params (model_items items.now.items) standing.now }
+    requires told { TellsOutcomes hosting.now.topology.params (model_items items.now.items) registry.now }
     requires kept { KeepChanges items.now.items }
     requires order { kept.now.place ≤ end }
     requires active { AreActive (reading_by hosting.now) hosting.now.me hosting.now.start (model_items items.now.items) kept.now }
@@ -228,7 +228,7 @@ fn active_from(
     ensures { IfOk result (λ rows. rows ≡ active_kept (reading_by hosting.now) hosting.now.me hosting.now.start (model_items items.now.items) end) }
 {
     let mut live = LiveRows::new(alloc);
-    write_between(hosting.setup(), items, standing, kept.place, end, &mut live)?;
+    write_between(hosting.setup(), items, registry, kept.place, end, &mut live)?;
     let mut rows = left_of(alloc, kept.rows.as_slice(), &live)?;
     push_offered(alloc, hosting, &live, &mut rows)?;
     Ok(rows)
@@ -239,10 +239,10 @@ fn active_from_start(
     alloc: Global,
     hosting: &Hosting<'_>,
     items: &KeptItems,
-    standing: &Standing,
+    registry: &Registry,
     end: u64,
 ) -> Result<ActiveRowList, AllocError>
-    requires told { TellsOutcomes hosting.now.topology.params (model_items items.now.items) standing.now }
+    requires told { TellsOutcomes hosting.now.topology.params (model_items items.now.items) registry.now }
     requires kept { KeepChanges items.now.items }
     requires begins { BeginsIn hosting.now.start (model_items items.now.items) }
     ensures { IfOk result (λ rows. rows ≡ active_kept (reading_by hosting.now) hosting.now.me hosting.now.start (model_items items.now.items) end) }
@@ -250,7 +250,7 @@ fn active_from_start(
     let mut live = LiveRows::new(alloc);
     write_start(&mut live, hosting.start().active().as_slice())?;
     let start = first_of(items, end);
-    write_between(hosting.setup(), items, standing, start, end, &mut live)?;
+    write_between(hosting.setup(), items, registry, start, end, &mut live)?;
     let mut rows = ActiveRowList::new(alloc);
     push_offered(alloc, hosting, &live, &mut rows)?;
     Ok(rows)
@@ -262,18 +262,18 @@ pub fn active_rows(
     alloc: Global,
     hosting: &Hosting<'_>,
     items: &KeptItems,
-    standing: &Standing,
+    registry: &Registry,
     kept: &Option<KeptActive>,
     end: u64,
 ) -> Result<ActiveRowList, AllocError>
-    requires told { TellsOutcomes hosting.now.topology.params (model_items items.now.items) standing.now }
+    requires told { TellsOutcomes hosting.now.topology.params (model_items items.now.items) registry.now }
     requires kept { KeepChanges items.now.items }
     requires active { AreActiveIf (reading_by hosting.now) hosting.now.me hosting.now.start (model_items items.now.items) kept.now }
     requires begins { BeginsIn hosting.now.start (model_items items.now.items) }
     ensures { IfOk result (λ rows. rows ≡ active_kept (reading_by hosting.now) hosting.now.me hosting.now.start (model_items items.now.items) end) }
 {
     match not_behind(kept, end) {
-        Some(known) => active_from(alloc, hosting, items, standing, known, end),
-        None => active_from_start(alloc, hosting, items, standing, end),
+        Some(known) => active_from(alloc, hosting, items, registry, known, end),
+        None => active_from_start(alloc, hosting, items, registry, end),
     }
 }

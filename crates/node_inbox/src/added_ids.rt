@@ -6,12 +6,12 @@ ghost use Rattle.indexmap.specs.IndexMap.{keys};
 ghost use Rattle.contract_store.specs.Rows.{status_in};
 ghost use Rattle.prepare_request.specs.Hosted.{is_among};
 ghost use Rattle.framed_form.specs.FramedReading.{framed_reading};
-ghost use Rattle.inbox_standing.specs.ChangeLists.{id_in};
+ghost use Rattle.inbox_registry.specs.ChangeLists.{id_in};
 ghost use Rattle.node_inbox.specs.AddedIds.{added_behind, added_if, are_new, creates_gone, is_new, is_on, is_unheard, is_unknown};
 
 use confirm_reply::{Setup, has_hosted_stakeholder};
 use contract_store::Store;
-use inbox_standing::{Change, KeptStart};
+use inbox_registry::{Change, KeptStart};
 use indexmap::IndexMap;
 use ledger_model::Status;
 use ledger_terms::{Hash, HashList, ParticipantId};

@@ -15,16 +15,16 @@ use crate::kept_item::KeptRequest;
 use crate::kept_items::KeptItems;
 use canton_model::Outcome;
 use confirm_reply::Setup;
-use inbox_standing::Standing;
+use inbox_registry::Registry;
 use ledger_model::{Commit, CommitList};
 use ledger_terms::ActionNodeList;
 use std::alloc::{AllocError, Global};
 
 /// Whether the request at a place is approved.
-pub fn is_approved(standing: &Standing, place: u64) -> bool
-    ensures { result ≡ is_approved (outcome_at standing.now.tracking.pairs place) }
+pub fn is_approved(registry: &Registry, place: u64) -> bool
+    ensures { result ≡ is_approved (outcome_at registry.now.tracking.pairs place) }
 {
-    match standing.outcome(place) {
+    match registry.outcome(place) {
         Some(Outcome::Approved) => true,
         Some(Outcome::Undecided) => false,
         Some(Outcome::Rejected) => false,
@@ -47,17 +47,17 @@ fn opened_at(items: &KeptItems, place: u64) -> Option<&KeptRequest>
 pub fn approved_at<'i>(
     setup: &Setup,
     items: &'i KeptItems,
-    standing: &Standing,
+    registry: &Registry,
     place: u64,
 ) -> Option<&'i KeptRequest>
-    requires told { TellsOutcomes setup.now.topology.params (model_items items.now.items) standing.now }
+    requires told { TellsOutcomes setup.now.topology.params (model_items items.now.items) registry.now }
     requires kept { KeepChanges items.now.items }
     ensures exact { roots_kept (option_copied result) ≡ approved_at (model_items items.now.items) place }
     ensures changes { IfSome result (λ kept. kept.now.changes.items ≡ opened_changes kept.now.offer) }
 {
     // most places have no request, and an item is found sooner than an outcome
     let kept = opened_at(items, place)?;
-    if is_approved(standing, place) {
+    if is_approved(registry, place) {
         Some(kept)
     } else {
         None
@@ -82,16 +82,16 @@ pub fn push_commit(
 fn push_approved(
     setup: &Setup,
     items: &KeptItems,
-    standing: &Standing,
+    registry: &Registry,
     place: u64,
     commits: &mut CommitList,
 ) -> Result<(), AllocError>
-    requires told { TellsOutcomes setup.now.topology.params (model_items items.now.items) standing.now }
+    requires told { TellsOutcomes setup.now.topology.params (model_items items.now.items) registry.now }
     requires kept { KeepChanges items.now.items }
     ensures { OnOk result (commits.new ≡ commits.old
         ++ part_if (is_approved_in place (moments (model_items items.now.items))) place (opened_at (model_items items.now.items) place)) }
 {
-    match approved_at(setup, items, standing, place) {
+    match approved_at(setup, items, registry, place) {
         Some(kept) => {
             let roots = roots_offered(*commits.allocator(), &kept.offer)?;
             push_commit(place, roots, commits)
@@ -131,11 +131,11 @@ pub fn applied(
     alloc: Global,
     setup: &Setup,
     items: &KeptItems,
-    standing: &Standing,
+    registry: &Registry,
     approved: &ApprovedPlaces,
     end: u64,
 ) -> Result<CommitList, AllocError>
-    requires told { TellsOutcomes setup.now.topology.params (model_items items.now.items) standing.now }
+    requires told { TellsOutcomes setup.now.topology.params (model_items items.now.items) registry.now }
     requires kept { KeepChanges items.now.items }
     requires approved { AreApproved setup.now.topology.params (model_items items.now.items) approved.now }
     ensures { IfOk result (λ commits. commits ≡ parts_below (model_items items.now.items) end) }
@@ -144,7 +144,7 @@ pub fn applied(
     let known = approved.not_behind(&none, end);
     let mut commits = opened_of(alloc, items, known.places.as_slice())?;
     'places: for place in known.below..end {
-        push_approved(setup, items, standing, place, &mut commits)?;
+        push_approved(setup, items, registry, place, &mut commits)?;
     }
     Ok(commits)
 }

@@ -5,7 +5,7 @@ ghost use Rattle.node_inbox.specs.Approved.{is_approved};
 ghost use Rattle.node_inbox.specs.Places.{AreKeptIf, place_if, tracked_below};
 
 use crate::applied::is_approved;
-use inbox_standing::Standing;
+use inbox_registry::Registry;
 use ledger_terms::U64List;
 use std::alloc::{AllocError, Global};
 
@@ -56,14 +56,14 @@ impl ApprovedPlaces {
     }
 
     // Those below the place behind.
-    fn pass(&mut self, standing: &Standing, place: u64) -> Result<(), AllocError>
+    fn pass(&mut self, registry: &Registry, place: u64) -> Result<(), AllocError>
         requires { place + 1 < 2 ^ 64 }
         ensures below { OnOk result (self.new.below ≡ place + 1) }
         ensures places { OnOk result (self.new.places
-            ≡ self.old.places ++ place_if (is_approved (outcome_at standing.now.tracking.pairs place)) place) }
+            ≡ self.old.places ++ place_if (is_approved (outcome_at registry.now.tracking.pairs place)) place) }
         ensures err { OnErr result (self.new ≡ self.old) }
     {
-        if is_approved(standing, place) {
+        if is_approved(registry, place) {
             self.places.push(place)?;
         }
         self.below = place + 1;
@@ -74,15 +74,15 @@ impl ApprovedPlaces {
 /// Brings them up to a place, as far as there is memory.
 pub fn bring_up(
     approved: &mut ApprovedPlaces,
-    standing: &Standing,
+    registry: &Registry,
     end: u64,
 ) -> Result<(), AllocError>
-    requires { approved.old.places ≡ tracked_below standing.now.tracking.pairs approved.old.below }
-    ensures places { approved.new.places ≡ tracked_below standing.now.tracking.pairs approved.new.below }
+    requires { approved.old.places ≡ tracked_below registry.now.tracking.pairs approved.old.below }
+    ensures places { approved.new.places ≡ tracked_below registry.now.tracking.pairs approved.new.below }
     ensures within { (n : ℕ) → approved.old.below ≤ n → end ≤ n → approved.new.below ≤ n }
 {
     for place in approved.below..end {
-        approved.pass(standing, place)?;
+        approved.pass(registry, place)?;
     }
     Ok(())
 }

@@ -3,12 +3,12 @@ ghost use Rattle.std.specs.Prelude.{◌≡◌, ◌<◌, ◌∷◌, [], true, Lis
 ghost use Rattle.contract_store.specs.Rows.{created};
 ghost use Rattle.contract_store.specs.Written.{Placed, written};
 ghost use Rattle.framed_form.specs.FramedReading.{framed_reading};
-ghost use Rattle.inbox_standing.specs.Changes.{creation_of};
+ghost use Rattle.inbox_registry.specs.Changes.{creation_of};
 ghost use Rattle.prepare_request.specs.Hosted.{AreTold};
 
 use crate::added_ids::{added_ids, put_ids};
 use confirm_reply::Setup;
-use inbox_standing::{Change, Standing};
+use inbox_registry::{Change, Registry};
 use ledger_terms::{ActiveRow, ActiveRowList, Exact, Hash, HashList, Known, ParticipantId};
 use prepare_request::HostedIds;
 use prepare_request::laws::ids_tell_after_each_change;
@@ -41,26 +41,26 @@ fn write_created(
     setup: &Setup,
     me: ParticipantId,
     hosted: &mut HostedIds,
-    standing: &mut Standing,
+    registry: &mut Registry,
     row: ActiveRow,
 ) -> Result<(), AllocError>
-    requires told { AreTold (framed_reading setup.now.topology setup.now.checked) me hosted.old.ids standing.old.store.rows }
-    requires written { (ps : List Placed) × (standing.old.store.rows ≡ written ps []) }
-    ensures told { OnOk result (AreTold (framed_reading setup.now.topology setup.now.checked) me hosted.new.ids standing.new.store.rows) }
-    ensures rows { OnOk result (standing.new.store.rows ≡ created row.known row.created_at standing.old.store.rows) }
-    ensures holds { standing.new.store.holds ≡ standing.old.store.holds }
-    ensures tracking { standing.new.tracking ≡ standing.old.tracking }
-    ensures start { standing.new.start ≡ standing.old.start }
+    requires told { AreTold (framed_reading setup.now.topology setup.now.checked) me hosted.old.ids registry.old.store.rows }
+    requires written { (ps : List Placed) × (registry.old.store.rows ≡ written ps []) }
+    ensures told { OnOk result (AreTold (framed_reading setup.now.topology setup.now.checked) me hosted.new.ids registry.new.store.rows) }
+    ensures rows { OnOk result (registry.new.store.rows ≡ created row.known row.created_at registry.old.store.rows) }
+    ensures holds { registry.new.store.holds ≡ registry.old.store.holds }
+    ensures tracking { registry.new.tracking ≡ registry.old.tracking }
+    ensures start { registry.new.start ≡ registry.old.start }
 {
-    let alloc = *standing.start().active().allocator();
+    let alloc = *registry.start().active().allocator();
     let ActiveRow { created_at, known } = row;
     let changes = creation(alloc, known)?;
-    let (ids, _) = added_ids(alloc, setup, me, standing.store(), changes.as_slice())?;
+    let (ids, _) = added_ids(alloc, setup, me, registry.store(), changes.as_slice())?;
     hosted.reserve(ids.as_slice().len())?;
-    standing.make_room(&changes)?;
+    registry.make_room(&changes)?;
     ids_tell_after_each_change();
     put_ids(hosted, &ids);
-    standing.write(created_at, changes);
+    registry.write(created_at, changes);
     Ok(())
 }
 
@@ -129,17 +129,17 @@ impl Beginning {
 }
 
 // How many contracts were active at the base.
-fn start_len(standing: &Standing) -> usize
-    ensures { result ≡ length standing.now.start.active }
+fn start_len(registry: &Registry) -> usize
+    ensures { result ≡ length registry.now.start.active }
 {
-    standing.start().active().len()
+    registry.start().active().len()
 }
 
-fn start_row(standing: &Standing, at: usize) -> Result<ActiveRow, AllocError>
-    requires { at < length standing.now.start.active }
-    ensures { IfOk result (λ row. row ≡ get_or standing.now.start.active at row) }
+fn start_row(registry: &Registry, at: usize) -> Result<ActiveRow, AllocError>
+    requires { at < length registry.now.start.active }
+    ensures { IfOk result (λ row. row ≡ get_or registry.now.start.active at row) }
 {
-    copy_at(standing.start().active().as_slice(), at)
+    copy_at(registry.start().active().as_slice(), at)
 }
 
 /// The contracts that were active at the base are written into the store, as the Creates that made them.
@@ -147,20 +147,20 @@ pub fn write_start(
     setup: &Setup,
     me: ParticipantId,
     hosted: &mut HostedIds,
-    standing: &mut Standing,
+    registry: &mut Registry,
 ) -> Result<(), AllocError>
-    requires told { AreTold (framed_reading setup.now.topology setup.now.checked) me hosted.old.ids standing.old.store.rows }
-    requires none { standing.old.store.rows ≡ [] }
-    ensures told { OnOk result (AreTold (framed_reading setup.now.topology setup.now.checked) me hosted.new.ids standing.new.store.rows) }
-    ensures rows { OnOk result (standing.new.store.rows ≡ written (map creation_of standing.old.start.active) []) }
-    ensures holds { standing.new.store.holds ≡ standing.old.store.holds }
-    ensures tracking { standing.new.tracking ≡ standing.old.tracking }
-    ensures start { standing.new.start ≡ standing.old.start }
+    requires told { AreTold (framed_reading setup.now.topology setup.now.checked) me hosted.old.ids registry.old.store.rows }
+    requires none { registry.old.store.rows ≡ [] }
+    ensures told { OnOk result (AreTold (framed_reading setup.now.topology setup.now.checked) me hosted.new.ids registry.new.store.rows) }
+    ensures rows { OnOk result (registry.new.store.rows ≡ written (map creation_of registry.old.start.active) []) }
+    ensures holds { registry.new.store.holds ≡ registry.old.store.holds }
+    ensures tracking { registry.new.tracking ≡ registry.old.tracking }
+    ensures start { registry.new.start ≡ registry.old.start }
 {
-    let count = start_len(standing);
+    let count = start_len(registry);
     'rows: for at in 0..count {
-        let row = start_row(standing, at)?;
-        write_created(setup, me, hosted, standing, row)?;
+        let row = start_row(registry, at)?;
+        write_created(setup, me, hosted, registry, row)?;
     }
     Ok(())
 }

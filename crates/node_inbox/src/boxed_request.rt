@@ -5,7 +5,7 @@ ghost use Rattle.node_inbox.specs.Reads.{kept_with};
 use crate::facts::filled;
 use crate::kept_item::KeptRequest;
 use confirm_reply::IdFactsList;
-use inbox_standing::Standing;
+use inbox_registry::Registry;
 use std::alloc::{AllocError, Global};
 use std::marker::Model;
 use std::mem;
@@ -53,12 +53,12 @@ impl BoxedRequest {
         Box::into_inner(request)
     }
 
-    /// Fills its facts with what the standing knows of its contracts. Takes no memory.
-    pub fn put_facts(&mut self, standing: &Standing)
-        ensures { self.new ≡ kept_with self.old standing.now }
+    /// Fills its facts with what the registry knows of its contracts. Takes no memory.
+    pub fn put_facts(&mut self, registry: &Registry)
+        ensures { self.new ≡ kept_with self.old registry.now }
     {
         let none = IdFactsList::new(*self.request.facts.allocator());
         let facts = mem::replace(&mut self.request.facts, none);
-        self.request.facts = filled(standing, facts);
+        self.request.facts = filled(registry, facts);
     }
 }

@@ -1,8 +1,8 @@
 //! Changes of contracts as lists.
 ghost use Rattle.std.specs.Prelude.{◌≡◌, IfOk, map};
-ghost use Rattle.inbox_standing.specs.ChangeLists.{id_in};
+ghost use Rattle.inbox_registry.specs.ChangeLists.{id_in};
 
-use inbox_standing::Change;
+use inbox_registry::Change;
 use ledger_terms::{Exact, HashList};
 use std::alloc::{AllocError, Global};
 

@@ -19,7 +19,7 @@ use crate::kept_item::KeptRequest;
 use crate::kept_offer::KeptOffer;
 use canton_model::{Request, SharedBytes};
 use confirm_reply::{IdFactsList, Setup};
-use inbox_standing::Change;
+use inbox_registry::Change;
 use ledger_terms::{HashList, ParticipantId};
 use proto_model::{Notice, Outline, envelope_of, read_notice};
 use std::alloc::{AllocError, Global};

@@ -2,7 +2,7 @@
 ghost use Rattle.std.specs.Prelude.{◌≡◌, ◌+◌, ◌<◌, ◌≤◌, drop, is_some, nat_lt, length};
 ghost use Rattle.canton_model.specs.Inbox.{verdict_in};
 ghost use Rattle.canton_model.specs.Timeline.{decision_on};
-ghost use Rattle.inbox_standing.specs.Order.{IsInOrder};
+ghost use Rattle.inbox_registry.specs.Order.{IsInOrder};
 ghost use Rattle.node_inbox.specs.Decisions.{decided_from, start_of};
 ghost use Rattle.node_inbox.specs.InboxState.{decided_since};
 ghost use Rattle.node_inbox.specs.Items.{model_content, model_items};

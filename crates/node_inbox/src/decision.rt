@@ -2,7 +2,7 @@
 ghost use Rattle.std.specs.Prelude.{◌≡◌, ◌≤◌, drop, length, option_copied};
 ghost use Rattle.canton_model.specs.Inbox.{moments, verdict_in};
 ghost use Rattle.canton_model.specs.Timeline.{decision_on, verdict_on};
-ghost use Rattle.inbox_standing.specs.Order.{VerdictsBehind};
+ghost use Rattle.inbox_registry.specs.Order.{VerdictsBehind};
 ghost use Rattle.node_inbox.specs.Items.{model_content, model_items};
 
 use crate::kept_item::KeptContent;

@@ -3,31 +3,31 @@ ghost use Rattle.std.specs.Prelude.{◌≡◌, ◌<◌, map, slice_get, slice_se
 ghost use Rattle.node_inbox.specs.Acts.{fact_in};
 
 use confirm_reply::{IdFacts, IdFactsList};
-use inbox_standing::Standing;
+use inbox_registry::Registry;
 
-fn fact_of(standing: &Standing, fact: &IdFacts) -> IdFacts
-    ensures { result ≡ fact_in standing.now fact.now }
+fn fact_of(registry: &Registry, fact: &IdFacts) -> IdFacts
+    ensures { result ≡ fact_in registry.now fact.now }
 {
     IdFacts {
         id: fact.id,
-        status: standing.status(&fact.id),
-        locked: standing.store().locked(&fact.id),
+        status: registry.status(&fact.id),
+        locked: registry.store().locked(&fact.id),
     }
 }
 
-fn fill(standing: &Standing, facts: &mut Vec<IdFacts>)
-    ensures { facts.new.items ≡ map (fact_in standing.now) facts.old.items }
+fn fill(registry: &Registry, facts: &mut Vec<IdFacts>)
+    ensures { facts.new.items ≡ map (fact_in registry.now) facts.old.items }
 {
     for at in 0..facts.len() {
-        facts[at] = fact_of(standing, &facts[at]);
+        facts[at] = fact_of(registry, &facts[at]);
     }
 }
 
-/// The facts on the same contracts, with what the standing knows of them.
-pub fn filled(standing: &Standing, facts: IdFactsList) -> IdFactsList
-    ensures { result ≡ map (fact_in standing.now) facts }
+/// The facts on the same contracts, with what the registry knows of them.
+pub fn filled(registry: &Registry, facts: IdFactsList) -> IdFactsList
+    ensures { result ≡ map (fact_in registry.now) facts }
 {
     let mut kept = facts.into_vec();
-    fill(standing, &mut kept);
+    fill(registry, &mut kept);
     IdFactsList::of(kept)
 }

@@ -7,7 +7,7 @@ ghost use Rattle.node_inbox.specs.Hosts.{AreHosted, host_of, offers, reading_by,
 ghost use Rattle.node_inbox.specs.Listed.{active_row_of};
 
 use confirm_reply::{Setup, has_hosted_stakeholder};
-use inbox_standing::KeptStart;
+use inbox_registry::KeptStart;
 use ledger_terms::{Known, KnownContracts, ParticipantId};
 use prepare_request::HostedContracts;
 use std::alloc::{AllocError, Global};

@@ -26,7 +26,7 @@ use crate::putting::{put_nothing, put_request, put_verdict};
 use crate::telling::{ComingVerdict, telling};
 use canton_model::{Entry, Message, Request, Verdict};
 use confirm_reply::Setup;
-use inbox_standing::{KeptStart, Standing};
+use inbox_registry::{KeptStart, Registry};
 use ledger_terms::ParticipantId;
 use node_state::{Item, ItemWhat};
 use prepare_request::HostedIds;
@@ -43,7 +43,7 @@ pub struct Inbox<'s> {
     base: u64,
     base_time: u64,
     items: KeptItems,
-    standing: Standing,
+    registry: Registry,
     hosted: HostedIds,
     // no contract was created twice, and none that is gone
     is_once: bool,
@@ -70,7 +70,7 @@ impl<'s> Model for Inbox<'s> {
       me = i.me;
       base = i.base;
       base_time = i.base_time;
-      start = i.standing.start;
+      start = i.registry.start;
       items = model_items i.items.items;
     } };
 
@@ -81,12 +81,12 @@ impl<'s> Model for Inbox<'s> {
     ghost use Rattle.node_inbox.specs.Places.{AreApproved};
     ghost use Rattle.node_inbox.specs.KeptActive.{AreActiveIf};
 
-    ghost invariant = { λ i. IsInbox i.setup.now.topology i.setup.now.checked i.me i.items.items i.standing
-        × AreTold (framed_reading i.setup.now.topology i.setup.now.checked) i.me i.hosted.ids i.standing.store.rows
-        × AreOnceIf i.is_once (framed_reading i.setup.now.topology i.setup.now.checked) i.standing.start (model_items i.items.items)
+    ghost invariant = { λ i. IsInbox i.setup.now.topology i.setup.now.checked i.me i.items.items i.registry
+        × AreTold (framed_reading i.setup.now.topology i.setup.now.checked) i.me i.hosted.ids i.registry.store.rows
+        × AreOnceIf i.is_once (framed_reading i.setup.now.topology i.setup.now.checked) i.registry.start (model_items i.items.items)
         × AreApproved i.setup.now.topology.params (model_items i.items.items) i.approved
-        × AreActiveIf (framed_reading i.setup.now.topology i.setup.now.checked) i.me i.standing.start (model_items i.items.items) i.active
-        × BeginsAt i.base i.standing.start (model_items i.items.items) };
+        × AreActiveIf (framed_reading i.setup.now.topology i.setup.now.checked) i.me i.registry.start (model_items i.items.items) i.active
+        × BeginsAt i.base i.registry.start (model_items i.items.items) };
 }
 
 impl<'s> Inbox<'s> {
@@ -95,7 +95,7 @@ impl<'s> Inbox<'s> {
         ensures { result ≡ begun setup.now.topology setup.now.checked me }
     {
         let items = KeptItems::at(alloc, 0, 0);
-        let standing = Standing::new(alloc);
+        let registry = Registry::new(alloc);
         let hosted = HostedIds::new(alloc);
         let approved = ApprovedPlaces::new(alloc);
         ids_tell_after_each_change();
@@ -105,7 +105,7 @@ impl<'s> Inbox<'s> {
             base: 0,
             base_time: 0,
             items,
-            standing,
+            registry,
             hosted,
             is_once: true,
             approved,
@@ -132,18 +132,18 @@ impl<'s> Inbox<'s> {
         } = beginning;
         let items = KeptItems::at(alloc, base, base_time);
         let start = KeptStart::of(alloc, active, &gone)?;
-        let mut standing = Standing::at(alloc, base, start);
+        let mut registry = Registry::at(alloc, base, start);
         let mut hosted = HostedIds::new(alloc);
         let approved = ApprovedPlaces::at(alloc, base);
         ids_tell_after_each_change();
-        write_start(setup, me, &mut hosted, &mut standing)?;
+        write_start(setup, me, &mut hosted, &mut registry)?;
         Ok(Inbox {
             setup,
             me,
             base,
             base_time,
             items,
-            standing,
+            registry,
             hosted,
             is_once: true,
             approved,
@@ -175,7 +175,7 @@ impl<'s> Inbox<'s> {
             self.setup,
             self.me,
             &mut self.items,
-            &mut self.standing,
+            &mut self.registry,
             time,
         )
     }
@@ -199,7 +199,7 @@ impl<'s> Inbox<'s> {
                 self.setup,
                 self.me,
                 &mut self.items,
-                &mut self.standing,
+                &mut self.registry,
                 time,
                 coming,
             ),
@@ -219,7 +219,7 @@ impl<'s> Inbox<'s> {
             self.setup,
             self.me,
             &self.items,
-            &self.standing,
+            &self.registry,
             verdict,
         )? {
             Some(coming) => self.put_verdict(time, coming),
@@ -239,16 +239,16 @@ impl<'s> Inbox<'s> {
             *self.items.allocator(),
             self.setup,
             self.me,
-            self.standing.store(),
+            self.registry.store(),
             coming.changes.as_slice(),
         )?;
-        let some_gone = create_gone(self.standing.start(), coming.changes.as_slice());
+        let some_gone = create_gone(self.registry.start(), coming.changes.as_slice());
         self.hosted.reserve(ids.as_slice().len())?;
         put_verdict(
             self.setup,
             self.me,
             &mut self.items,
-            &mut self.standing,
+            &mut self.registry,
             time,
             coming,
         )?;
@@ -269,14 +269,14 @@ impl<'s> Inbox<'s> {
         ensures { self.new ≡ self.old }
     {
         let clean = self.clean();
-        bring_up(&mut self.approved, &self.standing, clean)
+        bring_up(&mut self.approved, &self.registry, clean)
     }
 
     // Whether a place is far behind that of the contracts that are kept, or behind the base, as many of them as there are.
     fn is_far(&self, place: u64) -> bool {
         match &self.active {
             Some(active) => active.is_far(place),
-            None => is_far(self.base, self.standing.start().active().len(), place),
+            None => is_far(self.base, self.registry.start().active().len(), place),
         }
     }
 
@@ -332,7 +332,7 @@ impl<'s> Inbox<'s> {
             self.setup,
             self.me,
             &mut self.items,
-            &mut self.standing,
+            &mut self.registry,
             time,
             coming,
         )

@@ -3,7 +3,7 @@ use crate::boxed_request::BoxedRequest;
 use crate::kept_offer::KeptOffer;
 use canton_model::{SharedBytes, Verdict};
 use confirm_reply::IdFactsList;
-use inbox_standing::Change;
+use inbox_registry::Change;
 use ledger_terms::{Hash, Name, ParticipantId, PathList};
 
 /// What a participant keeps of a request of which it is a recipient: who sent it, the name that the sender gave the command, the hash

@@ -6,7 +6,7 @@ ghost use Rattle.node_inbox.specs.Listed.{active_row_of, listed, listed_at};
 
 use crate::live_row::LiveRow;
 use crate::live_rows::LiveRows;
-use inbox_standing::KeptStart;
+use inbox_registry::KeptStart;
 use ledger_terms::{ActiveRow, ActiveRowList, Exact, Hash, HashList, Known};
 use std::alloc::{AllocError, Global};
 

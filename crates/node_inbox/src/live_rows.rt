@@ -3,12 +3,12 @@ ghost use Rattle.std.specs.Prelude.{◌≡◌, [], length, option_copied, slice_
 ghost use Rattle.std.specs.Str.{bytes_eq};
 ghost use Rattle.indexmap.specs.IndexMap.{get, insert_entry};
 ghost use Rattle.contract_store.specs.Rows.{created, status_in};
-ghost use Rattle.inbox_standing.specs.ChangeLists.{write_change};
+ghost use Rattle.inbox_registry.specs.ChangeLists.{write_change};
 ghost use Rattle.node_inbox.specs.KeptActive.{is_consumed};
 ghost use Rattle.node_inbox.specs.LiveRows.{has_consumed_row, row_after};
 
 use crate::live_row::LiveRow;
-use inbox_standing::Change;
+use inbox_registry::Change;
 use indexmap::IndexMap;
 use ledger_terms::{Hash, Known};
 use std::alloc::{AllocError, Global};

@@ -1,11 +1,11 @@
 //! One item is put behind those that were read, and what is kept beside them follows.
 ghost use Rattle.std.specs.Prelude.{◌≡◌, ◌<◌, ◌^◌, length, IfNone, IfSome, OnErr, OnOk};
 ghost use Rattle.canton_model.specs.Inbox.{Told, Nothing, last_time};
-ghost use Rattle.inbox_standing.specs.Requests.{decision_after, told_time};
+ghost use Rattle.inbox_registry.specs.Requests.{decision_after, told_time};
 ghost use Rattle.node_inbox.specs.Coming.{IsComing, IsTelling};
 ghost use Rattle.node_inbox.specs.Items.{model_content, model_items};
 ghost use Rattle.node_inbox.specs.Kept.{IsInbox};
-ghost use Rattle.inbox_standing.specs.Room.{HasRoom};
+ghost use Rattle.inbox_registry.specs.Room.{HasRoom};
 ghost use Rattle.node_inbox.specs.Reads.{HasRead, IsSettled, IsUnread, item_with};
 ghost use Rattle.node_inbox.specs.declared.kept_item.KeptContent.TheVariants as Content;
 ghost use Rattle.framed_form.specs.FramedReading.{framed_reading};
@@ -16,7 +16,7 @@ use crate::kept_items::KeptItems;
 use crate::telling::ComingVerdict;
 use canton_model::Outcome;
 use confirm_reply::Setup;
-use inbox_standing::{Change, Standing};
+use inbox_registry::{Change, Registry};
 use ledger_terms::{Params, ParticipantId};
 use std::alloc::AllocError;
 
@@ -33,19 +33,19 @@ pub fn put_nothing(
     setup: &Setup,
     me: ParticipantId,
     items: &mut KeptItems,
-    standing: &mut Standing,
+    registry: &mut Registry,
     time: u64,
 ) -> Result<(), AllocError>
     requires few { length items.old.items < 2 ^ 63 }
     requires rises { last_time (model_items items.old.items) < time }
-    requires inbox { IsInbox setup.now.topology setup.now.checked me items.old.items standing.old }
-    ensures ok { OnOk result (HasRead setup.now.topology setup.now.checked me items.old.items items.new.items standing.old.start standing.new
+    requires inbox { IsInbox setup.now.topology setup.now.checked me items.old.items registry.old }
+    ensures ok { OnOk result (HasRead setup.now.topology setup.now.checked me items.old.items items.new.items registry.old.start registry.new
         (item_with time Nothing)) }
-    ensures err { OnErr result (IsUnread setup.now.topology setup.now.checked me items.old.items items.new.items standing.old.start standing.new) }
+    ensures err { OnErr result (IsUnread setup.now.topology setup.now.checked me items.old.items items.new.items registry.old.start registry.new) }
 {
     items.reserve()?;
-    standing.pass(time);
-    standing.advance();
+    registry.pass(time);
+    registry.advance();
     items.push_within(KeptItem {
         time,
         content: KeptContent::Nothing,
@@ -58,26 +58,26 @@ pub fn put_request(
     setup: &Setup,
     me: ParticipantId,
     items: &mut KeptItems,
-    standing: &mut Standing,
+    registry: &mut Registry,
     time: u64,
     coming: ComingRequest,
 ) -> Result<(), AllocError>
     requires few { length items.old.items < 2 ^ 63 }
     requires rises { last_time (model_items items.old.items) < time }
-    requires inbox { IsInbox setup.now.topology setup.now.checked me items.old.items standing.old }
+    requires inbox { IsInbox setup.now.topology setup.now.checked me items.old.items registry.old }
     requires coming { IsComing setup.now.topology setup.now.checked me coming }
-    ensures ok { OnOk result (HasRead setup.now.topology setup.now.checked me items.old.items items.new.items standing.old.start standing.new
+    ensures ok { OnOk result (HasRead setup.now.topology setup.now.checked me items.old.items items.new.items registry.old.start registry.new
         (item_with time (model_content (Content.Received coming.kept)))) }
-    ensures err { OnErr result (IsUnread setup.now.topology setup.now.checked me items.old.items items.new.items standing.old.start standing.new) }
+    ensures err { OnErr result (IsUnread setup.now.topology setup.now.checked me items.old.items items.new.items registry.old.start registry.new) }
 {
     let ComingRequest { mut kept, ids } = coming;
     items.reserve()?;
-    standing.begin(decision_of(&setup.topology.params, time), &ids)?;
-    let place = standing.cursor();
-    standing.pass(time);
-    kept.put_facts(standing);
-    standing.hold(place, &ids);
-    standing.advance();
+    registry.begin(decision_of(&setup.topology.params, time), &ids)?;
+    let place = registry.cursor();
+    registry.pass(time);
+    kept.put_facts(registry);
+    registry.hold(place, &ids);
+    registry.advance();
     items.push_within(KeptItem {
         time,
         content: KeptContent::Received(kept),
@@ -90,17 +90,17 @@ pub fn put_verdict(
     setup: &Setup,
     me: ParticipantId,
     items: &mut KeptItems,
-    standing: &mut Standing,
+    registry: &mut Registry,
     time: u64,
     coming: ComingVerdict,
 ) -> Result<(), AllocError>
     requires few { length items.old.items < 2 ^ 63 }
     requires rises { last_time (model_items items.old.items) < time }
-    requires inbox { IsInbox setup.now.topology setup.now.checked me items.old.items standing.old }
+    requires inbox { IsInbox setup.now.topology setup.now.checked me items.old.items registry.old }
     requires coming { IsTelling (framed_reading setup.now.topology setup.now.checked) (model_items items.old.items) coming.verdict coming }
-    ensures ok { OnOk result (HasRead setup.now.topology setup.now.checked me items.old.items items.new.items standing.old.start standing.new
+    ensures ok { OnOk result (HasRead setup.now.topology setup.now.checked me items.old.items items.new.items registry.old.start registry.new
         (item_with time (Told coming.verdict))) }
-    ensures err { OnErr result (IsUnread setup.now.topology setup.now.checked me items.old.items items.new.items standing.old.start standing.new) }
+    ensures err { OnErr result (IsUnread setup.now.topology setup.now.checked me items.old.items items.new.items registry.old.start registry.new) }
 {
     let ComingVerdict {
         verdict,
@@ -108,10 +108,10 @@ pub fn put_verdict(
         changes,
     } = coming;
     items.reserve()?;
-    standing.make_room(&changes)?;
-    standing.pass(time);
-    settle_if(standing, verdict.request, first, changes);
-    standing.advance();
+    registry.make_room(&changes)?;
+    registry.pass(time);
+    settle_if(registry, verdict.request, first, changes);
+    registry.advance();
     items.push_within(KeptItem {
         time,
         content: KeptContent::Told(verdict),
@@ -120,12 +120,12 @@ pub fn put_verdict(
 }
 
 // The request at a place is settled, where there is an outcome.
-fn settle_if(standing: &mut Standing, place: u64, outcome: Option<Outcome>, changes: Vec<Change>)
-    requires { HasRoom standing.old.store.ready standing.old.store.spare changes.items }
-    ensures some { IfSome outcome (λ o. IsSettled standing.old standing.new place o changes.items) }
-    ensures none { IfNone outcome (standing.new ≡ standing.old) }
+fn settle_if(registry: &mut Registry, place: u64, outcome: Option<Outcome>, changes: Vec<Change>)
+    requires { HasRoom registry.old.store.ready registry.old.store.spare changes.items }
+    ensures some { IfSome outcome (λ o. IsSettled registry.old registry.new place o changes.items) }
+    ensures none { IfNone outcome (registry.new ≡ registry.old) }
 {
     if let Some(outcome) = outcome {
-        standing.settle(place, outcome, changes);
+        registry.settle(place, outcome, changes);
     }
 }

@@ -2,14 +2,14 @@
 use crate::approved_places::ApprovedPlaces;
 use crate::kept_active::KeptActive;
 use crate::kept_items::KeptItems;
-use inbox_standing::Standing;
+use inbox_registry::Registry;
 use prepare_request::HostedIds;
 
 /// What an inbox kept, when nobody asks it any more. It borrows nothing, so it is dropped, or forgotten, when whoever has it says.
 #[derive(Drop)]
 pub struct InboxRemains {
     items: KeptItems,
-    standing: Standing,
+    registry: Registry,
     hosted: HostedIds,
     approved: ApprovedPlaces,
     active: Option<KeptActive>,
@@ -19,14 +19,14 @@ impl InboxRemains {
     /// The parts of an inbox.
     pub(crate) fn new(
         items: KeptItems,
-        standing: Standing,
+        registry: Registry,
         hosted: HostedIds,
         approved: ApprovedPlaces,
         active: Option<KeptActive>,
     ) -> InboxRemains {
         InboxRemains {
             items,
-            standing,
+            registry,
             hosted,
             approved,
             active,

@@ -15,7 +15,7 @@ use crate::kept_items::KeptItems;
 use crate::kept_offer::KeptOffer;
 use blind_tree::PlacedViewList;
 use confirm_reply::{Setup, SharedTree};
-use inbox_standing::Standing;
+use inbox_registry::Registry;
 use ledger_model::CommitList;
 use ledger_terms::ActionNodeList;
 use std::alloc::{AllocError, Global};
@@ -55,16 +55,16 @@ fn offer_taken(alloc: Global, offer: KeptOffer) -> Result<ActionNodeList, AllocE
 
 // What an item opens, where it is a request that is approved.
 fn push_taken(
-    standing: &Standing,
+    registry: &Registry,
     place: u64,
     content: KeptContent,
     commits: &mut CommitList,
 ) -> Result<(), AllocError>
-    ensures { OnOk result (commits.new ≡ commits.old ++ part_of (is_approved (outcome_at standing.now.tracking.pairs place)) place content) }
+    ensures { OnOk result (commits.new ≡ commits.old ++ part_of (is_approved (outcome_at registry.now.tracking.pairs place)) place content) }
 {
     match content {
         KeptContent::Received(kept) => {
-            if !is_approved(standing, place) {
+            if !is_approved(registry, place) {
                 return Ok(());
             }
             let KeptRequest { offer, .. } = kept.into_request();
@@ -80,10 +80,10 @@ fn push_taken(
 pub fn into_applied(
     setup: &Setup,
     items: KeptItems,
-    standing: &Standing,
+    registry: &Registry,
     end: u64,
 ) -> Result<CommitList, AllocError>
-    requires { TellsOutcomes setup.now.topology.params (model_items items.items) standing.now }
+    requires { TellsOutcomes setup.now.topology.params (model_items items.items) registry.now }
     ensures { IfOk result (λ commits. commits ≡ parts_below (model_items items.items) end) }
 {
     let mut commits = CommitList::new(*items.allocator());
@@ -96,7 +96,7 @@ pub fn into_applied(
         if place >= end {
             break;
         }
-        push_taken(standing, place, item.content, &mut commits)?;
+        push_taken(registry, place, item.content, &mut commits)?;
         place += 1;
     }
     Ok(commits)

@@ -12,7 +12,7 @@ use crate::items::request_at;
 use crate::kept_items::KeptItems;
 use canton_model::{Decision, Outcome, Verdict};
 use confirm_reply::Setup;
-use inbox_standing::{Change, Standing};
+use inbox_registry::{Change, Registry};
 use ledger_terms::ParticipantId;
 use std::alloc::{AllocError, Global};
 
@@ -87,10 +87,10 @@ pub fn telling(
     setup: &Setup,
     me: ParticipantId,
     items: &KeptItems,
-    standing: &Standing,
+    registry: &Registry,
     verdict: &Verdict,
 ) -> Result<Option<ComingVerdict>, AllocError>
-    requires { IsInbox setup.now.topology setup.now.checked me items.now.items standing.now }
+    requires { IsInbox setup.now.topology setup.now.checked me items.now.items registry.now }
     ensures none { IfOk result (λ o. IfNone o (notice_at (model_items items.now.items) verdict.now.request ≡ None)) }
     ensures some { IfOk result (λ o. IfSome o (λ coming.
         IsTelling (framed_reading setup.now.topology setup.now.checked) (model_items items.now.items) verdict.now coming)) }
@@ -99,7 +99,7 @@ pub fn telling(
         return Ok(None);
     };
     let told = copy_of(verdict)?;
-    if is_told(standing.outcome(verdict.request)) {
+    if is_told(registry.outcome(verdict.request)) {
         return Ok(Some(ComingVerdict {
             verdict: told,
             first: None,

@@ -13,7 +13,7 @@ use crate::kept_item::KeptRequest;
 use crate::kept_items::KeptItems;
 use crate::kept_offer::KeptOffer;
 use confirm_reply::Setup;
-use inbox_standing::Standing;
+use inbox_registry::Registry;
 use ledger_terms::U64List;
 use std::alloc::{AllocError, Global};
 
@@ -43,11 +43,11 @@ fn is_kept_from_at(items: &KeptItems, place: u64) -> bool
     }
 }
 
-fn is_withheld(setup: &Setup, items: &KeptItems, standing: &Standing, place: u64) -> bool
-    requires { TellsOutcomes setup.now.topology.params (model_items items.now.items) standing.now }
+fn is_withheld(setup: &Setup, items: &KeptItems, registry: &Registry, place: u64) -> bool
+    requires { TellsOutcomes setup.now.topology.params (model_items items.now.items) registry.now }
     ensures { result ≡ is_withheld_in (model_items items.now.items) place }
 {
-    is_kept_from_at(items, place) && is_approved(standing, place)
+    is_kept_from_at(items, place) && is_approved(registry, place)
 }
 
 fn push_if_kept_from(items: &KeptItems, place: u64, places: &mut U64List) -> Result<(), AllocError>
@@ -73,14 +73,14 @@ fn kept_from_among(alloc: Global, items: &KeptItems, among: &[u64]) -> Result<U6
 fn push_if_withheld(
     setup: &Setup,
     items: &KeptItems,
-    standing: &Standing,
+    registry: &Registry,
     place: u64,
     places: &mut U64List,
 ) -> Result<(), AllocError>
-    requires { TellsOutcomes setup.now.topology.params (model_items items.now.items) standing.now }
+    requires { TellsOutcomes setup.now.topology.params (model_items items.now.items) registry.now }
     ensures { OnOk result (places.new ≡ places.old ++ place_if (is_withheld_in (model_items items.now.items) place) place) }
 {
-    if is_withheld(setup, items, standing, place) {
+    if is_withheld(setup, items, registry, place) {
         places.push(place)?;
     }
     Ok(())
@@ -91,11 +91,11 @@ pub fn withheld(
     alloc: Global,
     setup: &Setup,
     items: &KeptItems,
-    standing: &Standing,
+    registry: &Registry,
     approved: &ApprovedPlaces,
     end: u64,
 ) -> Result<U64List, AllocError>
-    requires told { TellsOutcomes setup.now.topology.params (model_items items.now.items) standing.now }
+    requires told { TellsOutcomes setup.now.topology.params (model_items items.now.items) registry.now }
     requires approved { AreApproved setup.now.topology.params (model_items items.now.items) approved.now }
     ensures { IfOk result (λ places. places ≡ withheld_below (model_items items.now.items) end) }
 {
@@ -103,7 +103,7 @@ pub fn withheld(
     let known = approved.not_behind(&none, end);
     let mut places = kept_from_among(alloc, items, known.places.as_slice())?;
     'places: for place in known.below..end {
-        push_if_withheld(setup, items, standing, place, &mut places)?;
+        push_if_withheld(setup, items, registry, place, &mut places)?;
     }
     Ok(places)
 }

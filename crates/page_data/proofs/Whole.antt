@@ -10,8 +10,8 @@ use Rattle.contract_store.specs.Written.{written}
 use Rattle.contract_store.specs.declared.row.StoreRow.{StoreRow}
 use Rattle.pruned_inbox.specs.Start.{Start, active_kept, no_start, status_kept}
 use Rattle.pruned_inbox.proofs.Pruned.{owed_at_first}
-use Rattle.inbox_standing.specs.Changes.{changes_in, changes_since}
-use Rattle.inbox_standing.specs.Standing.{known_status}
+use Rattle.inbox_registry.specs.Changes.{changes_in, changes_since}
+use Rattle.inbox_registry.specs.Registry.{known_status}
 use Rattle.node_inbox.specs.InboxState.{owed_kept}
 
 module _ (reading : Reading) (start : Start) (items : List Item) (none : start ≡ no_start) where

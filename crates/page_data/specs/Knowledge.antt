@@ -8,8 +8,8 @@ use Rattle.world_model.specs.Node.{owes_at}
 use Rattle.contract_store.specs.Written.{written}
 use Rattle.contract_store.specs.declared.row.StoreRow.{StoreRow}
 use Rattle.pruned_inbox.specs.Start.{no_start}
-use Rattle.inbox_standing.specs.Changes.{changes_in}
-use Rattle.inbox_standing.specs.Requests.{outcome_received}
+use Rattle.inbox_registry.specs.Changes.{changes_in}
+use Rattle.inbox_registry.specs.Requests.{outcome_received}
 use Rattle.node_inbox.specs.InboxState.{InboxState, params_of, reading_of}
 use Rattle.page_data.specs.declared.contract_state.ContractState.{ContractState}
 use Rattle.page_data.specs.declared.knowledge.Knowledge.{Knowledge}

@@ -11,7 +11,7 @@ use std::alloc::{AllocError, Global};
 
 /// What is said of a contract: its status, whether it is locked, and whether it is one of the participant's active contracts.
 #[derive(Clone, Copy, PartialEq, Eq)]
-struct Standing {
+struct ContractFacts {
     status: Status,
     is_locked: bool,
     is_own: bool,
@@ -21,7 +21,7 @@ struct Standing {
 #[derive(Clone, Copy)]
 struct Held {
     stay: Stay,
-    standing: Standing,
+    facts: ContractFacts,
 }
 
 /// What is known of the contract, which stands at that index where it is known.
@@ -36,12 +36,12 @@ fn is_own(knowledge: &Knowledge, id: &Hash) -> bool {
     knowledge.active.as_slice().iter().any(|own| *own == *id)
 }
 
-fn standing_of(
+fn facts_of(
     knowledge: &Knowledge,
     index: usize,
     id: &Hash,
-    before: Option<Standing>,
-) -> Option<Standing> {
+    before: Option<ContractFacts>,
+) -> Option<ContractFacts> {
     let state = state_of(knowledge, index, id)?;
     let ContractState {
         status,
@@ -49,8 +49,8 @@ fn standing_of(
         ..
     } = state;
     match before {
-        Some(standing) if standing.status == status && standing.is_locked == is_locked => before,
-        _ => Some(Standing {
+        Some(facts) if facts.status == status && facts.is_locked == is_locked => before,
+        _ => Some(ContractFacts {
             status,
             is_locked,
             is_own: is_own(knowledge, id),
@@ -59,31 +59,31 @@ fn standing_of(
 }
 
 /// What is said of a contract, for how long.
-fn standings_of(
+fn facts_over_time(
     alloc: Global,
     teller: &Teller,
     index: usize,
     id: &Hash,
 ) -> Result<ListOf<Held>, AllocError> {
     let mut all = ListOf::new(alloc);
-    let mut now: Option<Standing> = None;
+    let mut now: Option<ContractFacts> = None;
     let mut from = 0;
     let mut to = 0;
     for (place, knowledge) in teller.course.states.as_slice().iter().enumerate() {
-        let next = standing_of(knowledge, index, id, now);
+        let next = facts_of(knowledge, index, id, now);
         if next != now {
-            if let Some(standing) = now {
+            if let Some(facts) = now {
                 let stay = Stay { from, to };
-                all.push(Held { stay, standing })?;
+                all.push(Held { stay, facts })?;
             }
             now = next;
             from = place as u64;
         }
         to = place as u64;
     }
-    if let Some(standing) = now {
+    if let Some(facts) = now {
         let stay = Stay { from, to };
-        all.push(Held { stay, standing })?;
+        all.push(Held { stay, facts })?;
     }
     Ok(all)
 }
@@ -96,8 +96,8 @@ fn put_place(html: &mut Html, place: Option<u64>) -> Result<(), AllocError> {
     Ok(())
 }
 
-fn put_standing(html: &mut Html, row: &StoreRow, standing: &Standing) -> Result<(), AllocError> {
-    match standing.status {
+fn put_facts(html: &mut Html, row: &StoreRow, facts: &ContractFacts) -> Result<(), AllocError> {
+    match facts.status {
         Status::Unknown => html.markup("unknown"),
         Status::Active => {
             html.markup("\u{25cf} active, created")?;
@@ -108,10 +108,10 @@ fn put_standing(html: &mut Html, row: &StoreRow, standing: &Standing) -> Result<
             put_place(html, row.consumed_at)
         }
     }?;
-    if standing.is_locked {
+    if facts.is_locked {
         html.markup("; <b>locked</b>: an undecided request creates or consumes it")?;
     }
-    if standing.status == Status::Active && !standing.is_own {
+    if facts.status == Status::Active && !facts.is_own {
         html.markup("; no stakeholder of it is hosted")?;
     }
     Ok(())
@@ -124,12 +124,12 @@ fn put_rows(
     index: usize,
     row: &StoreRow,
 ) -> Result<(), AllocError> {
-    for held in standings_of(story.alloc, teller, index, &row.known.id)?.as_slice() {
+    for held in facts_over_time(story.alloc, teller, index, &row.known.id)?.as_slice() {
         html.begin_at("tr", held.stay, story.last())?;
         html.markup("<th scope=\"row\">")?;
         put_contract(story.alloc, html, &row.known.instance)?;
         html.markup("</th><td>")?;
-        put_standing(html, row, &held.standing)?;
+        put_facts(html, row, &held.facts)?;
         html.markup("</td></tr>\n")?;
     }
     Ok(())

@@ -4,7 +4,7 @@ use crate::heading::{label, quiet};
 use crate::layout::{LEFT, LINE_HEIGHT, LIST_GAP, at};
 use crate::limits::{MOST_ACTIVES, MOST_FIRED, MOST_REFUSED};
 use crate::sheet::Sheet;
-use report_read::{Active, Answer, Fired, Report, Standing, SubmitResult};
+use report_read::{Active, Answer, Fired, Report, SubmitResult, Summary};
 use std::alloc::AllocError;
 use svg_text::{Font, Mark};
 
@@ -70,12 +70,12 @@ fn draw_one_fired(sheet: &mut Sheet, fired: &Fired<'_>) -> Result<(), AllocError
 }
 
 /// Lists what each participant knows at the end, with its active contracts.
-pub fn draw_standings(sheet: &mut Sheet, report: &Report<'_>) -> Result<(), AllocError> {
+pub fn draw_summaries(sheet: &mut Sheet, report: &Report<'_>) -> Result<(), AllocError> {
     draw_title(sheet, "What each participant knows at the end")?;
-    for standing in report.standings.as_slice() {
-        draw_standing(sheet, report, standing)?;
+    for summary in report.summaries.as_slice() {
+        draw_summary(sheet, report, summary)?;
         let actives = report.actives.as_slice().iter().take(MOST_ACTIVES);
-        for active in actives.filter(|active| active.participant == standing.participant) {
+        for active in actives.filter(|active| active.participant == summary.participant) {
             draw_active(sheet, active)?;
         }
     }
@@ -87,22 +87,22 @@ pub fn draw_standings(sheet: &mut Sheet, report: &Report<'_>) -> Result<(), Allo
     )
 }
 
-fn draw_standing(
+fn draw_summary(
     sheet: &mut Sheet,
     report: &Report<'_>,
-    standing: &Standing,
+    summary: &Summary,
 ) -> Result<(), AllocError> {
-    let name = report.hosts.name(standing.participant).unwrap_or("");
-    let Standing { clean, time, .. } = standing;
+    let name = report.hosts.name(summary.participant).unwrap_or("");
+    let Summary { clean, time, .. } = summary;
     let known = format!(in sheet.alloc; "{name}: clean to place {clean}, time {time}")?;
-    let Standing {
+    let Summary {
         pruned,
         withheld,
         commits,
         actions,
         actives,
         ..
-    } = standing;
+    } = summary;
     let mut words = format!(in sheet.alloc;
         "{known}; commits {commits}, actions {actions}, active contracts {actives}"
     )?;

@@ -4,7 +4,7 @@ use crate::entry_rows::draw_entries;
 use crate::heading::draw_heading;
 use crate::layout::{LINE_HEIGHT, LIST_GAP, Lanes, ROW_HEIGHT, WIDTH};
 use crate::limits::{MOST_ACTIVES, MOST_FIRED, MOST_REFUSED, MOST_ROWS};
-use crate::lists::{draw_fired, draw_refused, draw_standings};
+use crate::lists::{draw_fired, draw_refused, draw_summaries};
 use crate::shortened::{fits, shortened};
 use ledger_terms::Text;
 use ledger_terms::limits::MOST_PARTICIPANTS;
@@ -48,7 +48,7 @@ pub fn draw(alloc: Global, report: &Report<'_>) -> Result<Text, AllocError> {
     draw_entries(&mut sheet, report)?;
     draw_refused(&mut sheet, report, counts.refused)?;
     draw_fired(&mut sheet, report)?;
-    draw_standings(&mut sheet, report)?;
+    draw_summaries(&mut sheet, report)?;
     let Sheet { svg, .. } = sheet;
     svg.finish()
 }
@@ -74,13 +74,13 @@ fn height_of(report: &Report<'_>, counts: &Counts) -> u32 {
     let refused = height_if_any(counts.refused, MOST_REFUSED);
     let fired = height_if_any(report.fired.len(), MOST_FIRED);
     let actives = listed(report.actives.len(), MOST_ACTIVES);
-    let standings = report.standings.len().min(MOST_PARTICIPANTS) as u32;
+    let summaries = report.summaries.len().min(MOST_PARTICIPANTS) as u32;
     HEADING_HEIGHT
         .saturating_add(rows_height(report.entries.len()))
         .saturating_add(ROW_HEIGHT)
         .saturating_add(refused)
         .saturating_add(fired)
-        .saturating_add(list_height(standings.saturating_add(actives)))
+        .saturating_add(list_height(summaries.saturating_add(actives)))
 }
 
 /// How high a list of so many is, of which so many are drawn, where it is drawn at all.

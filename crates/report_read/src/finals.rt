@@ -6,7 +6,7 @@ use crate::lane::Lane;
 use crate::lines::Lines;
 use crate::report_fault::ReportFault;
 use crate::scan::{is_action, is_instance, level_of};
-use crate::standing::{Standing, StandingList};
+use crate::summary::{Summary, SummaryList};
 use crate::withheld::{Withheld, WithheldList};
 use crate::words::Words;
 use std::alloc::Global;
@@ -14,7 +14,7 @@ use std::alloc::Global;
 /// What each participant knows, the requests that are withheld from it, and the contracts that are active for it.
 #[derive(Drop)]
 pub(crate) struct Finals<'t> {
-    pub standings: StandingList,
+    pub summaries: SummaryList,
     pub withheld: WithheldList,
     pub actives: ActiveList<'t>,
 }
@@ -25,27 +25,27 @@ pub(crate) fn read_finals<'t>(
     lines: &mut Lines<'t>,
     hosts: &Hosts<'t>,
 ) -> Result<Finals<'t>, ReportFault> {
-    let mut standings = StandingList::new(alloc);
+    let mut summaries = SummaryList::new(alloc);
     let mut withheld = WithheldList::new(alloc);
     let mut actives = ActiveList::new(alloc);
     for at in 0..hosts.len() {
         let lane = Lane(at);
         let line = lines.next(Expected::ParticipantOrEnd)?;
-        let mut standing = lines.read(read_standing(line, lane, hosts))?;
-        standing.pruned = read_pruned(lines)?;
-        standing.withheld = read_withheld(lines, lane, &mut withheld)?;
-        read_commits(lines, &mut standing)?;
-        standing.actives = read_actives(lines, lane, &mut actives)?;
-        standings.push(standing)?;
+        let mut summary = lines.read(read_summary(line, lane, hosts))?;
+        summary.pruned = read_pruned(lines)?;
+        summary.withheld = read_withheld(lines, lane, &mut withheld)?;
+        read_commits(lines, &mut summary)?;
+        summary.actives = read_actives(lines, lane, &mut actives)?;
+        summaries.push(summary)?;
     }
     Ok(Finals {
-        standings,
+        summaries,
         withheld,
         actives,
     })
 }
 
-fn read_standing<'t>(line: &'t str, lane: Lane, hosts: &Hosts<'t>) -> Result<Standing, Expected> {
+fn read_summary<'t>(line: &'t str, lane: Lane, hosts: &Hosts<'t>) -> Result<Summary, Expected> {
     let mut words = Words::of(line);
     words.literal("participant", Expected::ParticipantOrEnd)?;
     if words.participant(hosts)? != lane {
@@ -56,7 +56,7 @@ fn read_standing<'t>(line: &'t str, lane: Lane, hosts: &Hosts<'t>) -> Result<Sta
     words.literal("time", Expected::Clean)?;
     let time = words.number(Expected::Clean)?;
     words.end()?;
-    Ok(Standing {
+    Ok(Summary {
         participant: lane,
         clean,
         time,
@@ -117,16 +117,16 @@ fn read_withheld_place(line: &str) -> Result<u64, Expected> {
 }
 
 /// Commits with their actions, which are counted.
-fn read_commits<'t>(lines: &mut Lines<'t>, standing: &mut Standing) -> Result<(), ReportFault> {
+fn read_commits<'t>(lines: &mut Lines<'t>, summary: &mut Summary) -> Result<(), ReportFault> {
     for _ in 0..u64::MAX {
         if !lines.begins_with("commit ") {
             break;
         }
         let line = lines.next(Expected::ParticipantOrEnd)?;
         lines.read(read_commit(line))?;
-        standing.commits = standing.commits.saturating_add(1);
+        summary.commits = summary.commits.saturating_add(1);
         let actions = read_actions(lines)?;
-        standing.actions = standing.actions.saturating_add(actions);
+        summary.actions = summary.actions.saturating_add(actions);
     }
     Ok(())
 }

@@ -17,8 +17,8 @@ mod report;
 mod report_fault;
 mod results;
 mod scan;
-mod standing;
 mod submit_result;
+mod summary;
 mod withheld;
 mod words;
 
@@ -33,6 +33,6 @@ pub use message::Message;
 pub use outcome::{Outcome, OutcomeList};
 pub use report::{Report, read_report};
 pub use report_fault::ReportFault;
-pub use standing::{Standing, StandingList};
 pub use submit_result::{Answer, SubmitResult, SubmitResultList};
+pub use summary::{Summary, SummaryList};
 pub use withheld::{Withheld, WithheldList};

@@ -10,8 +10,8 @@ use crate::lines::Lines;
 use crate::outcome::OutcomeList;
 use crate::report_fault::ReportFault;
 use crate::results::{read_fired, read_outcomes, read_results};
-use crate::standing::StandingList;
 use crate::submit_result::SubmitResultList;
+use crate::summary::SummaryList;
 use crate::withheld::WithheldList;
 use std::alloc::Global;
 
@@ -23,7 +23,7 @@ pub struct Report<'t> {
     pub results: SubmitResultList<'t>,
     pub fired: FiredList<'t>,
     pub outcomes: OutcomeList<'t>,
-    pub standings: StandingList,
+    pub summaries: SummaryList,
     pub withheld: WithheldList,
     pub actives: ActiveList<'t>,
 }
@@ -39,7 +39,7 @@ pub fn read_report<'t>(alloc: Global, text: &'t str) -> Result<Report<'t>, Repor
     let finals = read_finals(alloc, &mut lines, &hosts)?;
     read_end(&mut lines)?;
     let Finals {
-        standings,
+        summaries,
         withheld,
         actives,
     } = finals;
@@ -49,7 +49,7 @@ pub fn read_report<'t>(alloc: Global, text: &'t str) -> Result<Report<'t>, Repor
         results,
         fired,
         outcomes,
-        standings,
+        summaries,
         withheld,
         actives,
     })

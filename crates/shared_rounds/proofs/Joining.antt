@@ -15,7 +15,7 @@ use Rattle.world_model.specs.Messages.{Entry}
 use Rattle.world_model.specs.Machine.{Machine}
 use Rattle.world_model.specs.Rounds as r
 use Rattle.world_play.specs.Results.{results_of}
-use Rattle.world_play.specs.Standing.{GoesOn}
+use Rattle.world_play.specs.Parts.{GoesOn}
 use Rattle.world_play.proofs.Plays.{each_of}
 use Rattle.shared_rounds.specs.Joined.{AreAnswered}
 use Rattle.shared_rounds.specs.Queues.{queued}

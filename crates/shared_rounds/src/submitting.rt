@@ -13,7 +13,7 @@ ghost use Rattle.seq_log.specs.Sequenced.{IsFor};
 ghost use Rattle.node_core.specs.Bases.{AreBases, Bases};
 ghost use Rattle.node_core.specs.Machines.{why_of};
 ghost use Rattle.world_play.specs.Results.{IsPlainResult, results_of};
-ghost use Rattle.world_play.specs.Standing.{GoesOn};
+ghost use Rattle.world_play.specs.Parts.{GoesOn};
 ghost use Rattle.world_play.specs.Submitting.{AreSetUp, CanSubmit};
 ghost use Rattle.world_play.specs.WorldOf.{IsWorldOf, world_of};
 ghost use Rattle.sync_shared.specs.SetUp.{IsSetUp};

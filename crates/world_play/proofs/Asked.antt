@@ -14,7 +14,7 @@ use Rattle.node_core.specs.Participant.{Participant as NodeValue}
 use Rattle.node_core.specs.declared.submit_result.SubmitResult.{SubmitResult}
 use Rattle.world_play.specs.Answering.{CanAnswer, IsAnswer}
 use Rattle.world_play.specs.Flags.{ArePaused}
-use Rattle.world_play.specs.Standing.{IsParticipant}
+use Rattle.world_play.specs.Parts.{IsParticipant}
 use Rattle.world_play.specs.Submitting.{AreSetUp, CanSubmit}
 use Rattle.world_play.specs.Worlds.{world_with, AreNodesOf}
 use Rattle.world_play.proofs.Passing.{in_turn}

@@ -29,7 +29,7 @@ use Rattle.world_play.specs.Answering.{AnswersAwake, CanAnswer}
 use Rattle.node_core.specs.Machines.{offered_in, wanted_request, why_of}
 use Rattle.world_play.specs.Reading.{has_read}
 use Rattle.world_play.specs.Results.{result_of}
-use Rattle.world_play.specs.Standing.{GoesOn, IsParticipant}
+use Rattle.world_play.specs.Parts.{GoesOn, IsParticipant}
 use Rattle.world_play.specs.Submitting.{CanPrepare}
 use Rattle.world_play.proofs.OwnFaults.{IsOwn}
 use Rattle.world_play.proofs.Sends.{over_more}

@@ -15,7 +15,7 @@ use Rattle.world_model.proofs.Steps.{lawful_grown}
 use Rattle.seq_log.specs.Sequenced.{Sequenced}
 use Rattle.node_core.specs.OverLog.{state_over}
 use Rattle.node_core.specs.Participant.{Participant as NodeValue}
-use Rattle.world_play.specs.Standing.{GoesOn}
+use Rattle.world_play.specs.Parts.{GoesOn}
 use Rattle.world_play.specs.Worlds.{world_with, AreNodesOf}
 use Rattle.world_play.proofs.LogMore.{states_more}
 

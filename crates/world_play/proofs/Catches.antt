@@ -14,7 +14,7 @@ use Rattle.world_model.specs.Turns.{caught_up}
 use Rattle.seq_log.specs.Sequenced.{Sequenced}
 use Rattle.node_core.specs.Participant.{Participant as NodeValue, with_state}
 use Rattle.world_play.specs.Reading.{IsReader, has_read}
-use Rattle.world_play.specs.Standing.{IsParticipant}
+use Rattle.world_play.specs.Parts.{IsParticipant}
 use Rattle.node_core.specs.OverLog.{state_over}
 use Rattle.world_play.specs.Worlds.{world_with, AreNodesOf}
 use Rattle.world_play.proofs.Each.{AreDone}

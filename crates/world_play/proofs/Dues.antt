@@ -18,7 +18,7 @@ use Rattle.node_core.specs.OverLog.{inbox_over, state_over}
 use Rattle.node_core.specs.Participant.{Participant as NodeValue, owes_there, reading_of}
 use Rattle.node_core.proofs.OverLog.{decided_below, owes_same}
 use Rattle.world_play.specs.Reading.{has_read}
-use Rattle.world_play.specs.Standing.{IsParticipant}
+use Rattle.world_play.specs.Parts.{IsParticipant}
 use Rattle.world_play.proofs.Moved.{from_machine}
 use Rattle.world_play.proofs.Turns.{inbox_all}
 

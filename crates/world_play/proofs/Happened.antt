@@ -22,7 +22,7 @@ use Rattle.world_play.specs.declared.moving.NodeMove.{NodeMove}
 use Rattle.world_play.specs.declared.moving.NodeMove.TheVariants as move
 use Rattle.world_play.specs.Moves.{Happens, event_at, validated_if}
 use Rattle.world_play.specs.Reading.{IsReader}
-use Rattle.world_play.specs.Standing.{GoesOn}
+use Rattle.world_play.specs.Parts.{GoesOn}
 use Rattle.node_core.specs.Machines.{IsNodeOf}
 use Rattle.world_model.proofs.Steps.{take_next}
 use Rattle.world_play.proofs.Moved.{to_machine}

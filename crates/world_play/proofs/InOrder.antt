@@ -23,7 +23,7 @@ use Rattle.world_play.specs.Answering.{IsAnswer}
 use Rattle.world_play.specs.Flags.{ArePaused}
 use Rattle.node_core.specs.Machines.{why_of}
 use Rattle.world_play.specs.Results.{IsPlainResult, result_of, results_of}
-use Rattle.world_play.specs.Standing.{GoesOn}
+use Rattle.world_play.specs.Parts.{GoesOn}
 use Rattle.node_core.specs.Bases.{AreBases, Bases}
 use Rattle.world_play.specs.Submitting.{AreSetUp}
 use Rattle.world_play.specs.WorldOf.{IsWorldOf, world_of}

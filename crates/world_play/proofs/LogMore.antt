@@ -8,7 +8,7 @@ use Rattle.seq_log.specs.Sequenced.{Sequenced}
 use Rattle.node_core.specs.OverLog.{HasInbox, inbox_over, state_over}
 use Rattle.node_core.specs.Participant.{Participant as NodeValue, whole_state}
 use Rattle.node_core.proofs.OverLog.{over_more, within_log}
-use Rattle.world_play.specs.Standing.{GoesOn}
+use Rattle.world_play.specs.Parts.{GoesOn}
 
 module _ (a b : Sequenced) (on : GoesOn a b) where
   pub inbox_more : (node : NodeValue) → HasInbox (inbox_over a.list node) node → inbox_over b.list node ≡ inbox_over a.list node

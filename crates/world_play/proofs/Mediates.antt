@@ -20,7 +20,7 @@ use Rattle.world_model.proofs.Loops.{cases_rise, verdict_first, verdict_none}
 use Rattle.world_model.proofs.Steps.{take_next, length_take, mediator_has_read, mediator_has_taken}
 use Rattle.mediator.specs.KeptCases.{KeptCase, KeptMediator, kept_case, kept_cases, Keeps, with_verdict_taken}
 use Rattle.seq_log.specs.Sequenced.{Sequenced, IsFor}
-use Rattle.world_play.specs.Standing.{IsMediator, HasAll, GoesOn}
+use Rattle.world_play.specs.Parts.{IsMediator, HasAll, GoesOn}
 use Rattle.world_play.proofs.Sends.{stays, goes_further, still_for}
 
 -- what stands in a beginning of a list

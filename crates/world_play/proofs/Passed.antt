@@ -16,7 +16,7 @@ use Rattle.mediator.specs.KeptCases.{KeptMediator}
 use Rattle.seq_log.specs.Sequenced.{Sequenced}
 use Rattle.node_core.specs.OverLog.{state_over}
 use Rattle.node_core.specs.Participant.{Participant as NodeValue}
-use Rattle.world_play.specs.Standing.{IsMediator, HasAll, GoesOn}
+use Rattle.world_play.specs.Parts.{IsMediator, HasAll, GoesOn}
 use Rattle.world_play.specs.Worlds.{world_with, AreNodesOf, IsMediatorOf}
 use Rattle.world_play.proofs.LogMore.{has_inbox_more, states_more}
 use Rattle.world_play.proofs.Sends.{still_for}

@@ -21,7 +21,7 @@ use Rattle.seq_log.specs.Sequenced.{Sequenced}
 use Rattle.node_core.specs.Participant.{Participant as NodeValue, with_state}
 use Rattle.node_core.specs.Machines.{IsNodeOf}
 use Rattle.node_core.specs.Bases.{AreBases, Bases}
-use Rattle.world_play.specs.Standing.{IsParticipant, GoesOn}
+use Rattle.world_play.specs.Parts.{IsParticipant, GoesOn}
 use Rattle.node_core.specs.OverLog.{HasInbox, inbox_over, state_over}
 use Rattle.world_play.specs.Worlds.{world_with, AreNodesOf}
 use Rattle.ledger_terms.specs.declared.topology.Topology.{Topology}

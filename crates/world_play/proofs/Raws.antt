@@ -14,7 +14,7 @@ use Rattle.world_model.specs.Locks.{SequencerBehind}
 use Rattle.seq_log.specs.Sequenced.{Sequenced, IsFor}
 use Rattle.node_core.specs.OverLog.{state_over}
 use Rattle.node_core.specs.Participant.{Participant as NodeValue}
-use Rattle.world_play.specs.Standing.{GoesOn}
+use Rattle.world_play.specs.Parts.{GoesOn}
 use Rattle.world_play.specs.Worlds.{world_with, AreNodesOf}
 use Rattle.world_play.proofs.Begins.{lawful_on}
 use Rattle.world_play.proofs.Passed.{nodes_grown, states_grown}

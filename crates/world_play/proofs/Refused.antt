@@ -5,7 +5,7 @@ use Rattle.world_model.specs.Machine.{Machine}
 use Rattle.world_model.specs.Messages.{Message}
 use Rattle.world_model.specs.Sequencing as s
 use Rattle.seq_log.specs.Sequenced.{Sequenced, cause_of}
-use Rattle.world_play.specs.Standing.{GoesOn}
+use Rattle.world_play.specs.Parts.{GoesOn}
 use Rattle.seq_log.specs.declared.fault.AppendFault.{AppendFault}
 use Rattle.seq_log.specs.declared.fault.AppendFault.TheVariants.{Already, Unframed, LogFull, TooLate, Memory}
 

@@ -25,7 +25,7 @@ use Rattle.seq_log.proofs.Queues.{place_passes}
 use Rattle.node_core.specs.OverLog.{HasInbox, inbox_over, state_over}
 use Rattle.node_core.specs.Participant.{Participant as NodeValue, reading_of, with_state}
 use Rattle.node_core.proofs.OverLog.{cursor_is, put_back_one}
-use Rattle.world_play.specs.Standing.{IsMediator, IsParticipant}
+use Rattle.world_play.specs.Parts.{IsMediator, IsParticipant}
 use Rattle.world_play.specs.Worlds.{world_with, AreNodesOf}
 use Rattle.world_play.proofs.Dues.{owes_due}
 use Rattle.world_play.proofs.Each.{AreDone}

@@ -26,7 +26,7 @@ use Rattle.node_core.specs.Participant.{Participant as NodeValue, with_state}
 use Rattle.node_core.specs.Machines.{IsNodeOf}
 use Rattle.node_core.specs.OverLog.{HasInbox, inbox_over, state_over}
 use Rattle.node_core.proofs.OverLog.{sent_one}
-use Rattle.world_play.specs.Standing.{IsParticipant, GoesOn}
+use Rattle.world_play.specs.Parts.{IsParticipant, GoesOn}
 use Rattle.world_play.proofs.LogMore.{has_inbox_more, state_more}
 
 -- a log that goes on

@@ -14,7 +14,7 @@ use Rattle.world_model.proofs.Ends.{pass_less, passes_settle}
 use Rattle.world_model.proofs.WorldPasses.{one_pass_more, same_end}
 use Rattle.seq_log.specs.Sequenced.{Sequenced}
 use Rattle.world_play.specs.declared.world.World.{World}
-use Rattle.world_play.specs.Standing.{GoesOn}
+use Rattle.world_play.specs.Parts.{GoesOn}
 use Rattle.node_core.specs.Bases.{AreBases, Bases}
 use Rattle.world_play.specs.Submitting.{AreSetUp}
 use Rattle.world_play.specs.WorldOf.{world_of, IsWorldOf}

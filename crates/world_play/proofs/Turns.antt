@@ -21,7 +21,7 @@ use Rattle.node_core.specs.Participant.{Participant as NodeValue, reading_of, wh
 use Rattle.node_core.proofs.OverLog.{cursor_is, waiting_is as waiting_alike, within_log}
 use Rattle.world_play.specs.Reading.{Reads, IsReader, has_read}
 use Rattle.node_core.specs.Machines.{IsNodeOf}
-use Rattle.world_play.specs.Standing.{IsParticipant, GoesOn}
+use Rattle.world_play.specs.Parts.{IsParticipant, GoesOn}
 use Rattle.world_play.proofs.Moved.{to_machine, from_machine}
 use Rattle.world_play.proofs.Readers.{inbox_then, long_then, take_take}
 

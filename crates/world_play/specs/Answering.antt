@@ -12,7 +12,7 @@ use Rattle.node_core.specs.Participant.{Participant as NodeValue}
 use Rattle.node_core.specs.declared.submit_result.SubmitResult.{SubmitResult}
 use Rattle.node_core.specs.Machines.{why_of}
 use Rattle.world_play.specs.Results.{result_of}
-use Rattle.world_play.specs.Standing.{IsParticipant}
+use Rattle.world_play.specs.Parts.{IsParticipant}
 use Rattle.world_play.specs.Submitting.{CanSubmit}
 
 -- The submission is this participant's, which is one of the topology, and it names only parties of the topology.

@@ -1,5 +1,5 @@
 pub mod Reading
-pub mod Standing
+pub mod Parts
 pub mod Worlds
 pub mod WorldOf
 pub mod Scans

@@ -12,7 +12,7 @@ ghost use Rattle.seq_log.specs.Sequenced.{IsFor};
 ghost use Rattle.node_core.specs.Participant.{with_state};
 ghost use Rattle.world_play.specs.Answering.{AnswersAwake, CanAnswer, IsAnswer};
 ghost use Rattle.world_play.specs.Results.{IsPlaced, IsPlainResult, result_of};
-ghost use Rattle.world_play.specs.Standing.{GoesOn, IsParticipant};
+ghost use Rattle.world_play.specs.Parts.{GoesOn, IsParticipant};
 
 use crate::reading::read_to_end;
 use canton_model::{Message, Request};

@@ -9,7 +9,7 @@ ghost use Rattle.world_model.specs.Rounds.{Round, ticked};
 ghost use Rattle.seq_log.specs.Sequenced.{Sequenced};
 ghost use Rattle.node_core.specs.Bases.{AreBases, Bases};
 ghost use Rattle.world_play.specs.Flags.{ArePaused};
-ghost use Rattle.world_play.specs.Standing.{GoesOn};
+ghost use Rattle.world_play.specs.Parts.{GoesOn};
 ghost use Rattle.world_play.specs.Submitting.{AreSetUp};
 ghost use Rattle.world_play.specs.WorldOf.{IsWorldOf, world_of};
 ghost use Rattle.world_play.specs.Worlds.{AreNodesOf, world_with};

@@ -5,7 +5,7 @@ ghost use Rattle.world_model.specs.Mediator.{MediatorState};
 ghost use Rattle.world_model.specs.World.{MediatorRead, GiveVerdict, LoseVerdict};
 ghost use Rattle.seq_log.specs.Sequenced.{Sequenced};
 ghost use Rattle.world_play.specs.Decides.{Decides};
-ghost use Rattle.world_play.specs.Standing.{GoesOn, IsMediator};
+ghost use Rattle.world_play.specs.Parts.{GoesOn, IsMediator};
 
 use crate::handing_in::hand_in_verdict;
 use mediator::Mediator;

@@ -6,7 +6,7 @@ ghost use Rattle.world_model.specs.Sequencing.{sequenced};
 ghost use Rattle.world_model.specs.Fits.{MayStand};
 ghost use Rattle.world_model.specs.Locks.{SequencerBehind};
 ghost use Rattle.seq_log.specs.Sequenced.{IsFor};
-ghost use Rattle.world_play.specs.Standing.{GoesOn};
+ghost use Rattle.world_play.specs.Parts.{GoesOn};
 
 use canton_model::{Message, Request, Response, Verdict};
 use seq_log::{AppendFault, AppendRefusal, Sequencer};

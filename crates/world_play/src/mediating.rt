@@ -4,7 +4,7 @@ ghost use Rattle.world_model.specs.Machine.{Machine};
 ghost use Rattle.world_model.specs.Mediator.{MediatorState, cases_of};
 ghost use Rattle.world_model.specs.Settled.{append_each};
 ghost use Rattle.world_model.specs.Turns.{verdict_messages};
-ghost use Rattle.world_play.specs.Standing.{GoesOn, HasAll, IsMediator};
+ghost use Rattle.world_play.specs.Parts.{GoesOn, HasAll, IsMediator};
 
 use crate::handing_in::hand_in_verdict;
 use mediator::Mediator;

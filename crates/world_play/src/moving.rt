@@ -14,7 +14,7 @@ ghost use Rattle.node_core.specs.OverLog.{HasInbox, inbox_over};
 ghost use Rattle.node_core.specs.Participant.{reading_of, whole_state, with_state};
 ghost use Rattle.node_core.specs.Bases.{AreBases, Bases};
 ghost use Rattle.world_play.specs.Moves.{Happens, event_at, validated_if};
-ghost use Rattle.world_play.specs.Standing.{GoesOn, IsParticipant};
+ghost use Rattle.world_play.specs.Parts.{GoesOn, IsParticipant};
 ghost use Rattle.world_play.specs.Submitting.{AreSetUp};
 ghost use Rattle.world_play.specs.Worlds.{AreNodesOf, world_with};
 

@@ -9,7 +9,7 @@ ghost use Rattle.world_model.specs.Lawful.{Lawful};
 ghost use Rattle.world_model.specs.Settled.{pass};
 ghost use Rattle.world_model.specs.Settling.{PassedTo, WorldReady};
 ghost use Rattle.node_core.specs.Bases.{AreBases, Bases};
-ghost use Rattle.world_play.specs.Standing.{GoesOn};
+ghost use Rattle.world_play.specs.Parts.{GoesOn};
 ghost use Rattle.world_play.specs.Submitting.{AreSetUp};
 ghost use Rattle.world_play.specs.Worlds.{AreNodesOf, world_with};
 ghost use Rattle.world_play.specs.WorldOf.{IsWorldOf, world_of};

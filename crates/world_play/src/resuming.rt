@@ -13,7 +13,7 @@ ghost use Rattle.seq_log.specs.Sequenced.{IsFor};
 ghost use Rattle.node_core.specs.OverLog.{HasInbox, inbox_over, state_over};
 ghost use Rattle.node_core.specs.Participant.{with_state};
 ghost use Rattle.node_core.specs.Bases.{AreBases, Bases};
-ghost use Rattle.world_play.specs.Standing.{IsMediator, IsParticipant};
+ghost use Rattle.world_play.specs.Parts.{IsMediator, IsParticipant};
 ghost use Rattle.world_play.specs.Submitting.{AreSetUp};
 ghost use Rattle.world_play.specs.Worlds.{AreNodesOf, world_with};
 ghost use Rattle.world_play.specs.WorldOf.{IsWorldOf, world_of};

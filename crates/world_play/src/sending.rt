@@ -6,7 +6,7 @@ ghost use Rattle.world_model.specs.Settled.{append_each};
 ghost use Rattle.world_model.specs.Turns.{waiting_below};
 ghost use Rattle.seq_log.specs.Sequenced.{IsFor};
 ghost use Rattle.node_core.specs.Participant.{with_state};
-ghost use Rattle.world_play.specs.Standing.{GoesOn, IsParticipant};
+ghost use Rattle.world_play.specs.Parts.{GoesOn, IsParticipant};
 
 use crate::handing_in::hand_in_response;
 use node_core::Node;

@@ -13,7 +13,7 @@ ghost use Rattle.prepare_request.specs.declared.submit_fault.SubmitFault.TheVari
 ghost use Rattle.seq_log.specs.Sequenced.{IsFor};
 ghost use Rattle.node_core.specs.OverLog.{HasInbox, inbox_over};
 ghost use Rattle.node_core.specs.Participant.{Participant};
-ghost use Rattle.world_play.specs.Standing.{GoesOn};
+ghost use Rattle.world_play.specs.Parts.{GoesOn};
 ghost use Rattle.world_play.specs.Submitting.{AreSetUp, CanPrepare, CanSubmit, wanted_of};
 ghost use Rattle.world_play.specs.WorldOf.{IsWorldOf, world_of};
 

@@ -16,7 +16,7 @@ ghost use Rattle.world_play.specs.Flags.{ArePaused};
 ghost use Rattle.node_core.specs.Machines.{why_of};
 ghost use Rattle.world_play.specs.Results.{IsPlaced, IsPlainResult, results_of};
 ghost use Rattle.world_play.specs.Submitted.{IsAnsweredBy, IsOutOfMemory, IsSlipOf};
-ghost use Rattle.world_play.specs.Standing.{GoesOn};
+ghost use Rattle.world_play.specs.Parts.{GoesOn};
 ghost use Rattle.world_play.specs.Submitting.{AreSetUp, CanSubmit};
 ghost use Rattle.world_play.specs.WorldOf.{IsWorldOf, world_of};
 ghost use Rattle.world_play.specs.Worlds.{AreNodesOf, world_with};

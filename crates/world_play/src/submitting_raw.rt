@@ -6,7 +6,7 @@ ghost use Rattle.world_model.specs.Mediator.{MediatorState};
 ghost use Rattle.world_model.specs.Lawful.{Lawful};
 ghost use Rattle.world_model.specs.Sequencing.{append_fault, entry_after, sequenced};
 ghost use Rattle.seq_log.specs.Sequenced.{IsFor, LeftOpen, cause_of, prefix_of};
-ghost use Rattle.world_play.specs.Standing.{GoesOn};
+ghost use Rattle.world_play.specs.Parts.{GoesOn};
 ghost use Rattle.world_play.specs.WorldOf.{IsWorldOf, world_of};
 
 use crate::world::World;

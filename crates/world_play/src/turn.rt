@@ -7,7 +7,7 @@ ghost use Rattle.world_model.specs.Settled.{append_each};
 ghost use Rattle.world_model.specs.Turns.{turn_messages};
 ghost use Rattle.node_core.specs.OverLog.{state_over};
 ghost use Rattle.node_core.specs.Participant.{with_state};
-ghost use Rattle.world_play.specs.Standing.{GoesOn, IsParticipant};
+ghost use Rattle.world_play.specs.Parts.{GoesOn, IsParticipant};
 
 use crate::reading::read_to_end;
 use crate::sending::send_all;

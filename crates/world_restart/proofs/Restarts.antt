@@ -19,16 +19,16 @@ use Rattle.node_core.specs.States.{is_done_from, responses_from}
 use Rattle.node_core.proofs.OverLog.{cursor_is}
 use Rattle.node_restart.specs.Restarted.{CanRestart, HasRestarted}
 use Rattle.world_play.specs.Reading.{IsReader, has_read}
-use Rattle.world_play.specs.Standing.{IsParticipant}
+use Rattle.world_play.specs.Parts.{IsParticipant}
 use Rattle.world_play.proofs.Catches.{reader_same}
 use Rattle.world_play.proofs.Turns.{all_long, all_read, cursor_of, inbox_all, reader_is}
-use Rattle.world_restart.specs.Restarting.{IsRestarted, Remains}
+use Rattle.world_restart.specs.Restarting.{IsRestarted, StaysParticipant}
 
-pub remains_so : (s : Sequenced) (node : NodeValue) → Remains s node node
+pub remains_so : (s : Sequenced) (node : NodeValue) → StaysParticipant s node node
 remains_so s node = record { topology = refl; packages = refl; paused = refl; is = λ m p given. given }
 
 -- it has read some of the log
-pub reader_remains : (s : Sequenced) (first node : NodeValue) → IsReader first s.list node → Remains s first node
+pub reader_remains : (s : Sequenced) (first node : NodeValue) → IsReader first s.list node → StaysParticipant s first node
 reader_remains s first node r =
     record {
       topology = ap (λ (x : NodeValue). x.topology) (reader_same first node s.list r);
@@ -142,7 +142,7 @@ module _ (first : NodeValue) (s : Sequenced) (topology : Topology) (same : first
   pub now_restarted : IsRestarted s.list first after
   now_restarted = is_restarted given.0 given.1 first s given.2 node is after one
 
-  pub restarted_remains : Remains s first after
+  pub restarted_remains : StaysParticipant s first after
   restarted_remains =
       record {
         topology = now_restarted.topology;

@@ -21,12 +21,12 @@ use Rattle.node_core.specs.Bases.{AreBases, Bases}
 use Rattle.node_core.specs.OverLog.{state_over}
 use Rattle.node_core.specs.Participant.{Participant as NodeValue, params_of, reading_of}
 use Rattle.world_play.specs.Flags.{ArePaused}
-use Rattle.world_play.specs.Standing.{IsParticipant}
+use Rattle.world_play.specs.Parts.{IsParticipant}
 use Rattle.world_play.specs.Submitting.{AreSetUp}
 use Rattle.world_play.specs.Worlds.{AreNodesOf, world_with}
 use Rattle.world_play.proofs.Each.{AreDone, item_of, length_slice_set}
 use Rattle.world_play.proofs.Passing.{in_turn, length_states, map_at, set_at_cases}
-use Rattle.world_restart.specs.Restarting.{AllRemain, AreRestarted, IsRestarted, Remains, bases_after}
+use Rattle.world_restart.specs.Restarting.{AllStay, AreRestarted, IsRestarted, StaysParticipant, bases_after}
 use Rattle.world_restart.proofs.Restarts.{remains_so}
 
 -- what was, of what is in two lists of one length
@@ -45,7 +45,7 @@ state_at log nodes k t e =
 
 -- ---- all remain themselves
 
-module _ (s : Sequenced) (first nodes : List NodeValue) (all : AllRemain s first nodes) where
+module _ (s : Sequenced) (first nodes : List NodeValue) (all : AllStay s first nodes) where
   pub set_up_still : (topology : Topology) (packages : Packages) → AreSetUp topology packages first → AreSetUp topology packages nodes
   set_up_still topology packages u =
       record {
@@ -123,7 +123,7 @@ module _ (participants : List ParticipantId) (log : List Entry) (first nodes : L
 
 -- it remains itself, and has restarted where it is one of these, and else it is as it was
 pub record Walked (participants : List ParticipantId) (s : Sequenced) (p : ℕ) (x y : NodeValue) : Type 0 where
-  pub remains : Remains s x y
+  pub remains : StaysParticipant s x y
   pub named : has_place participants p ≡ true → IsRestarted s.list x y
   pub other : has_place participants p ≡ false → y ≡ x
 
@@ -136,7 +136,7 @@ module _ (participants : List ParticipantId) (s : Sequenced) where
         other = λ no. refl;
       }
 
-  pub walked : (p : ℕ) (x y : NodeValue) → has_place participants p ≡ true → Remains s x y → IsRestarted s.list x y → Walked participants s p x y
+  pub walked : (p : ℕ) (x y : NodeValue) → has_place participants p ≡ true → StaysParticipant s x y → IsRestarted s.list x y → Walked participants s p x y
   walked p x y named remains restarted =
       record {
         remains = remains;
@@ -146,8 +146,8 @@ module _ (participants : List ParticipantId) (s : Sequenced) where
 
   module _ (first nodes : List NodeValue) (k : ℕ) (r : AreDone (Walked participants s) first nodes k) where
     -- it broke off at one
-    pub remain_then : (node : NodeValue) → slice_get nodes k ≡ Some node → (node' : NodeValue) → Remains s node node'
-        → AllRemain s first (slice_set nodes k node')
+    pub remain_then : (node : NodeValue) → slice_get nodes k ≡ Some node → (node' : NodeValue) → StaysParticipant s node node'
+        → AllStay s first (slice_set nodes k node')
     remain_then node at node' remains =
         record {
           many = length_slice_set nodes k node' ∙ r.long;
@@ -155,12 +155,12 @@ module _ (participants : List ParticipantId) (s : Sequenced) where
             | inl here ↦
                 let same : node ≡ x =
                 same_Some node x (sym at ∙ (r.after k (omega arith) ∙ (ap (slice_get first) (sym here.0) ∙ before))) in
-                subst (λ (u : NodeValue). Remains s u y) same (subst (Remains s node) here.1 remains)
+                subst (λ (u : NodeValue). StaysParticipant s u y) same (subst (StaysParticipant s node) here.1 remains)
             | inr old ↦ elim (cases_lt p k) [
               | inl low ↦ (r.before p x y low before old).remains
               | inr far ↦
                   let same : y ≡ x = same_Some y x (sym old ∙ (r.after p far ∙ before)) in
-                  subst (λ (u : NodeValue). Remains s x u) (sym same) (remains_so s x)
+                  subst (λ (u : NodeValue). StaysParticipant s x u) (sym same) (remains_so s x)
             ]
           ];
         }
@@ -169,7 +169,7 @@ module _ (participants : List ParticipantId) (s : Sequenced) where
       one : (p : ℕ) (x y : NodeValue) → slice_get first p ≡ Some x → slice_get nodes p ≡ Some y → Walked participants s p x y
       one p x y before there = let within = slice_get_within nodes p y there in r.before p x y (omega (arith, within, end)) before there
 
-      pub all_remain : AllRemain s first nodes
+      pub all_remain : AllStay s first nodes
       all_remain = record { many = r.long; each = λ p x y before there. (one p x y before there).remains }
 
       pub all_restarted : AreRestarted participants s.list first nodes

@@ -13,7 +13,7 @@ use Rattle.node_core.specs.Bases.{Bases}
 use Rattle.node_core.specs.OverLog.{HasInbox}
 use Rattle.node_core.specs.Participant.{Participant as NodeValue, items_of, params_of, reading_of}
 use Rattle.node_core.specs.States.{is_done_from, responses_from}
-use Rattle.world_play.specs.Standing.{IsParticipant}
+use Rattle.world_play.specs.Parts.{IsParticipant}
 
 -- `after` is the participant that `before` was, restarted: it has read to the end of the log, and forgotten what is below the base of its inbox there. It is
 -- paused as it was. From its base on it knows which jobs it did and keeps the responses that wait, and no job is unfinished.
@@ -43,13 +43,13 @@ abbrev pub bases_after : Reading → Params → List Entry → List ParticipantI
 bases_after reading params log participants bases p = if has_place participants p then Base.base params (inbox reading p log) else bases p
 
 -- `after` is still the participant of each machine that `before` was, and paused as that was.
-pub record Remains (sequencer : Sequenced) (before after : NodeValue) : Type 0 where
+pub record StaysParticipant (sequencer : Sequenced) (before after : NodeValue) : Type 0 where
   pub topology : after.topology ≡ before.topology
   pub packages : after.packages ≡ before.packages
   pub paused : (after.state).is_paused ≡ (before.state).is_paused
   pub is : (m : Machine) (p : ParticipantId) → IsParticipant m p before sequencer → IsParticipant m p after sequencer
 
--- Each of these participants is still the one that it was, as `Remains` says.
-pub record AllRemain (sequencer : Sequenced) (before after : List NodeValue) : Type 0 where
+-- Each of these participants is still the one that it was, as `StaysParticipant` says.
+pub record AllStay (sequencer : Sequenced) (before after : List NodeValue) : Type 0 where
   pub many : length after ≡ length before
-  pub each : (p : ParticipantId) (x y : NodeValue) → slice_get before p ≡ Some x → slice_get after p ≡ Some y → Remains sequencer x y
+  pub each : (p : ParticipantId) (x y : NodeValue) → slice_get before p ≡ Some x → slice_get after p ≡ Some y → StaysParticipant sequencer x y

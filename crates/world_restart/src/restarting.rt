@@ -8,11 +8,11 @@ ghost use Rattle.world_model.specs.Machine.{Machine};
 ghost use Rattle.world_model.specs.Mediator.{MediatorState};
 ghost use Rattle.node_core.specs.Bases.{AreBases, Bases};
 ghost use Rattle.world_play.specs.Flags.{ArePaused};
-ghost use Rattle.world_play.specs.Standing.{IsParticipant};
+ghost use Rattle.world_play.specs.Parts.{IsParticipant};
 ghost use Rattle.world_play.specs.Submitting.{AreSetUp};
 ghost use Rattle.world_play.specs.Worlds.{AreNodesOf, world_with};
 ghost use Rattle.world_play.specs.WorldOf.{IsWorldOf, world_of};
-ghost use Rattle.world_restart.specs.Restarting.{AllRemain, AreRestarted, IsRestarted, Remains, bases_after};
+ghost use Rattle.world_restart.specs.Restarting.{AllStay, AreRestarted, IsRestarted, StaysParticipant, bases_after};
 
 use confirm_reply::Setup;
 use ledger_terms::{ParticipantId, ParticipantIdList};
@@ -34,7 +34,7 @@ fn restart_one<'r>(
     requires setup { (node.old.topology ≡ setup.now.topology) × (node.old.packages ≡ setup.now.checked) }
     requires is { (m : Machine) × (p : ParticipantId) × IsParticipant m p node.old sequencer.old }
     ensures log { sequencer.new ≡ sequencer.old }
-    ensures remains { Remains sequencer.old node.old node.new }
+    ensures remains { StaysParticipant sequencer.old node.old node.new }
     ensures restarted { OnOk result (IsRestarted sequencer.old.list node.old node.new) }
 {
     read_to_end(node, sequencer)?;
@@ -55,7 +55,7 @@ fn restart_slice<'r>(
     requires lawful { (m : Machine) × (now : ℕ) × (state : MediatorState) × AreNodesOf m nodes.old sequencer.old
         × Lawful m (world_with now state nodes.old sequencer.old) }
     ensures log { sequencer.new ≡ sequencer.old }
-    ensures remain { AllRemain sequencer.old nodes.old nodes.new }
+    ensures remain { AllStay sequencer.old nodes.old nodes.new }
     ensures restarted { OnOk result (AreRestarted participants.now sequencer.old.list nodes.old nodes.new) }
 {
     let mut at: usize = 0;
@@ -82,7 +82,7 @@ fn restart_nodes<'r>(
     requires lawful { (m : Machine) × (now : ℕ) × (state : MediatorState) × AreNodesOf m nodes.old.items sequencer.old
         × Lawful m (world_with now state nodes.old.items sequencer.old) }
     ensures log { sequencer.new ≡ sequencer.old }
-    ensures remain { AllRemain sequencer.old nodes.old.items nodes.new.items }
+    ensures remain { AllStay sequencer.old nodes.old.items nodes.new.items }
     ensures restarted { OnOk result (AreRestarted participants.now sequencer.old.list nodes.old.items nodes.new.items) }
 {
     restart_slice(alloc, setup, nodes.as_mut_slice(), sequencer, participants)

@@ -6,7 +6,7 @@ ghost use Rattle.world_model.specs.Lawful.{Lawful};
 ghost use Rattle.world_model.specs.Machine.{Machine};
 ghost use Rattle.world_model.specs.Mediator.{MediatorState};
 ghost use Rattle.node_core.specs.Participant.{items_of, owed_there, owes_there};
-ghost use Rattle.world_play.specs.Standing.{IsParticipant};
+ghost use Rattle.world_play.specs.Parts.{IsParticipant};
 ghost use Rattle.world_play.specs.Worlds.{AreNodesOf, world_with};
 ghost use Rattle.world_play.specs.WorldOf.{IsWorldOf, world_of};
 

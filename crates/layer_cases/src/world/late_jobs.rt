@@ -7,7 +7,7 @@ ghost use Rattle.validate_job.specs.Outcome.{IsOutcome};
 ghost use Rattle.validate_job.specs.Owed.{owed_on_each};
 ghost use Rattle.seq_log.specs.Sequenced.{Sequenced};
 ghost use Rattle.node_core.specs.Participant.{items_of, owed_there, owes_there};
-ghost use Rattle.world_play.specs.Standing.{IsParticipant};
+ghost use Rattle.world_play.specs.Parts.{IsParticipant};
 
 use node_core::Node;
 use seq_log::Sequencer;

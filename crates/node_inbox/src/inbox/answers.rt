@@ -7,9 +7,9 @@ ghost use Rattle.contract_store.specs.Active.{knowns};
 ghost use Rattle.pruned_inbox.specs.Start.{GoesOn, active_kept, status_kept};
 ghost use Rattle.contract_store.specs.Stored.{is_held};
 ghost use Rattle.contract_store.specs.Written.{holding, written};
-ghost use Rattle.inbox_standing.specs.Changes.{changes_since, pending_changes};
-ghost use Rattle.inbox_standing.specs.Requests.{outcome_received};
-ghost use Rattle.inbox_standing.specs.Standing.{known_status};
+ghost use Rattle.inbox_registry.specs.Changes.{changes_since, pending_changes};
+ghost use Rattle.inbox_registry.specs.Requests.{outcome_received};
+ghost use Rattle.inbox_registry.specs.Registry.{known_status};
 ghost use Rattle.validate_job.specs.Owed.{owed_on_each};
 ghost use Rattle.prepare_request.specs.Hosted.{hosted_rows};
 ghost use Rattle.node_inbox.specs.Beginnings.{start_of};
@@ -51,7 +51,7 @@ impl<'s> Inbox<'s> {
         ensures active { IfOk result (λ beginning. beginning.active ≡ self.now.start.active) }
         ensures gone { IfOk result (λ beginning. beginning.gone ≡ self.now.start.gone) }
     {
-        let start = self.standing.start();
+        let start = self.registry.start();
         let active = start.active().as_slice();
         Beginning::with_copies(alloc, self.base, self.base_time, active, start.gone())
     }
@@ -63,8 +63,8 @@ impl<'s> Inbox<'s> {
         ensures base_time { IfOk result (λ beginning. beginning.base_time ≡ last_time (take place self.now.items)) }
         ensures start { IfOk result (λ beginning. GoesOn (reading_of self.now) self.now.items place self.now.start (start_of beginning)) }
     {
-        let start = self.standing.start();
-        let live = rows_below(alloc, self.setup, &self.items, &self.standing, place)?;
+        let start = self.registry.start();
+        let live = rows_below(alloc, self.setup, &self.items, &self.registry, place)?;
         let active = left_in(alloc, start, &live)?;
         let gone = gone_in(alloc, start.gone(), &live)?;
         Ok(Beginning {
@@ -98,7 +98,7 @@ impl<'s> Inbox<'s> {
     pub fn clean(&self) -> u64
         ensures { result ≡ clean (params_of self.now) self.now.items }
     {
-        self.standing.clean()
+        self.registry.clean()
     }
 
     /// The time of the entry before the clean place, in microseconds, and 0 where there is none.
@@ -116,7 +116,7 @@ impl<'s> Inbox<'s> {
     pub fn outcome(&self, place: u64) -> Option<Outcome>
         ensures { result ≡ outcome_received (params_of self.now) self.now.items place }
     {
-        self.standing.outcome(place)
+        self.registry.outcome(place)
     }
 
     /// The decision of the verdict on the request at a place. Goes through what was read from that place up to the verdict, and
@@ -157,7 +157,7 @@ impl<'s> Inbox<'s> {
         ensures locked { (c : List ℕ) → is_held result.now.holds c
             ≡ is_locked_in_inbox (reading_of self.now) (params_of self.now) self.now.items (length self.now.items) c }
     {
-        self.standing.store()
+        self.registry.store()
     }
 
     // The active contracts of the store with a hosted stakeholder.
@@ -167,7 +167,7 @@ impl<'s> Inbox<'s> {
     {
         ids_tell_after_each_change();
         HostedContracts {
-            store: self.standing.store(),
+            store: self.registry.store(),
             hosted: &self.hosted,
         }
     }
@@ -181,14 +181,14 @@ impl<'s> Inbox<'s> {
         let hosting = Hosting::new(
             self.setup,
             self.me,
-            self.standing.start(),
+            self.registry.start(),
             self.hosted_contracts(),
         );
         active_rows(
             alloc,
             &hosting,
             &self.items,
-            &self.standing,
+            &self.registry,
             &self.active,
             place,
         )
@@ -252,7 +252,7 @@ impl<'s> Inbox<'s> {
             alloc,
             self.setup,
             &self.items,
-            &self.standing,
+            &self.registry,
             &self.approved,
             self.clean(),
         )
@@ -266,10 +266,10 @@ impl<'s> Inbox<'s> {
         let Inbox {
             setup,
             items,
-            standing,
+            registry,
             ..
         } = self;
-        into_applied(setup, items, &standing, end)
+        into_applied(setup, items, &registry, end)
     }
 
     /// The places of the approved requests before the clean place of which the participant sees a view and has no complete envelope.
@@ -280,7 +280,7 @@ impl<'s> Inbox<'s> {
             *self.items.allocator(),
             self.setup,
             &self.items,
-            &self.standing,
+            &self.registry,
             &self.approved,
             self.clean(),
         )
@@ -290,13 +290,13 @@ impl<'s> Inbox<'s> {
     pub fn into_remains(self) -> InboxRemains {
         let Inbox {
             items,
-            standing,
+            registry,
             hosted,
             approved,
             active,
             ..
         } = self;
-        InboxRemains::new(items, standing, hosted, approved, active)
+        InboxRemains::new(items, registry, hosted, approved, active)
     }
 
     /// The active contracts with a hosted stakeholder at the clean place, in order of creation. Goes on from those that are kept.

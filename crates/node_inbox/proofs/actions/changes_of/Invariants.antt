@@ -1,5 +1,5 @@
 use Rattle.std.proofs.Common.{◌≡◌, ◌++◌, drop, filter, map}
-use Rattle.inbox_standing.specs.ChangeLists.{change_of}
+use Rattle.inbox_registry.specs.ChangeLists.{change_of}
 use Rattle.node_inbox.specs.Acts.{is_authentic_change}
 use Rattle.node_inbox.proofs.actions.changes_of.Given as goal
 

@@ -5,7 +5,7 @@ use Rattle.contract_store.specs.Written.{Placed, written}
 use Rattle.contract_store.specs.declared.row.StoreRow.{StoreRow}
 use Rattle.lang_eval.specs.Found.{Packages}
 use Rattle.framed_form.specs.FramedReading.{framed_reading}
-use Rattle.inbox_standing.specs.Changes.{creation_of}
+use Rattle.inbox_registry.specs.Changes.{creation_of}
 use Rattle.pruned_inbox.specs.Start.{Start}
 use Rattle.node_inbox.specs.Hosts.{offers, reading_by}
 use Rattle.node_inbox.specs.Items.{model_items}

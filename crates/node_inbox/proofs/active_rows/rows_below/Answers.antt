@@ -3,7 +3,7 @@ use Rattle.ledger_terms.specs.declared.active_row.ActiveRow.{ActiveRow}
 use Rattle.contract_store.specs.Written.{Placed, written}
 use Rattle.contract_store.specs.declared.row.StoreRow.{StoreRow}
 use Rattle.framed_form.specs.FramedReading.{framed_reading}
-use Rattle.inbox_standing.specs.Changes.{creation_of}
+use Rattle.inbox_registry.specs.Changes.{creation_of}
 use Rattle.pruned_inbox.specs.Start.{Start}
 use Rattle.node_inbox.specs.Items.{model_items}
 use Rattle.node_inbox.specs.KeptActive.{placed_between}
@@ -13,7 +13,7 @@ use Rattle.node_inbox.proofs.active_rows.rows_below.Goals as goal
 pub returns : goal.returns
 returns c =
     let reading = framed_reading c.args.setup.now.topology c.args.setup.now.checked in
-    let start = c.args.standing.now.start in
+    let start = c.args.registry.now.start in
     let begun : c.write_start.new.live ≡ written (map creation_of start.active) [] =
     c.in_ok-write_start.ensures
     ∙ (ap (λ (rows : List StoreRow). written (map creation_of c.as_slice.result.now) rows) c.new-live.ensures

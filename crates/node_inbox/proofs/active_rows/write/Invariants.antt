@@ -1,5 +1,5 @@
 use Rattle.std.proofs.Common.{◌≡◌, drop}
-use Rattle.inbox_standing.specs.ChangeLists.{write_changes}
+use Rattle.inbox_registry.specs.ChangeLists.{write_changes}
 use Rattle.node_inbox.proofs.active_rows.write.Given as goal
 
 abbrev pub invariant-loop-change : goal.invariant-loop-change

@@ -1,6 +1,6 @@
 use Rattle.std.proofs.Common.{◌≡◌, drop, map}
 use Rattle.contract_store.specs.Written.{written}
-use Rattle.inbox_standing.specs.Changes.{creation_of}
+use Rattle.inbox_registry.specs.Changes.{creation_of}
 use Rattle.node_inbox.proofs.active_rows.write_start.Given as goal
 
 abbrev pub invariant-loop-row : goal.invariant-loop-row

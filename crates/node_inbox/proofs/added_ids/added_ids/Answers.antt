@@ -4,7 +4,7 @@ use Rattle.std.specs.Prelude.{◌&&◌, ◌||◌, not}
 use Rattle.indexmap.specs.IndexMap.{keys}
 use Rattle.ledger_model.specs.Terms.{Hash}
 use Rattle.framed_form.specs.FramedReading.{framed_reading}
-use Rattle.inbox_standing.specs.ChangeLists.{id_in}
+use Rattle.inbox_registry.specs.ChangeLists.{id_in}
 use Rattle.node_inbox.specs.AddedIds.{added_if, is_new}
 use Rattle.node_inbox.proofs.AddedIds.{added_step, changed_step, new_end, new_step}
 use Rattle.node_inbox.proofs.added_ids.added_ids.Goals as goal

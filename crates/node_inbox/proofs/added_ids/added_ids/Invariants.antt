@@ -2,7 +2,7 @@ use Rattle.std.proofs.Common.{◌≡◌, ◌++◌, ◌&&◌, List, [], drop, map
 use Rattle.indexmap.specs.IndexMap.{keys}
 use Rattle.ledger_model.specs.Terms.{Hash}
 use Rattle.framed_form.specs.FramedReading.{framed_reading}
-use Rattle.inbox_standing.specs.ChangeLists.{id_in}
+use Rattle.inbox_registry.specs.ChangeLists.{id_in}
 use Rattle.node_inbox.specs.AddedIds.{added_behind, are_new}
 use Rattle.node_inbox.proofs.added_ids.added_ids.Given as goal
 

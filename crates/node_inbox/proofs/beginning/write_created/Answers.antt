@@ -3,8 +3,8 @@ use Rattle.std.specs.Prelude.{◌||◌}
 use Rattle.ledger_model.specs.Terms.{Hash}
 use Rattle.contract_store.specs.declared.row.StoreRow.{StoreRow}
 use Rattle.framed_form.specs.FramedReading.{framed_reading}
-use Rattle.inbox_standing.specs.ChangeLists.{write_changes}
-use Rattle.inbox_standing.specs.declared.change.Change.{Change}
+use Rattle.inbox_registry.specs.ChangeLists.{write_changes}
+use Rattle.inbox_registry.specs.declared.change.Change.{Change}
 use Rattle.prepare_request.specs.Hosted.{is_among}
 use Rattle.node_inbox.proofs.AddedIds.{TellsOn}
 use Rattle.node_inbox.proofs.Created.{created_told}
@@ -22,7 +22,7 @@ returns-clause-told c =
       consumed = law.consumed reading me;
     } in
     rw (c.write.ensures.rows, c.in_ok-make_room.ensures.rows)
-    (created_told reading me on c.args.row.created_at c.requires.written.0 c.args.standing.now.store.rows c.requires.written.1
+    (created_told reading me on c.args.row.created_at c.requires.written.0 c.args.registry.now.store.rows c.requires.written.1
     c.in_ok-changes.changes.items c.args.hosted.now.ids c.put_ids.new.hosted.ids c.requires.told
     (λ id. c.put_ids.ensures id
     ∙ (ap (λ (ids : List Hash). is_among c.in_ok-ids.ids id || is_among ids id) c.in_ok-reserve.ensures.ids
@@ -32,4 +32,4 @@ pub returns-clause-rows : goal.returns-clause-rows
 returns-clause-rows c =
     c.write.ensures.rows
     ∙ (ap (λ (rows : List StoreRow). write_changes c.args.row.created_at c.in_ok-changes.changes.items rows) c.in_ok-make_room.ensures.rows
-    ∙ ap (λ (changes : List Change). write_changes c.args.row.created_at changes c.args.standing.now.store.rows) c.in_ok-changes.ensures)
+    ∙ ap (λ (changes : List Change). write_changes c.args.row.created_at changes c.args.registry.now.store.rows) c.in_ok-changes.ensures)

@@ -3,7 +3,7 @@ use Rattle.std.proofs.lemmas.List.{take_all}
 use Rattle.ledger_terms.specs.declared.active_row.ActiveRow.{ActiveRow}
 use Rattle.contract_store.specs.Rows.{created}
 use Rattle.contract_store.specs.Written.{written}
-use Rattle.inbox_standing.specs.Changes.{creation_of}
+use Rattle.inbox_registry.specs.Changes.{creation_of}
 use Rattle.pruned_inbox.specs.Start.{Start}
 use Rattle.std.specs.Prelude.{take}
 use Rattle.node_inbox.proofs.Created.{created_more}
@@ -16,14 +16,14 @@ start_row-requires c =
     subst (λ (start : Start). c.rows.at < length start.active) (sym c.rows.invariant.start) (omega (arith, inside, count))
 
 pub write_created-requires-clause-written : goal.write_created-requires-clause-written
-write_created-requires-clause-written c = (map creation_of (take c.rows.at c.args.standing.now.start.active), c.rows.invariant.rows)
+write_created-requires-clause-written c = (map creation_of (take c.rows.at c.args.registry.now.start.active), c.rows.invariant.rows)
 
 pub rows-preserved : goal.rows-preserved
 rows-preserved c =
     let inv = c.rows.invariant in
     let wrote = c.in_ok-write_created.ensures in
     let row = c.in_ok-row.row in
-    let active = c.args.standing.now.start.active in
+    let active = c.args.registry.now.start.active in
     let count = c.start_len-count.ensures in
     let inside = c.rows-test.true in
     record {
@@ -38,7 +38,7 @@ rows-preserved c =
 
 pub returns-clause-rows : goal.returns-clause-rows
 returns-clause-rows c =
-    let active = c.args.standing.now.start.active in
+    let active = c.args.registry.now.start.active in
     let count = c.start_len-count.ensures in
     let past = c.rows-test.false in
     c.rows.invariant.rows ∙ ap (λ (rows : List ActiveRow). written (map creation_of rows) []) (take_all c.rows.at active (omega (arith, past, count)))

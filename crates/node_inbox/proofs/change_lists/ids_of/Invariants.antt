@@ -1,5 +1,5 @@
 use Rattle.std.proofs.Common.{◌≡◌, ◌++◌, drop, map}
-use Rattle.inbox_standing.specs.ChangeLists.{id_in}
+use Rattle.inbox_registry.specs.ChangeLists.{id_in}
 use Rattle.node_inbox.proofs.change_lists.ids_of.Given as goal
 
 abbrev pub invariant-loop-change : goal.invariant-loop-change

@@ -21,7 +21,7 @@ items-init c =
 
 pub items-preserved : goal.items-preserved
 items-preserved c =
-    taken_step c.args.setup.now.topology.params c.args.standing.now _ _ _ _ _ c.in-Some.item _ _ c.requires c.if-place-end.false c.in-Some.ensures.steps.0
+    taken_step c.args.setup.now.topology.params c.args.registry.now _ _ _ _ _ c.in-Some.item _ _ c.requires c.if-place-end.false c.in-Some.ensures.steps.0
     c.in_ok-push_taken.ensures c.items.invariant
 
 pub returns : goal.returns

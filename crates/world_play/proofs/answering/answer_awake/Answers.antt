@@ -11,7 +11,7 @@ use Rattle.node_core.specs.declared.submit_result.SubmitResult.TheVariants.{Refu
 use Rattle.world_play.specs.Answering.{AnswersAwake}
 use Rattle.node_core.specs.Machines.{offered_in}
 use Rattle.world_play.specs.Results.{result_of}
-use Rattle.world_play.specs.Standing.{GoesOn, IsParticipant}
+use Rattle.world_play.specs.Parts.{GoesOn, IsParticipant}
 use Rattle.world_play.proofs.Awake.{may_prepare, offers_of, refuses, sends, stays_one, whole}
 use Rattle.world_play.proofs.Catches.{read_same, reader_same}
 use Rattle.world_play.proofs.OwnFaults.{not_paused, own_fault}

@@ -2,7 +2,7 @@ use Rattle.std.proofs.Common.{Option, sym, ◌∙◌, subst}
 use Rattle.world_model.specs.Messages.{Verdict}
 use Rattle.seq_log.specs.Sequenced.{Sequenced}
 use Rattle.mediator.specs.KeptCases.{KeptMediator, Keeps, with_verdict_taken}
-use Rattle.world_play.specs.Standing.{IsMediator}
+use Rattle.world_play.specs.Parts.{IsMediator}
 use Rattle.world_play.proofs.Mediates.{after_taking, giver_less, giver_on, giver_ends, same_mediator}
 use Rattle.world_play.proofs.mediating.give_all.Goals as goal
 

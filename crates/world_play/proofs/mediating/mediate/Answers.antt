@@ -2,7 +2,7 @@ use Rattle.std.proofs.Common.{length, ap, ◌∙◌, subst}
 use Rattle.seq_log.specs.Sequenced.{Sequenced}
 use Rattle.world_model.specs.Settled.{append_each}
 use Rattle.world_model.specs.Turns.{verdict_messages}
-use Rattle.world_play.specs.Standing.{IsMediator, GoesOn}
+use Rattle.world_play.specs.Parts.{IsMediator, GoesOn}
 use Rattle.world_play.proofs.Answered.{on_ok}
 use Rattle.world_play.proofs.Mediates.{all_read_before, verdicts_are}
 use Rattle.world_play.proofs.mediating.mediate.Goals as goal

@@ -5,7 +5,7 @@ use Rattle.world_model.specs.Settled.{is_due}
 use Rattle.seq_log.specs.OpenRequests.{is_open}
 use Rattle.seq_log.specs.Sequenced.{Sequenced, IsFor}
 use Rattle.node_core.specs.Participant.{Participant as NodeValue}
-use Rattle.world_play.specs.Standing.{IsParticipant}
+use Rattle.world_play.specs.Parts.{IsParticipant}
 use Rattle.world_play.proofs.Resumes.{IsResumer, all_taken, may_put_back, one_more, open_at, open_of, open_passes, within_open}
 use Rattle.world_play.proofs.Resumes.{resumer_on, resumer_past, resumer_ends}
 use Rattle.world_play.proofs.resuming.resume_node.Goals as goal

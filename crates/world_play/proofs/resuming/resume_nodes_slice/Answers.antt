@@ -3,7 +3,7 @@ use Rattle.std.specs.Prelude.{slice_index_or}
 use Rattle.world_model.specs.Settling.{resumed}
 use Rattle.seq_log.specs.Sequenced.{Sequenced}
 use Rattle.node_core.specs.OverLog.{HasInbox, inbox_over, state_over}
-use Rattle.world_play.specs.Standing.{IsParticipant}
+use Rattle.world_play.specs.Parts.{IsParticipant}
 use Rattle.world_play.proofs.Passing.{item_at, item_within, in_turn}
 use Rattle.world_play.proofs.Each.{first_at, done_on, done_nodes, done_set_up, done_bases}
 use Rattle.world_play.proofs.Resumes.{Resumed, resumed_states}

@@ -4,7 +4,7 @@ use Rattle.world_model.specs.Settled.{Settled, left, passes}
 use Rattle.world_model.specs.Settling.{WorldReady, returned}
 use Rattle.world_model.proofs.Resuming.{world_resumed}
 use Rattle.seq_log.specs.Sequenced.{Sequenced}
-use Rattle.world_play.specs.Standing.{GoesOn}
+use Rattle.world_play.specs.Parts.{GoesOn}
 use Rattle.world_play.specs.WorldOf.{world_of}
 use Rattle.world_play.proofs.Answered.{on_ok}
 use Rattle.world_play.proofs.settling.settle.Goals as goal

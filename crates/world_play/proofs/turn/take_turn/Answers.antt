@@ -2,7 +2,7 @@ use Rattle.std.proofs.Common.{length, sym, ap, ◌∙◌, subst}
 use Rattle.seq_log.specs.Sequenced.{Sequenced, IsFor}
 use Rattle.world_model.specs.Settled.{append_each}
 use Rattle.world_model.specs.Turns.{waiting_below}
-use Rattle.world_play.specs.Standing.{IsParticipant, GoesOn}
+use Rattle.world_play.specs.Parts.{IsParticipant, GoesOn}
 use Rattle.world_play.proofs.Answered.{on_ok, always}
 use Rattle.world_play.proofs.Turns.{reads_of, reader_is, validated_is, waiting_is, all_long, read_before}
 use Rattle.world_play.proofs.turn.take_turn.Goals as goal

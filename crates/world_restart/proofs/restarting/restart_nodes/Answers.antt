@@ -5,7 +5,7 @@ use Rattle.node_core.specs.Participant.{Participant as NodeValue}
 use Rattle.world_play.specs.Submitting.{AreSetUp}
 use Rattle.world_play.specs.Worlds.{AreNodesOf, world_with}
 use Rattle.world_play.proofs.Answered.{on_ok}
-use Rattle.world_restart.specs.Restarting.{AllRemain, AreRestarted}
+use Rattle.world_restart.specs.Restarting.{AllStay, AreRestarted}
 use Rattle.world_restart.proofs.restarting.restart_nodes.Goals as goal
 
 pub restart_slice-requires-clause-set_up : goal.restart_slice-requires-clause-set_up
@@ -29,8 +29,8 @@ returns-clause-remain c =
     let s = c.args.sequencer.now in
     let new = c.restart_slice.new.nodes in
     let all = with_items_is c.args.nodes.now new (search (rules, places)) in
-    subst (λ (xs : List NodeValue). AllRemain s c.args.nodes.now.items xs) (sym all)
-    (subst (λ (xs : List NodeValue). AllRemain s xs new) c.as_mut_slice.ensures.value c.restart_slice.ensures.remain)
+    subst (λ (xs : List NodeValue). AllStay s c.args.nodes.now.items xs) (sym all)
+    (subst (λ (xs : List NodeValue). AllStay s xs new) c.as_mut_slice.ensures.value c.restart_slice.ensures.remain)
 
 pub returns-clause-restarted : goal.returns-clause-restarted
 returns-clause-restarted c =

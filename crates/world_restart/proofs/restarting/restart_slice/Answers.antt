@@ -3,10 +3,10 @@ use Rattle.std.specs.Prelude.{slice_index_or}
 use Rattle.world_model.specs.Places.{has_place}
 use Rattle.seq_log.specs.Sequenced.{Sequenced}
 use Rattle.node_core.specs.Participant.{Participant as NodeValue}
-use Rattle.world_play.specs.Standing.{IsParticipant}
+use Rattle.world_play.specs.Parts.{IsParticipant}
 use Rattle.world_play.proofs.Each.{AreDone, done_on, done_starts, first_at}
 use Rattle.world_play.proofs.Passing.{in_turn, item_at, item_within}
-use Rattle.world_restart.specs.Restarting.{IsRestarted, Remains}
+use Rattle.world_restart.specs.Restarting.{IsRestarted, StaysParticipant}
 use Rattle.world_restart.proofs.Walks.{Walked, all_remain, all_restarted, passed_by, remain_then, walked}
 use Rattle.world_restart.proofs.restarting.restart_slice.Goals as goal
 use Rattle.world_restart.proofs.restarting.restart_slice.Goals.{then-is_among+in_ok-restart_one, else-is_among}
@@ -41,7 +41,7 @@ returns-in_err-restart_one-clause-remain c =
     let node = slice_index_or c.nodes.nodes k c.node-item.result in
     let at = item_at c.nodes.nodes k c.node-item.result (item_within c.nodes-test.true c.nodes.auto.nodes) in
     remain_then c.args.participants.now s c.args.nodes.now c.nodes.nodes k c.nodes.invariant.2 node at c.restart_one.new.node
-    (subst (λ (q : Sequenced). Remains q node c.restart_one.new.node) c.nodes.invariant.1 c.restart_one.ensures.remains)
+    (subst (λ (q : Sequenced). StaysParticipant q node c.restart_one.new.node) c.nodes.invariant.1 c.restart_one.ensures.remains)
 
 pub nodes-init : goal.nodes-init
 nodes-init c = (refl, refl, done_starts (Walked c.args.participants.now c.args.sequencer.now) c.args.nodes.now)
@@ -72,7 +72,7 @@ nodes-preserved c =
             subst (λ (ns : List NodeValue). AreDone (Walked participants s) first ns (k + 1)) (sym w.nodes-is)
             (done_on (Walked participants s) first c.nodes.nodes k inv.2 node at w.restart_one.new.node
             (walked participants s k node w.restart_one.new.node (ap (has_place participants) (sym inv.0) ∙ (sym c.is_among.ensures ∙ w.if-is_among.true))
-            (subst (λ (q : Sequenced). Remains q node w.restart_one.new.node) inv.1 w.restart_one.ensures.remains)
+            (subst (λ (q : Sequenced). StaysParticipant q node w.restart_one.new.node) inv.1 w.restart_one.ensures.remains)
             (subst (λ (q : Sequenced). IsRestarted q.list node w.restart_one.new.node) inv.1 w.in_ok-restart_one.ensures.restarted)))
         | else-is_among w ↦
             subst (λ (ns : List NodeValue). AreDone (Walked participants s) first ns (k + 1)) (sym w.nodes-is)

@@ -4,7 +4,7 @@ use Rattle.contract_store.specs.Written.{written}
 use Rattle.framed_form.specs.FramedReading.{framed_reading}
 use Rattle.pruned_inbox.specs.Forgotten.{silent_front}
 use Rattle.pruned_inbox.specs.Start.{Start}
-use Rattle.inbox_standing.specs.Changes.{creation_of}
+use Rattle.inbox_registry.specs.Changes.{creation_of}
 use Rattle.node_inbox.specs.Beginnings.{start_of}
 use Rattle.node_inbox.specs.Items.{model_items}
 use Rattle.node_inbox.specs.Kept.{BeginsAt}
@@ -25,9 +25,9 @@ invariant_of-result c =
     let start = start_of c.args.beginning in
     let items = c.at-items.result.items in
     let same : model_items items ≡ silent_front b t = ap model_items c.at-items.ensures ∙ silent_models b t in
-    let stands = c.write_start.new.standing in
+    let stands = c.write_start.new.registry in
     let wrote = c.in_ok-write_start.ensures in
-    let at = c.at-standing.ensures in
+    let at = c.at-registry.ensures in
     let started : c.in_ok-start.start ≡ start = start_same c.in_ok-start.start start c.in_ok-start.ensures.active c.in_ok-start.ensures.gone in
     let from : stands.start ≡ start = wrote.start ∙ (at.start ∙ started) in
     let rows : stands.store.rows ≡ written (map creation_of start.active) [] =
@@ -49,11 +49,11 @@ returns c =
     let start = start_of c.args.beginning in
     let started : c.in_ok-start.start ≡ start = start_same c.in_ok-start.start start c.in_ok-start.ensures.active c.in_ok-start.ensures.gone in
     state_begun c.args.setup.now.topology c.args.setup.now.checked c.args.me c.args.beginning.base c.args.beginning.base_time start
-    c.write_start.new.standing.start (model_items c.at-items.result.items)
-    (c.in_ok-write_start.ensures.start ∙ (c.at-standing.ensures.start ∙ started))
+    c.write_start.new.registry.start (model_items c.at-items.result.items)
+    (c.in_ok-write_start.ensures.start ∙ (c.at-registry.ensures.start ∙ started))
     (ap model_items c.at-items.ensures ∙ silent_models c.args.beginning.base c.args.beginning.base_time)
 
 pub write_start-requires-clause-told : goal.write_start-requires-clause-told
 write_start-requires-clause-told c =
-    rw (c.new-hosted.ensures.ids, c.at-standing.ensures.rows)
+    rw (c.new-hosted.ensures.ids, c.at-registry.ensures.rows)
     (c.ids_tell_after_each_change.ensures.begun (framed_reading c.args.setup.now.topology c.args.setup.now.checked) c.args.me)

@@ -6,11 +6,11 @@ use Rattle.node_inbox.proofs.inbox.Inbox.beginning_at.Goals as goal
 
 pub rows_below-requires-clause-told : goal.rows_below-requires-clause-told
 rows_below-requires-clause-told c =
-    outcome_at_is c.self.inside.setup.now.topology c.self.inside.setup.now.checked c.self.inside.me c.self.inside.items.items c.self.inside.standing c.self.invariant.0
+    outcome_at_is c.self.inside.setup.now.topology c.self.inside.setup.now.checked c.self.inside.me c.self.inside.items.items c.self.inside.registry c.self.invariant.0
 
 pub rows_below-requires-clause-kept : goal.rows_below-requires-clause-kept
 rows_below-requires-clause-kept c =
-    keep_changes c.self.inside.setup.now.topology c.self.inside.setup.now.checked c.self.inside.me c.self.inside.standing.start c.self.inside.items.items c.self.invariant.0.each
+    keep_changes c.self.inside.setup.now.topology c.self.inside.setup.now.checked c.self.inside.me c.self.inside.registry.start c.self.inside.items.items c.self.invariant.0.each
 
 pub returns-clause-start : goal.returns-clause-start
 returns-clause-start c =
@@ -22,5 +22,5 @@ returns-clause-start c =
     let gone = rw (c.gone.ensures.ids, c.start-start.ensures, live) at c.in_ok-gone.ensures in
     let rising = rw (c.start-start.ensures) at c.gone.ensures.ascend in
     rw (← c.self.view_is)
-    (goes_on reading i.standing.start items c.args.place (i.base, c.self.invariant.5) (record { active = c.in_ok-active.active; gone = c.in_ok-gone.gone })
+    (goes_on reading i.registry.start items c.args.place (i.base, c.self.invariant.5) (record { active = c.in_ok-active.active; gone = c.in_ok-gone.gone })
     active gone rising)

@@ -10,6 +10,6 @@ returns c =
     let i = c.self.inside in
     let reading = framed_reading i.setup.now.topology i.setup.now.checked in
     rw (c.store.ensures, ← c.self.view_is)
-    (offered_is reading i.me i.hosted.ids i.standing.store.rows
-    (c.ids_tell_after_each_change.ensures.told reading i.me i.hosted.ids i.standing.store.rows c.self.invariant.1)
+    (offered_is reading i.me i.hosted.ids i.registry.store.rows
+    (c.ids_tell_after_each_change.ensures.told reading i.me i.hosted.ids i.registry.store.rows c.self.invariant.1)
     ∙ ap (λ rows. knowns (offered reading i.me rows)) c.self.invariant.0.follows.rows)

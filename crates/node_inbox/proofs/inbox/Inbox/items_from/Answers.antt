@@ -22,7 +22,7 @@ returns-clause-items c =
     let is = c.in_ok-items.ensures in
     rw (← c.self.view_is)
     (ap (map (item_by topology)) is
-    ∙ raw_are topology i.setup.now.checked i.me i.standing.start i.items.items c.self.invariant.0.each c.args.place)
+    ∙ raw_are topology i.setup.now.checked i.me i.registry.start i.items.items c.self.invariant.0.each c.args.place)
 
 pub returns-clause-came : goal.returns-clause-came
 returns-clause-came c =
@@ -32,4 +32,4 @@ returns-clause-came c =
     let is = c.in_ok-items.ensures in
     rw (← c.self.view_is)
     (subst (λ (raw : List RawItem). AreCame topology packages i.me c.args.place (model_items i.items.items) raw) (sym is)
-    (raw_came topology packages i.me i.standing.start i.items.items c.self.invariant.0.each c.args.place))
+    (raw_came topology packages i.me i.registry.start i.items.items c.self.invariant.0.each c.args.place))

@@ -1,6 +1,6 @@
 use Rattle.std.proofs.Common.{ap, ◌∙◌}
 use Rattle.contract_store.specs.Active.{knowns}
-use Rattle.inbox_standing.proofs.Offered.{offered_is_active}
+use Rattle.inbox_registry.proofs.Offered.{offered_is_active}
 use Rattle.framed_form.specs.FramedReading.{framed_reading}
 use Rattle.node_inbox.specs.Items.{model_items}
 use Rattle.node_inbox.proofs.inbox.Inbox.known.Goals as goal
@@ -12,5 +12,5 @@ returns-then-self c =
     let items = model_items i.items.items in
     let are = c.self.invariant.2 c.if-self.true in
     let active =
-    offered_is_active reading i.me i.base i.standing.start items c.self.invariant.0.order c.self.invariant.5.stands are.once are.none_gone c.self.invariant.5.within in
+    offered_is_active reading i.me i.base i.registry.start items c.self.invariant.0.order c.self.invariant.5.stands are.once are.none_gone c.self.invariant.5.within in
     rw (← c.self.view_is) ((rw (← c.self.view_is) at c.hosted_contracts-stored.ensures) ∙ ap knowns active)

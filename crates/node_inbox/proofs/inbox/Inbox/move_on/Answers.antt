@@ -18,7 +18,7 @@ invariant_of-self c =
       record {
         within = omega (arith, place);
         rows = rw (← c.self.view_is) at c.in_ok-rows.ensures;
-        fresh = subst (AreFresh reading i.standing.start items) (sym place) (end_fresh reading i.standing.start items c.self.invariant.0.order);
+        fresh = subst (AreFresh reading i.registry.start items) (sym place) (end_fresh reading i.registry.start items c.self.invariant.0.order);
       },
       c.self.invariant.5,
     )

@@ -15,8 +15,8 @@ invariant_of-result c =
     let reading = framed_reading topology packages in
     let items = c.at-items.result.items in
     let same : model_items items ≡ [] = ap model_items c.at-items.ensures in
-    let stands = c.new-standing.result in
-    let s = c.new-standing.ensures in (
+    let stands = c.new-registry.result in
+    let s = c.new-registry.ensures in (
       is_begun topology packages c.args.me 0 0 no_start items stands begins_new same s.start s.rows s.holds s.pairs s.cursor,
       rw (c.new-hosted.ensures.ids, s.rows) (c.ids_tell_after_each_change.ensures.begun reading c.args.me),
       λ e. subst (λ (start : Start). AreOnce reading start (model_items items)) (sym s.start)
@@ -29,5 +29,5 @@ invariant_of-result c =
 
 pub returns : goal.returns
 returns c =
-    state_begun c.args.setup.now.topology c.args.setup.now.checked c.args.me 0 0 no_start c.new-standing.result.start
-    (model_items c.at-items.result.items) c.new-standing.ensures.start (ap model_items c.at-items.ensures)
+    state_begun c.args.setup.now.topology c.args.setup.now.checked c.args.me 0 0 no_start c.new-registry.result.start
+    (model_items c.at-items.result.items) c.new-registry.ensures.start (ap model_items c.at-items.ensures)

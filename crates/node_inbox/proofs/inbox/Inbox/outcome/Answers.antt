@@ -6,4 +6,4 @@ pub returns : goal.returns
 returns c =
     rw (← c.self.view_is)
     (c.outcome.ensures
-    ∙ outcome_at_is c.self.inside.setup.now.topology c.self.inside.setup.now.checked c.self.inside.me c.self.inside.items.items c.self.inside.standing c.self.invariant.0 c.args.place)
+    ∙ outcome_at_is c.self.inside.setup.now.topology c.self.inside.setup.now.checked c.self.inside.me c.self.inside.items.items c.self.inside.registry c.self.invariant.0 c.args.place)

@@ -4,7 +4,7 @@ use Rattle.std.proofs.lemmas.Bool.{and_parts}
 use Rattle.ledger_model.specs.Terms.{Hash}
 use Rattle.framed_form.specs.FramedReading.{framed_reading}
 use Rattle.pruned_inbox.specs.Start.{Start}
-use Rattle.inbox_standing.specs.declared.change.Change.{Change}
+use Rattle.inbox_registry.specs.declared.change.Change.{Change}
 use Rattle.contract_store.specs.declared.row.StoreRow.{StoreRow}
 use Rattle.prepare_request.specs.Hosted.{AreTold, is_among}
 use Rattle.std.specs.List.{list_any}
@@ -38,17 +38,17 @@ invariant_of-self-in_err-put_verdict c =
     let reading = framed_reading topology i.setup.now.checked in
     let unread = c.in_err-put_verdict.ensures.err in
     let same = sym unread.items in
-    let from : i.standing.start ≡ c.put_verdict.new.standing.start = sym unread.start_is in (
+    let from : i.registry.start ≡ c.put_verdict.new.registry.start = sym unread.start_is in (
       unread.inbox,
-      subst (λ (ids : List Hash). AreTold reading i.me ids c.put_verdict.new.standing.store.rows) (sym c.in_ok-reserve.ensures.ids)
-          (told_unread topology i.setup.now.checked i.me i.items.items c.put_verdict.new.items.items i.standing c.put_verdict.new.standing c.self.invariant.0
+      subst (λ (ids : List Hash). AreTold reading i.me ids c.put_verdict.new.registry.store.rows) (sym c.in_ok-reserve.ensures.ids)
+          (told_unread topology i.setup.now.checked i.me i.items.items c.put_verdict.new.items.items i.registry c.put_verdict.new.registry c.self.invariant.0
           i.hosted.ids unread c.self.invariant.1),
       subst (λ (start : Start). AreOnceIf i.is_once reading start (model_items c.put_verdict.new.items.items)) from
-          (subst (λ (items : List KeptItem). AreOnceIf i.is_once reading i.standing.start (model_items items)) same c.self.invariant.2),
+          (subst (λ (items : List KeptItem). AreOnceIf i.is_once reading i.registry.start (model_items items)) same c.self.invariant.2),
       subst (λ (items : List KeptItem). AreApproved topology.params (model_items items) i.approved) same c.self.invariant.3,
       subst (λ (start : Start). AreActiveIf reading i.me start (model_items c.put_verdict.new.items.items) i.active) from
-          (subst (λ (items : List KeptItem). AreActiveIf reading i.me i.standing.start (model_items items) i.active) same c.self.invariant.4),
-      begins_unread topology i.setup.now.checked i.me i.base i.items.items c.put_verdict.new.items.items i.standing.start c.put_verdict.new.standing unread c.self.invariant.5,
+          (subst (λ (items : List KeptItem). AreActiveIf reading i.me i.registry.start (model_items items) i.active) same c.self.invariant.4),
+      begins_unread topology i.setup.now.checked i.me i.base i.items.items c.put_verdict.new.items.items i.registry.start c.put_verdict.new.registry unread c.self.invariant.5,
     )
 
 pub invariant_of-self-2 : goal.invariant_of-self-2
@@ -67,21 +67,21 @@ invariant_of-self-2 c =
     let read = c.in_ok-put_verdict.ensures.ok in
     let new = rw (c.store.ensures, c.as_slice.ensures.value) at c.in_ok-ids.ensures.new in
     let gone = rw (c.start.ensures, c.as_slice-2.ensures.value) at c.create_gone-some_gone.ensures in
-    let fresh = new_ones i.standing.start i.standing.store.rows c.args.coming.changes.items _ _ new gone in
+    let fresh = new_ones i.registry.start i.registry.store.rows c.args.coming.changes.items _ _ new gone in
     let coming = rw (← c.self.view_is) at c.requires.coming in
     let begins =
-    begins_read topology packages i.me i.base i.items.items c.put_verdict.new.items.items i.standing.start c.put_verdict.new.standing _ read c.self.invariant.5 in (
+    begins_read topology packages i.me i.base i.items.items c.put_verdict.new.items.items i.registry.start c.put_verdict.new.registry _ read c.self.invariant.5 in (
       read.inbox,
-      told_verdict topology packages i.me i.items.items c.put_verdict.new.items.items i.standing c.put_verdict.new.standing c.self.invariant.0
+      told_verdict topology packages i.me i.items.items c.put_verdict.new.items.items i.registry c.put_verdict.new.registry c.self.invariant.0
           i.hosted.ids on c.args.coming c.args.time c.put_ids.new.hosted.ids coming read c.self.invariant.1
           (λ id. c.put_ids.ensures id
           ∙ (ap (λ (ids : List Hash). is_among c.in_ok-ids.ids id || is_among ids id) c.in_ok-reserve.ensures.ids
           ∙ ap (λ (ids : List Hash). is_among ids id || is_among i.hosted.ids id) (rw (c.store.ensures, c.as_slice.ensures.value) at c.in_ok-ids.ensures.ids))),
-      rw c.both-self-inside.ensures (once_verdict topology packages i.me i.items.items c.put_verdict.new.items.items i.standing c.put_verdict.new.standing c.self.invariant.0
+      rw c.both-self-inside.ensures (once_verdict topology packages i.me i.items.items c.put_verdict.new.items.items i.registry c.put_verdict.new.registry c.self.invariant.0
           i.hosted.ids c.args.coming c.args.time coming read i.is_once _ (λ e. fresh (sym c.both-are_new.ensures ∙ e)) c.self.invariant.2),
-      approved_verdict topology packages i.me i.items.items c.put_verdict.new.items.items i.standing c.put_verdict.new.standing c.self.invariant.0
+      approved_verdict topology packages i.me i.items.items c.put_verdict.new.items.items i.registry c.put_verdict.new.registry c.self.invariant.0
           i.approved i.active c.args.coming c.args.time read i.base begins _ c.keep_if.ensures c.self.invariant.3,
-      active_verdict topology packages i.me i.items.items c.put_verdict.new.items.items i.standing c.put_verdict.new.standing c.self.invariant.0
+      active_verdict topology packages i.me i.items.items c.put_verdict.new.items.items i.registry c.put_verdict.new.registry c.self.invariant.0
           i.approved i.active c.args.coming c.args.time coming read _ _ (λ e. fresh (sym c.both-are_new.ensures ∙ e)) c.are_at_most.ensures _
           (rw c.both-is_active_kept.ensures at c.keep_active_if.ensures) c.self.invariant.4,
       begins,

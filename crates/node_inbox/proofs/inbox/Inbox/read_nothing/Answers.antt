@@ -14,11 +14,11 @@ invariant_of-self c =
     let put = c.put_nothing in
     let x = item_with c.args.time Nothing in
     let kept =
-    kept_anyway topology packages i.me i.items.items put.new.items.items i.standing put.new.standing c.self.invariant.0 i.hosted.ids put.result x refl
+    kept_anyway topology packages i.me i.items.items put.new.items.items i.registry put.new.registry c.self.invariant.0 i.hosted.ids put.result x refl
     put.ensures.ok put.ensures.err i.is_once c.self.invariant.1 c.self.invariant.2 in
     let both =
-    both_anyway topology packages i.me i.items.items put.new.items.items i.standing put.new.standing c.self.invariant.0 i.approved i.active put.result x refl
+    both_anyway topology packages i.me i.items.items put.new.items.items i.registry put.new.registry c.self.invariant.0 i.approved i.active put.result x refl
     put.ensures.ok put.ensures.err (c.self.invariant.3, c.self.invariant.4) in
     let begins =
-    begins_anyway topology packages i.me i.base i.items.items put.new.items.items i.standing.start put.new.standing put.result x put.ensures.ok put.ensures.err c.self.invariant.5 in
+    begins_anyway topology packages i.me i.base i.items.items put.new.items.items i.registry.start put.new.registry put.result x put.ensures.ok put.ensures.err c.self.invariant.5 in
     (kept.0, kept.1, kept.2, both.0, both.1, begins)

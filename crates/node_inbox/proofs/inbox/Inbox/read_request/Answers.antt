@@ -16,13 +16,13 @@ invariant_of-self c =
     let put = c.put_request in
     let x = item_with c.args.time (model_content (kept.Received c.in-Some.coming.kept)) in
     let told =
-    kept_anyway topology packages i.me i.items.items put.new.items.items i.standing put.new.standing c.self.invariant.0 i.hosted.ids put.result x refl
+    kept_anyway topology packages i.me i.items.items put.new.items.items i.registry put.new.registry c.self.invariant.0 i.hosted.ids put.result x refl
     put.ensures.ok put.ensures.err i.is_once c.self.invariant.1 c.self.invariant.2 in
     let both =
-    both_anyway topology packages i.me i.items.items put.new.items.items i.standing put.new.standing c.self.invariant.0 i.approved i.active put.result x refl
+    both_anyway topology packages i.me i.items.items put.new.items.items i.registry put.new.registry c.self.invariant.0 i.approved i.active put.result x refl
     put.ensures.ok put.ensures.err (c.self.invariant.3, c.self.invariant.4) in
     let begins =
-    begins_anyway topology packages i.me i.base i.items.items put.new.items.items i.standing.start put.new.standing put.result x put.ensures.ok put.ensures.err c.self.invariant.5 in
+    begins_anyway topology packages i.me i.base i.items.items put.new.items.items i.registry.start put.new.registry put.result x put.ensures.ok put.ensures.err c.self.invariant.5 in
     (told.0, told.1, told.2, both.0, both.1, begins)
 
 pub returns-in-Some-clause-ok : goal.returns-in-Some-clause-ok
@@ -31,4 +31,4 @@ returns-in-Some-clause-ok c =
     let put = c.put_request in
     let is = rw c.in-Some.is at c.in_ok-coming.ensures.received in
     rw (← c.self.view_is)
-    (reads i.setup.now.topology i.setup.now.checked i.me put.result i.base i.base_time i.items.items put.new.items.items i.standing.start put.new.standing c.args.time _ c.in-Some.coming.kept is put.ensures.ok)
+    (reads i.setup.now.topology i.setup.now.checked i.me put.result i.base i.base_time i.items.items put.new.items.items i.registry.start put.new.registry c.args.time _ c.in-Some.coming.kept is put.ensures.ok)

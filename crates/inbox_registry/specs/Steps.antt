@@ -1,0 +1,31 @@
+-- Requests one after another, which are decided one after another at the latest.
+use Rattle.std.specs.Prelude.{◌≡◌, ℕ, ◌<◌, ◌≤◌, List, [], ◌∷◌}
+use Rattle.ledger_terms.specs.declared.act.Act.{Act}
+use Rattle.contract_store.specs.Written.{holding}
+use Rattle.contract_store.specs.declared.hold.Hold.{Hold}
+use Rattle.request_track.specs.CleanLaw.{is_open_at}
+use Rattle.request_track.specs.Pairs.{Pair, expired}
+use Rattle.inbox_registry.specs.Changes.{placed_below}
+
+abbrev pub IsAfter : Pair → Pair → Type 0
+IsAfter p q = (p.0 < q.0) × (p.1.decision ≤ q.1.decision)
+
+abbrev pub AllAfter : Pair → List Pair → Type 0
+AllAfter p [] = Unit {0}
+AllAfter p (q ∷ qs) = IsAfter p q × AllAfter p qs
+
+-- places rise, and decision times with them
+abbrev pub InStep : List Pair → Type 0
+InStep [] = Unit {0}
+InStep (p ∷ ps) = AllAfter p ps × InStep ps
+
+-- where the undecided requests of one held what they do, those of the other do
+abbrev pub HoldsFollow : (before after : List Pair) → (old new : List Hold) → Type 0
+HoldsFollow before after old new =
+    (f : ℕ → List Act) (n : ℕ) → old ≡ holding (placed_below (is_open_at before) f n) → new ≡ holding (placed_below (is_open_at after) f n)
+
+-- while requests expire
+pub record Passing (time : ℕ) (start pairs : List Pair) (old new : List Hold) : Type 0 where
+  pub rest : expired time pairs ≡ expired time start
+  pub in_step : InStep pairs
+  pub holds : HoldsFollow start pairs old new

@@ -1,0 +1,61 @@
+//! Changes and holds are put into a store.
+ghost use Rattle.std.specs.Prelude.{◌≡◌, ◌++◌, ◌+◌, ◌<◌, ◌≤◌, true, All, length, map, OnOk};
+ghost use Rattle.contract_store.specs.Stored.{is_ready};
+ghost use Rattle.inbox_registry.specs.ChangeLists.{hold_on, write_change, write_changes};
+ghost use Rattle.inbox_registry.specs.Room.{HasRoom, IsPrepared};
+
+use crate::change::Change;
+use contract_store::{HashList, Store};
+use std::alloc::AllocError;
+
+/// Makes room in a store for these changes.
+pub fn make_room(store: &mut Store, changes: &Vec<Change>) -> Result<(), AllocError>
+    ensures rows { store.new.rows ≡ store.old.rows }
+    ensures holds { store.new.holds ≡ store.old.holds }
+    ensures room { OnOk result (HasRoom store.new.ready store.new.spare changes.now.items) }
+{
+    store.make_room(changes.len())?;
+    for change in changes.iter() {
+        store.make_ready(&change.known.id)?;
+    }
+    Ok(())
+}
+
+// One change by the request at a place.
+fn write_one(store: &mut Store, place: u64, change: Change)
+    requires spare { 0 < store.old.spare }
+    requires ready { IsPrepared store.old.ready change }
+    ensures rows { store.new.rows ≡ write_change place change store.old.rows }
+    ensures holds { store.new.holds ≡ store.old.holds }
+    ensures ready { store.new.ready ≡ store.old.ready }
+    ensures spare { store.old.spare ≤ store.new.spare + 1 }
+{
+    if change.is_create {
+        store.create(change.known, place);
+    } else {
+        store.consume(change.known, place);
+    }
+}
+
+/// The changes by the request at a place, in the room that is there.
+pub fn write_all(store: &mut Store, place: u64, changes: Vec<Change>)
+    requires { HasRoom store.old.ready store.old.spare changes.items }
+    ensures rows { store.new.rows ≡ write_changes place changes.items store.old.rows }
+    ensures holds { store.new.holds ≡ store.old.holds }
+{
+    for change in changes {
+        write_one(store, place, change);
+    }
+}
+
+/// The request at a place holds these contracts, in the room that is there.
+pub fn hold_all(store: &mut Store, place: u64, ids: &HashList)
+    requires spare { length ids.now ≤ store.old.spare }
+    requires ready { All (λ c. is_ready store.old.ready c ≡ true) ids.now }
+    ensures rows { store.new.rows ≡ store.old.rows }
+    ensures holds { store.new.holds ≡ store.old.holds ++ map (hold_on place) ids.now }
+{
+    for id in ids.as_slice() {
+        store.hold(*id, place);
+    }
+}

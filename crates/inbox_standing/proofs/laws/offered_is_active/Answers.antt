@@ -1,5 +1,0 @@
-use Rattle.inbox_standing.proofs.Offered.{offered_is_active}
-use Rattle.inbox_standing.proofs.laws.offered_is_active.Goals as goal
-
-pub returns : goal.returns
-returns c = offered_is_active

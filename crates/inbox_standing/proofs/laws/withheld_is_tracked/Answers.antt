@@ -1,5 +1,0 @@
-use Rattle.inbox_standing.proofs.Withheld.{withheld_is_tracked}
-use Rattle.inbox_standing.proofs.laws.withheld_is_tracked.Goals as goal
-
-pub returns : goal.returns
-returns c = withheld_is_tracked

@@ -1,8 +1,0 @@
-pub mod Changes
-pub mod Requests
-pub mod Standing
-pub mod ChangeLists
-pub mod Steps
-pub mod Room
-pub mod Order
-pub mod Offered
